@@ -1,0 +1,56 @@
+-- Moments, after Generalized Time (RFC 4517, section 3.3.13): whole seconds of UTC, and the texts that spell them.
+use Rattle.std.specs.Prelude.{◌≡◌, ℕ, ◌+◌, ◌*◌, ◌/◌, ◌%◌, ◌<◌, ◌≤◌, ◌⊎◌, List, [], ◌∷◌, ◌++◌, pos, codes}
+use Rattle.jiff_core.specs.Calendar.{IsCivilDate, days_from_civil}
+
+-- A moment is the count of seconds since 1970-01-01T00:00:00Z, up to 2099-12-31T23:59:59Z.
+abbrev pub IsMoment : ℕ → Type 0
+IsMoment t = t ≤ 4_102_444_799
+
+-- a number below 100 in two digits, and one below 10000 in four
+abbrev pub two : ℕ → List ℕ
+two n = (48 + n / 10) ∷ (48 + n % 10) ∷ []
+
+abbrev pub four : ℕ → List ℕ
+four n = two (n / 100) ++ two (n % 100)
+
+-- `yyyymmdd`: the calendar's date with this day number, where 1970-01-01 is 0
+pub record IsDateText (text : List ℕ) (day : ℕ) : Type 0 where
+  pub year : ℕ
+  pub month : ℕ
+  pub day_of_month : ℕ
+  pub date : IsCivilDate (pos year) month day_of_month
+  pub number : days_from_civil (pos year) month day_of_month ≡ pos day
+  pub text_is : text ≡ four year ++ two month ++ two day_of_month
+
+-- the time of day: hours, minutes and seconds since midnight
+abbrev pub hour : ℕ → ℕ
+hour t = t % 86_400 / 3600
+
+abbrev pub minute : ℕ → ℕ
+minute t = t % 3600 / 60
+
+abbrev pub second : ℕ → ℕ
+second t = t % 60
+
+-- What may stand behind the date: `HHMMSSZ`; or `HHMMZ` where the seconds are 00; or `HHZ` where the minutes are 00 too.
+abbrev pub IsClockText : List ℕ → ℕ → Type 0
+IsClockText text t =
+    (text ≡ two (hour t) ++ two (minute t) ++ two (second t) ++ codes "Z")
+    ⊎ ((text ≡ two (hour t) ++ two (minute t) ++ codes "Z") × (second t ≡ 0))
+    ⊎ ((text ≡ two (hour t) ++ codes "Z") × (minute t ≡ 0) × (second t ≡ 0))
+
+-- The text spells the moment: its date is the moment's day, and its time of day the moment's.
+pub record Spells (text : List ℕ) (t : ℕ) : Type 0 where
+  pub moment : IsMoment t
+  pub date : List ℕ
+  pub clock : List ℕ
+  pub text_is : text ≡ date ++ clock
+  pub date_is : IsDateText date (t / 86_400)
+  pub clock_is : IsClockText clock t
+
+-- The moment's one canonical text, of 15 bytes: date, hours, minutes, seconds and `Z`.
+pub record IsStamp (text : List ℕ) (t : ℕ) : Type 0 where
+  pub moment : IsMoment t
+  pub date : List ℕ
+  pub text_is : text ≡ date ++ two (hour t) ++ two (minute t) ++ two (second t) ++ codes "Z"
+  pub date_is : IsDateText date (t / 86_400)
