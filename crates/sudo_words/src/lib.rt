@@ -1,13 +1,24 @@
-// A library with one function.
+//! Words of sudoers texts: names, paths, arguments, commands and moments.
 #![tactic(auto)]
 
-ghost use Rattle.std.specs.Prelude.{◌≡◌};
-ghost use Rattle.sudo_words.specs.Echo.{echo_of};
+mod alias;
+mod arg;
+mod cmnd;
+mod cmnd_text;
+mod fault;
+mod items;
+mod laws;
+mod name;
+mod path;
+mod word;
 
-// The `ensures` clause is the contract: what `echo` returns is `echo_of` of its argument, a definition
-// in `specs/Echo.antt`, which a caller's clause can cite too.
-pub fn echo(x: usize) -> usize
-    ensures { result ≡ echo_of x }
-{
-    x
-}
+pub use alias::{AliasForm, AliasName};
+pub use arg::{Arg, ArgForm};
+pub use cmnd::{ArgRule, Cmnd, is_lawful};
+pub use cmnd_text::{print_cmnd, read_cmnd};
+pub use fault::{CmndFault, NoMemory, WordFault};
+pub use items::Items;
+pub use laws::one_command;
+pub use name::{HostForm, HostName, Name, UserForm};
+pub use path::{DirForm, DirPath, FileForm, FilePath};
+pub use word::{Form, Word};

@@ -1,0 +1,79 @@
+//! Texts of a given form.
+
+ghost use Rattle.std.specs.Prelude.{◌≡◌, List, ℕ, IfOk, Bool, MatchResult, true};
+ghost use Rattle.sudo_words.specs.declared.fault.WordFault.TheVariants.{NoMemory};
+
+use crate::fault::WordFault;
+use std::alloc::Global;
+use std::marker::{Model, PhantomData};
+
+/// Which texts are words of a form.
+pub trait Form {
+    ghost has: { List ℕ → Bool };
+
+    /// Whether the text is one.
+    fn test(text: &[u8]) -> bool
+        ensures { result ≡ has text.now };
+}
+
+/// A text of a form, which contracts see as its bytes.
+#[derive(Debug, Drop)]
+pub struct Word<F: Form> {
+    text: String,
+    form: PhantomData<F>,
+}
+
+impl<F: Form> Model for Word<F> {
+    ghost use Rattle.std.specs.Prelude.{◌≡◌, List, ℕ, string_bytes, true};
+
+    ghost Value = { List ℕ };
+
+    ghost view = { λ w. string_bytes w.text };
+
+    ghost invariant = { λ w. F.has (string_bytes w.text) ≡ true };
+}
+
+impl<F: Form> Word<F> {
+    /// The word that the text is; `BadWord` where it has not the form.
+    pub fn read(alloc: Global, text: &str) -> Result<Word<F>, WordFault>
+        ensures found { IfOk result (λ w. (w ≡ text.now) × (F.has text.now ≡ true)) }
+        ensures only { F.has text.now ≡ true → MatchResult result (λ w. w ≡ text.now) (λ e. e ≡ NoMemory) }
+    {
+        if !F::test(text.as_bytes()) {
+            return Err(WordFault::BadWord);
+        }
+        Ok(Word {
+            text: String::from_str(alloc, text)?,
+            form: PhantomData,
+        })
+    }
+
+    /// Its text.
+    pub fn as_str(&self) -> &str
+        ensures value { result.now ≡ self.now }
+        ensures form { F.has self.now ≡ true }
+    {
+        self.text.as_str()
+    }
+}
+
+impl<F: Form> PartialEq for Word<F> {
+    ghost use Rattle.std.specs.Str.{bytes_eq};
+    ghost use Rattle.std.specs.Cmp.Rules.{comparing};
+    ghost use Rattle.std.proofs.Common.{rules};
+
+    ghost eq = { bytes_eq };
+
+    ghost laws = { Prim.search (comparing, rules) };
+
+    fn eq(&self, other: &Word<F>) -> bool {
+        self.text.as_str() == other.text.as_str()
+    }
+}
+
+impl<F: Form> Eq for Word<F> {
+    ghost use Rattle.std.specs.Cmp.Rules.{comparing};
+    ghost use Rattle.std.proofs.Common.{rules};
+
+    ghost laws = { Prim.search (comparing, rules) };
+}
