@@ -1,0 +1,73 @@
+-- A line as words and marks, and where blanks stand between them.
+use Rattle.std.specs.Prelude.{◌≡◌, ℕ, ◌<◌, Bool, true, false, ◌&&◌, ◌||◌, ◌==◌, nat_le, List, [], ◌∷◌, ◌++◌, length, map}
+use Rattle.sudo_words.specs.Word.{is_letter_or_digit}
+use Rattle.sudo_syntax.specs.Span.{Each, Stops}
+use Rattle.sudo_syntax.specs.declared.token.Token.{Token}
+use Rattle.sudo_syntax.specs.declared.token.Token.TheVariants.{Word, Mark}
+
+-- the bytes of a text: tab, newline, and the printed ones of ASCII
+abbrev pub is_text_byte : ℕ → Bool
+is_text_byte b = (b == 9) || (b == 10) || (nat_le 32 b && nat_le b 126)
+
+-- a blank is a space or a tab
+abbrev pub is_blank : ℕ → Bool
+is_blank b = (b == 32) || (b == 9)
+
+-- `=`, `,`, `:`, `!`, `(` and `)` stand for themselves
+abbrev pub is_mark : ℕ → Bool
+is_mark b = (b == 61) || (b == 44) || (b == 58) || (b == 33) || (b == 40) || (b == 41)
+
+-- a word is made of letters, digits and `. _ / + - @ %`
+abbrev pub is_word_byte : ℕ → Bool
+is_word_byte b = is_letter_or_digit b || (b == 46) || (b == 95) || (b == 47) || (b == 43) || (b == 45) || (b == 64) || (b == 37)
+
+-- A word or a mark, each with whether blanks stand before it.
+pub data Tok : Type 0 where
+  word : Bool → List ℕ → Tok
+  mark : Bool → ℕ → Tok
+
+abbrev pub is_spaced : Tok → Bool
+is_spaced (word spaced text) = spaced
+is_spaced (mark spaced byte) = spaced
+
+abbrev pub text_of : Tok → List ℕ
+text_of (word spaced text) = text
+text_of (mark spaced byte) = byte ∷ []
+
+-- whether there is any
+abbrev pub is_some_blank : List ℕ → Bool
+is_some_blank [] = false
+is_some_blank (b ∷ bs) = true
+
+-- the token is one, and ends where the rest begins
+abbrev pub IsTok : Tok → List ℕ → Type 0
+IsTok (word spaced text) rest = (0 < length text) × Each is_word_byte text × Stops is_word_byte rest
+IsTok (mark spaced byte) rest = is_mark byte ≡ true
+
+-- The bytes are these tokens in order, with blanks before those that say so and after the last.
+abbrev pub Lexes : List ℕ → List Tok → Type 0
+Lexes bytes [] = Each is_blank bytes
+Lexes bytes (t ∷ ts) =
+    (blanks rest : List ℕ) × Each is_blank blanks × (is_spaced t ≡ is_some_blank blanks) × IsTok t rest
+    × (bytes ≡ blanks ++ (text_of t ++ rest)) × Lexes rest ts
+
+-- a token of the code, without where its bytes lie
+abbrev pub tok : Token → Tok
+tok (Word spaced text) = word spaced text.now
+tok (Mark spaced byte) = mark spaced byte
+
+abbrev pub toks : List Token → List Tok
+toks ts = map tok ts
+
+-- The readings of the bytes are those of the rest, with the token before them.
+pub record IsFirst (bytes : List ℕ) (t : Tok) (rest : List ℕ) : Type 0 where
+  pub adds : (ts : List Tok) → Lexes rest ts → Lexes bytes (t ∷ ts)
+  pub only : (ts : List Tok) → Lexes bytes ts → (more : List Tok) × (ts ≡ t ∷ more) × Lexes rest more
+  pub shorter : length rest < length bytes
+
+pub record IsLast (bytes : List ℕ) : Type 0 where
+  pub empty : Lexes bytes []
+  pub only : (ts : List Tok) → Lexes bytes ts → ts ≡ []
+
+abbrev pub NoLexing : List ℕ → Type 0
+NoLexing bytes = (ts : List Tok) → Lexes bytes ts → ⊥

@@ -1,0 +1,5 @@
+pub mod Printing
+pub mod Policy
+pub mod Span
+pub mod Lex
+pub mod Grammar

@@ -1,0 +1,15 @@
+//! Policies: sudoers texts read, printed and kept in normal form.
+#![tactic(auto)]
+
+mod entry;
+mod fault;
+mod policy;
+mod token;
+
+pub use entry::{CmndItem, Entry, Item, Rule, Signed};
+pub use fault::{FaultKind, ReadFault};
+pub use policy::Policy;
+pub use sudo_words::{
+    AliasName, Arg, ArgRule, Cmnd, CmndFault, DirPath, FilePath, HostName, Items, Moment, Name,
+    NoMemory, WordFault, is_lawful, print_cmnd, read_cmnd,
+};

@@ -1,0 +1,124 @@
+//! The words and marks of a line.
+
+ghost use Rattle.std.specs.Prelude.{◌≡◌, length, take_while, MatchResult, MatchOption, List, IfOk, IfErr, IfSome, IsSome, ℕ, ◌++◌};
+ghost use Rattle.sudo_syntax.specs.declared.fault.LineFault.TheVariants.{NoMemory};
+ghost use Rattle.sudo_syntax.specs.Span.{IsCut, Each};
+ghost use Rattle.sudo_syntax.specs.Lex as lex;
+
+use crate::fault::LineFault;
+use std::alloc::Global;
+use std::str;
+
+/// A word or a mark of a line, each with whether blanks stand before it.
+#[derive(Clone, Copy, Debug)]
+pub(crate) enum Token<'a> {
+    Word(bool, &'a str),
+    Mark(bool, u8),
+}
+
+fn is_blank(b: u8) -> bool
+    ensures { result ≡ lex.is_blank b }
+{
+    b == b' ' || b == b'\t'
+}
+
+fn is_mark(b: u8) -> bool
+    ensures { result ≡ lex.is_mark b }
+{
+    b == b'=' || b == b',' || b == b':' || b == b'!' || b == b'(' || b == b')'
+}
+
+fn is_word_byte(b: u8) -> bool
+    ensures { result ≡ lex.is_word_byte b }
+{
+    b.is_ascii_alphanumeric()
+        || b == b'.'
+        || b == b'_'
+        || b == b'/'
+        || b == b'+'
+        || b == b'-'
+        || b == b'@'
+        || b == b'%'
+}
+
+/// How many blanks stand at the front.
+fn blank_len(bytes: &[u8]) -> usize
+    ensures { result ≡ length (take_while lex.is_blank bytes.now) }
+{
+    bytes.iter().take_while(|b| is_blank(**b)).count()
+}
+
+/// How long the word at the front is.
+fn word_len(bytes: &[u8]) -> usize
+    ensures { result ≡ length (take_while lex.is_word_byte bytes.now) }
+{
+    bytes.iter().take_while(|b| is_word_byte(**b)).count()
+}
+
+/// The blanks at the front, and what follows them.
+pub(crate) fn cut_blanks(bytes: &[u8]) -> (&[u8], &[u8])
+    ensures { IsCut lex.is_blank bytes.now result.0.now result.1.now }
+{
+    bytes.split_at(blank_len(bytes))
+}
+
+/// The word at the front, which may be empty, and what follows it.
+fn cut_word(bytes: &[u8]) -> (&[u8], &[u8])
+    ensures { IsCut lex.is_word_byte bytes.now result.0.now result.1.now }
+{
+    bytes.split_at(word_len(bytes))
+}
+
+/// A word's bytes as text: they are ASCII.
+fn text_of(word: &[u8]) -> Option<&str>
+    ensures found { IfSome result (λ s. s.now ≡ word.now) }
+    ensures only { Each lex.is_word_byte word.now → IsSome result }
+{
+    str::from_utf8(word).ok()
+}
+
+/// What is wrong with a byte that begins neither a word nor a mark: wildcards, quotes, escapes and
+/// comments are left out, and no other has a place.
+fn stray(byte: u8) -> LineFault {
+    match byte {
+        b'*' | b'?' | b'[' | b']' | b'"' | b'\\' | b'#' => LineFault::LeftOut,
+        _ => LineFault::BadWord,
+    }
+}
+
+/// The first token, if there is one, and what follows it.
+pub(crate) fn next_token(bytes: &[u8]) -> Result<Option<(Token<'_>, &[u8])>, LineFault>
+    ensures first { IfOk result (λ o. MatchOption o (lex.IsLast bytes.now) (λ x. lex.IsFirst bytes.now (lex.tok x.0) x.1.now)) }
+    ensures fault { IfErr result (λ e. lex.NoLexing bytes.now) }
+{
+    let (blanks, rest) = cut_blanks(bytes);
+    let spaced = !blanks.is_empty();
+    let [first, others @ ..] = rest else {
+        return Ok(None);
+    };
+    if is_mark(*first) {
+        return Ok(Some((Token::Mark(spaced, *first), others)));
+    }
+    let (word, after) = cut_word(rest);
+    if word.is_empty() {
+        return Err(stray(*first));
+    }
+    match text_of(word) {
+        Some(text) => Ok(Some((Token::Word(spaced, text), after))),
+        None => Err(LineFault::BadWord),
+    }
+}
+
+/// The tokens of a line.
+pub(crate) fn tokens(alloc: Global, line: &[u8]) -> Result<Vec<Token<'_>>, LineFault>
+    ensures found { IfOk result (λ v. lex.Lexes line.now (lex.toks v.items)) }
+    ensures only { (ts : List lex.Tok) → lex.Lexes line.now ts → MatchResult result (λ v. lex.toks v.items ≡ ts) (λ e. e ≡ NoMemory) }
+{
+    let mut out = Vec::new(alloc);
+    let mut rest = line;
+    while let Some((token, after)) = next_token(rest)? {
+        out.push(token)?;
+        rest = after;
+    }
+    Ok(out)
+}
