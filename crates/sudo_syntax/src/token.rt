@@ -110,6 +110,7 @@ pub(crate) fn next_token(bytes: &[u8]) -> Result<Option<(Token<'_>, &[u8])>, Lin
 }
 
 /// The tokens of a line.
+#[tactic(auto, using(crate::proofs::Lexing::leads_end))]
 pub(crate) fn tokens(alloc: Global, line: &[u8]) -> Result<Vec<Token<'_>>, LineFault>
     ensures found { IfOk result (λ v. lex.Lexes line.now (lex.toks v.items)) }
     ensures only { (ts : List lex.Tok) → lex.Lexes line.now ts → MatchResult result (λ v. lex.toks v.items ≡ ts) (λ e. e ≡ NoMemory) }

@@ -1,0 +1,28 @@
+use Rattle.std.proofs.Common.{◌≡◌, ◌<◌, ◌∙◌, length, not, refl, sym, ap, subst, arith, rules, List, ℕ}
+use Rattle.std.proofs.lemmas.List.{nil_from_length}
+use Rattle.sudo_syntax.specs.Lex.{is_some_blank, IsFirst, word}
+use Rattle.sudo_syntax.proofs.Lexing.{lex_end, lex_mark, lex_word, lex_none, first_is, no_word, some_blank}
+use Rattle.sudo_syntax.proofs.token.next_token.Goals as goal
+
+pub returns-in_default-clause-first : goal.returns-in_default-clause-first
+returns-in_default-clause-first c =
+    let s = c.cut_blanks in
+    lex_end c.args.bytes.now s.result.0.now s.result.1.now s.ensures (nil_from_length s.result.1.now (omega (arith, c.in_default.len_below)))
+
+pub returns-then-is_mark-clause-first : goal.returns-then-is_mark-clause-first
+returns-then-is_mark-clause-first c =
+    let s = c.cut_blanks in
+    lex_mark c.args.bytes.now s.result.0.now s.result.1.now s.ensures _ _ _ (ap not c.is_empty-spaced.ensures ∙ some_blank s.result.0.now) (sym c.if-is_mark.ensures) (first_is s.result.1.now c.in-len1-up.len_at_least)
+
+pub returns-then-is_empty-clause-fault : goal.returns-then-is_empty-clause-fault
+returns-then-is_empty-clause-fault c =
+    let s = c.cut_blanks in
+    let first = first_is s.result.1.now c.in-len1-up.len_at_least in
+    let none : length c.cut_word.result.0.now ≡ 0 = search rules in
+    lex_none c.args.bytes.now s.result.0.now s.result.1.now s.ensures _ _ first (sym c.if-is_mark.ensures) (no_word s.result.1.now c.cut_word.result.0.now c.cut_word.result.1.now _ _ c.cut_word.ensures none first)
+
+pub returns-in-Some-clause-first : goal.returns-in-Some-clause-first
+returns-in-Some-clause-first c =
+    let s = c.cut_blanks in
+    let some : 0 < length c.cut_word.result.0.now = search rules in
+    rw c.in-Some.ensures.found (lex_word c.args.bytes.now s.result.0.now s.result.1.now c.cut_word.result.0.now c.cut_word.result.1.now s.ensures _ (ap not c.is_empty-spaced.ensures ∙ some_blank s.result.0.now) some c.cut_word.ensures)
