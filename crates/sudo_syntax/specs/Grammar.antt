@@ -1,7 +1,7 @@
 -- The grammar of policies (sudoers(5), "User specification"): lines, each blank, a comment, or
 -- `USER HOST = [(TARGET)] [NOTBEFORE=TIME] [NOTAFTER=TIME] COMMAND`.
 -- In what follows a token's Bool says whether blanks stand before it: a variable where they may, true where they must, false where they may not.
-use Rattle.std.specs.Prelude.{◌≡◌, ℕ, ◌-◌, ◌≤◌, ◌==◌, nat_eq, Bool, true, false, not, ◌&&◌, ◌⊎◌, slice_index, List, [], ◌∷◌, ◌++◌, length, Option, Some, None, codes}
+use Rattle.std.specs.Prelude.{◌≡◌, ◌≢◌, ℕ, ◌-◌, ◌≤◌, ◌==◌, nat_eq, Bool, true, false, not, ◌&&◌, ◌⊎◌, slice_index, List, [], ◌∷◌, ◌++◌, length, Option, Some, None, codes}
 use Rattle.std.specs.List.{slice_split, starts_with}
 use Rattle.sudo_words.specs.Word.{is_digit}
 use Rattle.sudo_words.specs.Moment as moments
@@ -29,6 +29,12 @@ abbrev pub SpellsTarget : List Tok → Item (List ℕ) → Type 0
 SpellsTarget front target =
     ((front ≡ []) × (target ≡ root))
     ⊎ ((a b c : Bool) × (front ≡ mark a 40 ∷ word b (item_text target) ∷ mark c 41 ∷ []))
+
+-- what begins with no `(`
+abbrev pub NoOpening : List Tok → Type 0
+NoOpening [] = Unit {0}
+NoOpening (word a text ∷ ts) = Unit {0}
+NoOpening (mark a byte ∷ ts) = byte ≢ 40
 
 -- ---- dates and command: each option is given at most once, in either order, with blanks behind it
 

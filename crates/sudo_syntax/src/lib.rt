@@ -3,7 +3,9 @@
 
 mod entry;
 mod fault;
+mod misplaced;
 mod policy;
+mod reading;
 mod token;
 
 pub use entry::{CmndItem, Entry, Item, Rule, Signed};
