@@ -1,6 +1,6 @@
 -- Moments, after Generalized Time (RFC 4517, section 3.3.13): whole seconds of UTC, and the texts that spell them.
-use Rattle.std.specs.Prelude.{◌≡◌, ℕ, ◌+◌, ◌*◌, ◌/◌, ◌%◌, ◌<◌, ◌≤◌, ◌⊎◌, List, [], ◌∷◌, ◌++◌, pos, codes}
-use Rattle.jiff_core.specs.Calendar.{IsCivilDate, days_from_civil}
+use Rattle.std.specs.Prelude.{◌≡◌, ℕ, zero, suc, ◌+◌, ◌-◌, ◌*◌, ◌/◌, ◌%◌, ◌<◌, ◌≤◌, ◌⊎◌, ◌&&◌, ◌||◌, ◌==◌, Bool, nat_lt, nat_le, if◌then◌else◌, List, [], ◌∷◌, ◌++◌, pos, codes}
+use Rattle.jiff_core.specs.Calendar.{IsCivilDate, days_from_civil, days_in_month, days_in_year}
 
 -- A moment is the count of seconds since 1970-01-01T00:00:00Z, up to 2099-12-31T23:59:59Z.
 abbrev pub IsMoment : ℕ → Type 0
@@ -54,3 +54,39 @@ pub record IsStamp (text : List ℕ) (t : ℕ) : Type 0 where
   pub date : List ℕ
   pub text_is : text ≡ date ++ two (hour t) ++ two (minute t) ++ two (second t) ++ codes "Z"
   pub date_is : IsDateText date (t / 86_400)
+
+-- a date in numbers
+pub record CalendarDate : Type 0 where
+  pub year : ℕ
+  pub month : ℕ
+  pub day_of_month : ℕ
+
+-- so many days after the first of a month, in that month or one of the `later` months behind it
+unfoldable pub date_from_month : (later year month days : ℕ) → CalendarDate
+date_from_month zero year month days = record { year = year; month = month; day_of_month = days + 1 }
+date_from_month (suc later) year month days =
+    if nat_lt days (days_in_month (pos year) month) then record { year = year; month = month; day_of_month = days + 1 }
+    else date_from_month later year (month + 1) (days - days_in_month (pos year) month)
+
+-- so many days after 1 January, in that year or one of the `later` years behind it
+unfoldable pub date_from_year : (later year days : ℕ) → CalendarDate
+date_from_year zero year days = date_from_month 11 year 1 days
+date_from_year (suc later) year days =
+    if nat_lt days (days_in_year (pos year)) then date_from_month 11 year 1 days
+    else date_from_year later (year + 1) (days - days_in_year (pos year))
+
+-- the calendar's date with this day number, in the years 1970 to 2099
+unfoldable pub date_of : ℕ → CalendarDate
+date_of day = date_from_year 129 1970 day
+
+-- that date as `yyyymmdd`
+abbrev pub date_text : ℕ → List ℕ
+date_text day = four (date_of day).year ++ two (date_of day).month ++ two (date_of day).day_of_month
+
+-- the canonical text itself
+abbrev pub stamp : ℕ → List ℕ
+stamp t = date_text (t / 86_400) ++ two (hour t) ++ two (minute t) ++ two (second t) ++ codes "Z"
+
+-- a byte that may stand in a moment's text: a digit, or `Z`
+abbrev pub is_stamp_byte : ℕ → Bool
+is_stamp_byte b = (nat_le 48 b && nat_le b 57) || (b == 90)

@@ -1,13 +1,14 @@
-// A library with one function.
+//! The words of the desk: the small values that its texts are made of, each with what it may say.
 #![tactic(auto)]
 
-ghost use Rattle.std.specs.Prelude.{◌≡◌};
-ghost use Rattle.sudo_words.specs.Echo.{echo_of};
+mod civil;
+mod moment;
+mod moment_laws;
+mod pair;
+mod parts;
 
-// The `ensures` clause is the contract: what `echo` returns is `echo_of` of its argument, a definition
-// in `specs/Echo.antt`, which a caller's clause can cite too.
-pub fn echo(x: usize) -> usize
-    ensures { result ≡ echo_of x }
-{
-    x
-}
+pub use moment::Moment;
+pub use moment_laws::{one_moment, stamp_is_stamp, stamp_spells};
+
+#[cfg(test)]
+mod moment_tests;
