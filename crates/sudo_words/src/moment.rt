@@ -9,6 +9,9 @@ use std::marker::Model;
 /// The last second of 2099.
 const LAST: u64 = 4_102_444_799;
 
+/// The length of `yyyymmdd`.
+const DATE_LENGTH: usize = 8;
+
 /// A moment: a whole second of UTC in the years 1970 to 2099, without leap seconds.
 ///
 /// It is read from Generalized Time (RFC 4517, section 3.3.13) in one of the forms
@@ -40,7 +43,8 @@ impl Moment {
         ensures found { IfSome result (λ t. Spells text.now t) }
         ensures only { (t : ℕ) → Spells text.now t → result ≡ Some t }
     {
-        let (days, rest) = date(text.as_bytes())?;
+        let (front, rest) = text.as_bytes().split_at_checked(DATE_LENGTH)?;
+        let days = date(front)?;
         let time = clock(rest)?;
         Some(Moment {
             secs: u64::from(days) * 86_400 + u64::from(time),

@@ -1,7 +1,7 @@
 //! The parts of a moment's text: its date, and its time of day.
 
-ghost use Rattle.std.specs.Prelude.{◌≡◌, ◌<◌, ◌≤◌, ◌*◌, ◌+◌, ◌/◌, ℕ, List, [], ◌∷◌, ◌++◌, IfSome, Some, IsSomeAnd};
-ghost use Rattle.sudo_words.specs.Moment.{two, four, hour, minute, second, IsClockText, IsDateText};
+ghost use Rattle.std.specs.Prelude.{◌≡◌, ◌<◌, ◌≤◌, ◌*◌, ◌+◌, ℕ, [], ◌∷◌, IfSome, Some};
+ghost use Rattle.sudo_words.specs.Moment.{two, IsClockText, IsDateText};
 
 use crate::civil::day_number;
 
@@ -57,14 +57,16 @@ pub(crate) fn clock(text: &[u8]) -> Option<u32>
     }
 }
 
-/// The day number of the date `yyyymmdd` at the front of a text, and what stands behind it.
-pub(crate) fn date(text: &[u8]) -> Option<(u32, &[u8])>
-    ensures found { IfSome result (λ x. (x.0 ≤ 47_481) × ((front : List ℕ) × (text.now ≡ front ++ x.1.now) × IsDateText front x.0)) }
-    ensures only { (front rest : List ℕ) (n : ℕ) → n ≤ 47_481 → IsDateText front n → text.now ≡ front ++ rest → IsSomeAnd result (λ x. (x.0 ≡ n) × (x.1.now ≡ rest)) }
+/// The day number of a date, `yyyymmdd`.
+pub(crate) fn date(text: &[u8]) -> Option<u32>
+    ensures found { IfSome result (λ n. (n ≤ 47_481) × IsDateText text.now n) }
+    ensures only { (n : ℕ) → n ≤ 47_481 → IsDateText text.now n → result ≡ Some n }
 {
-    let [a, b, c, d, e, f, g, h, rest @ ..] = text else {
-        return None;
-    };
-    let year = u16::from(pair(*a, *b)?) * 100 + u16::from(pair(*c, *d)?);
-    Some((day_number(year, pair(*e, *f)?, pair(*g, *h)?)?, rest))
+    match text {
+        [a, b, c, d, e, f, g, h] => {
+            let year = u16::from(pair(*a, *b)?) * 100 + u16::from(pair(*c, *d)?);
+            day_number(year, pair(*e, *f)?, pair(*g, *h)?)
+        }
+        _ => None,
+    }
 }
