@@ -67,11 +67,11 @@ place_from_month (suc later) y m days low end h =
     elim (cases_lt days (days_in_month (pos y) m)) [
       | inl here ↦ rw (month-here later y m days here) (place y m days low (omega arith) here)
       | inr after ↦
-        let rest = days - days_in_month (pos y) m in
-        let back : m + 1 - 1 ≡ m = omega arith in
-        let sum : rest + days_of_months (pos y) (m + 1 - 1) ≡ days + days_of_months (pos y) (m - 1) = rw back (omega (arith, days_of_months_more (pos y) m low, after)) in
-        let found = place_from_month later y (m + 1) rest (omega arith) (omega arith) (rw sum h) in
-        rw (month-later later y m days after) (rw sum at found)
+          let rest = days - days_in_month (pos y) m in
+          let back : m + 1 - 1 ≡ m = omega arith in
+          let sum : rest + days_of_months (pos y) (m + 1 - 1) ≡ days + days_of_months (pos y) (m - 1) = rw back (omega (arith, days_of_months_more (pos y) m low, after)) in
+          let found = place_from_month later y (m + 1) rest (omega arith) (omega arith) (rw sum h) in
+          rw (month-later later y m days after) (rw sum at found)
     ]
 
 -- the date is one of the calendar's, from the year `y` on, with so many days before it
@@ -106,15 +106,15 @@ counted_from_year (suc later) y days last end high h =
     elim (cases_lt days (days_in_year (pos y))) [
       | inl here ↦ rw (year-here later y days here) (counted (date_from_month 11 y 1 days) y days last (omega arith) high (place_in_year y days here))
       | inr after ↦
-        let rest = days - days_in_year (pos y) in
-        let next = day_count-next_year (pos y) (pos (y + 1)) (omega (arith, signed_arith)) (omega (arith, signed_arith)) in
-        let sum : rest + day_count (pos (y + 1)) 1 1 ≡ days + day_count (pos y) 1 1 = omega (arith, next, after) in
-        let found = counted_from_year later (y + 1) rest last (omega arith) high (rw sum h) in
-        rw (year-later later y days after) record {
-          year_in = (omega (arith, found.year_in), found.year_in.1);
-          civil = found.civil;
-          count_is = found.count_is ∙ sum;
-        }
+          let rest = days - days_in_year (pos y) in
+          let next = day_count-next_year (pos y) (pos (y + 1)) (omega (arith, signed_arith)) (omega (arith, signed_arith)) in
+          let sum : rest + day_count (pos (y + 1)) 1 1 ≡ days + day_count (pos y) 1 1 = omega (arith, next, after) in
+          let found = counted_from_year later (y + 1) rest last (omega arith) high (rw sum h) in
+          rw (year-later later y days after) record {
+            year_in = (omega (arith, found.year_in), found.year_in.1);
+            civil = found.civil;
+            count_is = found.count_is ∙ sum;
+          }
     ]
 
 -- 2100-01-01 has 47,482 days between it and 1970-01-01

@@ -4,7 +4,7 @@ use Rattle.std.specs.Prelude.{codes}
 use Rattle.std.specs.List.{AllByRecursion}
 use Rattle.std.proofs.lemmas.Bool.Decides.{nat_tests}
 use Rattle.sudo_words.specs.Moment.{IsMoment, IsDateText, IsClockText, IsStamp, Spells, date_of, date_text, four, hour, is_stamp_byte, minute, second, stamp, two}
-use Rattle.sudo_words.proofs.Days.{IsDateOf, date_of_is, date_of_only, numbers_in}
+use Rattle.sudo_words.proofs.Days.{date_of_is, date_of_only, numbers_in}
 
 -- the day of a moment is among the days that `date_of` knows
 pub day_in : (t : ℕ) → IsMoment t → t / 86_400 ≤ 47_481

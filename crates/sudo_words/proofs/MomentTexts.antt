@@ -1,11 +1,11 @@
 -- A text spells one moment, and its spelling of 15 bytes is the canonical one.
-use Rattle.std.proofs.Common.{◌≡◌, ℕ, ◌+◌, ◌*◌, ◌/◌, ◌%◌, ◌<◌, ◌≤◌, ◌∙◌, List, [], ◌∷◌, ◌++◌, length, take, drop, refl, sym, inl, inr, arith, pos, append_assoc, length-append, ap}
+use Rattle.std.proofs.Common.{◌≡◌, ℕ, ◌+◌, ◌/◌, ◌%◌, ◌<◌, ◌∙◌, List, [], ◌++◌, length, take, drop, refl, sym, inl, inr, arith, pos, append_assoc, length-append, ap}
 use Rattle.std.specs.Prelude.{codes}
 use Rattle.jiff_core.specs.Calendar.{days_from_civil}
 use Rattle.jiff_core.proofs.CalendarLemmas.{days_in_month_bounds}
 use Rattle.jiff_core.proofs.SignedLemmas.{signed_arith}
 use Rattle.sudo_words.specs.Moment.{IsDateText, IsClockText, IsStamp, Spells, four, two, hour, minute, second}
-use Rattle.sudo_words.proofs.MomentLemmas.{IsParted, parted}
+use Rattle.sudo_words.proofs.MomentLemmas.{parted}
 
 two_injective : (m n : ℕ) → m < 100 → n < 100 → 48 + m / 10 ≡ 48 + n / 10 → 48 + m % 10 ≡ 48 + n % 10 → m ≡ n
 two_injective m n below low tens ones = omega arith
@@ -77,8 +77,8 @@ stamp_from_length text t s len =
     let clock : length s.clock ≡ 7 = omega (arith, ap length s.text_is, length-append s.date s.clock, date) in
     elim s.clock_is [
       | inl full ↦
-        let text_is : text ≡ s.date ++ (two (hour t) ++ two (minute t) ++ two (second t) ++ codes "Z") = rw full at s.text_is in
-        record { moment = s.moment; date = s.date; text_is = text_is ∙ sym (simp append_assoc); date_is = s.date_is }
+          let text_is : text ≡ s.date ++ (two (hour t) ++ two (minute t) ++ two (second t) ++ codes "Z") = rw full at s.text_is in
+          record { moment = s.moment; date = s.date; text_is = text_is ∙ sym (simp append_assoc); date_is = s.date_is }
       | inr (inl short) ↦ absurd (omega (arith, clock, ap length short.0))
       | inr (inr shortest) ↦ absurd (omega (arith, clock, ap length shortest.0))
     ]

@@ -63,7 +63,8 @@ fn reads_and_prints(rt: HostRuntime) -> Result<(), Fail> {
             printed,
             "of {text}"
         );
-        assert!(rt; Moment::read(printed) == Some(moment), "of {printed}");
+        let again = Moment::read(printed).ok_or("a moment")?;
+        assert!(rt; again == moment, "of {secs}");
     }
     Ok(())
 }

@@ -2,8 +2,8 @@ use Rattle.std.proofs.Common.{◌≡◌, ℕ, ◌+◌, ◌^◌, ◌<◌, ◌≤�
 use Rattle.jiff_core.specs.declared.civil.date.Date.{Date}
 use Rattle.jiff_core.specs.Date.{epoch_day}
 use Rattle.jiff_core.proofs.SignedLemmas.{signed_arith, back_small}
-use Rattle.sudo_words.specs.Moment.{CalendarDate, date_of}
-use Rattle.sudo_words.proofs.Days.{IsDateOf, date_of_is, library_date_is}
+use Rattle.sudo_words.specs.Moment.{date_of}
+use Rattle.sudo_words.proofs.Days.{date_of_is, library_date_is}
 use Rattle.sudo_words.proofs.civil.date_at.Goals as goal
 
 -- the library's year is the one of `date_of`, also as the cast reads it

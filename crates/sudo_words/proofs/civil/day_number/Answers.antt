@@ -1,5 +1,5 @@
-use Rattle.std.proofs.Common.{◌≡◌, ℕ, ◌≤◌, arith, ap, sym, pos, ◌+ℤ◌}
-use Rattle.sudo_words.proofs.Days.{IsNumbered, numbered, numbers_in}
+use Rattle.std.proofs.Common.{arith}
+use Rattle.sudo_words.proofs.Days.{numbered, numbers_in}
 use Rattle.sudo_words.proofs.civil.day_number.Goals as goal
 use Rattle.sudo_words.proofs.civil.day_number.Goals.{then-year-lt1970-via-then-year-lt1970, then-year-lt1970-via-else-year-lt1970+then-year-gt2099, then-year-lt1970-via-else-year-lt1970+else-year-gt2099+then-month-gt12, then-year-lt1970-via-else-year-lt1970+else-year-gt2099+else-month-gt12+then-day-gt31}
 

@@ -1,6 +1,6 @@
-use Rattle.std.proofs.Common.{◌≡◌, ℕ, ◌+◌, ◌*◌, ◌/◌, ◌%◌, ◌∙◌, ◌++◌, List, take, drop, sym, ap, arith, Some}
+use Rattle.std.proofs.Common.{◌≡◌, ◌+◌, ◌*◌, ◌/◌, ◌%◌, ◌++◌, sym, ap, arith, Some}
 use Rattle.std.proofs.lemmas.List.{take-append-drop}
-use Rattle.sudo_words.proofs.MomentLemmas.{IsParted, parted, spells_from}
+use Rattle.sudo_words.proofs.MomentLemmas.{parted, spells_from}
 use Rattle.sudo_words.proofs.moment.Moment.read.Goals as goal
 
 pub returns-in_err-time-clause-only : goal.returns-in_err-time-clause-only
