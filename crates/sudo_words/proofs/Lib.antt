@@ -1,1 +1,4 @@
 pub mod CommandLemmas
+pub mod Days
+pub mod MomentLemmas
+pub mod MomentTexts

@@ -3,13 +3,17 @@
 
 mod alias;
 mod arg;
+mod civil;
 mod cmnd;
 mod cmnd_text;
 mod fault;
 mod items;
 mod laws;
 mod moment;
+mod moment_laws;
 mod name;
+mod pair;
+mod parts;
 mod path;
 mod word;
 
@@ -21,6 +25,10 @@ pub use fault::{CmndFault, NoMemory, WordFault};
 pub use items::Items;
 pub use laws::one_command;
 pub use moment::Moment;
+pub use moment_laws::{one_moment, stamp_is_stamp, stamp_spells};
 pub use name::{HostForm, HostName, Name, UserForm};
 pub use path::{DirForm, DirPath, FileForm, FilePath};
 pub use word::{Form, Word};
+
+#[cfg(test)]
+mod moment_tests;

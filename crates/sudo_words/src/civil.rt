@@ -1,0 +1,54 @@
+//! Dates of the calendar and their day numbers, where 1970-01-01 is 0.
+
+ghost use Rattle.std.specs.Prelude.{◌≡◌, ◌≤◌, ◌<◌, ℕ, pos, IfSome, Some};
+ghost use Rattle.jiff_core.specs.Calendar.{IsCivilDate, days_from_civil};
+ghost use Rattle.sudo_words.specs.Moment.{date_of};
+
+use jiff::civil::Date;
+
+/// The calendar's days from its first, -9999-01-01, to 1970-01-01.
+const EPOCH: u32 = 4_371_587;
+
+/// The day number of 2099-12-31.
+pub(crate) const LAST_DAY: u32 = 47_481;
+
+/// A date from 1970-01-01 to 2099-12-31, in numbers.
+#[derive(Clone, Copy)]
+pub(crate) struct Civil {
+    pub(crate) year: u16,
+    pub(crate) month: u8,
+    pub(crate) day: u8,
+    ghost four_digits: { year < 10000 },
+    ghost month_digits: { month < 100 },
+    ghost day_digits: { day < 100 },
+}
+
+/// The day number of the date, where the calendar has it in the years 1970 to 2099.
+pub(crate) fn day_number(year: u16, month: u8, day: u8) -> Option<u32>
+    ensures found { IfSome result (λ n. (n ≤ 47_481) × IsCivilDate (pos year) month day × (days_from_civil (pos year) month day ≡ pos n)) }
+    ensures only { (n : ℕ) → n ≤ 47_481 → IsCivilDate (pos year) month day → days_from_civil (pos year) month day ≡ pos n → result ≡ Some n }
+{
+    // Outside these the numbers may not fit the calendar's signed types.
+    if year < 1970 || year > 2099 || month > 12 || day > 31 {
+        return None;
+    }
+    match Date::new(year as i16, month as i8, day as i8) {
+        Ok(date) => Some(date.to_plain().days_since_min() - EPOCH),
+        Err(_) => None,
+    }
+}
+
+/// The date with that day number.
+pub(crate) fn date_at(days: u32) -> Civil
+    requires { days ≤ 47_481 }
+    ensures year { result.year ≡ (date_of days).year }
+    ensures month { result.month ≡ (date_of days).month }
+    ensures day { result.day ≡ (date_of days).day_of_month }
+{
+    let date = jiff_core::civil::Date::from_days_since_min(days + EPOCH);
+    Civil {
+        year: date.year as u16,
+        month: date.month,
+        day: date.day,
+    }
+}
