@@ -1,2 +1,4 @@
 pub mod Spans
 pub mod Lexing
+pub mod Dating
+pub mod Rules

@@ -30,12 +30,6 @@ SpellsTarget front target =
     ((front ≡ []) × (target ≡ root))
     ⊎ ((a b c : Bool) × (front ≡ mark a 40 ∷ word b (item_text target) ∷ mark c 41 ∷ []))
 
--- what begins with no `(`
-abbrev pub NoOpening : List Tok → Type 0
-NoOpening [] = Unit {0}
-NoOpening (word a text ∷ ts) = Unit {0}
-NoOpening (mark a byte ∷ ts) = byte ≢ 40
-
 -- ---- dates and command: each option is given at most once, in either order, with blanks behind it
 
 -- an option: its word, and its moment
@@ -50,12 +44,17 @@ SpellsDated behind toks (date ∷ dates) cmnd =
     (a : Bool) × (time : List ℕ) × (rest : List Tok) × (behind ≡ true → a ≡ true) × moments.Spells time date.moment
     × (toks ≡ word a date.word ∷ mark false 61 ∷ word false time ∷ rest) × SpellsDated true rest dates cmnd
 
--- What the options say of the bounds, behind options that gave these so far: each bound is given at most once.
-abbrev pub Bounds : Option ℕ → Option ℕ → List Date → Option ℕ → Option ℕ → Type 0
+-- An option gives a bound that was not given before; the other stays.
+abbrev pub GivesBound : (before after : Option ℕ) → Date → (new_before new_after : Option ℕ) → Type 0
+GivesBound before after date new_before new_after =
+    ((date.word ≡ codes "NOTBEFORE") × (before ≡ None) × (new_before ≡ Some date.moment) × (new_after ≡ after))
+    ⊎ ((date.word ≡ codes "NOTAFTER") × (after ≡ None) × (new_after ≡ Some date.moment) × (new_before ≡ before))
+
+-- What the options say of the bounds, in order, behind options that gave these so far.
+abbrev pub Bounds : (before after : Option ℕ) → List Date → (not_before not_after : Option ℕ) → Type 0
 Bounds before after [] not_before not_after = (not_before ≡ before) × (not_after ≡ after)
 Bounds before after (date ∷ dates) not_before not_after =
-    ((date.word ≡ codes "NOTBEFORE") × (before ≡ None) × Bounds (Some date.moment) after dates not_before not_after)
-    ⊎ ((date.word ≡ codes "NOTAFTER") × (after ≡ None) × Bounds before (Some date.moment) dates not_before not_after)
+    (new_before new_after : Option ℕ) × GivesBound before after date new_before new_after × Bounds new_before new_after dates not_before not_after
 
 -- ---- a user specification and its rule
 

@@ -3,3 +3,4 @@ pub mod Policy
 pub mod Span
 pub mod Lex
 pub mod Grammar
+pub mod Heads

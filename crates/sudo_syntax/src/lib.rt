@@ -3,6 +3,7 @@
 
 mod entry;
 mod fault;
+mod heads;
 mod misplaced;
 mod policy;
 mod reading;

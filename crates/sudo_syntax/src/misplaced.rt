@@ -29,6 +29,14 @@ pub(crate) fn bad_word(text: &str) -> LineFault {
     }
 }
 
+/// What is wrong with an option that is none of the two dates, or given twice.
+pub(crate) fn bad_option(option: &str) -> LineFault {
+    match option {
+        "NOTBEFORE" | "NOTAFTER" => LineFault::Unexpected,
+        _ => bad_word(option),
+    }
+}
+
 /// Whether the token is a mark of a form that the desk leaves out: a list, a joined part, a tag or a negation.
 fn marks_left_out(token: &Token<'_>) -> bool {
     matches!(token, Token::Mark(_, b',' | b':' | b'!'))
