@@ -117,7 +117,7 @@ counted_from_year (suc later) y days last end high h =
           }
     ]
 
--- 2100-01-01 has 47,482 days between it and 1970-01-01
+-- 2100-01-01 comes 47,482 days after 1970-01-01
 day_count-end : day_count (pos 2099) 1 1 + days_in_year (pos 2099) ≡ 4_419_435
 day_count-end = omega (arith, day_count-early (pos 2099) 12098 1 1 refl (omega arith) (omega arith) (omega arith))
 

@@ -7,21 +7,17 @@ use Rattle.jiff_core.proofs.SignedLemmas.{signed_arith}
 use Rattle.sudo_words.specs.Moment.{IsDateText, IsClockText, IsStamp, Spells, four, two, hour, minute, second}
 use Rattle.sudo_words.proofs.MomentLemmas.{parted}
 
-two_injective : (m n : ℕ) → m < 100 → n < 100 → 48 + m / 10 ≡ 48 + n / 10 → 48 + m % 10 ≡ 48 + n % 10 → m ≡ n
-two_injective m n below low tens ones = omega arith
-
 -- the digits at the front of a text say which number they spell, and what stands behind them
 two_front : (m n : ℕ) (r s : List ℕ) → m < 100 → n < 100 → two m ++ r ≡ two n ++ s → (m ≡ n) × (r ≡ s)
 two_front m n r s below low e =
-    let tens : 48 + m / 10 ≡ 48 + n / 10 = cc in
-    let ones : 48 + m % 10 ≡ 48 + n % 10 = cc in
-    (two_injective m n below low tens ones, cc)
+    let same : (48 + m / 10 ≡ 48 + n / 10) × (48 + m % 10 ≡ 48 + n % 10) × (r ≡ s) = (cc, cc, cc) in
+    (omega (arith, same.0, same.1), same.2)
 
 four_front : (m n : ℕ) (r s : List ℕ) → m < 10_000 → n < 10_000 → four m ++ r ≡ four n ++ s → (m ≡ n) × (r ≡ s)
 four_front m n r s below low e =
-    let high = two_front (m / 100) (n / 100) (two (m % 100) ++ r) (two (n % 100) ++ s) (omega arith) (omega arith) e in
-    let rest = two_front (m % 100) (n % 100) r s (omega arith) (omega arith) high.1 in
-    (omega (arith, high.0, rest.0), rest.1)
+    let century = two_front (m / 100) (n / 100) (two (m % 100) ++ r) (two (n % 100) ++ s) (omega arith) (omega arith) e in
+    let in_century = two_front (m % 100) (n % 100) r s (omega arith) (omega arith) century.1 in
+    (omega (arith, century.0, in_century.0), in_century.1)
 
 -- a date's text is of one day
 pub one_day : (text : List ℕ) (m n : ℕ) → IsDateText text m → IsDateText text n → m ≡ n

@@ -9,9 +9,6 @@ use jiff::civil::Date;
 /// The calendar's days from its first, -9999-01-01, to 1970-01-01.
 const EPOCH: u32 = 4_371_587;
 
-/// The day number of 2099-12-31.
-pub(crate) const LAST_DAY: u32 = 47_481;
-
 /// A date from 1970-01-01 to 2099-12-31, in numbers.
 #[derive(Clone, Copy)]
 pub(crate) struct Civil {
@@ -28,7 +25,7 @@ pub(crate) fn day_number(year: u16, month: u8, day: u8) -> Option<u32>
     ensures found { IfSome result (λ n. (n ≤ 47_481) × IsCivilDate (pos year) month day × (days_from_civil (pos year) month day ≡ pos n)) }
     ensures only { (n : ℕ) → n ≤ 47_481 → IsCivilDate (pos year) month day → days_from_civil (pos year) month day ≡ pos n → result ≡ Some n }
 {
-    // Outside these the numbers may not fit the calendar's signed types.
+    // Outside these bounds no moment lies, and the numbers may not fit the calendar's signed types.
     if year < 1970 || year > 2099 || month > 12 || day > 31 {
         return None;
     }

@@ -1,3 +1,5 @@
+//! Moments of time, as texts and as counts of seconds.
+
 ghost use Rattle.std.specs.Prelude.{◌≡◌, ℕ, ◌<◌, ◌≤◌, IfSome, Some};
 
 use crate::civil::date_at;

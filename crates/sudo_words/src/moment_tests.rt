@@ -1,7 +1,7 @@
 use super::*;
 use std::test::*;
 
-/// Texts that spell a moment, its seconds by another program, and its canonical text.
+/// Texts that spell a moment, its seconds as another program gives them, and its canonical text.
 const SPELLED: [(&str, u64, &str); 12] = [
     ("19700101000000Z", 0, "19700101000000Z"),
     ("1970010100Z", 0, "19700101000000Z"),

@@ -18,8 +18,6 @@ impl fmt::Display for Pair {
 
     #[tactic(auto, using(std::proofs::lemmas::Fmt::decimal_digit))]
     fn fmt<W: fmt::Write>(&self, f: &mut fmt::Formatter<W>) -> fmt::Result {
-        let tens = self.number / 10;
-        let ones = self.number % 10;
-        write!(f, "{tens}{ones}")
+        write!(f, "{}{}", self.number / 10, self.number % 10)
     }
 }

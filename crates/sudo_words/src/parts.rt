@@ -10,10 +10,9 @@ fn pair(tens: u8, ones: u8) -> Option<u8>
     ensures found { IfSome result (λ n. (n < 100) × (tens ∷ ones ∷ [] ≡ two n)) }
     ensures only { (n : ℕ) → n < 100 → tens ∷ ones ∷ [] ≡ two n → result ≡ Some n }
 {
-    if tens.is_ascii_digit() && ones.is_ascii_digit() {
-        Some((tens - b'0') * 10 + (ones - b'0'))
-    } else {
-        None
+    match (tens, ones) {
+        (b'0'..=b'9', b'0'..=b'9') => Some(10 * (tens - b'0') + (ones - b'0')),
+        _ => None,
     }
 }
 
