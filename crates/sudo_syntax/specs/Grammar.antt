@@ -88,10 +88,13 @@ abbrev pub begins_with_digit : List ℕ → Bool
 begins_with_digit [] = false
 begins_with_digit (b ∷ bs) = is_digit b
 
+abbrev pub ends_with_backslash : List ℕ → Bool
+ends_with_backslash [] = false
+ends_with_backslash (b ∷ bs) = slice_index (b ∷ bs) (length (b ∷ bs) - 1) == 92
+
 abbrev pub is_comment : List ℕ → Bool
 is_comment text =
-    not (begins_with_digit text) && not (starts_with nat_eq text (codes "include"))
-    && not (slice_index text (length text - 1) == 92)
+    not (begins_with_digit text) && not (starts_with nat_eq text (codes "include")) && not (ends_with_backslash text)
 
 -- nothing, or a comment
 abbrev pub IsNote : List ℕ → Type 0

@@ -4,3 +4,4 @@ pub mod Span
 pub mod Lex
 pub mod Grammar
 pub mod Heads
+pub mod Reading

@@ -4,14 +4,17 @@
 mod entry;
 mod fault;
 mod heads;
+mod lines;
 mod misplaced;
 mod policy;
+mod read;
 mod reading;
 mod token;
 
 pub use entry::{CmndItem, Entry, Item, Rule, Signed};
 pub use fault::{FaultKind, ReadFault};
 pub use policy::Policy;
+pub use read::read_policy;
 pub use sudo_words::{
     AliasName, Arg, ArgRule, Cmnd, CmndFault, DirPath, FilePath, HostName, Items, Moment, Name,
     NoMemory, WordFault, is_lawful, print_cmnd, read_cmnd,

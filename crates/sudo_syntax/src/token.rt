@@ -16,6 +16,12 @@ pub(crate) enum Token<'a> {
     Mark(bool, u8),
 }
 
+fn is_text_byte(b: u8) -> bool
+    ensures { result ≡ lex.is_text_byte b }
+{
+    b == b'\t' || b == b'\n' || (b >= b' ' && b <= b'~')
+}
+
 fn is_blank(b: u8) -> bool
     ensures { result ≡ lex.is_blank b }
 {
@@ -53,6 +59,20 @@ fn word_len(bytes: &[u8]) -> usize
     ensures { result ≡ length (take_while lex.is_word_byte bytes.now) }
 {
     bytes.iter().take_while(|b| is_word_byte(**b)).count()
+}
+
+/// How many bytes at the front a text may have.
+fn text_len(bytes: &[u8]) -> usize
+    ensures { result ≡ length (take_while lex.is_text_byte bytes.now) }
+{
+    bytes.iter().take_while(|b| is_text_byte(**b)).count()
+}
+
+/// The bytes at the front that a text may have, and what follows them.
+pub(crate) fn cut_text(bytes: &[u8]) -> (&[u8], &[u8])
+    ensures { IsCut lex.is_text_byte bytes.now result.0.now result.1.now }
+{
+    bytes.split_at(text_len(bytes))
 }
 
 /// The blanks at the front, and what follows them.
