@@ -1,0 +1,117 @@
+-- What a policy decides of an invocation (sudoers(5), "SUDOERS FILE FORMAT": where several entries match, the last match is used).
+use Rattle.std.specs.Prelude.{◌≡◌, ℕ, Bool, true, false, not, ◌&&◌, nat_le, List, [], ◌∷◌, ◌++◌, map, Option, Some, None, if◌then◌else◌, ◌⊎◌, codes}
+use Rattle.std.specs.List.{AllByRecursion}
+use Rattle.std.specs.Option.{option_map, option_or}
+use Rattle.std.specs.Str.{bytes_eq}
+use Rattle.sudo_words.specs.Command.{matches}
+use Rattle.sudo_syntax.specs.declared.entry.Signed.{Signed}
+use Rattle.sudo_syntax.specs.declared.entry.Item.{Item}
+use Rattle.sudo_syntax.specs.declared.entry.Item.TheVariants as items
+use Rattle.sudo_syntax.specs.declared.entry.CmndItem.{CmndItem}
+use Rattle.sudo_syntax.specs.declared.entry.CmndItem.TheVariants as cmnds
+use Rattle.sudo_syntax.specs.declared.entry.Rule.{Rule}
+use Rattle.sudo_syntax.specs.declared.entry.Entry.{Entry}
+use Rattle.sudo_syntax.specs.declared.entry.Entry.TheVariants as entries
+use Rattle.sudo_decide.specs.declared.decision.Decision.{Decision}
+use Rattle.sudo_decide.specs.declared.decision.Decision.TheVariants.{Deny, Allow, AllowNoPassword}
+use Rattle.sudo_decide.specs.declared.invocation.Invocation.{Invocation}
+
+-- ---- answers: `Some true` is yes, `Some false` is no, and `None` is silence
+
+-- only a yes is one: neither a no nor silence
+abbrev pub is_yes : Option Bool → Bool
+is_yes (Some answer) = answer
+is_yes None = false
+
+-- the last that is given
+abbrev pub last_given : {X : Type 0} → List (Option X) → Option X
+last_given [] = None
+last_given (answer ∷ later) = option_or (last_given later) answer
+
+-- negation swaps yes and no, and keeps silence
+abbrev pub signed_answer : Bool → Option Bool → Option Bool
+signed_answer negated answer = if negated then option_map not answer else answer
+
+-- a list is looked at in order, and its answer is the last one that an item gives
+abbrev pub list_answer : {X : Type 0} → (X → Option Bool) → List (Signed X) → Option Bool
+list_answer item_says list = last_given (map (λ x. signed_answer x.negated (item_says x.item)) list)
+
+-- `ALL` says yes, and a name where it is the one asked for; an alias of which nothing is known is silent
+abbrev pub item_answer : List ℕ → Item (List ℕ) → Option Bool
+item_answer asked items.All = Some true
+item_answer asked (items.Name name) = if bytes_eq name asked then Some true else None
+item_answer asked (items.Alias name) = None
+
+-- a command says yes where it matches the path with these arguments
+abbrev pub cmnd_answer : List ℕ → List (List ℕ) → CmndItem → Option Bool
+cmnd_answer path args (cmnds.Alias name) = None
+cmnd_answer path args (cmnds.Cmnd cmnd) = if matches cmnd path args then Some true else None
+
+-- ---- rules
+
+-- a rule takes part from its first moment to its last, both included; an absent one is no bound
+abbrev pub is_not_before : Option ℕ → ℕ → Bool
+is_not_before None at = true
+is_not_before (Some first) at = nat_le first at
+
+abbrev pub is_not_after : Option ℕ → ℕ → Bool
+is_not_after None at = true
+is_not_after (Some last) at = nat_le at last
+
+abbrev pub takes_part : Rule → ℕ → Bool
+takes_part r at = is_not_before r.not_before at && is_not_after r.not_after at
+
+-- its users, its hosts and its targets each say yes
+abbrev pub is_about : Rule → Invocation → Bool
+is_about r i =
+    is_yes (list_answer (item_answer i.user) r.users)
+    && is_yes (list_answer (item_answer i.host) r.hosts)
+    && is_yes (list_answer (item_answer i.runas) r.runas)
+
+-- a rule that takes part and is about the invocation says what its command says; any other is silent
+abbrev pub says : Rule → Invocation → Option Bool
+says r i =
+    if takes_part r i.at && is_about r i then signed_answer r.cmnd.negated (cmnd_answer i.path i.args r.cmnd.item) else None
+
+-- only rules speak
+abbrev pub entry_says : Entry → Invocation → Option Bool
+entry_says (entries.UserAlias name list) i = None
+entry_says (entries.RunasAlias name list) i = None
+entry_says (entries.HostAlias name list) i = None
+entry_says (entries.CmndAlias name list) i = None
+entry_says (entries.Rule rule) i = says rule i
+
+-- ---- policies: the last rule that speaks decides, and silence denies
+
+-- what a rule decides by its answer
+abbrev pub outcome : Rule → Bool → Decision
+outcome r answer = if answer then (if r.nopasswd then AllowNoPassword else Allow) else Deny
+
+abbrev pub AllSilent : List Entry → Invocation → Type 0
+AllSilent es i = AllByRecursion (λ e. entry_says e i ≡ None) es
+
+-- a rule speaks, each entry behind it is silent, and the decision is the rule's
+pub record DecidesByRule (es : List Entry) (i : Invocation) (d : Decision) : Type 0 where
+  pub before : List Entry
+  pub rule : Rule
+  pub after : List Entry
+  pub answer : Bool
+  pub entries_are : es ≡ before ++ entries.Rule rule ∷ after
+  pub speaks : says rule i ≡ Some answer
+  pub silent : AllSilent after i
+  pub decision : d ≡ outcome rule answer
+
+-- nothing speaks, and the decision is to deny
+pub record DecidesBySilence (es : List Entry) (i : Invocation) (d : Decision) : Type 0 where
+  pub silent : AllSilent es i
+  pub decision : d ≡ Deny
+
+abbrev pub Decides : List Entry → Invocation → Decision → Type 0
+Decides es i d = DecidesByRule es i d ⊎ DecidesBySilence es i d
+
+-- ---- texts
+
+abbrev pub decision_text : Decision → List ℕ
+decision_text Deny = codes "deny"
+decision_text Allow = codes "allow"
+decision_text AllowNoPassword = codes "allow nopasswd"

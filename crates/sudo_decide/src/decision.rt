@@ -1,0 +1,31 @@
+//! What a policy answers.
+
+use std::fmt;
+
+/// The answer to an invocation.
+///
+/// It is printed as `deny`, `allow` or `allow nopasswd`.
+#[derive(Clone, Copy, Debug, PartialEq, Eq)]
+pub enum Decision {
+    /// It may not run.
+    Deny,
+    /// It may run, once the user has given a password.
+    Allow,
+    /// It may run, and no password is asked for.
+    AllowNoPassword,
+}
+
+impl fmt::Display for Decision {
+    ghost use Rattle.std.specs.Prelude.{Some};
+    ghost use Rattle.sudo_decide.specs.Decision.{decision_text};
+
+    ghost output = { λ d. Some (decision_text d) };
+
+    fn fmt<W: fmt::Write>(&self, f: &mut fmt::Formatter<W>) -> fmt::Result {
+        f.write_str(match self {
+            Decision::Deny => "deny",
+            Decision::Allow => "allow",
+            Decision::AllowNoPassword => "allow nopasswd",
+        })
+    }
+}
