@@ -2,3 +2,5 @@ pub mod Spans
 pub mod Lexing
 pub mod Dating
 pub mod Rules
+pub mod One
+pub mod Canon

@@ -4,6 +4,7 @@
 mod entry;
 mod fault;
 mod heads;
+mod laws;
 mod misplaced;
 mod policy;
 mod reading;
@@ -11,6 +12,7 @@ mod token;
 
 pub use entry::{CmndItem, Entry, Item, Rule, Signed};
 pub use fault::{FaultKind, ReadFault};
+pub use laws::{canon_is_one, canon_spells, one_policy};
 pub use policy::Policy;
 pub use sudo_words::{
     AliasName, Arg, ArgRule, Cmnd, CmndFault, DirPath, FilePath, HostName, Items, Moment, Name,
