@@ -4,3 +4,5 @@ pub mod Dating
 pub mod Rules
 pub mod LineLemmas
 pub mod LimitLemmas
+pub mod One
+pub mod Canon

@@ -5,6 +5,7 @@ mod entry;
 mod fault;
 mod heads;
 mod lines;
+mod laws;
 mod misplaced;
 mod policy;
 mod read;
@@ -13,6 +14,7 @@ mod token;
 
 pub use entry::{CmndItem, Entry, Item, Rule, Signed};
 pub use fault::{FaultKind, ReadFault};
+pub use laws::{canon_is_one, canon_spells, one_policy};
 pub use policy::Policy;
 pub use read::read_policy;
 pub use sudo_words::{
