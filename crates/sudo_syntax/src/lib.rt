@@ -4,10 +4,11 @@
 mod entry;
 mod fault;
 mod heads;
-mod lines;
 mod laws;
+mod lines;
 mod misplaced;
 mod policy;
+mod printing;
 mod read;
 mod reading;
 mod token;

@@ -34,6 +34,11 @@ abbrev pub is_host_name : List ℕ → Bool
 is_host_name [] = false
 is_host_name (b ∷ bs) = is_lower b && list_all is_host_byte bs && nat_le (length (b ∷ bs)) 32
 
+-- ---- labels of the desk (duties, ceilings, relays): the same form
+
+abbrev pub is_label : List ℕ → Bool
+is_label w = is_host_name w
+
 -- ---- aliases: `[A-Z][A-Z0-9_]*`, up to 32 bytes, and none of the words that sudoers keeps for itself
 
 abbrev pub is_alias_byte : ℕ → Bool

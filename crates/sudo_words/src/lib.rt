@@ -26,7 +26,7 @@ pub use items::Items;
 pub use laws::one_command;
 pub use moment::Moment;
 pub use moment_laws::{one_moment, stamp_is_stamp, stamp_spells};
-pub use name::{HostForm, HostName, Name, UserForm};
+pub use name::{HostForm, HostName, Label, LabelForm, Name, UserForm};
 pub use path::{DirForm, DirPath, FileForm, FilePath};
 pub use word::{Form, Word};
 

@@ -71,3 +71,18 @@ impl Form for HostForm {
 
 /// The name of a host.
 pub type HostName = Word<HostForm>;
+
+/// The form of a label, as of a ceiling: `[a-z][a-z0-9-]*`, up to 32 bytes.
+#[derive(Clone, Copy, Debug)]
+pub struct LabelForm;
+
+impl Form for LabelForm {
+    ghost has = { word.is_label };
+
+    fn test(text: &[u8]) -> bool {
+        HostForm::test(text)
+    }
+}
+
+/// A label of the desk, as the name of a ceiling.
+pub type Label = Word<LabelForm>;
