@@ -4,5 +4,6 @@ pub mod Dating
 pub mod Rules
 pub mod LineLemmas
 pub mod LimitLemmas
+pub mod Printed
 pub mod One
 pub mod Canon

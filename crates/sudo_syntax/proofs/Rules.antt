@@ -85,7 +85,6 @@ made users hosts runas not_before not_after nopasswd cmnd =
 pub same_rule : (r : Rule) (users hosts runas : List (Signed (Item (List ℕ)))) (not_before not_after : Option ℕ) (nopasswd : Bool) (cmnd : Signed CmndItem)
     → users ≡ r.users → hosts ≡ r.hosts → runas ≡ r.runas → not_before ≡ r.not_before → not_after ≡ r.not_after → nopasswd ≡ r.nopasswd → cmnd ≡ r.cmnd
     → made users hosts runas not_before not_after nopasswd cmnd ≡ r
-
 same_rule r users hosts runas not_before not_after nopasswd cmnd a b c d e f g =
     let same : made users hosts runas not_before not_after nopasswd cmnd ≡ made r.users r.hosts r.runas r.not_before r.not_after r.nopasswd r.cmnd =
     ap (λ x. made x hosts runas not_before not_after nopasswd cmnd) a ∙ ap (λ x. made r.users x runas not_before not_after nopasswd cmnd) b

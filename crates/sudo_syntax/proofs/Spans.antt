@@ -29,4 +29,3 @@ one_cut p (x ∷ a) r (y ∷ b) s each_a stop_r each_b stop_s e =
     let rest : a ++ r ≡ b ++ s = cc in
     let t = one_cut p a r b s each_a.1 stop_r each_b.1 stop_s rest in
     (cc, t.1)
-

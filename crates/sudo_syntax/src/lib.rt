@@ -17,6 +17,7 @@ pub use entry::{CmndItem, Entry, Item, Rule, Signed};
 pub use fault::{FaultKind, ReadFault};
 pub use laws::{canon_is_one, canon_spells, one_policy};
 pub use policy::Policy;
+pub use printing::print_policy;
 pub use read::read_policy;
 pub use sudo_words::{
     AliasName, Arg, ArgRule, Cmnd, CmndFault, DirPath, FilePath, HostName, Items, Moment, Name,

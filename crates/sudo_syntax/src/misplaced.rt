@@ -7,7 +7,13 @@ use crate::token::Token;
 fn begins_left_out(text: &str) -> bool {
     matches!(
         text,
-        "User_Alias" | "Runas_Alias" | "Host_Alias" | "Cmnd_Alias" | "Defaults" | "@include" | "@includedir"
+        "User_Alias"
+            | "Runas_Alias"
+            | "Host_Alias"
+            | "Cmnd_Alias"
+            | "Defaults"
+            | "@include"
+            | "@includedir"
     )
 }
 

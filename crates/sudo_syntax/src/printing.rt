@@ -1,7 +1,10 @@
 //! Policies printed as their canonical text.
 
 ghost use Rattle.std.specs.Prelude.{◌≡◌, List, ℕ, IfOk, OnOk, ◌++◌, string_bytes};
-ghost use Rattle.sudo_syntax.specs.Policy.{IsEntry, IsRule, IsCmndItem, IsPolicy};
+ghost use Rattle.std.specs.List.{AllByRecursion};
+ghost use Rattle.sudo_words.specs.Moment.{stamp};
+ghost use Rattle.sudo_syntax.specs.Grammar.{Spells};
+ghost use Rattle.sudo_syntax.specs.Policy.{IsEntry, IsRule, IsCmndItem};
 ghost use Rattle.sudo_syntax.specs.Printing.{canon, date_text, tag_text, item_text, cmnd_item_text, line_text, names_text, rule_text, signed_text, tail_text, what_text, who_text};
 
 use crate::entry::{CmndItem, Entry, Item, Rule, Signed};
@@ -26,4 +29,133 @@ fn push_signed<F: Form>(out: &mut String, signed: &Signed<Item<Word<F>>>) -> Res
         out.push_str("!")?;
     }
     push_item(out, &signed.item)
+}
+
+/// The items behind the first, with a comma and a space before each.
+fn push_tail<F: Form>(out: &mut String, items: &[Signed<Item<Word<F>>>]) -> Result<(), AllocError>
+    ensures { OnOk result (string_bytes out.new ≡ string_bytes out.old ++ tail_text (signed_text item_text) items.now) }
+{
+    for item in items {
+        out.push_str(", ")?;
+        push_signed(out, item)?;
+    }
+    Ok(())
+}
+
+fn push_names<F: Form>(out: &mut String, items: &[Signed<Item<Word<F>>>]) -> Result<(), AllocError>
+    ensures { OnOk result (string_bytes out.new ≡ string_bytes out.old ++ names_text items.now) }
+{
+    match items {
+        [] => Ok(()),
+        [first, others @ ..] => {
+            push_signed(out, first)?;
+            push_tail(out, others)
+        }
+    }
+}
+
+/// What stands before the dates and the command.
+fn push_who(out: &mut String, rule: &Rule) -> Result<(), AllocError>
+    ensures { OnOk result (string_bytes out.new ≡ string_bytes out.old ++ who_text rule.now) }
+{
+    push_names(out, rule.users.as_slice())?;
+    out.push_str(" ")?;
+    push_names(out, rule.hosts.as_slice())?;
+    out.push_str(" = (")?;
+    push_names(out, rule.runas.as_slice())?;
+    out.push_str(") ")
+}
+
+fn push_moment(out: &mut String, moment: Moment) -> Result<(), AllocError>
+    ensures { OnOk result (string_bytes out.new ≡ string_bytes out.old ++ stamp moment) }
+{
+    write!(out, "{moment}")
+}
+
+fn push_date(out: &mut String, option: &str, date: Option<Moment>) -> Result<(), AllocError>
+    ensures { OnOk result (string_bytes out.new ≡ string_bytes out.old ++ date_text option.now date) }
+{
+    match date {
+        None => Ok(()),
+        Some(moment) => {
+            out.push_str(option)?;
+            out.push_str("=")?;
+            push_moment(out, moment)?;
+            out.push_str(" ")
+        }
+    }
+}
+
+fn push_tag(out: &mut String, nopasswd: bool) -> Result<(), AllocError>
+    ensures { OnOk result (string_bytes out.new ≡ string_bytes out.old ++ tag_text nopasswd) }
+{
+    if nopasswd {
+        out.push_str("NOPASSWD: ")?;
+    }
+    Ok(())
+}
+
+fn push_cmnd_item(alloc: Global, out: &mut String, item: &CmndItem) -> Result<(), NoMemory>
+    requires { IsCmndItem item.now }
+    ensures { OnOk result (string_bytes out.new ≡ string_bytes out.old ++ cmnd_item_text item.now) }
+{
+    match item {
+        CmndItem::Alias(name) => out.push_str(name.as_str())?,
+        CmndItem::Cmnd(cmnd) => out.push_str(print_cmnd(alloc, cmnd)?.as_str())?,
+    }
+    Ok(())
+}
+
+fn push_cmnd(alloc: Global, out: &mut String, signed: &Signed<CmndItem>) -> Result<(), NoMemory>
+    requires { IsCmndItem signed.now.item }
+    ensures { OnOk result (string_bytes out.new ≡ string_bytes out.old ++ signed_text cmnd_item_text signed.now) }
+{
+    if signed.negated {
+        out.push_str("!")?;
+    }
+    push_cmnd_item(alloc, out, &signed.item)
+}
+
+fn push_rule(alloc: Global, out: &mut String, rule: &Rule) -> Result<(), NoMemory>
+    requires { IsRule rule.now }
+    ensures { OnOk result (string_bytes out.new ≡ string_bytes out.old ++ rule_text rule.now) }
+{
+    push_who(out, rule)?;
+    push_date(out, "NOTBEFORE", rule.not_before)?;
+    push_date(out, "NOTAFTER", rule.not_after)?;
+    push_tag(out, rule.nopasswd)?;
+    push_cmnd(alloc, out, &rule.cmnd)
+}
+
+/// One entry and a newline.
+fn push_line(alloc: Global, out: &mut String, entry: &Entry) -> Result<(), NoMemory>
+    requires { IsEntry entry.now }
+    ensures { OnOk result (string_bytes out.new ≡ string_bytes out.old ++ line_text entry.now) }
+{
+    match entry {
+        Entry::Rule(rule) => push_rule(alloc, out, rule)?,
+        _ => {}
+    }
+    out.push_str("\n")?;
+    Ok(())
+}
+
+/// All entries, one a line.
+fn printed(alloc: Global, entries: &[Entry]) -> Result<String, NoMemory>
+    requires { AllByRecursion IsEntry entries.now }
+    ensures { IfOk result (λ s. string_bytes s ≡ canon entries.now) }
+{
+    let mut out = String::new(alloc);
+    for entry in entries {
+        push_line(alloc, &mut out, entry)?;
+    }
+    Ok(out)
+}
+
+/// The policy's canonical text: one entry a line, without comments. `read_policy` reads it as the same policy.
+pub fn print_policy(alloc: Global, policy: &Policy) -> Result<String, NoMemory>
+    ensures text { IfOk result (λ s. string_bytes s ≡ canon policy.now) }
+    ensures read_back { IfOk result (λ s. Spells (string_bytes s) policy.now) }
+{
+    printed(alloc, policy.entries())
 }

@@ -1,0 +1,12 @@
+use Rattle.std.proofs.Common.{List, ℕ, subst, sym}
+use Rattle.std.specs.Prelude.{string_bytes}
+use Rattle.std.proofs.lemmas.Result.{IfOk-weaker}
+use Rattle.sudo_syntax.specs.Grammar.{Spells}
+use Rattle.sudo_syntax.proofs.Canon.{canon_spells}
+use Rattle.sudo_syntax.proofs.printing.print_policy.Goals as goal
+
+pub returns-clause-read_back : goal.returns-clause-read_back
+returns-clause-read_back c =
+    IfOk-weaker c.printed.result _ _
+    (λ s e. subst (λ (t : List ℕ). Spells t c.args.policy.now) (sym (rw c.entries.ensures.value at e)) (canon_spells c.args.policy.now c.entries.ensures.policy))
+    c.printed.ensures
