@@ -1,0 +1,5 @@
+pub mod Rows
+pub mod Stamps
+pub mod Commands
+pub mod Args
+pub mod Runs

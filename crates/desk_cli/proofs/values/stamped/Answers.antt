@@ -1,0 +1,6 @@
+use Rattle.std.proofs.Common.{arith}
+use Rattle.sudo_words.proofs.MomentLemmas.{stamp_spells}
+use Rattle.desk_cli.proofs.values.stamped.Goals as goal
+
+pub returns-clause-only : goal.returns-clause-only
+returns-clause-only c = λ m h. c.read.ensures.only m (stamp_spells _ m h)

@@ -1,0 +1,44 @@
+-- What a job answers.
+use Rattle.std.specs.Prelude.{◌≡◌, ℕ, List, [], ◌∷◌, ◌++◌, codes}
+use Rattle.sudo_syntax.specs.Grammar.{Spells}
+use Rattle.sudo_syntax.specs.Printing.{canon}
+use Rattle.sudo_syntax.specs.declared.entry.Entry.{Entry}
+use Rattle.sudo_decide.specs.Decision.{Decides, decision_text}
+use Rattle.sudo_decide.specs.declared.invocation.Invocation.{Invocation}
+use Rattle.sudo_decide.specs.declared.decision.Decision.{Decision}
+use Rattle.sudo_decide.specs.declared.decision.Decision.TheVariants.{Deny, Allow, AllowNoPassword}
+use Rattle.desk_cli.specs.declared.status.Status.{Status}
+use Rattle.desk_cli.specs.declared.status.Status.TheVariants.{Done, Denied, Refused}
+use Rattle.desk_cli.specs.declared.task.Job.{Job}
+use Rattle.desk_cli.specs.declared.task.Job.TheVariants.{Check, Decide}
+
+-- the program's exit status
+abbrev pub exit_status : Status → ℕ
+exit_status Done = 0
+exit_status Denied = 1
+exit_status Refused = 2
+
+-- how the program ends after it
+abbrev pub status_of : Decision → Status
+status_of Deny = Denied
+status_of Allow = Done
+status_of AllowNoPassword = Done
+
+-- the decision and a newline, with the status that goes with it
+abbrev pub IsDecided : Decision → Status → List ℕ → Type 0
+IsDecided decision status text = (status ≡ status_of decision) × (text ≡ decision_text decision ++ 10 ∷ [])
+
+-- `check` answers with the canonical text of the policy that the file spells.
+abbrev pub ChecksFile : List ℕ → Status → List ℕ → Type 0
+ChecksFile file status text = (es : List Entry) × Spells file es × (status ≡ Done) × (text ≡ canon es)
+
+-- `decide` answers with what the policy that the file spells decides of the invocation.
+abbrev pub DecidesByFile : List ℕ → Invocation → Status → List ℕ → Type 0
+DecidesByFile file invocation status text =
+    (es : List Entry) × (decision : Decision) × Spells file es × Decides es invocation decision × IsDecided decision status text
+
+-- The job over these files, the first of which it names, is answered by this text, and ends so.
+abbrev pub IsAnswer : Job → List (List ℕ) → Status → List ℕ → Type 0
+IsAnswer job [] status text = ⊥
+IsAnswer (Check name) (file ∷ more) status text = ChecksFile file status text
+IsAnswer (Decide name invocation) (file ∷ more) status text = DecidesByFile file invocation status text

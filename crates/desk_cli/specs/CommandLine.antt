@@ -1,0 +1,145 @@
+-- The command line, and what it says to do.
+use Rattle.std.specs.Prelude.{◌≡◌, ◌≢◌, ◌⊎◌, ℕ, ◌<◌, ◌≤◌, Bool, true, false, List, [], ◌∷◌, Option, Some, None, codes, is_some, length, unwrap_or}
+use Rattle.std.specs.List.{list_all}
+use Rattle.clap.specs.Words.{App, Row, Rule, Text, first_of, all_of, fault_of, new_app, new_rule, subcommand_of, with_rule, with_subcommand}
+use Rattle.clap.specs.declared.builder.ArgAction.TheVariants.{Set, Append}
+use Rattle.sudo_words.specs.Moment.{IsStamp}
+use Rattle.sudo_words.specs.Word.{is_arg, is_file_path, is_host_name, is_name}
+use Rattle.sudo_decide.specs.declared.invocation.Invocation.{Invocation}
+use Rattle.desk_cli.specs.declared.task.Job.{Job}
+use Rattle.desk_cli.specs.declared.task.Job.TheVariants.{Check, Decide}
+
+-- ---- the program's commands
+
+-- an argument that has one value and may not be left out
+abbrev pub wanted : Text → Rule
+wanted id = record (new_rule id) { action = Some Set; required = true }
+
+-- an argument that has any number of values
+abbrev pub several : Text → Rule
+several id = record (new_rule id) { action = Some Append }
+
+-- `check FILE`
+abbrev pub check : App
+check = with_rule (new_app (codes "check")) (wanted (codes "FILE"))
+
+-- `.. USER HOST RUNAS`
+abbrev pub with_place : App → App
+with_place command = with_rule (with_rule (with_rule command (wanted (codes "USER"))) (wanted (codes "HOST"))) (wanted (codes "RUNAS"))
+
+-- `.. AT PATH [ARGS..]`
+abbrev pub with_run : App → App
+with_run command = with_rule (with_rule (with_rule command (wanted (codes "AT"))) (wanted (codes "PATH"))) (several (codes "ARGS"))
+
+-- `decide FILE USER HOST RUNAS AT PATH [ARGS..]`
+abbrev pub decide : App
+decide = with_run (with_place (with_rule (new_app (codes "decide")) (wanted (codes "FILE"))))
+
+-- `desk COMMAND`
+abbrev pub desk : App
+desk =
+    let top = new_app (codes "desk") in
+    with_subcommand (with_subcommand (record top { top = record top.top { subcommand_required = true } }) check.top) decide.top
+
+-- ---- the values of a command's arguments
+
+-- the argument has this value
+abbrev pub HasValue : Text → List Row → Text → Type 0
+HasValue id rows text = first_of id rows ≡ Some text
+
+-- the argument has this value, which is of the form
+abbrev pub HasWord : (Text → Bool) → Text → List Row → Text → Type 0
+HasWord form id rows text = HasValue id rows text × (form text ≡ true)
+
+-- the argument's value is the moment's canonical text
+abbrev pub HasMoment : Text → List Row → ℕ → Type 0
+HasMoment id rows moment = (text : Text) × HasValue id rows text × IsStamp text moment
+
+-- the values of an argument that may be left out, in order
+abbrev pub values : Text → List Row → List Text
+values id rows = unwrap_or (all_of id rows) []
+
+-- at most so many values, each of the form
+abbrev pub HasWords : (Text → Bool) → ℕ → Text → List Row → List Text → Type 0
+HasWords form most id rows texts = (values id rows ≡ texts) × (list_all form texts ≡ true) × (length texts ≤ most)
+
+-- the run that the values of `decide` say
+pub record IsInvocation (rows : List Row) (run : Invocation) : Type 0 where
+  pub user : HasWord is_name (codes "USER") rows run.user
+  pub host : HasWord is_host_name (codes "HOST") rows run.host
+  pub runas : HasWord is_name (codes "RUNAS") rows run.runas
+  pub at : HasMoment (codes "AT") rows run.at
+  pub path : HasWord is_file_path (codes "PATH") rows run.path
+  pub args : HasWords is_arg 64 (codes "ARGS") rows run.args
+
+-- ---- what the line says
+
+-- the command of this name, with its values, says the job
+abbrev pub Says : Option (Text × List Row) → Job → Type 0
+Says None job = ⊥
+Says (Some line) (Check file) = (line.0 ≡ codes "check") × HasValue (codes "FILE") line.1 file
+Says (Some line) (Decide file run) =
+    (line.0 ≡ codes "decide") × HasValue (codes "FILE") line.1 file × IsInvocation line.1 run
+
+-- By clap's rules the words are a command of the program, without a fault, and their values say the job.
+pub record IsCommandLine (words : List Text) (job : Job) : Type 0 where
+  pub faultless : fault_of desk words ≡ []
+  pub says : Says (subcommand_of desk words) job
+
+-- ---- a value that is not of its form
+
+-- the argument has a value that is not of the form
+pub record HasBadWord (form : Text → Bool) (id : Text) (rows : List Row) : Type 0 where
+  pub text : Text
+  pub value : HasValue id rows text
+  pub bad : form text ≡ false
+
+-- the argument has a value that is no moment's canonical text
+pub record HasBadMoment (id : Text) (rows : List Row) : Type 0 where
+  pub text : Text
+  pub value : HasValue id rows text
+  pub bad : (moment : ℕ) → IsStamp text moment → ⊥
+
+-- too many values, or one that is not of the form
+abbrev pub HasBadWords : (Text → Bool) → ℕ → Text → List Row → Type 0
+HasBadWords form most id rows = (most < length (values id rows)) ⊎ (list_all form (values id rows) ≡ false)
+
+-- one of the values of `decide` is not of its form
+pub data HasBadValue (rows : List Row) : Type 0 where
+  bad_user : HasBadWord is_name (codes "USER") rows → HasBadValue rows
+  bad_host : HasBadWord is_host_name (codes "HOST") rows → HasBadValue rows
+  bad_runas : HasBadWord is_name (codes "RUNAS") rows → HasBadValue rows
+  bad_at : HasBadMoment (codes "AT") rows → HasBadValue rows
+  bad_path : HasBadWord is_file_path (codes "PATH") rows → HasBadValue rows
+  bad_args : HasBadWords is_arg 64 (codes "ARGS") rows → HasBadValue rows
+
+-- the command is `decide`, with such a value
+abbrev pub SaysBadly : Option (Text × List Row) → Type 0
+SaysBadly None = ⊥
+SaysBadly (Some line) = (line.0 ≡ codes "decide") × HasBadValue line.1
+
+-- By clap's rules the words are the command `decide`, without a fault, but a value is not of its form.
+pub record IsBadLine (words : List Text) : Type 0 where
+  pub faultless : fault_of desk words ≡ []
+  pub says : SaysBadly (subcommand_of desk words)
+
+-- ---- what clap's rules leave to the program
+
+-- the argument has a value
+abbrev pub HasSome : Text → List Row → Type 0
+HasSome id rows = is_some (first_of id rows) ≡ true
+
+-- the arguments of `decide` that say the run, but for those that may be left out, have values
+pub record HasRun (rows : List Row) : Type 0 where
+  pub user : HasSome (codes "USER") rows
+  pub host : HasSome (codes "HOST") rows
+  pub runas : HasSome (codes "RUNAS") rows
+  pub at : HasSome (codes "AT") rows
+  pub path : HasSome (codes "PATH") rows
+
+-- the command is one of the program's, with a value for each argument that it wants
+abbrev pub IsComplete : Option (Text × List Row) → Type 0
+IsComplete None = ⊥
+IsComplete (Some line) =
+    ((line.0 ≡ codes "check") × HasSome (codes "FILE") line.1)
+    ⊎ ((line.0 ≡ codes "decide") × HasSome (codes "FILE") line.1 × HasRun line.1)

@@ -1,0 +1,102 @@
+//! What the command line says to do.
+
+ghost use Rattle.std.specs.Prelude.{◌≡◌, ◌≢◌, IfOk, IfErr, MatchResult, Some, [], codes, map, string_bytes};
+ghost use Rattle.clap.specs.Words.{fault_of, found_of, rows_of, subcommand_of, subcommand_rows_of};
+ghost use Rattle.sudo_decide.specs.declared.invocation.Invocation.{Invocation as Run};
+ghost use Rattle.desk_cli.specs.CommandLine.{HasBadValue, HasRun, IsBadLine, IsCommandLine, IsComplete, IsInvocation, Says, SaysBadly, desk};
+ghost use Rattle.desk_cli.specs.Faults.{IsUsage};
+ghost use Rattle.desk_cli.specs.declared.fault.JobFault.TheVariants.{BadWord, NoMemory};
+ghost use Rattle.desk_cli.specs.declared.task.Job.{Job as Task};
+
+use crate::command::{lacking, parsed};
+use crate::fault::JobFault;
+use crate::task::Job;
+use crate::values::{args, moment, text, word};
+use clap::ArgMatches;
+use std::alloc::Global;
+use sudo_decide::Invocation;
+
+fn invocation(alloc: Global, matches: &ArgMatches<'_>) -> Result<Invocation, JobFault>
+    ensures found { IfOk result (λ run. IsInvocation (rows_of (found_of matches.now)) run) }
+    ensures only { (run : Run) → IsInvocation (rows_of (found_of matches.now)) run → MatchResult result (λ r. r ≡ run) (λ e. e ≡ NoMemory) }
+    ensures word { IfErr result (λ e. e ≡ BadWord → HasBadValue (rows_of (found_of matches.now))) }
+    ensures usage { IfErr result (λ e. IsUsage e → HasRun (rows_of (found_of matches.now)) → ⊥) }
+{
+    let user = word(alloc, matches, "USER")?;
+    let host = word(alloc, matches, "HOST")?;
+    let runas = word(alloc, matches, "RUNAS")?;
+    let at = moment(alloc, matches, "AT")?;
+    let path = word(alloc, matches, "PATH")?;
+    let args = args(alloc, matches, "ARGS")?;
+    Ok(Invocation {
+        user,
+        host,
+        runas,
+        path,
+        args,
+        at,
+    })
+}
+
+fn check(alloc: Global, matches: &ArgMatches<'_>) -> Result<Job, JobFault>
+    ensures found { IfOk result (λ j. Says (Some (codes "check", rows_of (found_of matches.now))) j) }
+    ensures only { (j : Task) → Says (Some (codes "check", rows_of (found_of matches.now))) j → MatchResult result (λ k. k ≡ j) (λ e. e ≡ NoMemory) }
+    ensures word { IfErr result (λ e. e ≡ BadWord → ⊥) }
+    ensures usage { IfErr result (λ e. IsUsage e → IsComplete (Some (codes "check", rows_of (found_of matches.now))) → ⊥) }
+{
+    Ok(Job::Check {
+        file: text(alloc, matches, "FILE")?,
+    })
+}
+
+fn decide(alloc: Global, matches: &ArgMatches<'_>) -> Result<Job, JobFault>
+    ensures found { IfOk result (λ j. Says (Some (codes "decide", rows_of (found_of matches.now))) j) }
+    ensures only { (j : Task) → Says (Some (codes "decide", rows_of (found_of matches.now))) j → MatchResult result (λ k. k ≡ j) (λ e. e ≡ NoMemory) }
+    ensures word { IfErr result (λ e. e ≡ BadWord → SaysBadly (Some (codes "decide", rows_of (found_of matches.now)))) }
+    ensures usage { IfErr result (λ e. IsUsage e → IsComplete (Some (codes "decide", rows_of (found_of matches.now))) → ⊥) }
+{
+    let file = text(alloc, matches, "FILE")?;
+    let invocation = invocation(alloc, matches)?;
+    Ok(Job::Decide { file, invocation })
+}
+
+fn by_name(alloc: Global, name: &str, matches: &ArgMatches<'_>) -> Result<Job, JobFault>
+    ensures found { IfOk result (λ j. Says (Some (name.now, rows_of (found_of matches.now))) j) }
+    ensures only { (j : Task) → Says (Some (name.now, rows_of (found_of matches.now))) j → MatchResult result (λ k. k ≡ j) (λ e. e ≡ NoMemory) }
+    ensures word { IfErr result (λ e. e ≡ BadWord → SaysBadly (Some (name.now, rows_of (found_of matches.now)))) }
+    ensures usage { IfErr result (λ e. IsUsage e → IsComplete (Some (name.now, rows_of (found_of matches.now))) → ⊥) }
+{
+    if name == "check" {
+        check(alloc, matches)
+    } else if name == "decide" {
+        decide(alloc, matches)
+    } else {
+        Err(lacking(alloc))
+    }
+}
+
+fn named(alloc: Global, matches: &ArgMatches<'_>) -> Result<Job, JobFault>
+    ensures found { IfOk result (λ j. Says (subcommand_rows_of matches.now) j) }
+    ensures only { (j : Task) → Says (subcommand_rows_of matches.now) j → MatchResult result (λ k. k ≡ j) (λ e. e ≡ NoMemory) }
+    ensures word { IfErr result (λ e. e ≡ BadWord → SaysBadly (subcommand_rows_of matches.now)) }
+    ensures usage { IfErr result (λ e. IsUsage e → IsComplete (subcommand_rows_of matches.now) → ⊥) }
+{
+    match matches.subcommand() {
+        Some((name, inner)) => by_name(alloc, name, inner),
+        None => Err(lacking(alloc)),
+    }
+}
+
+/// What the words say to do, the program's own name first, by clap's rules for the program's commands.
+///
+/// `BadWord` comes where a value of `decide` has not the form that its place asks for, and `Usage` where the words are
+/// no command, or ask for help.
+pub fn job(alloc: Global, words: Vec<String>) -> Result<Job, JobFault>
+    ensures found { IfOk result (λ j. IsCommandLine (map string_bytes words.items) j) }
+    ensures only { (j : Task) → IsCommandLine (map string_bytes words.items) j → MatchResult result (λ k. k ≡ j) (λ e. e ≡ NoMemory) }
+    ensures word { IfErr result (λ e. e ≡ BadWord → IsBadLine (map string_bytes words.items)) }
+    ensures usage { IfErr result (λ e. IsUsage e → IsComplete (subcommand_of desk (map string_bytes words.items)) → fault_of desk (map string_bytes words.items) ≢ []) }
+{
+    let matches = parsed(alloc, &words)?;
+    named(alloc, &matches)
+}

@@ -1,0 +1,53 @@
+//! Why the command line says nothing to do.
+
+ghost use Rattle.std.specs.Prelude.{◌≡◌};
+
+use std::alloc::{AllocError, AllocFailed};
+use sudo_words::WordFault;
+
+/// Why the command line says nothing to do.
+#[derive(Debug, Drop)]
+pub enum JobFault {
+    /// A value has not the form that its place asks for.
+    BadWord,
+    /// Memory ran out.
+    NoMemory,
+    /// The line is no command of the program, or asks for help. The fault has the text for the user.
+    Usage(clap::Error),
+}
+
+impl From<AllocError> for JobFault {
+    ghost use Rattle.std.specs.Prelude.{◌≡◌};
+    ghost use Rattle.desk_cli.specs.declared.fault.JobFault.TheVariants.{NoMemory};
+
+    ghost from_gives = { λ _ e. e ≡ NoMemory };
+
+    fn from(_e: AllocError) -> JobFault {
+        JobFault::NoMemory
+    }
+}
+
+impl<T: Drop> From<AllocFailed<T>> for JobFault {
+    ghost use Rattle.std.specs.Prelude.{◌≡◌};
+    ghost use Rattle.desk_cli.specs.declared.fault.JobFault.TheVariants.{NoMemory};
+
+    ghost from_gives = { λ _ e. e ≡ NoMemory };
+
+    fn from(_e: AllocFailed<T>) -> JobFault {
+        JobFault::NoMemory
+    }
+}
+
+impl From<WordFault> for JobFault {
+    ghost use Rattle.std.specs.Prelude.{◌≡◌};
+    ghost use Rattle.desk_cli.specs.Faults.{of_word};
+
+    ghost from_gives = { λ w e. e ≡ of_word w };
+
+    fn from(e: WordFault) -> JobFault {
+        match e {
+            WordFault::BadWord => JobFault::BadWord,
+            WordFault::NoMemory => JobFault::NoMemory,
+        }
+    }
+}

@@ -1,0 +1,33 @@
+//! What the rules say of command lines that are written out, each the contract of a function that does nothing.
+
+ghost use Rattle.std.specs.Prelude.{[], ◌∷◌, codes};
+ghost use Rattle.desk_cli.specs.CommandLine.{IsCommandLine};
+ghost use Rattle.desk_cli.specs.declared.task.Job.TheVariants as jobs;
+
+/// `desk check base.sudo`
+pub fn checks()
+    ensures { IsCommandLine (codes "desk" ∷ codes "check" ∷ codes "base.sudo" ∷ []) (jobs.Check (codes "base.sudo")) }
+{}
+
+/// `desk decide base.sudo ann db1 root 20260105093000Z /bin/ls`, at 1,767,605,400 seconds
+pub fn decides()
+    ensures {
+        IsCommandLine
+            (codes "desk" ∷ codes "decide" ∷ codes "base.sudo" ∷ codes "ann" ∷ codes "db1" ∷ codes "root" ∷ codes "20260105093000Z" ∷ codes "/bin/ls" ∷ [])
+            (jobs.Decide (codes "base.sudo") (record {
+                user = codes "ann"; host = codes "db1"; runas = codes "root"; path = codes "/bin/ls"; args = []; at = 1_767_605_400
+            }))
+    }
+{}
+
+/// The same with the argument `-l`, which stands behind `--`.
+pub fn decides_with_flag()
+    ensures {
+        IsCommandLine
+            (codes "desk" ∷ codes "decide" ∷ codes "base.sudo" ∷ codes "ann" ∷ codes "db1" ∷ codes "root" ∷ codes "20260105093000Z" ∷ codes "/bin/ls"
+                ∷ codes "--" ∷ codes "-l" ∷ codes "x" ∷ [])
+            (jobs.Decide (codes "base.sudo") (record {
+                user = codes "ann"; host = codes "db1"; runas = codes "root"; path = codes "/bin/ls"; args = codes "-l" ∷ codes "x" ∷ []; at = 1_767_605_400
+            }))
+    }
+{}

@@ -1,0 +1,86 @@
+//! The desk's program: reads its command line, and does what it says.
+#![tactic(auto)]
+
+mod command;
+mod command_line;
+mod fault;
+mod laws;
+mod refusal;
+mod running;
+mod status;
+mod task;
+mod text;
+mod values;
+
+use crate::command_line::job;
+use crate::fault::JobFault;
+use crate::refusal::Refusal;
+use crate::running::{refuse, run};
+use crate::status::{Status, code};
+use crate::task::Job;
+use std::io::{BufReader, BufWriter};
+use std::process::ExitCode;
+use std::{env, fs, io};
+
+fn words(rt: &HostRuntime) -> Result<Vec<String>, Refusal> {
+    match env::args(rt) {
+        Ok(words) => Ok(words.collect(rt.alloc())?),
+        Err(error) if error.kind() == io::ErrorKind::OutOfMemory => Err(Refusal::NoMemory),
+        Err(_) => Err(Refusal::BadWord),
+    }
+}
+
+/// The bytes of the files that the job names, in the order of its words.
+fn files(rt: &HostRuntime, job: &Job) -> Result<Vec<Vec<u8>>, Refusal> {
+    let path = match job {
+        Job::Check { file } => file.as_str(),
+        Job::Decide { file, .. } => file.as_str(),
+    };
+    let mut files = Vec::new(rt.alloc());
+    match fs::read(rt, path) {
+        Ok(bytes) => files.push(bytes)?,
+        Err(_) => return Err(Refusal::FileFailed),
+    }
+    Ok(files)
+}
+
+/// Does the job over the process's streams.
+fn work(rt: &HostRuntime, job: &Job) -> Result<Status, Refusal> {
+    let alloc = rt.alloc();
+    let files = files(rt, job)?;
+    let Ok(mut input) = BufReader::new(alloc, rt.stdin()) else {
+        return Err(Refusal::NoMemory);
+    };
+    let Ok(mut out) = BufWriter::new(alloc, rt.stdout()) else {
+        return Err(Refusal::NoMemory);
+    };
+    let mut err = rt.stderr();
+    Ok(run(alloc, job, files.as_slice(), &mut input, &mut out, &mut err))
+}
+
+/// Prints clap's text: help on the standard output, and a mistake on the standard error.
+fn show(rt: &HostRuntime, error: &clap::Error) -> Status {
+    if error.print(rt).is_err() || error.use_stderr() {
+        Status::Refused
+    } else {
+        Status::Done
+    }
+}
+
+fn outcome(rt: &HostRuntime) -> Result<Status, Refusal> {
+    let words = words(rt)?;
+    match job(rt.alloc(), words) {
+        Ok(job) => work(rt, &job),
+        Err(JobFault::BadWord) => Err(Refusal::BadWord),
+        Err(JobFault::NoMemory) => Err(Refusal::NoMemory),
+        Err(JobFault::Usage(error)) => Ok(show(rt, &error)),
+    }
+}
+
+fn main(rt: HostRuntime) -> ExitCode {
+    let status = match outcome(&rt) {
+        Ok(status) => status,
+        Err(refusal) => refuse(refusal, &mut rt.stderr()),
+    };
+    ExitCode::from(code(status))
+}

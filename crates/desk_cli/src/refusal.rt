@@ -1,0 +1,57 @@
+//! Why the program refuses.
+
+ghost use Rattle.std.specs.Prelude.{◌≡◌};
+
+use std::alloc::{AllocError, AllocFailed};
+use std::fmt;
+use sudo_syntax::{NoMemory, ReadFault};
+
+/// Why the program refuses what it is told to do.
+///
+/// It is printed as its code and name, as `F1 FileFailed`; a policy's fault as its own text, as `S5 UnknownAlias line 3`.
+#[derive(Clone, Copy, Debug, PartialEq, Eq)]
+pub enum Refusal {
+    /// A file could not be read, or an answer not be written.
+    FileFailed,
+    /// A word of the command line has not the form that its place asks for.
+    BadWord,
+    /// Memory ran out.
+    NoMemory,
+    /// A file's text is no policy.
+    Policy(ReadFault),
+}
+
+impl fmt::Display for Refusal {
+    fn fmt<W: fmt::Write>(&self, f: &mut fmt::Formatter<W>) -> fmt::Result {
+        match self {
+            Refusal::FileFailed => f.write_str("F1 FileFailed"),
+            Refusal::BadWord => f.write_str("F2 BadWord"),
+            Refusal::NoMemory => f.write_str("NoMemory"),
+            Refusal::Policy(fault) => write!(f, "{fault}"),
+        }
+    }
+}
+
+impl From<ReadFault> for Refusal {
+    fn from(e: ReadFault) -> Refusal {
+        Refusal::Policy(e)
+    }
+}
+
+impl From<NoMemory> for Refusal {
+    fn from(_e: NoMemory) -> Refusal {
+        Refusal::NoMemory
+    }
+}
+
+impl From<AllocError> for Refusal {
+    fn from(_e: AllocError) -> Refusal {
+        Refusal::NoMemory
+    }
+}
+
+impl<T: Drop> From<AllocFailed<T>> for Refusal {
+    fn from(_e: AllocFailed<T>) -> Refusal {
+        Refusal::NoMemory
+    }
+}

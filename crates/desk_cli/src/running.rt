@@ -1,0 +1,112 @@
+//! Doing a job. Its answer is made whole before any of it is written.
+
+ghost use Rattle.std.specs.Prelude.{◌≡◌, ◌≢◌, ◌⊎◌, ℕ, List, IfOk, map, string_bytes};
+ghost use Rattle.std.specs.Io.KnownBytes.{Appends};
+ghost use Rattle.desk_cli.specs.Answers.{ChecksFile, DecidesByFile, IsAnswer, IsDecided, status_of};
+
+use crate::refusal::Refusal;
+use crate::status::Status;
+use crate::task::Job;
+use std::alloc::{AllocError, Global};
+use std::io::{Read, Write};
+use sudo_decide::{Decision, Invocation, decide};
+use sudo_syntax::{print_policy, read_policy};
+
+/// What a job answers.
+#[derive(Debug, Drop)]
+struct Answer {
+    text: String,
+    status: Status,
+}
+
+fn status_of(decision: Decision) -> Status
+    ensures { result ≡ status_of decision }
+{
+    match decision {
+        Decision::Deny => Status::Denied,
+        Decision::Allow => Status::Done,
+        Decision::AllowNoPassword => Status::Done,
+    }
+}
+
+fn decision_line(alloc: Global, decision: Decision) -> Result<Answer, AllocError>
+    ensures { IfOk result (λ a. IsDecided decision a.status (string_bytes a.text)) }
+{
+    Ok(Answer {
+        text: format!(in alloc; "{decision}\n")?,
+        status: status_of(decision),
+    })
+}
+
+fn check(alloc: Global, file: &[u8]) -> Result<Answer, Refusal>
+    ensures { IfOk result (λ a. ChecksFile file.now a.status (string_bytes a.text)) }
+{
+    let policy = read_policy(alloc, file)?;
+    Ok(Answer {
+        text: print_policy(alloc, &policy)?,
+        status: Status::Done,
+    })
+}
+
+fn decided(alloc: Global, file: &[u8], invocation: &Invocation) -> Result<Answer, Refusal>
+    ensures { IfOk result (λ a. DecidesByFile file.now invocation.now a.status (string_bytes a.text)) }
+{
+    let policy = read_policy(alloc, file)?;
+    Ok(decision_line(alloc, decide(&policy, invocation))?)
+}
+
+fn answered(alloc: Global, job: &Job, files: &[Vec<u8>]) -> Result<Answer, Refusal>
+    ensures { IfOk result (λ a. IsAnswer job.now (map (λ f. f.items) files.now) a.status (string_bytes a.text)) }
+{
+    let Some(file) = files.first() else {
+        return Err(Refusal::FileFailed);
+    };
+    match job {
+        Job::Check { .. } => check(alloc, file.as_slice()),
+        Job::Decide { invocation, .. } => decided(alloc, file.as_slice(), invocation),
+    }
+}
+
+/// Says on `err` why the program refuses. Where that cannot be written either, nothing else can be done.
+pub fn refuse<E: Write>(refusal: Refusal, err: &mut E) -> Status
+    ensures { result ≡ Status.Refused }
+{
+    let _ = writeln!(err, "{refusal}");
+    let _ = err.flush();
+    Status::Refused
+}
+
+fn deliver<W: Write, E: Write>(answer: &Answer, out: &mut W, err: &mut E) -> Status
+    ensures status { result ≢ Status.Refused → result ≡ answer.now.status }
+    ensures written { result ≢ Status.Refused → Appends (W.contents out.old) (W.contents out.new) (string_bytes answer.now.text) }
+{
+    if out.write_all(answer.text.as_bytes()).is_err() {
+        return refuse(Refusal::FileFailed, err);
+    }
+    if out.flush().is_err() {
+        return refuse(Refusal::FileFailed, err);
+    }
+    answer.status
+}
+
+/// Does the job over the bytes of the files that it names, in their order. The answer goes to `out`, and why there is
+/// none to `err`.
+///
+/// `files` has the bytes of each file that the job names. Where one is missing, or `out` fails, the job is refused.
+/// Nothing is written on `out` where the answer cannot be made.
+pub fn run<R: Read, W: Write, E: Write>(
+    alloc: Global,
+    job: &Job,
+    files: &[Vec<u8>],
+    _input: &mut R,
+    out: &mut W,
+    err: &mut E,
+) -> Status
+    ensures { result ≢ Status.Refused → (text : List ℕ) × IsAnswer job.now (map (λ f. f.items) files.now) result text
+        × Appends (W.contents out.old) (W.contents out.new) text }
+{
+    match answered(alloc, job, files) {
+        Ok(answer) => deliver(&answer, out, err),
+        Err(refusal) => refuse(refusal, err),
+    }
+}

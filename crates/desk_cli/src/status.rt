@@ -1,0 +1,26 @@
+//! How a job ends.
+
+ghost use Rattle.std.specs.Prelude.{◌≡◌};
+ghost use Rattle.desk_cli.specs.Answers.{exit_status};
+
+/// How a job ends.
+#[derive(Clone, Copy, Debug, PartialEq, Eq)]
+pub enum Status {
+    /// It is done, and what was asked for is allowed.
+    Done,
+    /// It is done: the command is denied.
+    Denied,
+    /// It is refused, and the standard error says why.
+    Refused,
+}
+
+/// The exit status of the program.
+pub fn code(status: Status) -> u8
+    ensures { result ≡ exit_status status }
+{
+    match status {
+        Status::Done => 0,
+        Status::Denied => 1,
+        Status::Refused => 2,
+    }
+}

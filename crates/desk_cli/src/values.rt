@@ -1,0 +1,114 @@
+//! The values of a command's arguments.
+
+ghost use Rattle.std.specs.Prelude.{◌≡◌, ◌⊎◌, ◌<◌, ◌≤◌, ℕ, List, IfOk, IfErr, IfSome, MatchResult, None, Some, map, length, true, false};
+ghost use Rattle.std.specs.List.{list_all};
+ghost use Rattle.clap.specs.Words.{found_of, first_of, rows_of};
+ghost use Rattle.sudo_words.specs.Moment.{IsStamp};
+ghost use Rattle.sudo_words.specs.Word.{is_arg};
+ghost use Rattle.desk_cli.specs.CommandLine.{HasBadMoment, HasBadWord, HasBadWords, HasMoment, HasValue, HasWord, HasWords, values};
+ghost use Rattle.desk_cli.specs.Faults.{IsUsage};
+ghost use Rattle.desk_cli.specs.declared.fault.JobFault.TheVariants.{BadWord, NoMemory};
+
+use crate::command::lacking;
+use crate::fault::JobFault;
+use crate::text::Text;
+use clap::ArgMatches;
+use std::alloc::Global;
+use sudo_words::{Arg, Form, Items, Moment, Word};
+
+/// The length of a moment's canonical text.
+const STAMP_LENGTH: usize = 15;
+
+/// The most arguments that a run has.
+const MOST_ARGS: usize = 64;
+
+/// The value of an argument.
+#[tactic(auto, using(crate::proofs::Rows::first_rows))]
+fn value<'a>(alloc: Global, matches: &ArgMatches<'a>, id: &str) -> Result<&'a str, JobFault>
+    ensures found { IfOk result (λ s. HasValue id.now (rows_of (found_of matches.now)) s.now) }
+    ensures lacks { IfErr result (λ e. first_of id.now (rows_of (found_of matches.now)) ≡ None) }
+    ensures word { IfErr result (λ e. e ≡ BadWord → ⊥) }
+{
+    match matches.get_str(id) {
+        Some(text) => Ok(text),
+        None => Err(lacking(alloc)),
+    }
+}
+
+/// The value of an argument, whatever its form.
+pub fn text(alloc: Global, matches: &ArgMatches<'_>, id: &str) -> Result<Text, JobFault>
+    ensures found { IfOk result (λ t. HasValue id.now (rows_of (found_of matches.now)) t) }
+    ensures only { (t : List ℕ) → HasValue id.now (rows_of (found_of matches.now)) t → MatchResult result (λ r. r ≡ t) (λ e. e ≡ NoMemory) }
+    ensures word { IfErr result (λ e. e ≡ BadWord → ⊥) }
+    ensures lacks { IfErr result (λ e. IsUsage e → first_of id.now (rows_of (found_of matches.now)) ≡ None) }
+{
+    let text = value(alloc, matches, id)?;
+    Ok(Text::copied(alloc, text)?)
+}
+
+/// The value of an argument, a word of the form.
+pub fn word<F: Form>(alloc: Global, matches: &ArgMatches<'_>, id: &str) -> Result<Word<F>, JobFault>
+    ensures found { IfOk result (λ w. HasWord F.has id.now (rows_of (found_of matches.now)) w) }
+    ensures only { (w : List ℕ) → HasWord F.has id.now (rows_of (found_of matches.now)) w → MatchResult result (λ r. r ≡ w) (λ e. e ≡ NoMemory) }
+    ensures word { IfErr result (λ e. e ≡ BadWord → HasBadWord F.has id.now (rows_of (found_of matches.now))) }
+    ensures lacks { IfErr result (λ e. IsUsage e → first_of id.now (rows_of (found_of matches.now)) ≡ None) }
+{
+    let text = value(alloc, matches, id)?;
+    Ok(Word::read(alloc, text)?)
+}
+
+/// The moment of this canonical text.
+#[tactic(auto, using(crate::proofs::Stamps::length_stamped))]
+fn stamped(text: &str) -> Option<Moment>
+    ensures found { IfSome result (λ m. IsStamp text.now m) }
+    ensures only { (m : ℕ) → IsStamp text.now m → result ≡ Some m }
+{
+    if text.len() != STAMP_LENGTH {
+        return None;
+    }
+    Moment::read(text)
+}
+
+/// The value of an argument, a moment's canonical text.
+pub fn moment(alloc: Global, matches: &ArgMatches<'_>, id: &str) -> Result<Moment, JobFault>
+    ensures found { IfOk result (λ m. HasMoment id.now (rows_of (found_of matches.now)) m) }
+    ensures only { (m : ℕ) → HasMoment id.now (rows_of (found_of matches.now)) m → MatchResult result (λ r. r ≡ m) (λ e. e ≡ NoMemory) }
+    ensures word { IfErr result (λ e. e ≡ BadWord → HasBadMoment id.now (rows_of (found_of matches.now))) }
+    ensures lacks { IfErr result (λ e. IsUsage e → first_of id.now (rows_of (found_of matches.now)) ≡ None) }
+{
+    let text = value(alloc, matches, id)?;
+    match stamped(text) {
+        Some(moment) => Ok(moment),
+        None => Err(JobFault::BadWord),
+    }
+}
+
+/// The texts, each an argument.
+fn all_args(alloc: Global, texts: &[&str]) -> Result<Items<Arg>, JobFault>
+    ensures found { IfOk result (λ v. (v ≡ map (λ t. t.now) texts.now) × (list_all is_arg v ≡ true)) }
+    ensures word { IfErr result (λ e. e ≡ BadWord → list_all is_arg (map (λ t. t.now) texts.now) ≡ false) }
+    ensures usage { IfErr result (λ e. IsUsage e → ⊥) }
+{
+    let mut args = Vec::new(alloc);
+    for text in texts {
+        args.push(Arg::read(alloc, text)?)?;
+    }
+    Ok(Items::new(args))
+}
+
+/// The values of an argument that may be left out, at most 64 of them.
+#[tactic(auto, using(crate::proofs::Rows::some_values, crate::proofs::Rows::no_values))]
+pub fn args(alloc: Global, matches: &ArgMatches<'_>, id: &str) -> Result<Items<Arg>, JobFault>
+    ensures found { IfOk result (λ v. HasWords is_arg 64 id.now (rows_of (found_of matches.now)) v) }
+    ensures only { (v : List (List ℕ)) → HasWords is_arg 64 id.now (rows_of (found_of matches.now)) v → MatchResult result (λ r. r ≡ v) (λ e. e ≡ NoMemory) }
+    ensures word { IfErr result (λ e. e ≡ BadWord → HasBadWords is_arg 64 id.now (rows_of (found_of matches.now))) }
+    ensures usage { IfErr result (λ e. IsUsage e → ⊥) }
+{
+    let Some(texts) = matches.get_raw(id) else {
+        return Ok(Items::new(Vec::new(alloc)));
+    };
+    if texts.len() > MOST_ARGS {
+        return Err(JobFault::BadWord);
+    }
+    all_args(alloc, texts)
+}
