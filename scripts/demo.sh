@@ -5,7 +5,7 @@ cd "$(dirname "$0")/.."
 
 ask() {
     printf '$ desk %s\n' "$*"
-    build/desk "$@"
+    build/desk "$@" 2>&1
     printf '(status %s)\n\n' "$?"
 }
 

@@ -1,9 +1,9 @@
 -- Rules of this grammar are short and light, so a policy's limits hold where its count of entries does.
-use Rattle.std.proofs.Common.{◌≡◌, ℕ, ◌+◌, ◌*◌, ◌≤◌, Bool, true, false, cond, ◌&&◌, leb, List, [], ◌∷◌, ◌++◌, length, sum_by, Option, Some, None, refl, sym, ap, ◌∙◌, arith, inl, inr}
+use Rattle.std.proofs.Common.{◌≡◌, ℕ, ◌+◌, ◌*◌, ◌≤◌, Bool, true, false, cond, ◌&&◌, leb, List, [], ◌∷◌, ◌++◌, length, map, sum_by, Option, Some, None, refl, sym, ap, ◌∙◌, arith, inl, inr}
 use Rattle.std.specs.Prelude.{codes}
 use Rattle.std.specs.List.{AllByRecursion, list_all}
 use Rattle.std.proofs.lemmas.Bool.Decides.{nat_tests}
-use Rattle.std.proofs.lemmas.List.{length-append}
+use Rattle.std.proofs.lemmas.List.{length-append, length-map}
 use Rattle.std.proofs.lemmas.List.Concat.{flat_map-cons}
 use Rattle.std.proofs.lemmas.List.Sums.{sum_by-cons}
 use Rattle.sudo_words.specs.Word.{is_name, is_host_name, is_lower, is_name_byte, is_host_byte}
@@ -22,6 +22,7 @@ use Rattle.sudo_syntax.specs.declared.entry.Rule.{Rule}
 use Rattle.sudo_syntax.specs.declared.entry.Entry.{Entry}
 use Rattle.sudo_syntax.specs.declared.entry.Entry.TheVariants as entries
 use Rattle.sudo_syntax.specs.Printing.{item_text, cmnd_item_text, signed_text, names_text, date_text, tag_text, line_text, canon}
+use Rattle.sudo_syntax.specs.Reading.{with_rules}
 use Rattle.sudo_syntax.specs.Policy.{IsItem, IsOneItem, IsCmndItem, IsRule, IsEntry, IsPolicy, rule_weight, entry_weight, weight}
 
 and_right : (a b : Bool) → (a && b) ≡ true → b ≡ true
@@ -127,3 +128,19 @@ policy_is es is few = record {
   light = omega (arith, all_light es is);
   short = omega (arith, canon_short es is);
 }
+
+-- ---- rules behind a policy
+
+rules_are : (rs : List Rule) → AllByRecursion IsRule rs → AllByRecursion IsEntry (map entries.Rule rs)
+rules_are [] h = tt
+rules_are (r ∷ rs) h = (h.0, rules_are rs h.1)
+
+both_are : (es fs : List Entry) → AllByRecursion IsEntry es → AllByRecursion IsEntry fs → AllByRecursion IsEntry (es ++ fs)
+both_are [] fs h k = k
+both_are (e ∷ es) fs h k = (h.0, both_are es fs h.1 k)
+
+-- few rules behind a policy are one
+pub extended_is : (es : List Entry) (rs : List Rule) → IsPolicy es → AllByRecursion IsRule rs → length es + length rs ≤ 16_384 → IsPolicy (with_rules es rs)
+extended_is es rs policy are few =
+    policy_is (with_rules es rs) (both_are es (map entries.Rule rs) policy.each (rules_are rs are))
+    (omega (arith, few, length-append es (map entries.Rule rs), length-map rs entries.Rule))

@@ -1,5 +1,5 @@
 -- What the reader answers: the entries of a line, and where a fault is.
-use Rattle.std.specs.Prelude.{◌≡◌, ◌≢◌, ℕ, ◌+◌, ◌≤◌, ◌==◌, false, List, [], ◌∷◌, ◌++◌, Option, Some, None, count_by}
+use Rattle.std.specs.Prelude.{◌≡◌, ◌≢◌, ℕ, ◌+◌, ◌≤◌, ◌==◌, false, List, [], ◌∷◌, ◌++◌, Option, Some, None, count_by, map}
 use Rattle.sudo_syntax.specs.Lex.{is_text_byte}
 use Rattle.sudo_syntax.specs.declared.fault.FaultKind.{FaultKind}
 use Rattle.sudo_syntax.specs.declared.fault.FaultKind.TheVariants.{TooLong, BadByte}
@@ -23,3 +23,7 @@ IsLineOf text line = (1 ≤ line) × (line ≤ 1 + count_by (λ b. b == 10) text
 -- a fault of a line, and not of the bytes
 abbrev pub IsInLine : FaultKind → Type 0
 IsInLine kind = (kind ≢ TooLong) × (kind ≢ BadByte)
+
+-- entries with these rules behind them
+abbrev pub with_rules : List Entry → List Rule → List Entry
+with_rules es rules = es ++ map entries.Rule rules

@@ -3,7 +3,7 @@
 use sudo_words::{AliasName, Cmnd, HostName, Items, Moment, Name};
 
 /// An item of a list, or its negation.
-#[derive(Debug, Drop)]
+#[derive(Clone, Debug, Drop)]
 pub struct Signed<T> {
     /// Whether the item is negated: an odd number of `!` stands before it.
     pub negated: bool,
@@ -12,7 +12,7 @@ pub struct Signed<T> {
 }
 
 /// An item of a list of users, hosts or targets.
-#[derive(Debug, Drop)]
+#[derive(Clone, Debug, Drop)]
 pub enum Item<N> {
     /// `ALL`.
     All,
@@ -23,7 +23,7 @@ pub enum Item<N> {
 }
 
 /// A command, or an alias of commands.
-#[derive(Debug, Drop)]
+#[derive(Clone, Debug, Drop)]
 pub enum CmndItem {
     /// What the alias's list says.
     Alias(AliasName),
@@ -32,7 +32,7 @@ pub enum CmndItem {
 }
 
 /// Who may run which command, on which hosts, as whom and when. What a later command of a list inherits is written in.
-#[derive(Debug, Drop)]
+#[derive(Clone, Debug, Drop)]
 pub struct Rule {
     /// The users whom it is about.
     pub users: Items<Signed<Item<Name>>>,
@@ -51,7 +51,7 @@ pub struct Rule {
 }
 
 /// A line of a policy in normal form.
-#[derive(Debug, Drop)]
+#[derive(Clone, Debug, Drop)]
 pub enum Entry {
     /// `User_Alias NAME = LIST`.
     UserAlias(AliasName, Items<Signed<Item<Name>>>),

@@ -1,7 +1,9 @@
 //! Policies: sudoers texts read, printed and kept in normal form.
 #![tactic(auto)]
 
+mod copying;
 mod entry;
+mod extending;
 mod fault;
 mod heads;
 mod laws;
@@ -14,6 +16,7 @@ mod reading;
 mod token;
 
 pub use entry::{CmndItem, Entry, Item, Rule, Signed};
+pub use extending::extend;
 pub use fault::{FaultKind, ReadFault};
 pub use laws::{canon_is_one, canon_spells, one_policy};
 pub use policy::Policy;

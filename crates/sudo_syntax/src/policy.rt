@@ -5,6 +5,9 @@ ghost use Rattle.std.specs.Prelude.{◌≡◌};
 use crate::entry::Entry;
 use std::marker::Model;
 
+/// The most entries that a policy has.
+pub(crate) const MOST_ENTRIES: usize = 16_384;
+
 /// A policy in normal form, which contracts see as the list of its entries.
 ///
 /// It has at most 16,384 entries, a weight of at most 131,072, and a canonical text of at most 16 MiB.

@@ -12,15 +12,12 @@ ghost use Rattle.sudo_syntax.specs.Span.{Each};
 use crate::entry::{Entry, Rule};
 use crate::fault::{FaultKind, LineFault, ReadFault};
 use crate::lines::{line_of, lines};
-use crate::policy::Policy;
+use crate::policy::{MOST_ENTRIES, Policy};
 use crate::token::cut_text;
 use std::alloc::Global;
 
 /// The most bytes that a text has: 16 MiB.
 const MOST_BYTES: usize = 16_777_216;
-
-/// The most entries that a policy has.
-const MOST_ENTRIES: usize = 16_384;
 
 /// How many newlines the bytes have.
 fn newlines(bytes: &[u8]) -> usize

@@ -11,7 +11,7 @@ use crate::items::Items;
 use crate::path::{DirPath, FilePath, is_component};
 
 /// What a path's rule says of the arguments (sudoers(5), "Command arguments").
-#[derive(Debug, Drop)]
+#[derive(Clone, Debug, Drop)]
 pub enum ArgRule {
     /// Any are allowed.
     Any,
@@ -22,7 +22,7 @@ pub enum ArgRule {
 }
 
 /// A command of a policy.
-#[derive(Debug, Drop)]
+#[derive(Clone, Debug, Drop)]
 pub enum Cmnd {
     /// `ALL`: every path, with any arguments.
     All,

@@ -7,7 +7,7 @@ use std::marker::Model;
 /// A list, which contracts see as the list of its elements.
 ///
 /// It is made from a `Vec` and gives it back, and takes no memory of its own.
-#[derive(Debug, Drop)]
+#[derive(Clone, Debug, Drop)]
 pub struct Items<T> {
     items: Vec<T>,
 }

@@ -17,7 +17,7 @@ pub trait Form {
 }
 
 /// A text of a form, which contracts see as its bytes.
-#[derive(Debug, Drop)]
+#[derive(Clone, Debug, Drop)]
 pub struct Word<F: Form> {
     text: String,
     form: PhantomData<F>,
