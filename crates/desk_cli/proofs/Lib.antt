@@ -3,3 +3,5 @@ pub mod Stamps
 pub mod Commands
 pub mod Args
 pub mod Runs
+pub mod Filled
+pub mod Complete

@@ -58,7 +58,11 @@ fn with_run<'a>(alloc: Global, command: Command<'a>) -> Result<Command<'a>, Allo
     command
         .arg(wanted(alloc, "AT", "When it runs, as yyyymmddHHMMSSZ"))?
         .arg(wanted(alloc, "PATH", "The command's path"))?
-        .arg(several(alloc, "ARGS", "The command's arguments, behind `--` where one begins with `-`"))
+        .arg(several(
+            alloc,
+            "ARGS",
+            "The command's arguments, behind `--` where one begins with `-`",
+        ))
 }
 
 fn decide<'a>(alloc: Global) -> Result<Command<'a>, AllocError>

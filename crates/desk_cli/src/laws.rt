@@ -1,7 +1,8 @@
 //! What the rules say of command lines that are written out, each the contract of a function that does nothing.
 
-ghost use Rattle.std.specs.Prelude.{[], ◌∷◌, codes};
-ghost use Rattle.desk_cli.specs.CommandLine.{IsCommandLine};
+ghost use Rattle.std.specs.Prelude.{◌≡◌, List, [], ◌∷◌, codes};
+ghost use Rattle.clap.specs.Words.{Text as Word, fault_of, subcommand_of};
+ghost use Rattle.desk_cli.specs.CommandLine.{IsCommandLine, IsComplete, desk};
 ghost use Rattle.desk_cli.specs.declared.task.Job.TheVariants as jobs;
 
 /// `desk check base.sudo`
@@ -11,23 +12,34 @@ pub fn checks()
 
 /// `desk decide base.sudo ann db1 root 20260105093000Z /bin/ls`, at 1,767,605,400 seconds
 pub fn decides()
-    ensures {
-        IsCommandLine
-            (codes "desk" ∷ codes "decide" ∷ codes "base.sudo" ∷ codes "ann" ∷ codes "db1" ∷ codes "root" ∷ codes "20260105093000Z" ∷ codes "/bin/ls" ∷ [])
-            (jobs.Decide (codes "base.sudo") (record {
-                user = codes "ann"; host = codes "db1"; runas = codes "root"; path = codes "/bin/ls"; args = []; at = 1_767_605_400
-            }))
-    }
+    ensures { IsCommandLine
+        (codes "desk" ∷ codes "decide" ∷ codes "base.sudo" ∷ codes "ann" ∷ codes "db1" ∷ codes "root" ∷ codes "20260105093000Z" ∷ codes "/bin/ls" ∷ [])
+        (jobs.Decide (codes "base.sudo") (record {
+          user = codes "ann";
+          host = codes "db1";
+          runas = codes "root";
+          path = codes "/bin/ls";
+          args = [];
+          at = 1_767_605_400;
+        })) }
 {}
 
 /// The same with the argument `-l`, which stands behind `--`.
 pub fn decides_with_flag()
-    ensures {
-        IsCommandLine
-            (codes "desk" ∷ codes "decide" ∷ codes "base.sudo" ∷ codes "ann" ∷ codes "db1" ∷ codes "root" ∷ codes "20260105093000Z" ∷ codes "/bin/ls"
-                ∷ codes "--" ∷ codes "-l" ∷ codes "x" ∷ [])
-            (jobs.Decide (codes "base.sudo") (record {
-                user = codes "ann"; host = codes "db1"; runas = codes "root"; path = codes "/bin/ls"; args = codes "-l" ∷ codes "x" ∷ []; at = 1_767_605_400
-            }))
-    }
+    ensures { IsCommandLine
+        (codes "desk" ∷ codes "decide" ∷ codes "base.sudo" ∷ codes "ann" ∷ codes "db1" ∷ codes "root" ∷ codes "20260105093000Z" ∷ codes "/bin/ls"
+        ∷ codes "--" ∷ codes "-l" ∷ codes "x" ∷ [])
+        (jobs.Decide (codes "base.sudo") (record {
+          user = codes "ann";
+          host = codes "db1";
+          runas = codes "root";
+          path = codes "/bin/ls";
+          args = codes "-l" ∷ codes "x" ∷ [];
+          at = 1_767_605_400;
+        })) }
+{}
+
+/// A line in which clap finds no fault is a command of the program, with a value for each argument that it wants.
+pub fn no_fault_is_complete()
+    ensures { (words : List Word) → fault_of desk words ≡ [] → IsComplete (subcommand_of desk words) }
 {}

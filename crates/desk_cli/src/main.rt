@@ -9,6 +9,8 @@ mod refusal;
 mod running;
 mod status;
 mod task;
+#[cfg(test)]
+mod tests;
 mod text;
 mod values;
 

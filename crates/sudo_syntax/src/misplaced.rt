@@ -2,6 +2,7 @@
 
 use crate::fault::LineFault;
 use crate::token::Token;
+use sudo_words::{AliasForm, DirForm, Form};
 
 /// The first words of lines that sudoers has and the desk leaves out.
 fn begins_left_out(text: &str) -> bool {
@@ -17,21 +18,34 @@ fn begins_left_out(text: &str) -> bool {
     )
 }
 
-/// Whether the byte begins a word of a form that the desk leaves out: an alias, a group (`%`),
-/// a netgroup (`+`) or an address.
-fn is_left_out(byte: u8) -> bool {
-    byte.is_ascii_uppercase() || byte.is_ascii_digit() || byte == b'%' || byte == b'+'
+/// Whether the word is one of an address: digits, dots and slashes.
+fn is_address(text: &[u8]) -> bool {
+    text.iter()
+        .all(|b| b.is_ascii_digit() || *b == b'.' || *b == b'/')
+}
+
+/// Whether the word is of a form that sudoers has and the desk leaves out: an alias, a group, a netgroup,
+/// an address, a domain name or a directory.
+fn is_left_out(text: &[u8]) -> bool {
+    match text {
+        [b'%' | b'+', ..] => true,
+        [b'/', ..] => DirForm::test(text),
+        [first, ..] if first.is_ascii_digit() => is_address(text),
+        _ => AliasForm::test(text) || text.contains(&b'.'),
+    }
+}
+
+/// Whether the word stands for a command of sudo's own.
+fn names_no_path(text: &str) -> bool {
+    text == "sudoedit" || text == "list"
 }
 
 /// What is wrong with a word that is not of the form that its place asks for.
 pub(crate) fn bad_word(text: &str) -> LineFault {
-    match text.as_bytes() {
-        [first, .., b'/'] if *first == b'/' => LineFault::LeftOut,
-        [first, ..] if is_left_out(*first) => LineFault::LeftOut,
-        _ => match text {
-            "sudoedit" | "list" => LineFault::LeftOut,
-            _ => LineFault::BadWord,
-        },
+    if begins_left_out(text) || names_no_path(text) || is_left_out(text.as_bytes()) {
+        LineFault::LeftOut
+    } else {
+        LineFault::BadWord
     }
 }
 
@@ -39,7 +53,7 @@ pub(crate) fn bad_word(text: &str) -> LineFault {
 pub(crate) fn bad_option(option: &str) -> LineFault {
     match option {
         "NOTBEFORE" | "NOTAFTER" => LineFault::Unexpected,
-        _ => bad_word(option),
+        _ => LineFault::LeftOut,
     }
 }
 
@@ -48,11 +62,19 @@ fn marks_left_out(token: &Token<'_>) -> bool {
     matches!(token, Token::Mark(_, b',' | b':' | b'!'))
 }
 
+/// Whether the word begins a command, so that what stands behind it are arguments.
+fn begins_command(text: &str) -> bool {
+    text.starts_with('/') || text == "sudoedit"
+}
+
 /// What is wrong with tokens that the grammar has not.
 pub(crate) fn misplaced(tokens: &[Token<'_>]) -> LineFault {
     match tokens {
         [Token::Word(_, first), ..] if begins_left_out(first) => LineFault::LeftOut,
-        [Token::Word(_, _), Token::Word(_, _)] => LineFault::LeftOut,
+        [Token::Word(_, first), Token::Word(_, _), ..] if begins_command(first) => {
+            LineFault::LeftOut
+        }
+        [Token::Mark(_, b'('), Token::Mark(_, b')'), ..] => LineFault::LeftOut,
         _ => {
             if tokens.iter().any(|token| marks_left_out(token)) {
                 LineFault::LeftOut

@@ -7,12 +7,16 @@ pub returns : goal.returns
 unfolding clap_on_literals
 returns c = record {
   faultless = refl;
-  says = (refl, refl, record {
-    user = (refl, refl);
-    host = (refl, refl);
-    runas = (refl, refl);
-    at = (_, refl, stamped_at_half_past_nine);
-    path = (refl, refl);
-    args = (refl, refl, lit≤ tt);
-  });
+  says = (
+    refl,
+    refl,
+    record {
+      user = (refl, refl);
+      host = (refl, refl);
+      runas = (refl, refl);
+      at = (_, refl, stamped_at_half_past_nine);
+      path = (refl, refl);
+      args = (refl, refl, lit≤ tt);
+    },
+  );
 }

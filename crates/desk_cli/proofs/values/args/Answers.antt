@@ -17,7 +17,7 @@ returns-then-texts-gt-MOST_ARGS-clause-only c = λ v h.
 pub returns-then-texts-gt-MOST_ARGS-clause-word : goal.returns-then-texts-gt-MOST_ARGS-clause-word
 returns-then-texts-gt-MOST_ARGS-clause-word c = λ e.
     let count : length c.in-Some.texts.now ≡ length (values c.args.id.now (rows_of (found_of c.args.matches.now))) =
-        length-texts c.in-Some.texts.now _ (some_values c.args.matches.now c.args.id.now _ c.in-Some.ensures) in
+    length-texts c.in-Some.texts.now _ (some_values c.args.matches.now c.args.id.now _ c.in-Some.ensures) in
     inl (omega arith)
 
 pub returns-clause-found : goal.returns-clause-found
@@ -25,8 +25,8 @@ returns-clause-found c =
     let rows = rows_of (found_of c.args.matches.now) in
     let have : List Text → Type 0 = λ v. (v ≡ map (λ t. t.now) c.in-Some.texts.now) × (list_all is_arg v ≡ true) in
     let weaker : (v : List Text) → have v → HasWords is_arg 64 c.args.id.now rows v = λ v p. (
-        sym (some_values c.args.matches.now c.args.id.now _ c.in-Some.ensures) ∙ sym p.0,
-        p.1,
-        (let count : length c.in-Some.texts.now ≡ length v = length-texts c.in-Some.texts.now v (sym p.0) in omega arith),
-        ) in
+      sym (some_values c.args.matches.now c.args.id.now _ c.in-Some.ensures) ∙ sym p.0,
+      p.1,
+      (let count : length c.in-Some.texts.now ≡ length v = length-texts c.in-Some.texts.now v (sym p.0) in omega arith),
+    ) in
     IfOk-weaker _ have (HasWords is_arg 64 c.args.id.now rows) weaker c.all_args.ensures.found
