@@ -1,6 +1,6 @@
 # The commands of the repository. `rt` is the toolchain's command.
 
-.PHONY: all desk demo test bench clean
+.PHONY: all desk demo test bench faults clean
 
 all: desk
 
@@ -19,6 +19,10 @@ test:
 # Time and memory beside visudo (Debian's package sudo) on policies of 1,601 and 16,001 rules.
 bench: desk
 	python3 scripts/bench.py
+
+# The program with each request for memory refused in turn.
+faults: desk
+	python3 scripts/faults.py
 
 clean:
 	rm -rf build crates/*/out

@@ -96,21 +96,6 @@ fn fault_of_error(error: clap::Error) -> JobFault
     }
 }
 
-/// The fault of a line that lacks a value that its command wants.
-pub fn lacking(alloc: Global) -> JobFault
-    ensures { result ≡ BadWord → ⊥ }
-{
-    match command(alloc) {
-        Ok(mut command) => {
-            match command.error(ErrorKind::MissingRequiredArgument, "a value is missing") {
-                Ok(error) => JobFault::Usage(error),
-                Err(_) => JobFault::NoMemory,
-            }
-        }
-        Err(_) => JobFault::NoMemory,
-    }
-}
-
 /// The matches of the words, by clap's rules.
 pub fn parsed<'a>(alloc: Global, words: &'a [String]) -> Result<ArgMatches<'a>, JobFault>
     ensures faultless { IfOk result (λ m. fault_of desk (map string_bytes words.entry.now) ≡ []) }

@@ -1,31 +1,32 @@
 //! What the command line says to do.
 
 ghost use Rattle.std.specs.Prelude.{◌≡◌, ◌≢◌, IfOk, IfErr, MatchResult, Some, [], codes, map, string_bytes};
-ghost use Rattle.clap.specs.Words.{fault_of, found_of, rows_of, subcommand_of, subcommand_rows_of};
+ghost use Rattle.clap.specs.Words.{fault_of, found_of, rows_of, subcommand_rows_of};
 ghost use Rattle.sudo_decide.specs.declared.invocation.Invocation.{Invocation as Run};
-ghost use Rattle.desk_cli.specs.CommandLine.{HasBadValue, HasRun, IsBadLine, IsCommandLine, IsComplete, IsInvocation, Says, SaysBadly, desk};
+ghost use Rattle.desk_cli.specs.CommandLine.{HasBadValue, HasRun, HasSome, IsBadLine, IsCommandLine, IsComplete, IsInvocation, Says, SaysBadly, desk};
 ghost use Rattle.desk_cli.specs.Faults.{IsUsage};
 ghost use Rattle.desk_cli.specs.declared.fault.JobFault.TheVariants.{BadWord, NoMemory};
 ghost use Rattle.desk_cli.specs.declared.task.Job.{Job as Task};
 
-use crate::command::{lacking, parsed};
+use crate::command::parsed;
 use crate::fault::JobFault;
 use crate::task::Job;
 use crate::values::{args, moment, text, word};
 use clap::ArgMatches;
-use std::alloc::Global;
+use std::alloc::{AllocError, Global};
 use sudo_decide::Invocation;
 
 fn invocation(alloc: Global, matches: &ArgMatches<'_>) -> Result<Invocation, JobFault>
+    requires { HasRun (rows_of (found_of matches.now)) }
     ensures found { IfOk result (λ run. IsInvocation (rows_of (found_of matches.now)) run) }
     ensures only { (run : Run) → IsInvocation (rows_of (found_of matches.now)) run → MatchResult result (λ r. r ≡ run) (λ e. e ≡ NoMemory) }
     ensures word { IfErr result (λ e. e ≡ BadWord → HasBadValue (rows_of (found_of matches.now))) }
-    ensures usage { IfErr result (λ e. IsUsage e → HasRun (rows_of (found_of matches.now)) → ⊥) }
+    ensures usage { IfErr result (λ e. IsUsage e → ⊥) }
 {
     let user = word(alloc, matches, "USER")?;
     let host = word(alloc, matches, "HOST")?;
     let runas = word(alloc, matches, "RUNAS")?;
-    let at = moment(alloc, matches, "AT")?;
+    let at = moment(matches, "AT")?;
     let path = word(alloc, matches, "PATH")?;
     let args = args(alloc, matches, "ARGS")?;
     Ok(Invocation {
@@ -38,11 +39,10 @@ fn invocation(alloc: Global, matches: &ArgMatches<'_>) -> Result<Invocation, Job
     })
 }
 
-fn check(alloc: Global, matches: &ArgMatches<'_>) -> Result<Job, JobFault>
+fn check(alloc: Global, matches: &ArgMatches<'_>) -> Result<Job, AllocError>
+    requires { HasSome (codes "FILE") (rows_of (found_of matches.now)) }
     ensures found { IfOk result (λ j. Says (Some (codes "check", rows_of (found_of matches.now))) j) }
-    ensures only { (j : Task) → Says (Some (codes "check", rows_of (found_of matches.now))) j → MatchResult result (λ k. k ≡ j) (λ e. e ≡ NoMemory) }
-    ensures word { IfErr result (λ e. e ≡ BadWord → ⊥) }
-    ensures usage { IfErr result (λ e. IsUsage e → IsComplete (Some (codes "check", rows_of (found_of matches.now))) → ⊥) }
+    ensures only { (j : Task) → Says (Some (codes "check", rows_of (found_of matches.now))) j → IfOk result (λ k. k ≡ j) }
 {
     Ok(Job::Check {
         file: text(alloc, matches, "FILE")?,
@@ -50,10 +50,12 @@ fn check(alloc: Global, matches: &ArgMatches<'_>) -> Result<Job, JobFault>
 }
 
 fn decide(alloc: Global, matches: &ArgMatches<'_>) -> Result<Job, JobFault>
+    requires file { HasSome (codes "FILE") (rows_of (found_of matches.now)) }
+    requires run { HasRun (rows_of (found_of matches.now)) }
     ensures found { IfOk result (λ j. Says (Some (codes "decide", rows_of (found_of matches.now))) j) }
     ensures only { (j : Task) → Says (Some (codes "decide", rows_of (found_of matches.now))) j → MatchResult result (λ k. k ≡ j) (λ e. e ≡ NoMemory) }
     ensures word { IfErr result (λ e. e ≡ BadWord → SaysBadly (Some (codes "decide", rows_of (found_of matches.now)))) }
-    ensures usage { IfErr result (λ e. IsUsage e → IsComplete (Some (codes "decide", rows_of (found_of matches.now))) → ⊥) }
+    ensures usage { IfErr result (λ e. IsUsage e → ⊥) }
 {
     let file = text(alloc, matches, "FILE")?;
     let invocation = invocation(alloc, matches)?;
@@ -61,29 +63,29 @@ fn decide(alloc: Global, matches: &ArgMatches<'_>) -> Result<Job, JobFault>
 }
 
 fn by_name(alloc: Global, name: &str, matches: &ArgMatches<'_>) -> Result<Job, JobFault>
+    requires { IsComplete (Some (name.now, rows_of (found_of matches.now))) }
     ensures found { IfOk result (λ j. Says (Some (name.now, rows_of (found_of matches.now))) j) }
     ensures only { (j : Task) → Says (Some (name.now, rows_of (found_of matches.now))) j → MatchResult result (λ k. k ≡ j) (λ e. e ≡ NoMemory) }
     ensures word { IfErr result (λ e. e ≡ BadWord → SaysBadly (Some (name.now, rows_of (found_of matches.now)))) }
-    ensures usage { IfErr result (λ e. IsUsage e → IsComplete (Some (name.now, rows_of (found_of matches.now))) → ⊥) }
+    ensures usage { IfErr result (λ e. IsUsage e → ⊥) }
 {
     if name == "check" {
-        check(alloc, matches)
-    } else if name == "decide" {
-        decide(alloc, matches)
+        Ok(check(alloc, matches)?)
     } else {
-        Err(lacking(alloc))
+        decide(alloc, matches)
     }
 }
 
 fn named(alloc: Global, matches: &ArgMatches<'_>) -> Result<Job, JobFault>
+    requires { IsComplete (subcommand_rows_of matches.now) }
     ensures found { IfOk result (λ j. Says (subcommand_rows_of matches.now) j) }
     ensures only { (j : Task) → Says (subcommand_rows_of matches.now) j → MatchResult result (λ k. k ≡ j) (λ e. e ≡ NoMemory) }
     ensures word { IfErr result (λ e. e ≡ BadWord → SaysBadly (subcommand_rows_of matches.now)) }
-    ensures usage { IfErr result (λ e. IsUsage e → IsComplete (subcommand_rows_of matches.now) → ⊥) }
+    ensures usage { IfErr result (λ e. IsUsage e → ⊥) }
 {
     match matches.subcommand() {
         Some((name, inner)) => by_name(alloc, name, inner),
-        None => Err(lacking(alloc)),
+        None => unreachable!(),
     }
 }
 
@@ -95,7 +97,7 @@ pub fn job(alloc: Global, words: Vec<String>) -> Result<Job, JobFault>
     ensures found { IfOk result (λ j. IsCommandLine (map string_bytes words.items) j) }
     ensures only { (j : Task) → IsCommandLine (map string_bytes words.items) j → MatchResult result (λ k. k ≡ j) (λ e. e ≡ NoMemory) }
     ensures word { IfErr result (λ e. e ≡ BadWord → IsBadLine (map string_bytes words.items)) }
-    ensures usage { IfErr result (λ e. IsUsage e → IsComplete (subcommand_of desk (map string_bytes words.items)) → fault_of desk (map string_bytes words.items) ≢ []) }
+    ensures usage { IfErr result (λ e. IsUsage e → fault_of desk (map string_bytes words.items) ≢ []) }
 {
     let matches = parsed(alloc, &words)?;
     named(alloc, &matches)

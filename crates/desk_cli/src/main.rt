@@ -41,6 +41,7 @@ fn files(rt: &HostRuntime, job: &Job) -> Result<Vec<Vec<u8>>, Refusal> {
     let mut files = Vec::new(rt.alloc());
     match fs::read(rt, path) {
         Ok(bytes) => files.push(bytes)?,
+        Err(error) if error.kind() == io::ErrorKind::OutOfMemory => return Err(Refusal::NoMemory),
         Err(_) => return Err(Refusal::FileFailed),
     }
     Ok(files)

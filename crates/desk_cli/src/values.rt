@@ -2,18 +2,17 @@
 
 ghost use Rattle.std.specs.Prelude.{◌≡◌, ◌⊎◌, ◌<◌, ◌≤◌, ℕ, List, IfOk, IfErr, IfSome, MatchResult, None, Some, map, length, true, false};
 ghost use Rattle.std.specs.List.{list_all};
-ghost use Rattle.clap.specs.Words.{found_of, first_of, rows_of};
+ghost use Rattle.clap.specs.Words.{found_of, rows_of};
 ghost use Rattle.sudo_words.specs.Moment.{IsStamp};
 ghost use Rattle.sudo_words.specs.Word.{is_arg};
-ghost use Rattle.desk_cli.specs.CommandLine.{HasBadMoment, HasBadWord, HasBadWords, HasMoment, HasValue, HasWord, HasWords, values};
+ghost use Rattle.desk_cli.specs.CommandLine.{HasBadMoment, HasBadWord, HasBadWords, HasMoment, HasSome, HasValue, HasWord, HasWords, values};
 ghost use Rattle.desk_cli.specs.Faults.{IsUsage};
 ghost use Rattle.desk_cli.specs.declared.fault.JobFault.TheVariants.{BadWord, NoMemory};
 
-use crate::command::lacking;
 use crate::fault::JobFault;
 use crate::text::Text;
 use clap::ArgMatches;
-use std::alloc::Global;
+use std::alloc::{AllocError, Global};
 use sudo_words::{Arg, Form, Items, Moment, Word};
 
 /// The length of a moment's canonical text.
@@ -22,39 +21,35 @@ const STAMP_LENGTH: usize = 15;
 /// The most arguments that a run has.
 const MOST_ARGS: usize = 64;
 
-/// The value of an argument.
+/// The value of an argument that has one.
 #[tactic(auto, using(crate::proofs::Rows::first_rows))]
-fn value<'a>(alloc: Global, matches: &ArgMatches<'a>, id: &str) -> Result<&'a str, JobFault>
-    ensures found { IfOk result (λ s. HasValue id.now (rows_of (found_of matches.now)) s.now) }
-    ensures lacks { IfErr result (λ e. first_of id.now (rows_of (found_of matches.now)) ≡ None) }
-    ensures word { IfErr result (λ e. e ≡ BadWord → ⊥) }
+fn value<'a>(matches: &ArgMatches<'a>, id: &str) -> &'a str
+    requires { HasSome id.now (rows_of (found_of matches.now)) }
+    ensures { HasValue id.now (rows_of (found_of matches.now)) result.now }
 {
     match matches.get_str(id) {
-        Some(text) => Ok(text),
-        None => Err(lacking(alloc)),
+        Some(text) => text,
+        None => unreachable!(),
     }
 }
 
-/// The value of an argument, whatever its form.
-pub fn text(alloc: Global, matches: &ArgMatches<'_>, id: &str) -> Result<Text, JobFault>
-    ensures found { IfOk result (λ t. HasValue id.now (rows_of (found_of matches.now)) t) }
-    ensures only { (t : List ℕ) → HasValue id.now (rows_of (found_of matches.now)) t → MatchResult result (λ r. r ≡ t) (λ e. e ≡ NoMemory) }
-    ensures word { IfErr result (λ e. e ≡ BadWord → ⊥) }
-    ensures lacks { IfErr result (λ e. IsUsage e → first_of id.now (rows_of (found_of matches.now)) ≡ None) }
+/// The value of an argument that has one, whatever its form.
+pub fn text(alloc: Global, matches: &ArgMatches<'_>, id: &str) -> Result<Text, AllocError>
+    requires { HasSome id.now (rows_of (found_of matches.now)) }
+    ensures { IfOk result (λ t. HasValue id.now (rows_of (found_of matches.now)) t) }
 {
-    let text = value(alloc, matches, id)?;
-    Ok(Text::copied(alloc, text)?)
+    Text::copied(alloc, value(matches, id))
 }
 
-/// The value of an argument, a word of the form.
+/// The value of an argument that has one, a word of the form.
 pub fn word<F: Form>(alloc: Global, matches: &ArgMatches<'_>, id: &str) -> Result<Word<F>, JobFault>
+    requires { HasSome id.now (rows_of (found_of matches.now)) }
     ensures found { IfOk result (λ w. HasWord F.has id.now (rows_of (found_of matches.now)) w) }
     ensures only { (w : List ℕ) → HasWord F.has id.now (rows_of (found_of matches.now)) w → MatchResult result (λ r. r ≡ w) (λ e. e ≡ NoMemory) }
     ensures word { IfErr result (λ e. e ≡ BadWord → HasBadWord F.has id.now (rows_of (found_of matches.now))) }
-    ensures lacks { IfErr result (λ e. IsUsage e → first_of id.now (rows_of (found_of matches.now)) ≡ None) }
+    ensures usage { IfErr result (λ e. IsUsage e → ⊥) }
 {
-    let text = value(alloc, matches, id)?;
-    Ok(Word::read(alloc, text)?)
+    Ok(Word::read(alloc, value(matches, id))?)
 }
 
 /// The moment of this canonical text.
@@ -69,15 +64,14 @@ fn stamped(text: &str) -> Option<Moment>
     Moment::read(text)
 }
 
-/// The value of an argument, a moment's canonical text.
-pub fn moment(alloc: Global, matches: &ArgMatches<'_>, id: &str) -> Result<Moment, JobFault>
+/// The value of an argument that has one, a moment's canonical text.
+pub fn moment(matches: &ArgMatches<'_>, id: &str) -> Result<Moment, JobFault>
+    requires { HasSome id.now (rows_of (found_of matches.now)) }
     ensures found { IfOk result (λ m. HasMoment id.now (rows_of (found_of matches.now)) m) }
-    ensures only { (m : ℕ) → HasMoment id.now (rows_of (found_of matches.now)) m → MatchResult result (λ r. r ≡ m) (λ e. e ≡ NoMemory) }
-    ensures word { IfErr result (λ e. e ≡ BadWord → HasBadMoment id.now (rows_of (found_of matches.now))) }
-    ensures lacks { IfErr result (λ e. IsUsage e → first_of id.now (rows_of (found_of matches.now)) ≡ None) }
+    ensures only { (m : ℕ) → HasMoment id.now (rows_of (found_of matches.now)) m → MatchResult result (λ r. r ≡ m) (λ e. ⊥) }
+    ensures word { IfErr result (λ e. (e ≡ BadWord) × HasBadMoment id.now (rows_of (found_of matches.now))) }
 {
-    let text = value(alloc, matches, id)?;
-    match stamped(text) {
+    match stamped(value(matches, id)) {
         Some(moment) => Ok(moment),
         None => Err(JobFault::BadWord),
     }

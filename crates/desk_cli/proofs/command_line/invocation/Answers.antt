@@ -1,11 +1,9 @@
-use Rattle.std.proofs.lemmas.Result.{err_from_is_err_and}
+use Rattle.std.proofs.Common.{◌≡◌}
 use Rattle.desk_cli.proofs.Runs.{same_run}
 use Rattle.desk_cli.proofs.command_line.invocation.Goals as goal
 
 pub returns-in_err-at-clause-only : goal.returns-in_err-at-clause-only
-returns-in_err-at-clause-only c = λ run h.
-    let p = err_from_is_err_and c.from_residual-in_err-at.result c.from_residual-in_err-at.ensures.1 in
-    rw (p.1, p.2) (c.in_err-at.ensures.only run.at h.at)
+returns-in_err-at-clause-only c = λ run h. absurd (c.in_err-at.ensures.only run.at h.at)
 
 pub returns-clause-only : goal.returns-clause-only
 returns-clause-only c = λ run h.

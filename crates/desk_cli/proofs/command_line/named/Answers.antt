@@ -4,7 +4,7 @@ use Rattle.desk_cli.specs.CommandLine.{Says}
 use Rattle.desk_cli.proofs.Rows.{named_rows}
 use Rattle.desk_cli.proofs.command_line.named.Goals as goal
 
-pub returns-in-Some-clause-only : goal.returns-in-Some-clause-only
-returns-in-Some-clause-only c = λ j says.
+pub returns-clause-only : goal.returns-clause-only
+returns-clause-only c = λ j says.
     let is = named_rows c.args.matches.now c.in-Some.name.now (rows_of (found_of c.in-Some.inner.now)) c.in-Some.ensures.name c.in-Some.ensures.rows in
     c.by_name.ensures.only j (subst (λ (line : Option (Text × List Row)). Says line j) is says)

@@ -1,0 +1,64 @@
+#!/usr/bin/env python3
+"""Runs the program with each request for memory failing in turn.
+
+Every run has to give the plain answer, or to end with status 2, nothing on the output and a refusal for want of memory.
+"""
+
+import os
+import re
+import subprocess
+import sys
+import tempfile
+
+ROOT = os.path.dirname(os.path.dirname(os.path.abspath(__file__)))
+DESK = os.path.join(ROOT, "build", "desk")
+REFUSAL = re.compile(r"(NoMemory|S11 NoMemory line \d+)\n\Z")
+
+POLICY = """# two visits
+ann db1 = NOTBEFORE=2026010509Z NOTAFTER=202601051100Z /bin/ls
+ALL ALL = (op) /usr/bin/id
+"""
+
+
+def commands(folder):
+    """The command lines to run, each with its standard input."""
+    base = os.path.join(folder, "base.sudo")
+    with open(base, "w") as file:
+        file.write(POLICY)
+    return [
+        (["check", base], b""),
+        (["decide", base, "ann", "db1", "root", "20260105093000Z", "/bin/ls", "--", "-l", "x"], b""),
+        (["decide", base, "bob", "db2", "op", "20260105093000Z", "/bin/cat"], b""),
+    ]
+
+
+def run(words, given, shim, failing, count):
+    environment = dict(os.environ, LD_PRELOAD=shim, FAIL_ALLOC=str(failing), COUNT_ALLOC=count)
+    done = subprocess.run([DESK, *words], input=given, capture_output=True, env=environment, timeout=60)
+    return done.returncode, done.stdout, done.stderr
+
+
+def main():
+    wrong = runs = refusals = 0
+    with tempfile.TemporaryDirectory() as folder:
+        shim, count = os.path.join(folder, "fail_alloc.so"), os.path.join(folder, "count")
+        source = os.path.join(ROOT, "scripts", "fail_alloc.c")
+        subprocess.run(["cc", "-shared", "-fPIC", "-O1", "-o", shim, source, "-ldl"], check=True)
+        for words, given in commands(folder):
+            plain = run(words, given, shim, 0, count)
+            with open(count) as file:
+                requests = int(file.read())
+            for failing in range(1, requests + 1):
+                got = run(words, given, shim, failing, count)
+                runs += 1
+                if got == plain:
+                    continue
+                refusals += 1
+                if got[0] != 2 or got[1] or not REFUSAL.search(got[2].decode()):
+                    wrong += 1
+                    print(f"desk {' '.join(words)}: request {failing} refused: {got}")
+    print(f"{runs} runs with a request refused: {refusals} named refusals, {wrong} wrong answers")
+    sys.exit(1 if wrong else 0)
+
+
+main()
