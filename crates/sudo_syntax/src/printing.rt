@@ -134,7 +134,7 @@ fn push_line(alloc: Global, out: &mut String, entry: &Entry) -> Result<(), NoMem
 {
     match entry {
         Entry::Rule(rule) => push_rule(alloc, out, rule)?,
-        _ => {}
+        _ => unreachable!(),
     }
     out.push_str("\n")?;
     Ok(())
