@@ -9,8 +9,11 @@ returns-in-None-clause-only c = λ m h.
     cc
 
 pub returns-in-None-clause-word : goal.returns-in-None-clause-word
-returns-in-None-clause-word c = (refl, record {
-  text = c.value.result.now;
-  value = c.value.ensures;
-  bad = λ m h. let none : None ≡ Some m = c.in-None.ensures.only m h in cc;
-})
+returns-in-None-clause-word c = (
+  refl,
+  record {
+    text = c.value.result.now;
+    value = c.value.ensures;
+    bad = λ m h. let none : None ≡ Some m = c.in-None.ensures.only m h in cc;
+  },
+)
