@@ -1,8 +1,8 @@
 //! Messages that ask for, and approve, time-boxed sudo rights.
 #![tactic(auto)]
 
+mod canonical_json;
 mod fault;
-mod json;
 mod kind;
 mod laws;
 mod lists;

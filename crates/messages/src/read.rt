@@ -9,8 +9,8 @@ ghost use Rattle.messages.specs.Wire.{wire, IsMessage};
 ghost use Rattle.messages.specs.declared.message.Message.{Message as AnyMessage};
 ghost use Rattle.messages.specs.declared.fault.MessageFault.TheVariants.{TooLong, NotCanonical, BadField, NoMemory};
 
+use crate::canonical_json::canonical;
 use crate::fault::MessageFault;
-use crate::json::canonical;
 use crate::kind::VerdictKind;
 use crate::lists::{cmnds_of, hosts_of};
 use crate::members::{list_member, moment_member, number_member, text_member, word_member};

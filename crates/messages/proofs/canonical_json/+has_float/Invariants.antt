@@ -1,7 +1,7 @@
 use Rattle.std.proofs.Common.{◌≡◌, drop}
 use Rattle.serde_json.specs.View.{items_view, members_view}
 use Rattle.serde_json.specs.Written.{items_have_float, members_have_float}
-use Rattle.messages.proofs.json.+has_float.Given as goal
+use Rattle.messages.proofs.canonical_json.+has_float.Given as goal
 
 -- what is left has a number that is not whole exactly where the list has one
 abbrev pub invariant-items_have_float-loop-item : goal.invariant-items_have_float-loop-item
