@@ -10,7 +10,7 @@ use Rattle.sudo_decide.specs.declared.decision.Decision.TheVariants.{Deny, Allow
 use Rattle.desk_cli.specs.declared.status.Status.{Status}
 use Rattle.desk_cli.specs.declared.status.Status.TheVariants.{Done, Denied, Refused}
 use Rattle.desk_cli.specs.declared.task.Job.{Job}
-use Rattle.desk_cli.specs.declared.task.Job.TheVariants.{Check, Decide}
+use Rattle.desk_cli.specs.declared.task.Job.TheVariants.{Check, Decide, Print}
 
 -- the program's exit status
 abbrev pub exit_status : Status → ℕ
@@ -42,3 +42,4 @@ abbrev pub IsAnswer : Job → List (List ℕ) → Status → List ℕ → Type 0
 IsAnswer job [] status text = ⊥
 IsAnswer (Check name) (file ∷ more) status text = ChecksFile file status text
 IsAnswer (Decide name invocation) (file ∷ more) status text = DecidesByFile file invocation status text
+IsAnswer (Print base host) (file ∷ more) status text = ⊥

@@ -64,6 +64,7 @@ fn answered(alloc: Global, job: &Job, files: &[Vec<u8>]) -> Result<Answer, Refus
     match job {
         Job::Check { .. } => check(alloc, file.as_slice()),
         Job::Decide { invocation, .. } => decided(alloc, file.as_slice(), invocation),
+        Job::Print { .. } => Err(Refusal::FileFailed),
     }
 }
 

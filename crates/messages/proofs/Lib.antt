@@ -1,0 +1,5 @@
+pub mod PlainTexts
+pub mod ListTexts
+pub mod Readings
+pub mod Uniqueness
+pub mod KindLemmas

@@ -1,0 +1,86 @@
+-- No text is that of two messages.
+use Rattle.std.proofs.Common.{◌≡◌, ℕ, ◌∙◌, List, [], ◌∷◌, Some, None, map, refl, sym, ap, ap₂}
+use Rattle.std.specs.Prelude.{codes, All}
+use Rattle.std.proofs.lemmas.List.Elements.{All-head, All-tail}
+use Rattle.serde_json.specs.Data.{Data, Items, string, item, no_items}
+use Rattle.serde_json.specs.Find.{get}
+use Rattle.serde_json.specs.Read.{read}
+use Rattle.sudo_words.specs.Command.{IsLawful, cmnd_text}
+use Rattle.sudo_words.specs.Moment.{IsMoment, Spells}
+use Rattle.sudo_words.specs.declared.cmnd.Cmnd.{Cmnd}
+use Rattle.sudo_words.proofs.CommandLemmas.{one_command}
+use Rattle.sudo_words.proofs.MomentTexts.{one_spelled}
+use Rattle.messages.specs.Fields.{RequestFields, VerdictFields, IsRequest, IsVerdict}
+use Rattle.messages.specs.Members.{strings, request_value, verdict_value, value_of}
+use Rattle.messages.specs.Wire.{moment_text, wire, IsMessage}
+use Rattle.messages.specs.declared.message.Message.{Message}
+use Rattle.messages.specs.declared.message.Message.TheVariants.{Request, Verdict}
+use Rattle.messages.proofs.PlainTexts.{moment_spelled}
+use Rattle.messages.proofs.Readings.{text_of_message}
+
+pub one_moment : (s t : ℕ) → IsMoment s → IsMoment t → moment_text s ≡ moment_text t → s ≡ t
+one_moment s t a b same =
+    let other : Spells (moment_text s) t = rw same (moment_spelled t b) in
+    one_spelled (moment_text s) s t (moment_spelled s a) other
+
+pub one_list : (vs ws : List (List ℕ)) → strings vs ≡ strings ws → vs ≡ ws
+one_list [] [] e = refl
+one_list [] (w ∷ ws) e = absurd cc
+one_list (v ∷ vs) [] e = absurd cc
+one_list (v ∷ vs) (w ∷ ws) e =
+    let first : v ≡ w = cc in
+    let rest : strings vs ≡ strings ws = cc in
+    ap₂ (λ (x : List ℕ) (xs : List (List ℕ)). x ∷ xs) first (one_list vs ws rest)
+
+pub one_cmnds : (cs ds : List Cmnd) → All IsLawful cs → All IsLawful ds → map cmnd_text cs ≡ map cmnd_text ds → cs ≡ ds
+one_cmnds [] [] a b e = refl
+one_cmnds [] (d ∷ ds) a b e = absurd cc
+one_cmnds (c ∷ cs) [] a b e = absurd cc
+one_cmnds (c ∷ cs) (d ∷ ds) a b e =
+    let first : cmnd_text c ≡ cmnd_text d = cc in
+    let rest : map cmnd_text cs ≡ map cmnd_text ds = cc in
+    ap₂ (λ (x : Cmnd) (xs : List Cmnd). x ∷ xs) (one_command c d (All-head IsLawful c cs a) (All-head IsLawful d ds b) first)
+    (one_cmnds cs ds (All-tail IsLawful c cs a) (All-tail IsLawful d ds b) rest)
+
+-- a value is one request's
+one_request : (r s : RequestFields) → IsRequest r → IsRequest s → request_value r ≡ request_value s → r ≡ s
+one_request r s a b e =
+    let at_text : moment_text r.at ≡ moment_text s.at = cc in
+    let by : r.by ≡ s.by = cc in
+    let ceiling : r.ceiling ≡ s.ceiling = cc in
+    let cmnd_texts : strings (map cmnd_text r.cmnds) ≡ strings (map cmnd_text s.cmnds) = cc in
+    let from_text : moment_text r.from ≡ moment_text s.from = cc in
+    let host_texts : strings r.hosts ≡ strings s.hosts = cc in
+    let number : r.no ≡ s.no = cc in
+    let runas : r.runas ≡ s.runas = cc in
+    let until_text : moment_text r.until ≡ moment_text s.until = cc in
+    let at = one_moment r.at s.at a.at b.at at_text in
+    let cmnds = one_cmnds r.cmnds s.cmnds a.cmnds.1 b.cmnds.1 (one_list (map cmnd_text r.cmnds) (map cmnd_text s.cmnds) cmnd_texts) in
+    let from = one_moment r.from s.from a.from b.from from_text in
+    let hosts = one_list r.hosts s.hosts host_texts in
+    let until = one_moment r.until s.until a.until b.until until_text in
+    λ i. record { at = at i; by = by i; ceiling = ceiling i; cmnds = cmnds i; from = from i; hosts = hosts i; no = number i; runas = runas i; until = until i }
+
+-- a value is one verdict's
+one_verdict : (v w : VerdictFields) → IsVerdict v → IsVerdict w → verdict_value v ≡ verdict_value w → v ≡ w
+one_verdict v w a b e =
+    let at_text : moment_text v.at ≡ moment_text w.at = cc in
+    let by : v.by ≡ w.by = cc in
+    let number : v.no ≡ w.no = cc in
+    let asker : v.of ≡ w.of = cc in
+    let at = one_moment v.at w.at a.at b.at at_text in
+    let kind = a.kind ∙ sym b.kind in
+    λ i. record { at = at i; by = by i; kind = kind i; no = number i; of = asker i }
+
+-- a value is one message's: only requests have a ceiling
+pub one_value : (m n : Message) → IsMessage m → IsMessage n → value_of m ≡ value_of n → m ≡ n
+one_value (Request r) (Request s) a b e = ap Request (one_request r s a b e)
+one_value (Request r) (Verdict w) a b e = let ceiling : Some (string r.ceiling) ≡ None = ap (get (codes "ceiling")) e in absurd cc
+one_value (Verdict v) (Request s) a b e = let ceiling : None ≡ Some (string s.ceiling) = ap (get (codes "ceiling")) e in absurd cc
+one_value (Verdict v) (Verdict w) a b e = ap Verdict (one_verdict v w a b e)
+
+pub one_message : (m n : Message) → IsMessage m → IsMessage n → wire m ≡ wire n → m ≡ n
+one_message m n a b same =
+    let values : Some (value_of m) ≡ Some (value_of n) = sym (text_of_message m a).reads ∙ ap read same ∙ (text_of_message n b).reads in
+    let value : value_of m ≡ value_of n = cc in
+    one_value m n a b value

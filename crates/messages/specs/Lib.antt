@@ -1,0 +1,6 @@
+pub mod Order
+pub mod Fields
+pub mod Shown
+pub mod Wire
+pub mod Canonical
+pub mod Members

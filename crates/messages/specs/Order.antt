@@ -1,0 +1,21 @@
+-- The byte order of texts, and lists of texts that rise strictly in it.
+use Rattle.std.specs.Prelude.{◌≡◌, ℕ, Bool, true, ◌&&◌, List, [], ◌∷◌}
+use Rattle.std.specs.Ordering.{nat_cmp, is_lt}
+use Rattle.std.specs.Cmp.Lexicographic.{slice_cmp}
+
+-- One text stands before another: at the first byte where they differ its byte is the lower, or it is a front of the other.
+abbrev pub is_before : List ℕ → List ℕ → Bool
+is_before low high = is_lt (slice_cmp nat_cmp low high)
+
+-- `low` stands before the first text, and each text before the next
+abbrev pub rises_from : List ℕ → List (List ℕ) → Bool
+rises_from low [] = true
+rises_from low (w ∷ ws) = is_before low w && rises_from w ws
+
+-- each text stands before the next, so none comes twice
+abbrev pub is_rising : List (List ℕ) → Bool
+is_rising [] = true
+is_rising (w ∷ ws) = rises_from w ws
+
+abbrev pub IsRising : List (List ℕ) → Type 0
+IsRising ws = is_rising ws ≡ true

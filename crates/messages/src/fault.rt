@@ -1,0 +1,56 @@
+//! Why a body is no message.
+
+ghost use Rattle.std.specs.Prelude.{◌≡◌};
+ghost use Rattle.messages.specs.declared.fault.MessageFault.TheVariants as fault;
+
+use std::alloc::{AllocError, AllocFailed};
+use std::fmt;
+use sudo_words::NoMemory;
+
+/// Why a body is no message. It is shown as its code and name.
+#[derive(Clone, Copy, Debug, PartialEq, Eq)]
+pub enum MessageFault {
+    /// The body has more than 16,384 bytes.
+    TooLong,
+    /// The bytes are not a canonical text of JSON whose numbers are whole.
+    NotCanonical,
+    /// The text is canonical, but it is no message's: a member is wrong, missing or too many.
+    BadField,
+    /// Memory ran out.
+    NoMemory,
+}
+
+impl fmt::Display for MessageFault {
+    fn fmt<W: fmt::Write>(&self, f: &mut fmt::Formatter<W>) -> fmt::Result {
+        f.write_str(match self {
+            MessageFault::TooLong => "M1 TooLong",
+            MessageFault::NotCanonical => "M2 NotCanonical",
+            MessageFault::BadField => "M3 BadField",
+            MessageFault::NoMemory => "M4 NoMemory",
+        })
+    }
+}
+
+impl From<AllocError> for MessageFault {
+    ghost from_gives = { λ _ e. e ≡ fault.NoMemory };
+
+    fn from(_e: AllocError) -> MessageFault {
+        MessageFault::NoMemory
+    }
+}
+
+impl<T: Drop> From<AllocFailed<T>> for MessageFault {
+    ghost from_gives = { λ _ e. e ≡ fault.NoMemory };
+
+    fn from(_e: AllocFailed<T>) -> MessageFault {
+        MessageFault::NoMemory
+    }
+}
+
+impl From<NoMemory> for MessageFault {
+    ghost from_gives = { λ _ e. e ≡ fault.NoMemory };
+
+    fn from(_e: NoMemory) -> MessageFault {
+        MessageFault::NoMemory
+    }
+}

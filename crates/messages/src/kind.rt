@@ -1,0 +1,12 @@
+//! The kinds of verdicts.
+
+/// What a verdict does to a request. So far only approvals are messages.
+#[derive(Clone, Copy, Debug, PartialEq, Eq)]
+pub enum VerdictKind {
+    /// It approves the request, which other approvals may have to join.
+    Approve,
+    /// It turns the request down.
+    Refuse,
+    /// It takes back what was granted.
+    Revoke,
+}

@@ -1,0 +1,27 @@
+//! Messages that ask for, and approve, time-boxed sudo rights.
+#![tactic(auto)]
+
+mod fault;
+mod json;
+mod kind;
+mod laws;
+mod lists;
+mod members;
+mod message;
+mod order;
+mod read;
+mod request;
+mod verdict;
+mod write;
+
+pub use fault::MessageFault;
+pub use kind::VerdictKind;
+pub use laws::{one_message, wire_is_canonical};
+pub use message::Message;
+pub use read::read_message;
+pub use request::Request;
+pub use verdict::Verdict;
+pub use write::text;
+
+#[cfg(test)]
+mod tests;

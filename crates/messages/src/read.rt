@@ -1,0 +1,104 @@
+//! Messages read from bytes.
+
+ghost use Rattle.std.specs.Prelude.{◌≡◌, ◌⊎◌, ◌<◌, ◌≤◌, length, IfOk, IfErr, IsErrOf, MatchResult};
+ghost use Rattle.serde_json.specs.View.{view};
+ghost use Rattle.messages.specs.Canonical.{IsCanonicalText};
+ghost use Rattle.messages.specs.Fields.{RequestFields, VerdictFields, IsRequest, IsVerdict};
+ghost use Rattle.messages.specs.Members.{request_value, verdict_value, value_of};
+ghost use Rattle.messages.specs.Wire.{wire, IsMessage};
+ghost use Rattle.messages.specs.declared.message.Message.{Message as AnyMessage};
+ghost use Rattle.messages.specs.declared.fault.MessageFault.TheVariants.{TooLong, NotCanonical, BadField, NoMemory};
+
+use crate::fault::MessageFault;
+use crate::json::canonical;
+use crate::kind::VerdictKind;
+use crate::lists::{cmnds_of, hosts_of};
+use crate::members::{list_member, moment_member, number_member, text_member, word_member};
+use crate::message::Message;
+use crate::request::Request;
+use crate::verdict::Verdict;
+use crate::write::text;
+use serde_json::Value;
+use std::alloc::Global;
+
+/// The most bytes of a message.
+const MOST_BYTES: usize = 16_384;
+
+fn request_of(alloc: Global, value: &Value) -> Result<Request, MessageFault>
+    ensures found { IfOk result IsRequest }
+    ensures only { (r : RequestFields) → IsRequest r → view value.now ≡ request_value r
+        → MatchResult result (λ q. q ≡ r) (λ e. e ≡ NoMemory) }
+    ensures err { IfErr result (λ e. (e ≡ BadField) ⊎ (e ≡ NoMemory)) }
+{
+    Ok(Request {
+        at: moment_member(value, "at")?,
+        by: word_member(alloc, value, "by")?,
+        ceiling: word_member(alloc, value, "ceiling")?,
+        cmnds: cmnds_of(alloc, list_member(value, "cmnds")?)?,
+        from: moment_member(value, "from")?,
+        hosts: hosts_of(alloc, list_member(value, "hosts")?)?,
+        no: number_member(value)?,
+        runas: word_member(alloc, value, "runas")?,
+        until: moment_member(value, "until")?,
+    })
+}
+
+fn approval_of(alloc: Global, value: &Value) -> Result<Verdict, MessageFault>
+    ensures found { IfOk result IsVerdict }
+    ensures only { (v : VerdictFields) → IsVerdict v → view value.now ≡ verdict_value v
+        → MatchResult result (λ w. w ≡ v) (λ e. e ≡ NoMemory) }
+    ensures err { IfErr result (λ e. (e ≡ BadField) ⊎ (e ≡ NoMemory)) }
+{
+    Ok(Verdict {
+        at: moment_member(value, "at")?,
+        by: word_member(alloc, value, "by")?,
+        kind: VerdictKind::Approve,
+        no: number_member(value)?,
+        of: word_member(alloc, value, "of")?,
+    })
+}
+
+/// The message that has the members of the value. Further members of the value are not looked at.
+fn message_of(alloc: Global, value: &Value) -> Result<Message, MessageFault>
+    ensures found { IfOk result IsMessage }
+    ensures only { (m : AnyMessage) → IsMessage m → view value.now ≡ value_of m
+        → MatchResult result (λ n. n ≡ m) (λ e. e ≡ NoMemory) }
+    ensures err { IfErr result (λ e. (e ≡ BadField) ⊎ (e ≡ NoMemory)) }
+{
+    let kind = text_member(value, "kind")?;
+    if kind == "request" {
+        return Ok(Message::Request(request_of(alloc, value)?));
+    }
+    if kind == "approve" {
+        return Ok(Message::Verdict(approval_of(alloc, value)?));
+    }
+    Err(MessageFault::BadField)
+}
+
+/// The message that the bytes are the text of.
+///
+/// Faults, the first that applies: `TooLong` above 16,384 bytes; `NotCanonical` where the bytes are no canonical text of
+/// JSON (RFC 8259) with whole numbers; `BadField` where they are no message's; `NoMemory` where memory runs out.
+pub fn read_message(alloc: Global, body: &[u8]) -> Result<Message, MessageFault>
+    // What is read has these bytes as its text.
+    ensures found { IfOk result (λ m. (body.now ≡ wire m) × (length body.now ≤ 16_384) × IsMessage m) }
+    // A message's text is read as that message, unless memory runs out: so no other fault comes where there is one.
+    ensures only { (m : AnyMessage) → IsMessage m → body.now ≡ wire m → length body.now ≤ 16_384
+        → MatchResult result (λ n. n ≡ m) (λ e. e ≡ NoMemory) }
+    ensures too_long { 16_384 < length body.now → IsErrOf result TooLong }
+    ensures too_long_only { IfErr result (λ e. e ≡ TooLong → 16_384 < length body.now) }
+    ensures not_canonical { IfErr result (λ e. e ≡ NotCanonical → (length body.now ≤ 16_384) × ¬ IsCanonicalText body.now) }
+    ensures bad_field { IfErr result (λ e. e ≡ BadField → (length body.now ≤ 16_384) × IsCanonicalText body.now) }
+{
+    if body.len() > MOST_BYTES {
+        return Err(MessageFault::TooLong);
+    }
+    let value = canonical(alloc, body)?;
+    let message = message_of(alloc, &value)?;
+    // The message has every member that was read: where the text has others, it is not the message's.
+    let written = text(alloc, &message)?;
+    if written.as_bytes() != body {
+        return Err(MessageFault::BadField);
+    }
+    Ok(message)
+}

@@ -1,0 +1,74 @@
+//! Verdicts.
+
+ghost use Rattle.std.specs.Prelude.{◌≡◌};
+ghost use Rattle.messages.specs.Fields.{IsVerdict};
+
+use crate::kind::VerdictKind;
+use std::marker::Model;
+use sudo_words::{Moment, Name};
+
+/// A verdict on the request with a number of an asker, who is called `of`.
+///
+/// The number is at most 999,999,999. So far every verdict is an approval.
+#[derive(Debug, Drop)]
+pub struct Verdict {
+    pub(crate) at: Moment,
+    pub(crate) by: Name,
+    pub(crate) kind: VerdictKind,
+    pub(crate) no: u32,
+    pub(crate) of: Name,
+}
+
+impl Model for Verdict {
+    ghost use Rattle.messages.specs.Fields.{VerdictFields, IsVerdict};
+
+    ghost Value = { VerdictFields };
+
+    ghost use Rattle.messages.specs.Shown.{verdict_fields};
+
+    ghost view = { verdict_fields };
+
+    ghost invariant = { λ v. IsVerdict (verdict_fields v) };
+}
+
+impl Verdict {
+    /// When it was given.
+    pub fn at(&self) -> Moment
+        ensures value { result ≡ self.now.at }
+        ensures verdict { IsVerdict self.now }
+    {
+        self.at
+    }
+
+    /// Who gives it.
+    pub fn by(&self) -> &Name
+        ensures value { result.now ≡ self.now.by }
+        ensures verdict { IsVerdict self.now }
+    {
+        &self.by
+    }
+
+    /// What it does to the request.
+    pub fn kind(&self) -> VerdictKind
+        ensures value { result ≡ self.now.kind }
+        ensures verdict { IsVerdict self.now }
+    {
+        self.kind
+    }
+
+    /// The number of the request.
+    pub fn no(&self) -> u32
+        ensures value { result ≡ self.now.no }
+        ensures verdict { IsVerdict self.now }
+    {
+        self.no
+    }
+
+    /// Who asked.
+    pub fn of(&self) -> &Name
+        ensures value { result.now ≡ self.now.of }
+        ensures verdict { IsVerdict self.now }
+    {
+        &self.of
+    }
+}

@@ -1,0 +1,208 @@
+//! Messages written as their texts.
+
+ghost use Rattle.std.specs.Prelude.{◌≡◌, ◌++◌, All, IfOk, OnOk, map, string_bytes, codes, decimal};
+ghost use Rattle.sudo_words.specs.Command.{IsLawful, cmnd_text};
+ghost use Rattle.sudo_words.specs.Moment.{IsMoment};
+ghost use Rattle.messages.specs.Wire as wires;
+
+use crate::kind::VerdictKind;
+use crate::message::Message;
+use crate::order::text_of;
+use crate::request::Request;
+use crate::verdict::Verdict;
+use std::alloc::{AllocError, Global};
+use std::fmt::Write;
+use sudo_words::{Cmnd, HostName, Moment, NoMemory};
+
+/// Appends a text between quotes. It has no byte that needs an escape.
+#[tactic(auto, unfolding(crate::specs::Wire::quoted))]
+fn push_text(out: &mut String, text: &str) -> Result<(), AllocError>
+    requires { wires.escaped text.now ≡ text.now }
+    ensures { OnOk result (string_bytes out.new ≡ string_bytes out.old ++ wires.quoted text.now) }
+{
+    out.push_str("\"")?;
+    out.push_str(text)?;
+    out.push_str("\"")
+}
+
+/// Appends a member that is a text, from what stands before its value on.
+fn push_member(out: &mut String, head: &str, text: &str) -> Result<(), AllocError>
+    requires { wires.escaped text.now ≡ text.now }
+    ensures { OnOk result (string_bytes out.new ≡ string_bytes out.old ++ head.now ++ wires.quoted text.now) }
+{
+    out.push_str(head)?;
+    push_text(out, text)
+}
+
+#[tactic(auto, unfolding(crate::specs::Wire::moment_text))]
+fn push_stamp(out: &mut String, moment: Moment) -> Result<(), AllocError>
+    ensures { OnOk result (string_bytes out.new ≡ string_bytes out.old ++ wires.moment_text moment) }
+{
+    write!(out, "{moment}")
+}
+
+/// Appends a member that is a moment, from what stands before its value on.
+fn push_moment(out: &mut String, head: &str, moment: Moment) -> Result<(), AllocError>
+    requires { IsMoment moment }
+    ensures { OnOk result (string_bytes out.new ≡ string_bytes out.old ++ head.now ++ wires.quoted (wires.moment_text moment)) }
+{
+    out.push_str(head)?;
+    out.push_str("\"")?;
+    push_stamp(out, moment)?;
+    out.push_str("\"")
+}
+
+fn push_number(out: &mut String, no: u32) -> Result<(), AllocError>
+    ensures { OnOk result (string_bytes out.new ≡ string_bytes out.old ++ codes ",\"no\":" ++ decimal no) }
+{
+    out.push_str(",\"no\":")?;
+    write!(out, "{no}")
+}
+
+/// Appends what stands behind the first host of a list.
+#[tactic(auto, using(crate::proofs::PlainTexts::escaped_host), unfolding(crate::specs::Wire::rest_text, crate::specs::Wire::list_text))]
+fn push_more_hosts(out: &mut String, hosts: &[HostName]) -> Result<(), AllocError>
+    ensures { OnOk result (string_bytes out.new ≡ string_bytes out.old ++ wires.rest_text hosts.now) }
+{
+    match hosts {
+        [] => out.push_str("]"),
+        [host, rest @ ..] => {
+            out.push_str(",")?;
+            push_text(out, host.as_str())?;
+            push_more_hosts(out, rest)
+        }
+    }
+}
+
+#[tactic(auto, using(crate::proofs::PlainTexts::escaped_host), unfolding(crate::specs::Wire::rest_text, crate::specs::Wire::list_text))]
+fn push_hosts(out: &mut String, hosts: &[HostName]) -> Result<(), AllocError>
+    ensures { OnOk result (string_bytes out.new ≡ string_bytes out.old ++ wires.list_text hosts.now) }
+{
+    match hosts {
+        [] => out.push_str("[]"),
+        [host, rest @ ..] => {
+            out.push_str("[")?;
+            push_text(out, host.as_str())?;
+            push_more_hosts(out, rest)
+        }
+    }
+}
+
+/// Appends what stands behind the first command of a list.
+#[tactic(auto, using(crate::proofs::PlainTexts::escaped_cmnd), unfolding(crate::specs::Wire::rest_text, crate::specs::Wire::list_text))]
+fn push_more_cmnds(out: &mut String, cmnds: &[Cmnd]) -> Result<(), AllocError>
+    requires { All IsLawful cmnds.now }
+    ensures { OnOk result (string_bytes out.new ≡ string_bytes out.old ++ wires.rest_text (map cmnd_text cmnds.now)) }
+{
+    match cmnds {
+        [] => out.push_str("]"),
+        [cmnd, rest @ ..] => {
+            out.push_str(",")?;
+            push_text(out, text_of(cmnd))?;
+            push_more_cmnds(out, rest)
+        }
+    }
+}
+
+#[tactic(auto, using(crate::proofs::PlainTexts::escaped_cmnd), unfolding(crate::specs::Wire::rest_text, crate::specs::Wire::list_text))]
+fn push_cmnds(out: &mut String, cmnds: &[Cmnd]) -> Result<(), AllocError>
+    requires { All IsLawful cmnds.now }
+    ensures { OnOk result (string_bytes out.new ≡ string_bytes out.old ++ wires.list_text (map cmnd_text cmnds.now)) }
+{
+    match cmnds {
+        [] => out.push_str("[]"),
+        [cmnd, rest @ ..] => {
+            out.push_str("[")?;
+            push_text(out, text_of(cmnd))?;
+            push_more_cmnds(out, rest)
+        }
+    }
+}
+
+/// Appends the members that say who asks for what, but for the commands.
+#[tactic(auto, using(crate::proofs::PlainTexts::escaped_name, crate::proofs::PlainTexts::escaped_host))]
+fn push_asked(out: &mut String, r: &Request) -> Result<(), AllocError>
+    ensures { OnOk result (string_bytes out.new ≡ string_bytes out.old
+        ++ codes "{\"at\":" ++ wires.quoted (wires.moment_text r.now.at)
+        ++ codes ",\"by\":" ++ wires.quoted r.now.by
+        ++ codes ",\"ceiling\":" ++ wires.quoted r.now.ceiling) }
+{
+    push_moment(out, "{\"at\":", r.at)?;
+    push_member(out, ",\"by\":", r.by.as_str())?;
+    push_member(out, ",\"ceiling\":", r.ceiling.as_str())
+}
+
+/// Appends the members that say what and where, with the window's first moment between.
+fn push_lists(out: &mut String, r: &Request) -> Result<(), AllocError>
+    ensures { OnOk result (string_bytes out.new ≡ string_bytes out.old
+        ++ codes ",\"cmnds\":" ++ wires.list_text (map cmnd_text r.now.cmnds)
+        ++ codes ",\"from\":" ++ wires.quoted (wires.moment_text r.now.from)
+        ++ codes ",\"hosts\":" ++ wires.list_text r.now.hosts) }
+{
+    out.push_str(",\"cmnds\":")?;
+    push_cmnds(out, &r.cmnds)?;
+    push_moment(out, ",\"from\":", r.from)?;
+    out.push_str(",\"hosts\":")?;
+    push_hosts(out, &r.hosts)
+}
+
+/// Appends the members behind the lists.
+#[tactic(auto, using(crate::proofs::PlainTexts::escaped_name, crate::proofs::PlainTexts::escaped_request))]
+fn push_rest(out: &mut String, r: &Request) -> Result<(), AllocError>
+    ensures { OnOk result (string_bytes out.new ≡ string_bytes out.old
+        ++ codes ",\"kind\":" ++ wires.quoted (codes "request")
+        ++ codes ",\"no\":" ++ decimal r.now.no
+        ++ codes ",\"runas\":" ++ wires.quoted r.now.runas
+        ++ codes ",\"until\":" ++ wires.quoted (wires.moment_text r.now.until)
+        ++ codes "}") }
+{
+    push_member(out, ",\"kind\":", "request")?;
+    push_number(out, r.no)?;
+    push_member(out, ",\"runas\":", r.runas.as_str())?;
+    push_moment(out, ",\"until\":", r.until)?;
+    out.push_str("}")
+}
+
+fn push_request(out: &mut String, r: &Request) -> Result<(), AllocError>
+    ensures { OnOk result (string_bytes out.new ≡ string_bytes out.old ++ wires.request_text r.now) }
+{
+    push_asked(out, r)?;
+    push_lists(out, r)?;
+    push_rest(out, r)
+}
+
+#[tactic(auto, unfolding(crate::specs::Wire::escaped))]
+fn kind_name(kind: VerdictKind) -> &'static str
+    ensures value { result.now ≡ wires.kind_text kind }
+    ensures plain { wires.escaped result.now ≡ result.now }
+{
+    match kind {
+        VerdictKind::Approve => "approve",
+        VerdictKind::Refuse => "refuse",
+        VerdictKind::Revoke => "revoke",
+    }
+}
+
+#[tactic(auto, using(crate::proofs::PlainTexts::escaped_name))]
+fn push_verdict(out: &mut String, v: &Verdict) -> Result<(), AllocError>
+    ensures { OnOk result (string_bytes out.new ≡ string_bytes out.old ++ wires.verdict_text v.now) }
+{
+    push_moment(out, "{\"at\":", v.at)?;
+    push_member(out, ",\"by\":", v.by.as_str())?;
+    push_member(out, ",\"kind\":", kind_name(v.kind))?;
+    push_number(out, v.no)?;
+    push_member(out, ",\"of\":", v.of.as_str())?;
+    out.push_str("}")
+}
+
+/// The text of a message, which `read_message` reads as this message.
+pub fn text(alloc: Global, m: &Message) -> Result<String, NoMemory>
+    ensures { IfOk result (λ s. string_bytes s ≡ wires.wire m.now) }
+{
+    let mut out = String::new(alloc);
+    match m {
+        Message::Request(request) => push_request(&mut out, request)?,
+        Message::Verdict(verdict) => push_verdict(&mut out, verdict)?,
+    }
+    Ok(out)
+}
