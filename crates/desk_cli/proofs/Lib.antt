@@ -5,3 +5,6 @@ pub mod Args
 pub mod Runs
 pub mod Filled
 pub mod Complete
+pub mod LineLemmas
+pub mod ComplaintLemmas
+pub mod BroughtLemmas

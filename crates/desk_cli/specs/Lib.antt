@@ -1,3 +1,10 @@
 pub mod Faults
 pub mod CommandLine
+pub mod Grants
+pub mod HostFile
+pub mod State
+pub mod Refusals
+pub mod Delivery
+pub mod Rights
+pub mod Printing
 pub mod Answers

@@ -3,8 +3,10 @@
 
 mod command;
 mod command_line;
+mod desk;
 mod fault;
 mod laws;
+mod printing;
 mod refusal;
 mod running;
 mod status;
