@@ -1,11 +1,11 @@
 -- The messages of a desk to which lines were delivered, where memory did not run out.
-use Rattle.std.proofs.Common.{◌≡◌, ◌≢◌, ◌⊎◌, ℕ, zero, suc, ◌<◌, List, [], ◌∷◌, ◌∙◌, Result, Ok, Err, IsOk, arith, get_or, inl, inr, length, refl, subst, sym}
+use Rattle.std.proofs.Common.{Option, IfSome, ap, ◌≡◌, ◌≢◌, ◌⊎◌, ℕ, zero, suc, ◌<◌, List, [], ◌∷◌, ◌∙◌, Result, Ok, Err, IsOk, arith, get_or, inl, inr, length, refl, subst, sym}
 use Rattle.std.specs.List.{AllZip, Contains}
 use Rattle.messages.specs.Wire.{IsMessage, wire}
 use Rattle.messages.specs.declared.message.Message.{Message}
 use Rattle.messages.proofs.Uniqueness.{one_message}
 use Rattle.desk_cli.specs.Delivery.{Answers, IsAcked, IsAnswer, IsBodyOf, IsDelivered, IsKept}
-use Rattle.desk_cli.specs.Printing.{AreBrought, HadMemory, IsBrought}
+use Rattle.desk_cli.specs.Printing.{AreBrought, HadMemory, IsBrought, IsTaken, complaints, lines_of}
 use Rattle.desk_cli.specs.declared.desk.ack.Ack.{Ack}
 use Rattle.desk_cli.specs.declared.desk.refusal.Refusal.{Refusal}
 use Rattle.desk_cli.specs.declared.desk.refusal.Refusal.TheVariants.{NoMemory}
@@ -90,4 +90,20 @@ brought old new lines answers none is had =
         | inr acked ↦ acked_brought lines answers m right acked.0 acked.1
       ];
       all = λ m is_brought. is.added m is_brought.body.message (brought_acked lines answers m is.answered had is_brought);
+    }
+
+-- what is taken of an input whose lines were delivered
+pub taken : (input : Option (List ℕ)) (old new : List Message) (lines bodies : List (List ℕ)) (answers shown : List (Result Ack Refusal)) (text said : List ℕ)
+    → IfSome input (λ bytes. lines ≡ lines_of bytes) → bodies ≡ lines → shown ≡ answers → old ≡ [] → IsDelivered old new bodies answers → HadMemory shown
+    → text ≡ complaints 1 shown → said ≡ text → IsTaken input new said
+taken input old new lines bodies answers shown text said read same_bodies same_answers none is had says same_text =
+    let is_lines : IsDelivered old new lines answers = subst (λ (bs : List (List ℕ)). IsDelivered old new bs answers) same_bodies is in
+    let had_memory : HadMemory answers = subst HadMemory same_answers had in
+    record {
+      lines = lines;
+      answers = answers;
+      lines_are = read;
+      brought = brought old new lines answers none is_lines had_memory;
+      answered = right_answers lines answers is_lines.answered had_memory;
+      said_is = same_text ∙ says ∙ ap (complaints 1) same_answers;
     }
