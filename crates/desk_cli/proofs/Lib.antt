@@ -8,3 +8,4 @@ pub mod Complete
 pub mod LineLemmas
 pub mod ComplaintLemmas
 pub mod BroughtLemmas
+pub mod AnswerLemmas
