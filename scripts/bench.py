@@ -1,10 +1,13 @@
 #!/usr/bin/env python3
 """Times `desk check` and `desk decide` beside `visudo -c` on policies of 1,601 and 16,001 rules with dates.
 
-Prints the best wall time of a few runs and the peak memory of each, and the ratios that the desk promises.
+Then times `desk print` on 1,000, 8,000 and 10,000 requests, each with an approval, in shuffled order and all for one host.
+Prints the best wall time of a few runs and the peak memory of each, and the ratios that the desk promises. A peak below that of
+this script's own process, some 14 MiB, is not seen.
 """
 
 import os
+import random
 import shutil
 import subprocess
 import sys
@@ -28,14 +31,30 @@ def policy(rules):
     return "".join(lines)
 
 
-def run(words):
+def messages(requests):
+    """So many requests for one host, each with an approval, shuffled."""
+    lines = []
+    for n in range(requests):
+        asker = f"user{n % 500}"
+        lines.append(
+            f'{{"at":"20260105060000Z","by":"{asker}","ceiling":"db-root","cmnds":["/bin/tool{n}"],'
+            f'"from":"20260105090000Z","hosts":["db1"],"kind":"request","no":{n},"runas":"root",'
+            f'"until":"20260105110000Z"}}\n'
+        )
+        lines.append(f'{{"at":"20260105083000Z","by":"boss","kind":"approve","no":{n},"of":"{asker}"}}\n')
+    random.Random(7).shuffle(lines)
+    return "".join(lines)
+
+
+def run(words, given=None):
     """The best wall time in seconds and the peak memory in bytes of a few runs."""
     best, peak = float("inf"), 0
     for _ in range(RUNS):
-        start = time.perf_counter()
-        child = subprocess.Popen(words, stdout=subprocess.DEVNULL, stderr=subprocess.DEVNULL)
-        _, _, usage = os.wait4(child.pid, 0)
-        best = min(best, time.perf_counter() - start)
+        with open(given or os.devnull, "rb") as source:
+            start = time.perf_counter()
+            child = subprocess.Popen(words, stdin=source, stdout=subprocess.DEVNULL, stderr=subprocess.DEVNULL)
+            _, _, usage = os.wait4(child.pid, 0)
+            best = min(best, time.perf_counter() - start)
         peak = max(peak, usage.ru_maxrss * 1024)
     return best, peak
 
@@ -65,7 +84,24 @@ def main():
                     f"{name:7} {rules:6} rules, {size:9,} bytes: {seconds * 1000:8.1f} ms, "
                     f"{memory / 1024:8,.0f} KiB ({memory / size:5.1f} times the text)"
                 )
+        base = os.path.join(folder, "base.sudo")
+        with open(base, "w") as file:
+            file.write("bob db1 = ALL\n")
+        for requests in (1_000, 8_000, 10_000):
+            path = os.path.join(folder, f"{requests}.messages")
+            with open(path, "w") as file:
+                file.write(messages(requests))
+            size = os.path.getsize(path)
+            seconds, memory = run([DESK, "print", "-", base, "-", "db1"], path)
+            figures["print", requests] = (seconds, memory, size)
+            print(
+                f"print   {requests:6} requests, {size:9,} bytes: {seconds * 1000:8.1f} ms, "
+                f"{memory / 1024:8,.0f} KiB ({memory / size:5.1f} times the text)"
+            )
     wrong = 0
+    ratio = figures["print", 10_000][0] / figures["print", 1_000][0]
+    wrong += ratio > 15
+    print(f"print: ten times the messages: {ratio:.2f}, at most 15: {'holds' if ratio <= 15 else 'FAILS'}")
     for name in ("check", "decide"):
         large, small = figures[name, 16_001], figures[name, 1_601]
         checks = (

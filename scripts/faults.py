@@ -12,11 +12,16 @@ import tempfile
 
 ROOT = os.path.dirname(os.path.dirname(os.path.abspath(__file__)))
 DESK = os.path.join(ROOT, "build", "desk")
-REFUSAL = re.compile(r"(NoMemory|S11 NoMemory line \d+)\n\Z")
+REFUSAL = re.compile(r"(NoMemory|S11 NoMemory line \d+|K5 NoMemory)\n\Z")
 
 POLICY = """# two visits
 ann db1 = NOTBEFORE=2026010509Z NOTAFTER=202601051100Z /bin/ls
 ALL ALL = (op) /usr/bin/id
+"""
+
+MESSAGES = b"""{"at":"20260105083000Z","by":"bob","kind":"approve","no":7,"of":"eve"}
+{"at":"20260105060000Z","by":"eve","ceiling":"db-root","cmnds":["/bin/ls","/usr/bin/id"],"from":"20260105090000Z","hosts":["db1"],"kind":"request","no":7,"runas":"root","until":"20260105110000Z"}
+{}
 """
 
 
@@ -25,7 +30,9 @@ def commands(folder):
     base = os.path.join(folder, "base.sudo")
     with open(base, "w") as file:
         file.write(POLICY)
+    print_words = ["print", "-", base, "-", "db1"]
     return [
+        (print_words, MESSAGES),
         (["check", base], b""),
         (["decide", base, "ann", "db1", "root", "20260105093000Z", "/bin/ls", "--", "-l", "x"], b""),
         (["decide", base, "bob", "db2", "op", "20260105093000Z", "/bin/cat"], b""),

@@ -14,7 +14,7 @@ use Rattle.clap.specs.Lexer.{long_of, short_of}
 use Rattle.clap.specs.Simple.{App, Shape, matches_of, argument_words, built, entered, label_of, names_of, rows_at, subcommand_of}
 use Rattle.clap.specs.Takes.{is_given}
 use Rattle.clap.proofs.OnLiterals.{clap_on_literals}
-use Rattle.desk_cli.specs.CommandLine.{HasRun, HasSome, IsComplete, check, decide, desk}
+use Rattle.desk_cli.specs.CommandLine.{HasPlaces, HasRun, HasSome, IsComplete, check, decide, desk}
 use Rattle.desk_cli.proofs.Filled.{AreFull, IsFull, defaults-full, is_giving, no_first, no_second, settled-full, walk-full}
 
 -- ---- a row that is given has a value
@@ -197,8 +197,11 @@ check_leaf = nth 0 (built desk).subs
 abbrev decide_leaf : Shape
 decide_leaf = nth 1 (built desk).subs
 
+abbrev print_leaf : Shape
+print_leaf = nth 2 (built desk).subs
+
 abbrev help_leaf : Shape
-help_leaf = nth 2 (built desk).subs
+help_leaf = nth 3 (built desk).subs
 
 check_complete : (words : List Text) → level_fault check_leaf [] nothing_held words false [] ≡ []
     → HasSome (codes "FILE") (rows_after check_leaf.rules [] words)
@@ -238,26 +241,49 @@ decide_complete words none =
       };
     }
 
--- the first or the second of three that pass a test, where the third does not
-data IsFound (x y : Shape) : Option Shape → Type 0 where
-  is_first : IsFound x y (Some x)
-  is_second : IsFound x y (Some y)
-  is_neither : IsFound x y None
+print_complete : (words : List Text) → level_fault print_leaf [] nothing_held words false [] ≡ []
+    → HasPlaces (rows_after print_leaf.rules [] words)
+print_complete words none =
+    let p = passes print_leaf [] nothing_held words false [] none in
+    let rows = rows_after print_leaf.rules [] words in
+    let full : AreFull rows = leaf_full print_leaf words refl p in
+    let lacks = λ (id : Text). not (is_given id rows) in
+    let from_roster : (lacks (codes "ROSTER") || (lacks (codes "BASE") || (lacks (codes "STORE") || (lacks (codes "HOST") || false)))) ≡ false =
+    none_wanted print_leaf rows false p.checks in
+    let from_base = others_are (is_given (codes "ROSTER") rows) _ from_roster in
+    let from_store = others_are (is_given (codes "BASE") rows) _ from_base in
+    let from_host = others_are (is_given (codes "STORE") rows) _ from_store in
+    record {
+      roster = given_first (codes "ROSTER") rows full (is_there _ _ from_roster);
+      base = given_first (codes "BASE") rows full (is_there _ _ from_base);
+      store = given_first (codes "STORE") rows full (is_there _ _ from_store);
+      host = given_first (codes "HOST") rows full (is_there _ _ from_host);
+    }
 
-found_by : (a b c : Bool) (x y z : Shape) → c ≡ false
-    → IsFound x y (if a then Some x else (if b then Some y else (if c then Some z else None)))
-found_by true b c x y z e = is_first
-found_by false true c x y z e = is_second
-found_by false false false x y z e = is_neither
-found_by false false true x y z e = absurd cc
+-- the first that passes a test of four, the last of which does not
+data IsFound (x y z : Shape) : Option Shape → Type 0 where
+  is_first : IsFound x y z (Some x)
+  is_second : IsFound x y z (Some y)
+  is_third : IsFound x y z (Some z)
+  is_none_of_them : IsFound x y z None
 
-found_complete : (words : List Text) (found : Option Shape) → IsFound check_leaf decide_leaf found → is_some (option_map (λ s. rows_at s words) found) ≡ true
-    → option_map_or (λ s. level_fault s [] nothing_held words false []) found [] ≡ [] → IsComplete (option_map (λ s. rows_at s words) found)
+found_by : (a b c d : Bool) (x y z last : Shape) → d ≡ false
+    → IsFound x y z (if a then Some x else (if b then Some y else (if c then Some z else (if d then Some last else None))))
+found_by true b c d x y z last e = is_first
+found_by false true c d x y z last e = is_second
+found_by false false true d x y z last e = is_third
+found_by false false false false x y z last e = is_none_of_them
+found_by false false false true x y z last e = absurd cc
+
+found_complete : (words : List Text) (found : Option Shape) → IsFound check_leaf decide_leaf print_leaf found
+    → is_some (option_map (λ s. rows_at s words) found) ≡ true → option_map_or (λ s. level_fault s [] nothing_held words false []) found [] ≡ []
+    → IsComplete (option_map (λ s. rows_at s words) found)
 found_complete words found is_first is none = inl (refl, check_complete words none)
 found_complete words found is_second is none =
     let all = decide_complete words none in
-    inr (refl, all.file, all.run)
-found_complete words found is_neither is none = absurd cc
+    inr (inl (refl, all.file, all.run))
+found_complete words found is_third is none = inr (inr (refl, print_complete words none))
+found_complete words found is_none_of_them is none = absurd cc
 
 flipped : (b : Bool) → (b ≡ true → ⊥) → (b || false) ≡ false
 flipped true never = absurd (never refl)
@@ -273,8 +299,8 @@ stop_complete : (stop : Option (Text × List Text)) → IsOther stop → is_some
 stop_complete None other is none = absurd cc
 stop_complete (Some p) other is none =
     found_complete p.1 (find (λ s. answers_to p.0 (label_of s)) (built desk).subs)
-    (found_by (answers_to p.0 (label_of check_leaf)) (answers_to p.0 (label_of decide_leaf)) (answers_to p.0 (label_of help_leaf)) check_leaf decide_leaf help_leaf
-    (other_name p.0 other)) is none
+    (found_by (answers_to p.0 (label_of check_leaf)) (answers_to p.0 (label_of decide_leaf)) (answers_to p.0 (label_of print_leaf))
+    (answers_to p.0 (label_of help_leaf)) check_leaf decide_leaf print_leaf help_leaf (other_name p.0 other)) is none
 
 pub complete : (words : List Text) → fault_of desk words ≡ [] → IsComplete (subcommand_of desk words)
 complete words none =

@@ -1,5 +1,5 @@
 -- What a job answers.
-use Rattle.std.specs.Prelude.{◌≡◌, ℕ, List, [], ◌∷◌, ◌++◌, codes}
+use Rattle.std.specs.Prelude.{◌≡◌, ℕ, List, [], ◌∷◌, ◌++◌, Option, codes}
 use Rattle.sudo_syntax.specs.Grammar.{Spells}
 use Rattle.sudo_syntax.specs.Printing.{canon}
 use Rattle.sudo_syntax.specs.declared.entry.Entry.{Entry}
@@ -7,10 +7,11 @@ use Rattle.sudo_decide.specs.Decision.{Decides, decision_text}
 use Rattle.sudo_decide.specs.declared.invocation.Invocation.{Invocation}
 use Rattle.sudo_decide.specs.declared.decision.Decision.{Decision}
 use Rattle.sudo_decide.specs.declared.decision.Decision.TheVariants.{Deny, Allow, AllowNoPassword}
+use Rattle.desk_cli.specs.Printing.{PrintsHost}
 use Rattle.desk_cli.specs.declared.status.Status.{Status}
 use Rattle.desk_cli.specs.declared.status.Status.TheVariants.{Done, Denied, Refused}
 use Rattle.desk_cli.specs.declared.task.Job.{Job}
-use Rattle.desk_cli.specs.declared.task.Job.TheVariants.{Check, Decide}
+use Rattle.desk_cli.specs.declared.task.Job.TheVariants.{Check, Decide, Print}
 
 -- the program's exit status
 abbrev pub exit_status : Status → ℕ
@@ -37,8 +38,10 @@ abbrev pub DecidesByFile : List ℕ → Invocation → Status → List ℕ → T
 DecidesByFile file invocation status text =
     (es : List Entry) × (decision : Decision) × Spells file es × Decides es invocation decision × IsDecided decision status text
 
--- The job over these files, the first of which it names, is answered by this text, and ends so.
-abbrev pub IsAnswer : Job → List (List ℕ) → Status → List ℕ → Type 0
-IsAnswer job [] status text = ⊥
-IsAnswer (Check name) (file ∷ more) status text = ChecksFile file status text
-IsAnswer (Decide name invocation) (file ∷ more) status text = DecidesByFile file invocation status text
+-- The job over these files, the first of which it names, and this input, if it is known, is answered by this text, and ends
+-- so. Beside the answer this is said.
+abbrev pub IsAnswer : Job → List (List ℕ) → Option (List ℕ) → Status → List ℕ → List ℕ → Type 0
+IsAnswer job [] input status text said = ⊥
+IsAnswer (Check name) (file ∷ more) input status text said = ChecksFile file status text × (said ≡ [])
+IsAnswer (Decide name invocation) (file ∷ more) input status text said = DecidesByFile file invocation status text × (said ≡ [])
+IsAnswer (Print name host) (file ∷ more) input status text said = PrintsHost file host input status text said

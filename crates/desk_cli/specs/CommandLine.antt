@@ -7,7 +7,7 @@ use Rattle.sudo_words.specs.Moment.{IsStamp}
 use Rattle.sudo_words.specs.Word.{is_arg, is_file_path, is_host_name, is_name}
 use Rattle.sudo_decide.specs.declared.invocation.Invocation.{Invocation}
 use Rattle.desk_cli.specs.declared.task.Job.{Job}
-use Rattle.desk_cli.specs.declared.task.Job.TheVariants.{Check, Decide}
+use Rattle.desk_cli.specs.declared.task.Job.TheVariants.{Check, Decide, Print}
 
 -- ---- the program's commands
 
@@ -35,11 +35,21 @@ with_run command = with_rule (with_rule (with_rule command (wanted (codes "AT"))
 abbrev pub decide : App
 decide = with_run (with_place (with_rule (new_app (codes "decide")) (wanted (codes "FILE"))))
 
--- `desk COMMAND`
-abbrev pub desk : App
-desk =
+-- `print ROSTER BASE STORE HOST`
+abbrev pub print : App
+print =
+    with_rule (with_rule (with_rule (with_rule (new_app (codes "print")) (wanted (codes "ROSTER"))) (wanted (codes "BASE"))) (wanted (codes "STORE")))
+    (wanted (codes "HOST"))
+
+-- the commands on one policy
+abbrev pub on_policies : App
+on_policies =
     let top = new_app (codes "desk") in
     with_subcommand (with_subcommand (record top { top = record top.top { subcommand_required = true } }) check.top) decide.top
+
+-- `desk COMMAND`
+abbrev pub desk : App
+desk = with_subcommand on_policies print.top
 
 -- ---- the values of a command's arguments
 
@@ -72,6 +82,13 @@ pub record IsInvocation (rows : List Row) (run : Invocation) : Type 0 where
   pub path : HasWord is_file_path (codes "PATH") rows run.path
   pub args : HasWords is_arg 64 (codes "ARGS") rows run.args
 
+-- what the values of `print` say: no roster, no store, the base's path, and the host
+pub record IsPlaces (rows : List Row) (base host : Text) : Type 0 where
+  pub roster : HasValue (codes "ROSTER") rows (codes "-")
+  pub base_is : HasValue (codes "BASE") rows base
+  pub store : HasValue (codes "STORE") rows (codes "-")
+  pub host_is : HasWord is_host_name (codes "HOST") rows host
+
 -- ---- what the line says
 
 -- the command of this name, with its values, says the job
@@ -80,6 +97,7 @@ Says None job = ⊥
 Says (Some line) (Check file) = (line.0 ≡ codes "check") × HasValue (codes "FILE") line.1 file
 Says (Some line) (Decide file run) =
     (line.0 ≡ codes "decide") × HasValue (codes "FILE") line.1 file × IsInvocation line.1 run
+Says (Some line) (Print base host) = (line.0 ≡ codes "print") × IsPlaces line.1 base host
 
 -- By clap's rules the words are a command of the program, without a fault, and their values say the job.
 pub record IsCommandLine (words : List Text) (job : Job) : Type 0 where
@@ -113,12 +131,26 @@ pub data HasBadValue (rows : List Row) : Type 0 where
   bad_path : HasBadWord is_file_path (codes "PATH") rows → HasBadValue rows
   bad_args : HasBadWords is_arg 64 (codes "ARGS") rows → HasBadValue rows
 
--- the command is `decide`, with such a value
+-- the argument has a value other than `-`
+pub record HasOther (id : Text) (rows : List Row) : Type 0 where
+  pub text : Text
+  pub value : HasValue id rows text
+  pub other : text ≢ codes "-"
+
+-- one of the values of `print` is not of its form
+pub data HasBadPlace (rows : List Row) : Type 0 where
+  bad_roster : HasOther (codes "ROSTER") rows → HasBadPlace rows
+  bad_store : HasOther (codes "STORE") rows → HasBadPlace rows
+  bad_target : HasBadWord is_host_name (codes "HOST") rows → HasBadPlace rows
+
+-- the command is `decide` or `print`, with such a value
 abbrev pub SaysBadly : Option (Text × List Row) → Type 0
 SaysBadly None = ⊥
-SaysBadly (Some line) = (line.0 ≡ codes "decide") × HasBadValue line.1
+SaysBadly (Some line) =
+    ((line.0 ≡ codes "decide") × HasBadValue line.1)
+    ⊎ ((line.0 ≡ codes "print") × HasBadPlace line.1)
 
--- By clap's rules the words are the command `decide`, without a fault, but a value is not of its form.
+-- By clap's rules the words are the command `decide` or `print`, without a fault, but a value is not of its form.
 pub record IsBadLine (words : List Text) : Type 0 where
   pub faultless : fault_of desk words ≡ []
   pub says : SaysBadly (subcommand_of desk words)
@@ -137,9 +169,17 @@ pub record HasRun (rows : List Row) : Type 0 where
   pub at : HasSome (codes "AT") rows
   pub path : HasSome (codes "PATH") rows
 
+-- the arguments of `print` have values
+pub record HasPlaces (rows : List Row) : Type 0 where
+  pub roster : HasSome (codes "ROSTER") rows
+  pub base : HasSome (codes "BASE") rows
+  pub store : HasSome (codes "STORE") rows
+  pub host : HasSome (codes "HOST") rows
+
 -- the command is one of the program's, with a value for each argument that it wants
 abbrev pub IsComplete : Option (Text × List Row) → Type 0
 IsComplete None = ⊥
 IsComplete (Some line) =
     ((line.0 ≡ codes "check") × HasSome (codes "FILE") line.1)
     ⊎ ((line.0 ≡ codes "decide") × HasSome (codes "FILE") line.1 × HasRun line.1)
+    ⊎ ((line.0 ≡ codes "print") × HasPlaces line.1)

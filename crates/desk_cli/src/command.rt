@@ -75,8 +75,24 @@ fn decide<'a>(alloc: Global) -> Result<Command<'a>, AllocError>
     with_run(alloc, with_place(alloc, command)?)
 }
 
-fn command<'a>(alloc: Global) -> Result<Command<'a>, AllocError>
-    ensures app { IfOk result (λ c. app_of c ≡ desk) }
+fn print<'a>(alloc: Global) -> Result<Command<'a>, AllocError>
+    ensures app { IfOk result (λ c. app_of c ≡ line.print) }
+    ensures globals { IfOk result (λ c. (fields_of c).has_globals ≡ false) }
+{
+    Command::new(alloc, "print")
+        .about("Print a host's sudoers file, from a base policy and the messages on standard input")
+        .arg(wanted(alloc, "ROSTER", "`-`: there is no roster"))?
+        .arg(wanted(alloc, "BASE", "The base policy"))?
+        .arg(wanted(
+            alloc,
+            "STORE",
+            "`-`: the messages are the lines of standard input",
+        ))?
+        .arg(wanted(alloc, "HOST", "The host"))
+}
+
+fn on_policies<'a>(alloc: Global) -> Result<Command<'a>, AllocError>
+    ensures app { IfOk result (λ c. app_of c ≡ line.on_policies) }
     ensures globals { IfOk result (λ c. (fields_of c).has_globals ≡ false) }
 {
     Command::new(alloc, "desk")
@@ -84,6 +100,13 @@ fn command<'a>(alloc: Global) -> Result<Command<'a>, AllocError>
         .subcommand_required(true)
         .subcommand(check(alloc)?)?
         .subcommand(decide(alloc)?)
+}
+
+fn command<'a>(alloc: Global) -> Result<Command<'a>, AllocError>
+    ensures app { IfOk result (λ c. app_of c ≡ desk) }
+    ensures globals { IfOk result (λ c. (fields_of c).has_globals ≡ false) }
+{
+    on_policies(alloc)?.subcommand(print(alloc)?)
 }
 
 fn fault_of_error(error: clap::Error) -> JobFault

@@ -3,7 +3,7 @@
 ghost use Rattle.std.specs.Prelude.{◌≡◌, ◌≢◌, IfOk, IfErr, MatchResult, Some, [], codes, map, string_bytes};
 ghost use Rattle.clap.specs.Words.{fault_of, found_of, rows_of, subcommand_rows_of};
 ghost use Rattle.sudo_decide.specs.declared.invocation.Invocation.{Invocation as Run};
-ghost use Rattle.desk_cli.specs.CommandLine.{HasBadValue, HasRun, HasSome, IsBadLine, IsCommandLine, IsComplete, IsInvocation, Says, SaysBadly, desk};
+ghost use Rattle.desk_cli.specs.CommandLine.{HasBadValue, HasPlaces, HasRun, HasSome, IsBadLine, IsCommandLine, IsComplete, IsInvocation, Says, SaysBadly, desk};
 ghost use Rattle.desk_cli.specs.Faults.{IsUsage};
 ghost use Rattle.desk_cli.specs.declared.fault.JobFault.TheVariants.{BadWord, NoMemory};
 ghost use Rattle.desk_cli.specs.declared.task.Job.{Job as Task};
@@ -11,7 +11,7 @@ ghost use Rattle.desk_cli.specs.declared.task.Job.{Job as Task};
 use crate::command::parsed;
 use crate::fault::JobFault;
 use crate::task::Job;
-use crate::values::{args, moment, text, word};
+use crate::values::{args, dash, moment, text, word};
 use clap::ArgMatches;
 use std::alloc::{AllocError, Global};
 use sudo_decide::Invocation;
@@ -62,6 +62,20 @@ fn decide(alloc: Global, matches: &ArgMatches<'_>) -> Result<Job, JobFault>
     Ok(Job::Decide { file, invocation })
 }
 
+fn print(alloc: Global, matches: &ArgMatches<'_>) -> Result<Job, JobFault>
+    requires { HasPlaces (rows_of (found_of matches.now)) }
+    ensures found { IfOk result (λ j. Says (Some (codes "print", rows_of (found_of matches.now))) j) }
+    ensures only { (j : Task) → Says (Some (codes "print", rows_of (found_of matches.now))) j → MatchResult result (λ k. k ≡ j) (λ e. e ≡ NoMemory) }
+    ensures word { IfErr result (λ e. e ≡ BadWord → SaysBadly (Some (codes "print", rows_of (found_of matches.now)))) }
+    ensures usage { IfErr result (λ e. IsUsage e → ⊥) }
+{
+    dash(matches, "ROSTER")?;
+    let base = text(alloc, matches, "BASE")?;
+    dash(matches, "STORE")?;
+    let host = word(alloc, matches, "HOST")?;
+    Ok(Job::Print { base, host })
+}
+
 fn by_name(alloc: Global, name: &str, matches: &ArgMatches<'_>) -> Result<Job, JobFault>
     requires { IsComplete (Some (name.now, rows_of (found_of matches.now))) }
     ensures found { IfOk result (λ j. Says (Some (name.now, rows_of (found_of matches.now))) j) }
@@ -71,8 +85,10 @@ fn by_name(alloc: Global, name: &str, matches: &ArgMatches<'_>) -> Result<Job, J
 {
     if name == "check" {
         Ok(check(alloc, matches)?)
-    } else {
+    } else if name == "decide" {
         decide(alloc, matches)
+    } else {
+        print(alloc, matches)
     }
 }
 
@@ -91,8 +107,8 @@ fn named(alloc: Global, matches: &ArgMatches<'_>) -> Result<Job, JobFault>
 
 /// What the words say to do, the program's own name first, by clap's rules for the program's commands.
 ///
-/// `BadWord` comes where a value of `decide` has not the form that its place asks for, and `Usage` where the words are
-/// no command, or ask for help.
+/// `BadWord` comes where a value of `decide` or `print` has not the form that its place asks for, and `Usage` where the
+/// words are no command, or ask for help.
 pub fn job(alloc: Global, words: Vec<String>) -> Result<Job, JobFault>
     ensures found { IfOk result (λ j. IsCommandLine (map string_bytes words.items) j) }
     ensures only { (j : Task) → IsCommandLine (map string_bytes words.items) j → MatchResult result (λ k. k ≡ j) (λ e. e ≡ NoMemory) }

@@ -39,6 +39,12 @@ pub fn decides_with_flag()
         })) }
 {}
 
+/// `desk print - base.sudo - db1`
+pub fn prints()
+    ensures { IsCommandLine (codes "desk" ∷ codes "print" ∷ codes "-" ∷ codes "base.sudo" ∷ codes "-" ∷ codes "db1" ∷ [])
+        (jobs.Print (codes "base.sudo") (codes "db1")) }
+{}
+
 /// A line in which clap finds no fault is a command of the program, with a value for each argument that it wants.
 pub fn no_fault_is_complete()
     ensures { (words : List Word) → fault_of desk words ≡ [] → IsComplete (subcommand_of desk words) }

@@ -3,8 +3,10 @@
 
 mod command;
 mod command_line;
+mod desk;
 mod fault;
 mod laws;
+mod printing;
 mod refusal;
 mod running;
 mod status;
@@ -37,6 +39,7 @@ fn files(rt: &HostRuntime, job: &Job) -> Result<Vec<Vec<u8>>, Refusal> {
     let path = match job {
         Job::Check { file } => file.as_str(),
         Job::Decide { file, .. } => file.as_str(),
+        Job::Print { base, .. } => base.as_str(),
     };
     let mut files = Vec::new(rt.alloc());
     match fs::read(rt, path) {

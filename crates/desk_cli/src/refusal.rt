@@ -2,13 +2,15 @@
 
 ghost use Rattle.std.specs.Prelude.{◌≡◌};
 
+use crate::desk;
 use std::alloc::{AllocError, AllocFailed};
 use std::fmt;
 use sudo_syntax::{NoMemory, ReadFault};
 
 /// Why the program refuses what it is told to do.
 ///
-/// It is printed as its code and name, as `F1 FileFailed`; a policy's fault as its own text, as `S5 UnknownAlias line 3`.
+/// It is printed as its code and name, as `F1 FileFailed`; a policy's fault as its own text, as `S5 UnknownAlias line 3`,
+/// and the desk's as its own, as `K6 BaseTooLarge`.
 #[derive(Clone, Copy, Debug, PartialEq, Eq)]
 pub enum Refusal {
     /// A file could not be read, or an answer not be written.
@@ -19,6 +21,8 @@ pub enum Refusal {
     NoMemory,
     /// A file's text is no policy.
     Policy(ReadFault),
+    /// The desk refuses.
+    Desk(desk::Refusal),
 }
 
 impl fmt::Display for Refusal {
@@ -28,29 +32,56 @@ impl fmt::Display for Refusal {
             Refusal::BadWord => f.write_str("F2 BadWord"),
             Refusal::NoMemory => f.write_str("NoMemory"),
             Refusal::Policy(fault) => write!(f, "{fault}"),
+            Refusal::Desk(refusal) => write!(f, "{refusal}"),
         }
     }
 }
 
 impl From<ReadFault> for Refusal {
+    ghost use Rattle.desk_cli.specs.declared.refusal.Refusal.TheVariants.{Policy};
+
+    ghost from_gives = { λ f e. e ≡ Policy f };
+
     fn from(e: ReadFault) -> Refusal {
         Refusal::Policy(e)
     }
 }
 
+impl From<desk::Refusal> for Refusal {
+    ghost use Rattle.desk_cli.specs.declared.refusal.Refusal.TheVariants.{Desk};
+
+    ghost from_gives = { λ r e. e ≡ Desk r };
+
+    fn from(e: desk::Refusal) -> Refusal {
+        Refusal::Desk(e)
+    }
+}
+
 impl From<NoMemory> for Refusal {
+    ghost use Rattle.desk_cli.specs.declared.refusal.Refusal.TheVariants.{NoMemory};
+
+    ghost from_gives = { λ _ e. e ≡ NoMemory };
+
     fn from(_e: NoMemory) -> Refusal {
         Refusal::NoMemory
     }
 }
 
 impl From<AllocError> for Refusal {
+    ghost use Rattle.desk_cli.specs.declared.refusal.Refusal.TheVariants.{NoMemory};
+
+    ghost from_gives = { λ _ e. e ≡ NoMemory };
+
     fn from(_e: AllocError) -> Refusal {
         Refusal::NoMemory
     }
 }
 
 impl<T: Drop> From<AllocFailed<T>> for Refusal {
+    ghost use Rattle.desk_cli.specs.declared.refusal.Refusal.TheVariants.{NoMemory};
+
+    ghost from_gives = { λ _ e. e ≡ NoMemory };
+
     fn from(_e: AllocFailed<T>) -> Refusal {
         Refusal::NoMemory
     }

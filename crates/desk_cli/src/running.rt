@@ -2,8 +2,10 @@
 
 ghost use Rattle.std.specs.Prelude.{◌≡◌, ◌≢◌, ◌⊎◌, ℕ, List, IfOk, map, string_bytes};
 ghost use Rattle.std.specs.Io.KnownBytes.{Appends};
+ghost use Rattle.desk_cli.specs.Printing.{PrintsHost};
 ghost use Rattle.desk_cli.specs.Answers.{ChecksFile, DecidesByFile, IsAnswer, IsDecided, status_of};
 
+use crate::printing::print_host;
 use crate::refusal::Refusal;
 use crate::status::Status;
 use crate::task::Job;
@@ -11,6 +13,7 @@ use std::alloc::{AllocError, Global};
 use std::io::{Read, Write};
 use sudo_decide::{Decision, Invocation, decide};
 use sudo_syntax::{print_policy, read_policy};
+use sudo_words::HostName;
 
 /// What a job answers.
 #[derive(Debug, Drop)]
@@ -55,8 +58,33 @@ fn decided(alloc: Global, file: &[u8], invocation: &Invocation) -> Result<Answer
     Ok(decision_line(alloc, decide(&policy, invocation))?)
 }
 
-fn answered(alloc: Global, job: &Job, files: &[Vec<u8>]) -> Result<Answer, Refusal>
-    ensures { IfOk result (λ a. IsAnswer job.now (map (λ f. f.items) files.now) a.status (string_bytes a.text)) }
+fn printed<R: Read, E: Write>(
+    alloc: Global,
+    file: &[u8],
+    host: &HostName,
+    input: &mut R,
+    err: &mut E,
+) -> Result<Answer, Refusal>
+    ensures { IfOk result (λ a. (said : List ℕ) × PrintsHost file.now host.now (R.remaining input.old) a.status (string_bytes a.text) said
+        × Appends (E.contents err.old) (E.contents err.new) said) }
+{
+    Ok(Answer {
+        text: print_host(alloc, file, host, input, err)?,
+        status: Status::Done,
+    })
+}
+
+/// What the job answers. What else there is to say is said on `err`.
+fn answered<R: Read, E: Write>(
+    alloc: Global,
+    job: &Job,
+    files: &[Vec<u8>],
+    input: &mut R,
+    err: &mut E,
+) -> Result<Answer, Refusal>
+    ensures { IfOk result (λ a. (said : List ℕ)
+        × IsAnswer job.now (map (λ f. f.items) files.now) (R.remaining input.old) a.status (string_bytes a.text) said
+        × Appends (E.contents err.old) (E.contents err.new) said) }
 {
     let Some(file) = files.first() else {
         return Err(Refusal::FileFailed);
@@ -64,6 +92,7 @@ fn answered(alloc: Global, job: &Job, files: &[Vec<u8>]) -> Result<Answer, Refus
     match job {
         Job::Check { .. } => check(alloc, file.as_slice()),
         Job::Decide { invocation, .. } => decided(alloc, file.as_slice(), invocation),
+        Job::Print { host, .. } => printed(alloc, file.as_slice(), host, input, err),
     }
 }
 
@@ -79,6 +108,7 @@ pub fn refuse<E: Write>(refusal: Refusal, err: &mut E) -> Status
 fn deliver<W: Write, E: Write>(answer: &Answer, out: &mut W, err: &mut E) -> Status
     ensures status { result ≢ Status.Refused → result ≡ answer.now.status }
     ensures written { result ≢ Status.Refused → Appends (W.contents out.old) (W.contents out.new) (string_bytes answer.now.text) }
+    ensures quiet { result ≢ Status.Refused → E.contents err.new ≡ E.contents err.old }
 {
     if out.write_all(answer.text.as_bytes()).is_err() {
         return refuse(Refusal::FileFailed, err);
@@ -89,23 +119,25 @@ fn deliver<W: Write, E: Write>(answer: &Answer, out: &mut W, err: &mut E) -> Sta
     answer.status
 }
 
-/// Does the job over the bytes of the files that it names, in their order. The answer goes to `out`, and why there is
-/// none to `err`.
+/// Does the job over the bytes of the files that it names, in their order, and over the input. The answer goes to `out`,
+/// and why there is none to `err`, as does what `print` says of lines of the input that it does not take.
 ///
-/// `files` has the bytes of each file that the job names. Where one is missing, or `out` fails, the job is refused.
-/// Nothing is written on `out` where the answer cannot be made.
+/// `files` has the bytes of each file that the job names. Where one is missing, or where the input, `out` or what is to be
+/// said on `err` fails, the job is refused. Nothing is written on `out` where the answer cannot be made.
 pub fn run<R: Read, W: Write, E: Write>(
     alloc: Global,
     job: &Job,
     files: &[Vec<u8>],
-    _input: &mut R,
+    input: &mut R,
     out: &mut W,
     err: &mut E,
 ) -> Status
-    ensures { result ≢ Status.Refused → (text : List ℕ) × IsAnswer job.now (map (λ f. f.items) files.now) result text
-        × Appends (W.contents out.old) (W.contents out.new) text }
+    ensures { result ≢ Status.Refused → (text : List ℕ) × (said : List ℕ)
+        × IsAnswer job.now (map (λ f. f.items) files.now) (R.remaining input.old) result text said
+        × Appends (W.contents out.old) (W.contents out.new) text
+        × Appends (E.contents err.old) (E.contents err.new) said }
 {
-    match answered(alloc, job, files) {
+    match answered(alloc, job, files, input, err) {
         Ok(answer) => deliver(&answer, out, err),
         Err(refusal) => refuse(refusal, err),
     }

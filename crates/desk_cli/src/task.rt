@@ -2,6 +2,7 @@
 
 use crate::text::Text;
 use sudo_decide::Invocation;
+use sudo_words::HostName;
 
 /// What the command line says to do.
 #[derive(Debug, Drop)]
@@ -17,5 +18,12 @@ pub enum Job {
         file: Text,
         /// The run.
         invocation: Invocation,
+    },
+    /// Deliver the lines of the input to a desk over a base policy, and print a host's file.
+    Print {
+        /// The path of the base policy's file.
+        base: Text,
+        /// The host.
+        host: HostName,
     },
 }

@@ -2,9 +2,11 @@
 
 use super::*;
 use std::alloc::{AllocError, Global};
+use std::io::Read;
 use std::test::Fail;
 
 mod policies;
+mod printing;
 
 /// A line whose every word is good.
 const LINE: [&str; 8] = [
@@ -24,6 +26,36 @@ fn line(alloc: Global, words: &[&str]) -> Result<Vec<String>, Fail> {
         line.push(String::from_str(alloc, word)?)?;
     }
     Ok(line)
+}
+
+/// What the program did with a line: its status, and what it wrote.
+#[derive(Drop)]
+struct Shown {
+    status: u8,
+    out: Vec<u8>,
+    err: Vec<u8>,
+}
+
+/// Does the line's job over one file and an input.
+fn run_line<R: Read>(
+    alloc: Global,
+    words: &[&str],
+    file: &[u8],
+    input: &mut R,
+) -> Result<Shown, Fail> {
+    let Ok(job) = job(alloc, line(alloc, words)?) else {
+        return Err(Fail::from("no job"));
+    };
+    let mut files = Vec::new(alloc);
+    files.push(Vec::from_slice(alloc, file)?)?;
+    let mut out = Vec::new(alloc);
+    let mut err = Vec::new(alloc);
+    let status = run(alloc, &job, files.as_slice(), input, &mut out, &mut err);
+    Ok(Shown {
+        status: code(status),
+        out,
+        err,
+    })
 }
 
 fn fault_text(alloc: Global, fault: &JobFault) -> Result<String, AllocError> {

@@ -1,11 +1,11 @@
 //! The values of a command's arguments.
 
-ghost use Rattle.std.specs.Prelude.{◌≡◌, ◌⊎◌, ◌<◌, ◌≤◌, ℕ, List, IfOk, IfErr, IfSome, MatchResult, None, Some, map, length, true, false};
+ghost use Rattle.std.specs.Prelude.{◌≡◌, ◌⊎◌, ◌<◌, ◌≤◌, ℕ, List, IfOk, IfErr, IfSome, IsOk, MatchResult, OnOk, None, Some, codes, map, length, true, false};
 ghost use Rattle.std.specs.List.{list_all};
 ghost use Rattle.clap.specs.Words.{found_of, rows_of};
 ghost use Rattle.sudo_words.specs.Moment.{IsStamp};
 ghost use Rattle.sudo_words.specs.Word.{is_arg};
-ghost use Rattle.desk_cli.specs.CommandLine.{HasBadMoment, HasBadWord, HasBadWords, HasMoment, HasSome, HasValue, HasWord, HasWords, values};
+ghost use Rattle.desk_cli.specs.CommandLine.{HasBadMoment, HasBadWord, HasBadWords, HasMoment, HasOther, HasSome, HasValue, HasWord, HasWords, values};
 ghost use Rattle.desk_cli.specs.Faults.{IsUsage};
 ghost use Rattle.desk_cli.specs.declared.fault.JobFault.TheVariants.{BadWord, NoMemory};
 
@@ -50,6 +50,20 @@ pub fn word<F: Form>(alloc: Global, matches: &ArgMatches<'_>, id: &str) -> Resul
     ensures usage { IfErr result (λ e. IsUsage e → ⊥) }
 {
     Ok(Word::read(alloc, value(matches, id))?)
+}
+
+/// Tests that the value of an argument that has one is `-`.
+pub fn dash(matches: &ArgMatches<'_>, id: &str) -> Result<(), JobFault>
+    requires { HasSome id.now (rows_of (found_of matches.now)) }
+    ensures found { OnOk result (HasValue id.now (rows_of (found_of matches.now)) (codes "-")) }
+    ensures only { HasValue id.now (rows_of (found_of matches.now)) (codes "-") → IsOk result }
+    ensures word { IfErr result (λ e. (e ≡ BadWord) × HasOther id.now (rows_of (found_of matches.now))) }
+{
+    if value(matches, id) == "-" {
+        Ok(())
+    } else {
+        Err(JobFault::BadWord)
+    }
 }
 
 /// The moment of this canonical text.

@@ -1,6 +1,6 @@
 //! Jobs over a policy in memory.
 
-use super::line;
+use super::{Shown, line, run_line};
 use crate::command_line::job;
 use crate::running::run;
 use crate::status::code;
@@ -15,18 +15,10 @@ const POLICY: &str = "ann db1 = NOTBEFORE=2026010509Z NOTAFTER=202601051100Z /bi
 const CANONICAL: &str =
     "ann db1 = (root) NOTBEFORE=20260105090000Z NOTAFTER=20260105110000Z /bin/ls\n";
 
-/// What the program did with a line: its status, and what it wrote.
-#[derive(Drop)]
-struct Shown {
-    status: u8,
-    out: Vec<u8>,
-    err: Vec<u8>,
-}
-
 /// A writer with room for so many bytes more, which then fails.
 #[derive(Drop)]
-struct Narrow {
-    room: usize,
+pub(super) struct Narrow {
+    pub(super) room: usize,
 }
 
 impl Write for Narrow {
@@ -46,27 +38,7 @@ impl Write for Narrow {
 
 /// Does the line's job over one file of this text.
 fn done(alloc: Global, text: &str, words: &[&str]) -> Result<Shown, Fail> {
-    let Ok(job) = job(alloc, line(alloc, words)?) else {
-        return Err(Fail::from("no job"));
-    };
-    let mut files = Vec::new(alloc);
-    files.push(Vec::from_slice(alloc, text.as_bytes())?)?;
-    let mut input = b"".as_slice();
-    let mut out = Vec::new(alloc);
-    let mut err = Vec::new(alloc);
-    let status = run(
-        alloc,
-        &job,
-        files.as_slice(),
-        &mut input,
-        &mut out,
-        &mut err,
-    );
-    Ok(Shown {
-        status: code(status),
-        out,
-        err,
-    })
+    run_line(alloc, words, text.as_bytes(), &mut b"".as_slice())
 }
 
 /// The status of a decision for `ann` on `db1` by the policy, and what is printed.

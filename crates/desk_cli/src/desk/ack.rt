@@ -1,0 +1,5 @@
+//! Acknowledgements.
+
+/// The body was a message's, and the message is kept.
+#[derive(Clone, Copy, Debug, PartialEq, Eq)]
+pub struct Ack;
