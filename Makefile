@@ -1,6 +1,6 @@
 # The commands of the repository. `rt` is the toolchain's command.
 
-.PHONY: all desk demo test bench faults clean
+.PHONY: all desk demo test peers bench faults clean
 
 all: desk
 
@@ -16,7 +16,12 @@ demo: desk
 test:
 	rt ci
 
-# Time and memory: `check` and `decide` beside visudo (Debian's package sudo) on 1,601 and 16,001 rules, `print` on 1,000 to 10,000 requests.
+# What the desk decides beside what sudo itself answers (as root; Debian's packages sudo and faketime). Nothing of the machine changes.
+peers: desk
+	python3 scripts/peers.py
+
+# Time and memory: `check` and `decide` beside visudo (Debian's package sudo) on up to 16,001 rules, on 8,000 aliases with 8,000 rules, and on
+# the greatest weight; `print` on 1,000 to 10,000 requests.
 bench: desk
 	python3 scripts/bench.py
 

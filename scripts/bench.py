@@ -1,7 +1,8 @@
 #!/usr/bin/env python3
-"""Times `desk check` and `desk decide` beside `visudo -c` on policies of 1,601 and 16,001 rules with dates.
+"""Times `desk check` and `desk decide` beside `visudo -c`.
 
-Then times `desk print` on 1,000, 8,000 and 10,000 requests, each with an approval, in shuffled order and all for one host.
+The policies: 1,601 and 16,001 rules with dates; 8,000 aliases of the four kinds, each of which uses another, with 8,000 rules that use
+them; and one whose weight is just below the limit, by aliases that double. Then times `desk print` on 1,000, 8,000 and 10,000 requests, each with an approval, in shuffled order and all for one host.
 Prints the best wall time of a few runs and the peak memory of each, and the ratios that the desk promises. A peak below that of
 this script's own process, some 14 MiB, is not seen.
 """
@@ -28,6 +29,36 @@ def policy(rules):
             f"NOTBEFORE=2026{n % 12 + 1:02}0109Z NOTAFTER=2027{n % 12 + 1:02}011100Z "
             f"/usr/bin/tool{n}\n"
         )
+    return "".join(lines)
+
+
+def aliases(count):
+    """So many aliases of the four kinds, and as many rules that use them."""
+    kinds = (
+        ("User_Alias", "U", "user{}"),
+        ("Host_Alias", "H", "host{}"),
+        ("Runas_Alias", "R", "op{}"),
+        ("Cmnd_Alias", "C", "/usr/bin/tool{} -v, /usr/lib/tools{}/"),
+    )
+    lines = []
+    each = count // 4
+    for n in range(each):
+        for kind, letter, item in kinds:
+            # every 16th begins a chain anew, so that no alias is deep
+            more = f", !{letter}{n - 1}" if n % 16 else ""
+            lines.append(f"{kind} {letter}{n} = {item.format(n, n)}{more}\n")
+    for n in range(count):
+        k = n % each
+        lines.append(f"U{k} H{k} = (R{k}) NOPASSWD: C{k}\n")
+    return "".join(lines)
+
+
+def heavy():
+    """A weight of 131,069: an alias that doubles to 8,192 in 15 rules, and plain rules."""
+    lines = ["User_Alias X1 = user0, user1\n"]
+    lines += [f"User_Alias X{n} = X{n - 1}, X{n - 1}\n" for n in range(2, 14)]
+    lines += [f"X13 host{n} = /usr/bin/tool{n}\n" for n in range(15)]
+    lines += [f"user{n} host{n} = /usr/bin/tool{n}\n" for n in range(2_036)]
     return "".join(lines)
 
 
@@ -67,10 +98,16 @@ def main():
         sys.exit("build/desk is missing: run make desk")
     figures = {}
     with tempfile.TemporaryDirectory() as folder:
-        for rules in (1_601, 16_001):
-            path = os.path.join(folder, f"{rules}.sudo")
+        policies = {
+            "1601 rules": policy(1_601),
+            "16001 rules": policy(16_001),
+            "8000 aliases": aliases(8_000),
+            "most weight": heavy(),
+        }
+        for what, text in policies.items():
+            path = os.path.join(folder, "policy.sudo")
             with open(path, "w") as file:
-                file.write(policy(rules))
+                file.write(text)
             size = os.path.getsize(path)
             commands = {
                 "check": [DESK, "check", path],
@@ -79,9 +116,9 @@ def main():
             }
             for name, words in commands.items():
                 seconds, memory = run(words)
-                figures[name, rules] = (seconds, memory, size)
+                figures[name, what] = (seconds, memory, size)
                 print(
-                    f"{name:7} {rules:6} rules, {size:9,} bytes: {seconds * 1000:8.1f} ms, "
+                    f"{name:7} {what:12}, {size:9,} bytes: {seconds * 1000:8.1f} ms, "
                     f"{memory / 1024:8,.0f} KiB ({memory / size:5.1f} times the text)"
                 )
         base = os.path.join(folder, "base.sudo")
@@ -103,12 +140,15 @@ def main():
     wrong += ratio > 15
     print(f"print: ten times the messages: {ratio:.2f}, at most 15: {'holds' if ratio <= 15 else 'FAILS'}")
     for name in ("check", "decide"):
-        large, small = figures[name, 16_001], figures[name, 1_601]
-        checks = (
-            (f"{name}: large against visudo", large[0] / figures["visudo", 16_001][0], 1.0),
+        large, small = figures[name, "16001 rules"], figures[name, "1601 rules"]
+        checks = [
+            (f"{name}: {what} against visudo", figures[name, what][0] / figures["visudo", what][0], 1.0)
+            for what in ("16001 rules", "8000 aliases", "most weight")
+        ]
+        checks += [
             (f"{name}: ten times the rules", large[0] / small[0], 12.0),
             (f"{name}: memory against the text", large[1] / large[2], 16.0),
-        )
+        ]
         for what, ratio, most in checks:
             holds = ratio <= most
             wrong += not holds

@@ -16,6 +16,11 @@ ask decide examples/base.sudo ann db1 root 20260105093000Z /bin/ls -- -l
 ask decide examples/base.sudo ann db1 root 20260105110001Z /bin/ls
 ask decide examples/base.sudo ann db1 postgres 20260105093000Z /bin/ls
 ask decide examples/base.sudo backup db2 postgres 20260301000000Z /usr/bin/pg_dump
+ask check examples/team.sudo
+ask decide examples/team.sudo omar web1 postgres 20260105093000Z /usr/bin/uptime
+ask decide examples/team.sudo olga web1 root 20260105093000Z /usr/bin/systemctl restart postgresql
+ask decide examples/team.sudo olga db1 root 20260105093000Z /usr/bin/systemctl restart postgresql
+ask decide examples/team.sudo omar db1 root 20260105093000Z /usr/bin/systemctl restart postgresql
 ask check examples/left_out.sudo
 
 # A grant's life: asked for, approved, written into the host's file, and decided by it.

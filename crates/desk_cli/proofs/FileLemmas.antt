@@ -6,10 +6,10 @@ use Rattle.messages.specs.declared.message.Message.{Message}
 use Rattle.sudo_syntax.specs.declared.entry.Rule.{Rule}
 use Rattle.sudo_syntax.specs.declared.entry.Entry.{Entry}
 use Rattle.sudo_syntax.specs.declared.entry.Entry.TheVariants as entries
-use Rattle.sudo_syntax.specs.Grammar.{lines_of as text_lines, Spells}
 use Rattle.sudo_syntax.specs.Printing.{canon}
 use Rattle.sudo_syntax.specs.Reading.{with_rules}
-use Rattle.sudo_syntax.proofs.One.{lines_one}
+use Rattle.sudo_syntax.specs.Spelling.{Spells}
+use Rattle.sudo_syntax.proofs.One.{text_one}
 use Rattle.desk_cli.specs.declared.desk.naming.RequestName.{RequestName}
 use Rattle.desk_cli.specs.declared.desk.asked.Asked.{Asked}
 use Rattle.desk_cli.specs.declared.desk.approved.Approval.{Approval}
@@ -22,7 +22,7 @@ use Rattle.desk_cli.specs.HostFile.{Line, AreLines, IsHostFile, with_lines}
 use Rattle.desk_cli.specs.Rights.{GivesRights}
 use Rattle.desk_cli.proofs.GrantedLines.{lines_of, rules_in, are_lines}
 use Rattle.desk_cli.proofs.SetLemmas.{one_lines}
-use Rattle.desk_cli.proofs.Headline.{covered_allowed, bare_as_base}
+use Rattle.desk_cli.proofs.Headline.{entries_of_rules, covered_allowed, bare_as_base}
 
 -- ---- the rules are those of the lines
 
@@ -41,10 +41,6 @@ module _ (set : List Message) (host : List ℕ) (asked : BTreeMap RequestName As
       inr (many, (lines_of host approved (values asked), are_lines set host asked approved are_asked are_approved, omega (arith, past, same_count)))
 
 -- ---- the text
-
-entries_of_rules : (lines : List Line) → map entries.Rule (map (λ (line : Line). line.rule) lines) ≡ map (λ (line : Line). entries.Rule line.rule) lines
-entries_of_rules [] = refl
-entries_of_rules (line ∷ lines) = ap (λ (es : List Entry). entries.Rule line.rule ∷ es) (entries_of_rules lines)
 
 pub extended : (base : List Entry) (rules : List Rule) (lines : List Line) → rules ≡ map (λ (line : Line). line.rule) lines → with_rules base rules ≡ with_lines base lines
 extended base rules lines e =
@@ -65,7 +61,7 @@ gives_rights base set host text rules found spells =
     record {
       policy = with_lines base found.0;
       spelled = spelled;
-      only = λ other also. lines_one (text_lines text) other (with_lines base found.0) also.lines spelled.lines;
+      only = λ other also. text_one text other (with_lines base found.0) also spelled;
       covered = λ i here covers. covered_allowed base set i found.0 (subst Q (sym here) found.1) covers;
       bare = λ i d here none by. bare_as_base base set i found.0 (subst Q (sym here) found.1) none d by;
     }

@@ -1,4 +1,4 @@
--- What the rule of a grant says of an invocation: yes where each of its parts fits, and nothing elsewhere.
+-- What the rule of a grant says of an invocation, whatever the aliases are: yes where each of its parts fits, and nothing elsewhere.
 use Rattle.std.proofs.Common.{◌≡◌, ℕ, ◌≤◌, ◌⊎◌, Bool, true, false, cond, ◌&&◌, leb, Option, Some, None, List, [], ◌∷◌, refl, sym, ap, ◌∙◌, subst, inl, inr}
 use Rattle.std.specs.Str.{bytes_eq}
 use Rattle.std.proofs.lemmas.Bool.{leb-true, le-leb}
@@ -6,6 +6,7 @@ use Rattle.std.proofs.lemmas.Slice.Eq.{bytes_eq-Decides}
 use Rattle.sudo_words.specs.Command.{matches}
 use Rattle.sudo_words.specs.declared.cmnd.Cmnd.{Cmnd}
 use Rattle.messages.specs.Fields.{RequestFields}
+use Rattle.sudo_syntax.specs.declared.entry.Entry.{Entry}
 use Rattle.sudo_decide.specs.declared.invocation.Invocation.{Invocation}
 use Rattle.sudo_decide.specs.Decision.{is_yes, says}
 use Rattle.desk_cli.specs.HostFile.{grant_rule}
@@ -59,8 +60,8 @@ yes_from_all true true true true true false g h i j k l = absurd cc
 
 -- ---- the rule of a grant
 
-pub answer_is : (host : List ℕ) (q : RequestFields) (first last : ℕ) (cmnd : Cmnd) (i : Invocation) → says (grant_rule host q first last cmnd) i ≡ answer_of (leb first i.at) (leb i.at last) (bytes_eq q.by i.user) (bytes_eq host i.host) (bytes_eq q.runas i.runas) (matches cmnd i.path i.args)
-answer_is host q first last cmnd i = refl
+pub answer_is : (defined : List Entry) (host : List ℕ) (q : RequestFields) (first last : ℕ) (cmnd : Cmnd) (i : Invocation) → says defined (grant_rule host q first last cmnd) i ≡ answer_of (leb first i.at) (leb i.at last) (bytes_eq q.by i.user) (bytes_eq host i.host) (bytes_eq q.runas i.runas) (matches cmnd i.path i.args)
+answer_is defined host q first last cmnd i = refl
 
 pub same_from_test : (a b : List ℕ) → bytes_eq a b ≡ true → a ≡ b
 same_from_test a b h = (bytes_eq-Decides a b).0 h
@@ -76,8 +77,8 @@ pub record Fits (host : List ℕ) (q : RequestFields) (first last : ℕ) (cmnd :
   pub target : q.runas ≡ i.runas
   pub matches_it : matches cmnd i.path i.args ≡ true
 
-pub fits_from_yes : (host : List ℕ) (q : RequestFields) (first last : ℕ) (cmnd : Cmnd) (i : Invocation) → says (grant_rule host q first last cmnd) i ≡ Some true → Fits host q first last cmnd i
-fits_from_yes host q first last cmnd i h =
+pub fits_from_yes : (defined : List Entry) (host : List ℕ) (q : RequestFields) (first last : ℕ) (cmnd : Cmnd) (i : Invocation) → says defined (grant_rule host q first last cmnd) i ≡ Some true → Fits host q first last cmnd i
+fits_from_yes defined host q first last cmnd i h =
     let all = all_true (leb first i.at) (leb i.at last) (bytes_eq q.by i.user) (bytes_eq host i.host) (bytes_eq q.runas i.runas) (matches cmnd i.path i.args) h in
     record {
       begun = leb-true first i.at all.begun_is;
@@ -88,10 +89,10 @@ fits_from_yes host q first last cmnd i h =
       matches_it = all.fits_is;
     }
 
-pub yes_from_fits : (host : List ℕ) (q : RequestFields) (first last : ℕ) (cmnd : Cmnd) (i : Invocation) → Fits host q first last cmnd i → says (grant_rule host q first last cmnd) i ≡ Some true
-yes_from_fits host q first last cmnd i f =
+pub yes_from_fits : (defined : List Entry) (host : List ℕ) (q : RequestFields) (first last : ℕ) (cmnd : Cmnd) (i : Invocation) → Fits host q first last cmnd i → says defined (grant_rule host q first last cmnd) i ≡ Some true
+yes_from_fits defined host q first last cmnd i f =
     yes_from_all _ _ _ _ _ _ (le-leb first i.at f.begun) (le-leb i.at last f.lasts) (test_from_same q.by i.user f.user) (test_from_same host i.host f.host_is) (test_from_same q.runas i.runas f.target) f.matches_it
 
-pub grant_answers : (host : List ℕ) (q : RequestFields) (first last : ℕ) (cmnd : Cmnd) (i : Invocation) → (says (grant_rule host q first last cmnd) i ≡ Some true) ⊎ (says (grant_rule host q first last cmnd) i ≡ None)
-grant_answers host q first last cmnd i =
+pub grant_answers : (defined : List Entry) (host : List ℕ) (q : RequestFields) (first last : ℕ) (cmnd : Cmnd) (i : Invocation) → (says defined (grant_rule host q first last cmnd) i ≡ Some true) ⊎ (says defined (grant_rule host q first last cmnd) i ≡ None)
+grant_answers defined host q first last cmnd i =
     yes_or_silent (leb first i.at) (leb i.at last) (bytes_eq q.by i.user) (bytes_eq host i.host) (bytes_eq q.runas i.runas) (matches cmnd i.path i.args)

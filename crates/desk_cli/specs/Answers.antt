@@ -1,6 +1,6 @@
 -- What a job answers.
 use Rattle.std.specs.Prelude.{◌≡◌, ℕ, List, [], ◌∷◌, ◌++◌, Option, codes}
-use Rattle.sudo_syntax.specs.Grammar.{Spells}
+use Rattle.sudo_syntax.specs.Spelling.{Spells}
 use Rattle.sudo_syntax.specs.Printing.{canon}
 use Rattle.sudo_syntax.specs.declared.entry.Entry.{Entry}
 use Rattle.sudo_decide.specs.Decision.{Decides, decision_text}

@@ -1,11 +1,14 @@
 -- The rules that a set of messages gives a host, from the requests and approvals by name. For private clauses.
-use Rattle.std.specs.Prelude.{◌≡◌, ℕ, ◌≤◌, ◌<◌, ◌&&◌, nat_le, max, if◌then◌else◌, List, [], ◌∷◌, ◌++◌, map, Option, Some, None}
+use Rattle.std.specs.Prelude.{◌≡◌, ℕ, true, ◌≤◌, ◌<◌, ◌&&◌, nat_le, max, if◌then◌else◌, List, [], ◌∷◌, ◌++◌, map, Option, Some, None}
 use Rattle.std.specs.List.{list_any}
 use Rattle.std.specs.Str.{bytes_eq}
 use Rattle.std.specs.BTreeMap.{BTreeMap}
+use Rattle.sudo_words.specs.Command.{IsLawful}
 use Rattle.sudo_words.specs.Moment.{IsMoment}
+use Rattle.sudo_words.specs.Word.{is_host_name}
+use Rattle.sudo_words.specs.declared.cmnd.Cmnd.{Cmnd}
 use Rattle.sudo_syntax.specs.declared.entry.Rule.{Rule}
-use Rattle.messages.specs.Fields.{RequestFields}
+use Rattle.messages.specs.Fields.{RequestFields, IsRequest}
 use Rattle.desk_cli.specs.declared.desk.naming.RequestName.{RequestName}
 use Rattle.desk_cli.specs.declared.desk.asked.Asked.{Asked}
 use Rattle.desk_cli.specs.declared.desk.approved.Approval.{Approval}
@@ -26,6 +29,18 @@ granted_window a (Some approval) = if a.is_disputed then None else window_from a
 
 abbrev pub AreMoments : Window → Type 0
 AreMoments w = IsMoment w.first × IsMoment w.last
+
+-- the rule of a lawful command of a request on a host
+pub record IsGrantRule (r : Rule) : Type 0 where
+  pub host : List ℕ
+  pub request : RequestFields
+  pub window : Window
+  pub cmnd : Cmnd
+  pub host_is : is_host_name host ≡ true
+  pub request_is : IsRequest request
+  pub moments : AreMoments window
+  pub lawful : IsLawful cmnd
+  pub rule_is : r ≡ grant_rule host request window.first window.last cmnd
 
 abbrev pub window_rules : List ℕ → RequestFields → Option Window → List Rule
 window_rules host q None = []

@@ -12,9 +12,12 @@ use Rattle.sudo_syntax.specs.declared.entry.CmndItem.TheVariants as cmnds
 use Rattle.sudo_syntax.specs.declared.entry.Rule.{Rule}
 use Rattle.sudo_syntax.specs.declared.entry.Entry.{Entry}
 use Rattle.sudo_syntax.specs.declared.entry.Entry.TheVariants as entries
-use Rattle.sudo_syntax.specs.Grammar.{one}
 use Rattle.sudo_syntax.specs.Printing.{canon}
 use Rattle.desk_cli.specs.Grants.{StandsAlone, IsFirstMoment, IsLastMoment}
+
+-- a list of one item, which is not negated
+abbrev pub one : {X : Type 0} → X → List (Signed X)
+one item = record { negated = false; item = item } ∷ []
 
 -- the rule of one command: never negated, and a password is asked for
 abbrev pub grant_rule : List ℕ → RequestFields → ℕ → ℕ → Cmnd → Rule

@@ -2,7 +2,7 @@
 use Rattle.std.specs.Prelude.{◌≡◌, ◌≢◌, ℕ, suc, ◌==◌, List, [], ◌∷◌, ◌++◌, Contains, Option, Result, Err, Ok, IfSome, codes, decimal, if◌then◌else◌}
 use Rattle.std.specs.List.{AllZip, onto_first}
 use Rattle.messages.specs.declared.message.Message.{Message}
-use Rattle.sudo_syntax.specs.Grammar.{Spells}
+use Rattle.sudo_syntax.specs.Spelling.{Spells}
 use Rattle.sudo_syntax.specs.declared.entry.Entry.{Entry}
 use Rattle.desk_cli.specs.Delivery.{Answers, IsBodyOf, IsKept}
 use Rattle.desk_cli.specs.HostFile.{IsHostFile}

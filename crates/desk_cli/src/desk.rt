@@ -69,7 +69,7 @@ impl Desk {
         ensures fits { FitsBase base → MatchResult result (λ d. d.base ≡ base) (λ e. e ≡ refusal.NoMemory) }
         ensures err { IfErr result (λ e. (e ≡ refusal.NoMemory) ⊎ ((e ≡ refusal.BaseTooLarge) × (FitsBase base → ⊥))) }
     {
-        if !fits(alloc, &base)? {
+        if !fits(&base) {
             return Err(Refusal::BaseTooLarge);
         }
         Ok(Desk {

@@ -5,8 +5,11 @@ use std::alloc::{AllocError, Global};
 use std::io::Read;
 use std::test::Fail;
 
+mod grants;
 mod policies;
 mod printing;
+mod refusals;
+mod subset;
 
 /// A line whose every word is good.
 const LINE: [&str; 8] = [

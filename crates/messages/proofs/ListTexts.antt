@@ -1,12 +1,14 @@
 -- A list of values beside the list of texts that it is.
-use Rattle.std.proofs.Common.{◌≡◌, ℕ, zero, suc, ◌+◌, ◌<◌, ◌≤◌, ◌∙◌, List, [], ◌∷◌, ◌++◌, length, map, get_or, take, refl, ap, arith, take_all}
+use Rattle.std.proofs.Common.{◌≡◌, ℕ, zero, suc, ◌+◌, ◌-◌, ◌<◌, ◌≤◌, ◌∙◌, Bool, true, false, List, [], ◌∷◌, ◌++◌, Option, Some, None, option_map, Bor, length, map, get_or, take, drop, refl, sym, ap, ap₂, arith, take_all}
 use Rattle.std.proofs.lemmas.List.{get_or-map, length-map, take_more}
-use Rattle.serde_json.specs.Data.{string}
+use Rattle.serde_json.specs.Data.{Data, string, Items, item, no_items}
+use Rattle.serde_json.specs.Find.{as_str}
 use Rattle.serde_json.specs.View.{view, items_view}
 use Rattle.serde_json.specs.declared.value.Value.{Value}
 use Rattle.sudo_words.specs.Command.{cmnd_text}
 use Rattle.sudo_words.specs.declared.cmnd.Cmnd.{Cmnd}
 use Rattle.messages.specs.Members.{strings}
+use Rattle.messages.specs.Order.{is_before, rises_from}
 
 -- as many values as texts
 pub length-strings : (vs : List Value) (ws : List (List ℕ)) → items_view vs ≡ strings ws → length vs ≡ length ws
@@ -26,7 +28,66 @@ view-at (x ∷ vs) (w ∷ ws) (suc i) v e less is =
     let later = view-at vs ws i v rest (omega arith) is in
     (omega (arith, later.0), later.1)
 
--- the same, where the texts are those of commands
+push_text : (vs : List Value) (ws : List (List ℕ)) (v : Value) (w : List ℕ) → view v ≡ string w → items_view vs ≡ strings ws → items_view (vs ++ v ∷ []) ≡ strings (ws ++ w ∷ [])
+push_text [] [] v w here e = ap (λ (d : Data). item d no_items) here
+push_text [] (x ∷ ws) v w here e = absurd cc
+push_text (u ∷ vs) [] v w here e = absurd cc
+push_text (u ∷ vs) (x ∷ ws) v w here e =
+    let first : view u ≡ string x = cc in
+    let rest : items_view vs ≡ strings ws = cc in
+    ap₂ (λ (d : Data) (more : Items). item d more) first (push_text vs ws v w here rest)
+
+-- ---- the first text of a list
+
+pub record IsFirstText (vs : List Value) (v : Value) (ws : List (List ℕ)) : Type 0 where
+  pub first : List ℕ
+  pub more : List (List ℕ)
+  pub texts_are : ws ≡ first ∷ more
+  pub view_is : view v ≡ string first
+  pub rest : items_view (take (length vs - 1) (drop 1 vs)) ≡ strings more
+
+pub first_text : (vs : List Value) (v : Value) (ws : List (List ℕ)) → 1 ≤ length vs → v ≡ get_or vs 0 v → items_view vs ≡ strings ws → IsFirstText vs v ws
+first_text [] v ws some is e = absurd (omega arith)
+first_text (x ∷ xs) v [] some is e = absurd cc
+first_text (x ∷ xs) v (w ∷ ws) some is e =
+    let here : view x ≡ string w = cc in
+    let later : items_view xs ≡ strings ws = cc in
+    let all : take (length (x ∷ xs) - 1) xs ≡ xs = take_all (length (x ∷ xs) - 1) xs (omega arith) in
+    record { first = w; more = ws; texts_are = refl; view_is = ap view is ∙ here; rest = ap items_view all ∙ later }
+
+pub no_texts : (vs : List Value) (ws : List (List ℕ)) → length vs < 1 → items_view vs ≡ strings ws → ws ≡ []
+no_texts [] [] none e = refl
+no_texts [] (w ∷ ws) none e = absurd cc
+no_texts (v ∷ vs) ws none e = absurd (omega arith)
+
+-- the text that a value is
+pub as_text : (o : Option (Bor (List ℕ))) (v : Value) (text : Bor (List ℕ)) (w : List ℕ) → option_map (λ s. s.now) o ≡ as_str (view v) → o ≡ Some text → view v ≡ string w → text.now ≡ w
+as_text o v text w same is e =
+    let both : Some text.now ≡ Some w = ap (option_map (λ (s : Bor (List ℕ)). s.now)) (sym is) ∙ same ∙ ap as_str e in
+    cc
+
+pub some_text : (o : Option (Bor (List ℕ))) (v : Value) (w : List ℕ) → option_map (λ s. s.now) o ≡ as_str (view v) → o ≡ None → view v ≡ string w → ⊥
+some_text o v w same is e =
+    let both : None ≡ Some w = ap (option_map (λ (s : Bor (List ℕ)). s.now)) (sym is) ∙ same ∙ ap as_str e in
+    cc
+
+pub goes_on : (low text first : List ℕ) (more ws : List (List ℕ)) (rises : Bool) → ws ≡ first ∷ more → text ≡ first → is_before low text ≡ true → rises ≡ rises_from text more → rises ≡ rises_from low ws
+goes_on low text first more ws rises whole same before later =
+    let here : is_before low first ≡ true = rw (← same) before in
+    rw (whole, here, ← same) later
+
+pub stops : (low text first : List ℕ) (more ws : List (List ℕ)) → ws ≡ first ∷ more → text ≡ first → is_before low text ≡ false → false ≡ rises_from low ws
+stops low text first more ws whole same before =
+    let here : is_before low first ≡ false = rw (← same) before in
+    rw (whole, here) refl
+
+-- one more text was read
+pub one_more_text : (vs : List Value) (ws new : List (List ℕ)) (v : Value) (w : List ℕ) (i : ℕ) → i < length vs → v ≡ get_or vs i v → view v ≡ string w → new ≡ ws ++ w ∷ []
+    → items_view (take i vs) ≡ strings ws → items_view (take (i + 1) vs) ≡ strings new
+one_more_text vs ws new v w i less is here more before =
+    rw (take_more vs i v less, more) (push_text (take i vs) ws (get_or vs i v) w (ap view (sym is) ∙ here) before)
+
+-- ---- the same, where the texts are those of commands
 pub view-cmnd_at : (vs : List Value) (cs : List Cmnd) (i : ℕ) (v : Value) (d : Cmnd) → items_view vs ≡ strings (map cmnd_text cs) → i < length vs → v ≡ get_or vs i v
     → (i < length cs) × (view v ≡ string (cmnd_text (get_or cs i d)))
 view-cmnd_at vs cs i v d e less is =

@@ -1,20 +1,27 @@
--- The texts of a message need no escape, and are ASCII.
-use Rattle.std.proofs.Common.{◌≡◌, ◌≢◌, ℕ, ◌<◌, ◌≤◌, Bool, true, false, eqb, leb, ltb, not, ◌&&◌, ◌||◌, List, [], ◌∷◌, ◌++◌, length, refl, ap, ◌∙◌, inl, inr, arith, append_assoc, Result, Ok, Err}
+-- The texts of a message are ASCII. But for those of commands they need no escape.
+use Rattle.std.proofs.Common.{◌≡◌, ◌≢◌, ℕ, ◌<◌, ◌≤◌, Bool, true, false, eqb, leb, ltb, not, ◌&&◌, ◌||◌, List, [], ◌∷◌, ◌++◌, length, refl, ap, ◌∙◌, inl, inr, arith, lit<, append_assoc, rules, Result, Ok, Err, String, Global, string_bytes}
 use Rattle.std.specs.Prelude.{All, codes, decimal, map, IsAscii, OnOk, is_ok, if◌then◌else◌}
-use Rattle.std.specs.List.{AllByRecursion, list_all, slice_split, onto_first}
-use Rattle.std.proofs.lemmas.Bool.{and_parts, and_from, cases_Bool}
+use Rattle.std.specs.List.{AllByRecursion, flat_map, list_all}
+use Rattle.std.proofs.lemmas.Bool.{and_parts, cases_Bool, or_cases}
 use Rattle.std.proofs.lemmas.Bool.Decides.{nat_tests}
 use Rattle.std.proofs.lemmas.List.Elements.{All-map, All-weaker}
-use Rattle.std.proofs.lemmas.List.Splits.{slice_split-cons_yes, slice_split-cons_no}
 use Rattle.std.proofs.lemmas.Str.Ascii.{IsAscii-nil, IsAscii-cons}
-use Rattle.json.specs.Print.{escape}
+use Rattle.json.specs.Print.{escape, escape_byte}
 use Rattle.json.proofs.Printed.Strings.{escape_byte_plain}
-use Rattle.sudo_words.specs.Word.{is_lower, is_name, is_name_byte, is_host_name, is_host_byte, is_path_byte, is_component, is_dots, are_components, is_absolute}
+use Rattle.serde_json.specs.Data.{string}
+use Rattle.serde_json.specs.View.{view}
+use Rattle.serde_json.specs.Written.{compact_text}
+use Rattle.serde_json.specs.declared.value.Value.{the_lemmas}
+use Rattle.serde_json.specs.declared.value.Value.TheVariants as values
+use Rattle.sudo_words.specs.Word.{is_lower, is_name, is_name_byte, is_host_name, is_host_byte, is_path_byte, is_arg, is_arg_byte}
 use Rattle.sudo_words.specs.Moment.{IsMoment, Spells, is_stamp_byte, stamp}
-use Rattle.sudo_words.specs.Command.{IsLawful, cmnd_text}
+use Rattle.sudo_words.specs.Command.{IsLawful, IsHead, IsArgRule, cmnd_text, head_text, rule_of, rule_text, spaced_arg}
 use Rattle.sudo_words.specs.declared.cmnd.Cmnd.{Cmnd}
 use Rattle.sudo_words.specs.declared.cmnd.Cmnd.TheVariants as commands
+use Rattle.sudo_words.specs.declared.cmnd.ArgRule.{ArgRule}
 use Rattle.sudo_words.specs.declared.cmnd.ArgRule.TheVariants.{Any, Empty, Exactly}
+use Rattle.sudo_words.proofs.ArgLemmas.{arg_parts, arg_text_each}
+use Rattle.sudo_words.proofs.PathLemmas.{file_each, dir_each}
 use Rattle.sudo_words.proofs.MomentLemmas.{stamp_bytes, stamp_is, stamp_spells}
 use Rattle.messages.specs.Wire.{escaped, moment_text, quoted, list_text, kind_text, request_text}
 use Rattle.messages.specs.declared.kind.VerdictKind.{VerdictKind}
@@ -43,19 +50,66 @@ plain_ascii b h = grind (arith, nat_tests)
 plain_kept : (b : ℕ) → is_plain_byte b ≡ true → (eqb b 34 || eqb b 92) ≡ false
 plain_kept b h = grind (arith, nat_tests)
 
+-- a printed byte of ASCII
+abbrev is_printed_byte : ℕ → Bool
+is_printed_byte b = leb 32 b && ltb b 127
+
+abbrev pub IsPrinted : List ℕ → Type 0
+IsPrinted w = AllByRecursion (λ b. is_printed_byte b ≡ true) w
+
+plain_is_printed : (b : ℕ) → is_plain_byte b ≡ true → is_printed_byte b ≡ true
+plain_is_printed b h = grind (arith, nat_tests)
+
+pub printed_plain : (w : List ℕ) → IsPlain w → IsPrinted w
+printed_plain [] h = tt
+printed_plain (b ∷ bs) h = (plain_is_printed b h.0, printed_plain bs h.1)
+
+printed_above : (b : ℕ) → is_printed_byte b ≡ true → 32 ≤ b
+printed_above b h = grind (arith, nat_tests)
+
+printed_ascii : (b : ℕ) → is_printed_byte b ≡ true → b < 128
+printed_ascii b h = grind (arith, nat_tests)
+
+kept_not_quote : (b : ℕ) → (eqb b 34 || eqb b 92) ≡ false → b ≢ 34
+kept_not_quote b h = grind (arith, nat_tests)
+
+kept_not_backslash : (b : ℕ) → (eqb b 34 || eqb b 92) ≡ false → b ≢ 92
+kept_not_backslash b h = grind (arith, nat_tests)
+
+kept_escape : (b : ℕ) → is_printed_byte b ≡ true → (eqb b 34 || eqb b 92) ≡ false → escape_byte b ≡ b ∷ []
+kept_escape b h k = escape_byte_plain b (kept_not_quote b k) (kept_not_backslash b k) (printed_above b h)
+
+marked_escape : (b : ℕ) → (eqb b 34 || eqb b 92) ≡ true → escape_byte b ≡ 92 ∷ b ∷ []
+unfolding escape_byte
+marked_escape b k = elim (or_cases (eqb b 34) (eqb b 92) k) [
+  | inl quote ↦ let is : b ≡ 34 = grind (arith, nat_tests) in rw is refl
+  | inr backslash ↦ let is : b ≡ 92 = grind (arith, nat_tests) in rw is refl
+]
+
+-- the escapes of a printed text are those of JSON
+pub escape_printed : (w : List ℕ) → IsPrinted w → escape w ≡ escaped w
+unfolding escaped
+escape_printed [] h = refl
+escape_printed (b ∷ bs) h =
+    elim (cases_Bool (eqb b 34 || eqb b 92)) [
+      | inl marked ↦ rw (marked, marked_escape b marked) (ap (λ (s : List ℕ). 92 ∷ b ∷ s) (escape_printed bs h.1))
+      | inr kept ↦ rw (kept, kept_escape b h.0 kept) (ap (λ (s : List ℕ). b ∷ s) (escape_printed bs h.1))
+    ]
+
+pub ascii_escaped : (w : List ℕ) → IsPrinted w → IsAscii (escaped w)
+unfolding escaped
+ascii_escaped [] h = IsAscii-nil
+ascii_escaped (b ∷ bs) h =
+    let here = IsAscii-cons b (escaped bs) (printed_ascii b h.0) (ascii_escaped bs h.1) in
+    elim (cases_Bool (eqb b 34 || eqb b 92)) [
+      | inl marked ↦ rw marked (IsAscii-cons 92 (b ∷ escaped bs) (lit< tt) here)
+      | inr kept ↦ rw kept here
+    ]
+
 pub escaped_plain : (w : List ℕ) → IsPlain w → escaped w ≡ w
 unfolding escaped
 escaped_plain [] h = refl
 escaped_plain (b ∷ bs) h = rw (plain_kept b h.0) (ap (λ (s : List ℕ). b ∷ s) (escaped_plain bs h.1))
-
-pub escape_plain : (w : List ℕ) → IsPlain w → escape w ≡ w
-escape_plain [] h = refl
-escape_plain (b ∷ bs) h =
-    rw (escape_byte_plain b (plain_not_quote b h.0) (plain_not_backslash b h.0) (plain_printed b h.0)) (ap (λ (s : List ℕ). b ∷ s) (escape_plain bs h.1))
-
-pub ascii_plain : (w : List ℕ) → IsPlain w → IsAscii w
-ascii_plain [] h = IsAscii-nil
-ascii_plain (b ∷ bs) h = IsAscii-cons b bs (plain_ascii b h.0) (ascii_plain bs h.1)
 
 -- ---- words of each form
 
@@ -75,11 +129,11 @@ name_byte_plain b h = grind (arith, nat_tests)
 host_byte_plain : (b : ℕ) → is_host_byte b ≡ true → is_plain_byte b ≡ true
 host_byte_plain b h = grind (arith, nat_tests)
 
-path_byte_plain : (b : ℕ) → is_path_byte b ≡ true → is_plain_byte b ≡ true
-path_byte_plain b h = grind (arith, nat_tests)
+path_byte_printed : (b : ℕ) → is_path_byte b ≡ true → is_printed_byte b ≡ true
+path_byte_printed b h = grind (arith, nat_tests)
 
-slash_plain : (b : ℕ) → eqb b 47 ≡ true → is_plain_byte b ≡ true
-slash_plain b h = grind (arith, nat_tests)
+arg_byte_printed : (b : ℕ) → is_arg_byte b ≡ true → is_printed_byte b ≡ true
+arg_byte_printed b h = grind (arith, nat_tests)
 
 stamp_byte_plain : (b : ℕ) → is_stamp_byte b ≡ true → is_plain_byte b ≡ true
 stamp_byte_plain b h = grind (arith, nat_tests)
@@ -98,45 +152,30 @@ host_plain (b ∷ bs) h =
     let both = and_parts (is_lower b) (list_all is_host_byte bs) all.0 in
     (lower_plain b both.0, each_plain is_host_byte host_byte_plain bs both.1)
 
--- the bytes of the parts of a path are plain, and so is the slash between them
-parts_bytes : (parts : List (List ℕ)) → list_all is_component parts ≡ true → list_all (list_all is_path_byte) parts ≡ true
-parts_bytes [] h = refl
-parts_bytes (part ∷ parts) h =
-    let both = and_parts (is_component part) (list_all is_component parts) h in
-    let shape = and_parts (leb 1 (length part) && list_all is_path_byte part) (not (is_dots part)) both.0 in
-    let bytes = and_parts (leb 1 (length part)) (list_all is_path_byte part) shape.0 in
-    and_from (list_all is_path_byte part) (list_all (list_all is_path_byte) parts) bytes.1 (parts_bytes parts both.1)
+-- ---- commands: paths, and arguments behind spaces
 
-first_byte : (x : ℕ) (parts : List (List ℕ)) → list_all (list_all is_path_byte) (onto_first x parts) ≡ true
-    → (is_path_byte x ≡ true) × (list_all (list_all is_path_byte) parts ≡ true)
-first_byte x [] h = let all = and_parts (is_path_byte x && true) true h in ((and_parts (is_path_byte x) true all.0).0, refl)
-first_byte x (part ∷ parts) h =
-    let all = and_parts (is_path_byte x && list_all is_path_byte part) (list_all (list_all is_path_byte) parts) h in
-    let first = and_parts (is_path_byte x) (list_all is_path_byte part) all.0 in
-    (first.0, and_from (list_all is_path_byte part) (list_all (list_all is_path_byte) parts) first.1 all.1)
+append_printed : (v w : List ℕ) → IsPrinted v → IsPrinted w → IsPrinted (v ++ w)
+append_printed [] w h k = k
+append_printed (b ∷ bs) w h k = (h.0, append_printed bs w h.1 k)
 
-split_plain : (w : List ℕ) → list_all (list_all is_path_byte) (slice_split (λ b. eqb b 47) w) ≡ true → IsPlain w
-split_plain [] h = tt
-split_plain (b ∷ bs) h =
-    elim (cases_Bool (eqb b 47)) [
-      | inl slash ↦ let parts = rw (slice_split-cons_yes (λ (x : ℕ). eqb x 47) b bs slash) at h in (slash_plain b slash, split_plain bs parts)
-      | inr other ↦
-          let parts = first_byte b (slice_split (λ (x : ℕ). eqb x 47) bs) (rw (slice_split-cons_no (λ (x : ℕ). eqb x 47) b bs other) at h) in
-          (path_byte_plain b parts.0, split_plain bs parts.1)
-    ]
+head_printed : (c : Cmnd) → IsHead c → IsPrinted (head_text c)
+head_printed commands.All h = (refl, (refl, (refl, tt)))
+head_printed (commands.Path file rule) h = file_each (λ (b : ℕ). is_printed_byte b ≡ true) refl path_byte_printed file h.0
+head_printed (commands.Dir dir) h = dir_each (λ (b : ℕ). is_printed_byte b ≡ true) refl path_byte_printed dir h.0
 
-absolute_plain : (w : List ℕ) → is_absolute w ≡ true → IsPlain w
-absolute_plain [] h = absurd cc
-absolute_plain (b ∷ bs) h =
-    let both = and_parts (eqb b 47) (are_components bs) h in
-    (slash_plain b both.0, split_plain bs (parts_bytes (slice_split (λ (x : ℕ). eqb x 47) bs) both.1))
+args_printed : (args : List (List ℕ)) → AllByRecursion (λ arg. is_arg arg ≡ true) args → IsPrinted (flat_map spaced_arg args)
+args_printed [] h = tt
+args_printed (a ∷ args) h =
+    append_printed (spaced_arg a) (flat_map spaced_arg args)
+    (refl, arg_text_each (λ (b : ℕ). is_printed_byte b ≡ true) refl arg_byte_printed a (arg_parts a h.0).bytes) (args_printed args h.1)
 
-pub cmnd_plain : (c : Cmnd) → IsLawful c → IsPlain (cmnd_text c)
-cmnd_plain commands.All h = each_plain is_plain_byte (λ b k. k) (codes "ALL") refl
-cmnd_plain (commands.Path file Any) h = absolute_plain file (and_parts (is_absolute file) (leb (length file) 4096) h.0).0
-cmnd_plain (commands.Path file Empty) h = absurd h
-cmnd_plain (commands.Path file (Exactly args)) h = absurd h
-cmnd_plain (commands.Dir dir) h = absurd h
+rule_printed : (r : ArgRule) → IsArgRule r → IsPrinted (rule_text r)
+rule_printed Any h = tt
+rule_printed Empty h = (refl, (refl, (refl, tt)))
+rule_printed (Exactly args) h = args_printed args h.0
+
+pub cmnd_printed : (c : Cmnd) → IsLawful c → IsPrinted (cmnd_text c)
+cmnd_printed c h = append_printed (head_text c) (rule_text (rule_of c)) (head_printed c h.head) (rule_printed (rule_of c) h.args)
 
 stamped_plain : (w : List ℕ) → AllByRecursion (λ b. is_stamp_byte b ≡ true) w → IsPlain w
 stamped_plain [] h = tt
@@ -153,8 +192,13 @@ escaped_name w h = escaped_plain w (name_plain w h)
 pub escaped_host : (w : List ℕ) → is_host_name w ≡ true → escaped w ≡ w
 escaped_host w h = escaped_plain w (host_plain w h)
 
-pub escaped_cmnd : (c : Cmnd) → IsLawful c → escaped (cmnd_text c) ≡ cmnd_text c
-escaped_cmnd c h = escaped_plain (cmnd_text c) (cmnd_plain c h)
+pub view_string : (s : String Global) → view (values.String s) ≡ string (string_bytes s)
+view_string s = search (rules, the_lemmas)
+
+-- a command's text between quotes is what the writer of JSON gives for it
+pub said_cmnd : (c : Cmnd) → IsLawful c → compact_text (string (cmnd_text c)) ≡ quoted (cmnd_text c)
+unfolding quoted
+said_cmnd c h = rw (escape_printed (cmnd_text c) (cmnd_printed c h)) refl
 
 pub escaped_request : escaped (codes "request") ≡ codes "request"
 unfolding escaped
@@ -200,11 +244,11 @@ kind_plain Approve = each_plain is_plain_byte (λ b k. k) (codes "approve") refl
 kind_plain Refuse = each_plain is_plain_byte (λ b k. k) (codes "refuse") refl
 kind_plain Revoke = each_plain is_plain_byte (λ b k. k) (codes "revoke") refl
 
-pub hosts_plain : (hs : List (List ℕ)) → All (λ h. is_host_name h ≡ true) hs → All IsPlain hs
-hosts_plain hs each = All-weaker (λ (h : List ℕ). is_host_name h ≡ true) IsPlain host_plain hs each
+pub hosts_printed : (hs : List (List ℕ)) → All (λ h. is_host_name h ≡ true) hs → All IsPrinted hs
+hosts_printed hs each = All-weaker (λ (h : List ℕ). is_host_name h ≡ true) IsPrinted (λ w h. printed_plain w (host_plain w h)) hs each
 
-pub cmnds_plain : (cs : List Cmnd) → All IsLawful cs → All IsPlain (map cmnd_text cs)
-cmnds_plain cs each = All-map IsPlain cmnd_text cs (All-weaker IsLawful (λ (c : Cmnd). IsPlain (cmnd_text c)) cmnd_plain cs each)
+pub cmnds_printed : (cs : List Cmnd) → All IsLawful cs → All IsPrinted (map cmnd_text cs)
+cmnds_printed cs each = All-map IsPrinted cmnd_text cs (All-weaker IsLawful (λ (c : Cmnd). IsPrinted (cmnd_text c)) cmnd_printed cs each)
 
 -- a literal
 low_byte : (b : ℕ) → ltb b 128 ≡ true → b < 128

@@ -22,10 +22,10 @@ use Rattle.sudo_words.specs.Command.{cmnd_text}
 use Rattle.messages.specs.Canonical.{IsTextOf}
 use Rattle.messages.specs.Fields.{RequestFields, VerdictFields, IsNumbered, IsRequest, IsVerdict}
 use Rattle.messages.specs.Members.{strings, request_value, verdict_value, value_of}
-use Rattle.messages.specs.Wire.{quoted, moment_text, rest_text, list_text, kind_text, request_text, verdict_text, wire, IsMessage}
+use Rattle.messages.specs.Wire.{escaped, quoted, moment_text, rest_text, list_text, kind_text, request_text, verdict_text, wire, IsMessage}
 use Rattle.messages.specs.declared.message.Message.{Message}
 use Rattle.messages.specs.declared.message.Message.TheVariants.{Request, Verdict}
-use Rattle.messages.proofs.PlainTexts.{IsPlain, escaped_plain, escape_plain, ascii_plain, ascii_literal, name_plain, host_plain, moment_plain, request_plain, kind_plain, hosts_plain, cmnds_plain}
+use Rattle.messages.proofs.PlainTexts.{IsPlain, IsPrinted, printed_plain, escape_printed, ascii_escaped, ascii_literal, name_plain, host_plain, moment_plain, request_plain, kind_plain, hosts_printed, cmnds_printed}
 
 -- ---- a value whose text is known, and reads as the value
 
@@ -43,16 +43,19 @@ utf8_literal w h = IsUtf8-from_ascii w (ascii_literal w h)
 quote_utf8 : IsUtf8 (codes "\"")
 quote_utf8 = utf8_literal (codes "\"") refl
 
-pub said_text : (w : List ℕ) → IsPlain w → IsSaid 1 (string w) (quoted w)
+pub said_text : (w : List ℕ) → IsPrinted w → IsSaid 1 (string w) (quoted w)
 unfolding quoted
-said_text w plain = record {
-  text_is = rw (escape_plain w plain, escaped_plain w plain) refl;
+said_text w printed = record {
+  text_is = rw (escape_printed w printed) refl;
   reads = refl;
   numbers = tt;
   shallow = omega arith;
   whole = refl;
-  utf8 = rw (escaped_plain w plain) (IsUtf8-append (codes "\"" ++ w) (codes "\"") (IsUtf8-append (codes "\"") w quote_utf8 (IsUtf8-from_ascii w (ascii_plain w plain))) quote_utf8);
+  utf8 = IsUtf8-append (codes "\"" ++ escaped w) (codes "\"") (IsUtf8-append (codes "\"") (escaped w) quote_utf8 (IsUtf8-from_ascii (escaped w) (ascii_escaped w printed))) quote_utf8;
 }
+
+said_plain : (w : List ℕ) → IsPlain w → IsSaid 1 (string w) (quoted w)
+said_plain w plain = said_text w (printed_plain w plain)
 
 pub said_number : (n : ℕ) → n < 2 ^ 64 → IsSaid 1 (number (unsigned n)) (decimal n)
 said_number n fits = record {
@@ -73,9 +76,9 @@ record AreSaid (ws : List (List ℕ)) : Type 0 where
   whole : items_have_float (strings ws) ≡ false
   utf8 : IsUtf8 (rest_text ws)
 
-said_rest : (ws : List (List ℕ)) → All IsPlain ws → AreSaid ws
+said_rest : (ws : List (List ℕ)) → All IsPrinted ws → AreSaid ws
 unfolding rest_text
-said_rest [] plain = record {
+said_rest [] printed = record {
   text_is = refl;
   reads = refl;
   numbers = tt;
@@ -83,9 +86,9 @@ said_rest [] plain = record {
   whole = refl;
   utf8 = utf8_literal (codes "]") refl;
 }
-said_rest (w ∷ ws) plain =
-    let first = said_text w (All-head IsPlain w ws plain) in
-    let more = said_rest ws (All-tail IsPlain w ws plain) in
+said_rest (w ∷ ws) printed =
+    let first = said_text w (All-head IsPrinted w ws printed) in
+    let more = said_rest ws (All-tail IsPrinted w ws printed) in
     record {
       text_is = ap₂ (λ (a b : List ℕ). 44 ∷ (a ++ b)) first.text_is more.text_is;
       reads = rw more.reads refl;
@@ -95,9 +98,9 @@ said_rest (w ∷ ws) plain =
       utf8 = IsUtf8-append (codes "," ++ quoted w) (rest_text ws) (IsUtf8-append (codes ",") (quoted w) (utf8_literal (codes ",") refl) first.utf8) more.utf8;
     }
 
-pub said_list : (ws : List (List ℕ)) → All IsPlain ws → IsSaid 1 (array (strings ws)) (list_text ws)
+pub said_list : (ws : List (List ℕ)) → All IsPrinted ws → IsSaid 1 (array (strings ws)) (list_text ws)
 unfolding list_text
-said_list [] plain = record {
+said_list [] printed = record {
   text_is = refl;
   reads = refl;
   numbers = tt;
@@ -105,9 +108,9 @@ said_list [] plain = record {
   whole = refl;
   utf8 = utf8_literal (codes "[]") refl;
 }
-said_list (w ∷ ws) plain =
-    let first = said_text w (All-head IsPlain w ws plain) in
-    let more = said_rest ws (All-tail IsPlain w ws plain) in
+said_list (w ∷ ws) printed =
+    let first = said_text w (All-head IsPrinted w ws printed) in
+    let more = said_rest ws (All-tail IsPrinted w ws printed) in
     record {
       text_is = ap₂ (λ (a b : List ℕ). 91 ∷ (a ++ b)) first.text_is more.text_is;
       reads = rw more.reads refl;
@@ -217,16 +220,16 @@ fits n h = omega arith
 pub said_asked : (r : RequestFields) → IsRequest r → IsSaid 2 (request_value r) (request_text r)
 said_asked r h =
     said_request _ _ _ _ _ _ _ _ _ _ _ _ _ _ _ _ _ _ _ _
-    (said_text (moment_text r.at) (moment_plain r.at h.at)) (said_text r.by (name_plain r.by h.by)) (said_text r.ceiling (host_plain r.ceiling h.ceiling))
-    (said_list (map cmnd_text r.cmnds) (cmnds_plain r.cmnds h.cmnds.1)) (said_text (moment_text r.from) (moment_plain r.from h.from))
-    (said_list r.hosts (hosts_plain r.hosts h.hosts.1)) (said_text (codes "request") request_plain) (said_number r.no (fits r.no h.no))
-    (said_text r.runas (name_plain r.runas h.runas)) (said_text (moment_text r.until) (moment_plain r.until h.until))
+    (said_plain (moment_text r.at) (moment_plain r.at h.at)) (said_plain r.by (name_plain r.by h.by)) (said_plain r.ceiling (host_plain r.ceiling h.ceiling))
+    (said_list (map cmnd_text r.cmnds) (cmnds_printed r.cmnds h.cmnds.1)) (said_plain (moment_text r.from) (moment_plain r.from h.from))
+    (said_list r.hosts (hosts_printed r.hosts h.hosts.1)) (said_plain (codes "request") request_plain) (said_number r.no (fits r.no h.no))
+    (said_plain r.runas (name_plain r.runas h.runas)) (said_plain (moment_text r.until) (moment_plain r.until h.until))
 
 pub said_answered : (v : VerdictFields) → IsVerdict v → IsSaid 2 (verdict_value v) (verdict_text v)
 said_answered v h =
     said_verdict _ _ _ _ _ _ _ _ _ _
-    (said_text (moment_text v.at) (moment_plain v.at h.at)) (said_text v.by (name_plain v.by h.by)) (said_text (kind_text v.kind) (kind_plain v.kind))
-    (said_number v.no (fits v.no h.no)) (said_text v.of (name_plain v.of h.of))
+    (said_plain (moment_text v.at) (moment_plain v.at h.at)) (said_plain v.by (name_plain v.by h.by)) (said_plain (kind_text v.kind) (kind_plain v.kind))
+    (said_number v.no (fits v.no h.no)) (said_plain v.of (name_plain v.of h.of))
 
 -- the text of a message reads as the message's value, and is canonical
 pub text_of_message : (m : Message) → IsMessage m → IsTextOf (wire m) (value_of m)

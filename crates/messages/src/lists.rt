@@ -12,7 +12,7 @@ ghost use Rattle.messages.specs.declared.fault.MessageFault.TheVariants.{BadFiel
 
 use crate::fault::MessageFault;
 use crate::members::{text_of, word_of};
-use crate::order::{cmnds_rise, hosts_rise};
+use crate::order::texts_rise;
 use serde_json::Value;
 use std::alloc::Global;
 use sudo_words::{Cmnd, CmndFault, HostName, read_cmnd};
@@ -22,6 +22,7 @@ const MOST: usize = 16;
 
 fn host_of(alloc: Global, item: &Value) -> Result<HostName, MessageFault>
     ensures found { IfOk result (λ h. is_host_name h ≡ true) }
+    ensures text { IfOk result (λ h. view item.now ≡ string h) }
     ensures only { (h : List ℕ) → is_host_name h ≡ true → view item.now ≡ string h
         → MatchResult result (λ w. w ≡ h) (λ e. e ≡ NoMemory) }
     ensures err { IfErr result (λ e. (e ≡ BadField) ⊎ (e ≡ NoMemory)) }
@@ -31,6 +32,7 @@ fn host_of(alloc: Global, item: &Value) -> Result<HostName, MessageFault>
 
 fn read_hosts(alloc: Global, items: &[Value]) -> Result<Vec<HostName>, MessageFault>
     ensures found { IfOk result (λ v. All (λ h. is_host_name h ≡ true) v.items) }
+    ensures texts { IfOk result (λ v. items_view items.now ≡ strings v.items) }
     ensures only { (hs : List (List ℕ)) → All (λ h. is_host_name h ≡ true) hs → items_view items.now ≡ strings hs
         → MatchResult result (λ v. v.items ≡ hs) (λ e. e ≡ NoMemory) }
     ensures err { IfErr result (λ e. (e ≡ BadField) ⊎ (e ≡ NoMemory)) }
@@ -51,7 +53,7 @@ pub(crate) fn hosts_of(alloc: Global, items: &[Value]) -> Result<Vec<HostName>, 
     ensures err { IfErr result (λ e. (e ≡ BadField) ⊎ (e ≡ NoMemory)) }
 {
     let hosts = read_hosts(alloc, items)?;
-    if hosts.len() < 1 || hosts.len() > MOST || !hosts_rise(&hosts) {
+    if hosts.len() < 1 || hosts.len() > MOST || !texts_rise(items) {
         return Err(MessageFault::BadField);
     }
     Ok(hosts)
@@ -59,6 +61,7 @@ pub(crate) fn hosts_of(alloc: Global, items: &[Value]) -> Result<Vec<HostName>, 
 
 fn cmnd_of(alloc: Global, item: &Value) -> Result<Cmnd, MessageFault>
     ensures found { IfOk result IsLawful }
+    ensures text { IfOk result (λ c. view item.now ≡ string (cmnd_text c)) }
     ensures only { (c : Command) → IsLawful c → view item.now ≡ string (cmnd_text c)
         → MatchResult result (λ d. d ≡ c) (λ e. e ≡ NoMemory) }
     ensures err { IfErr result (λ e. (e ≡ BadField) ⊎ (e ≡ NoMemory)) }
@@ -72,6 +75,7 @@ fn cmnd_of(alloc: Global, item: &Value) -> Result<Cmnd, MessageFault>
 
 fn read_cmnds(alloc: Global, items: &[Value]) -> Result<Vec<Cmnd>, MessageFault>
     ensures found { IfOk result (λ v. All IsLawful v.items) }
+    ensures texts { IfOk result (λ v. items_view items.now ≡ strings (map cmnd_text v.items)) }
     ensures only { (cs : List Command) → All IsLawful cs → items_view items.now ≡ strings (map cmnd_text cs)
         → MatchResult result (λ v. v.items ≡ cs) (λ e. e ≡ NoMemory) }
     ensures err { IfErr result (λ e. (e ≡ BadField) ⊎ (e ≡ NoMemory)) }
@@ -92,7 +96,7 @@ pub(crate) fn cmnds_of(alloc: Global, items: &[Value]) -> Result<Vec<Cmnd>, Mess
     ensures err { IfErr result (λ e. (e ≡ BadField) ⊎ (e ≡ NoMemory)) }
 {
     let cmnds = read_cmnds(alloc, items)?;
-    if cmnds.len() < 1 || cmnds.len() > MOST || !cmnds_rise(&cmnds) {
+    if cmnds.len() < 1 || cmnds.len() > MOST || !texts_rise(items) {
         return Err(MessageFault::BadField);
     }
     Ok(cmnds)

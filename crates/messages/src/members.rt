@@ -20,6 +20,7 @@ const LAST_NUMBER: u64 = 999_999_999;
 
 /// The text that a value is.
 pub(crate) fn text_of(value: &Value) -> Result<&str, MessageFault>
+    ensures found { IfOk result (λ s. view value.now ≡ string s.now) }
     ensures only { (w : List ℕ) → view value.now ≡ string w → IsOkAnd result (λ s. s.now ≡ w) }
     ensures err { IfErr result (λ e. e ≡ BadField) }
 {

@@ -11,7 +11,7 @@ const APPROVAL: &str =
     "{\"at\":\"20260105083000Z\",\"by\":\"bob\",\"kind\":\"approve\",\"no\":7,\"of\":\"ann\"}";
 
 /// Parts of the request, and what makes it no canonical text in their place.
-const UNCANONICAL: [(&str, &str); 13] = [
+const UNCANONICAL: [(&str, &str); 16] = [
     ("\"no\":7", "\"no\":7,\"no\":7"),
     ("\"no\":7", "\"no\":7.0"),
     ("\"no\":7", "\"no\":1e2"),
@@ -28,10 +28,13 @@ const UNCANONICAL: [(&str, &str); 13] = [
     ("\"/bin/ls\"", "\"\\/bin/ls\""),
     ("Z\"}", "Z\"}\n"),
     ("{\"at\"", " {\"at\""),
+    ("[\"/bin/ls\"]", "[\"/bin/echo a\\:b\"]"),
+    ("[\"/bin/ls\"]", "[\"/bin/echo a\\u005c:b\"]"),
+    ("[\"/bin/ls\"]", "[\"/bin/ls \\u0022\\\"\"]"),
 ];
 
 /// Parts of the request, and what makes it a canonical text that is no message's in their place.
-const MISFITS: [(&str, &str); 33] = [
+const MISFITS: [(&str, &str); 48] = [
     ("Z\"}", "Z\",\"zone\":\"x\"}"),
     ("{\"at\"", "{\"as\":\"x\",\"at\""),
     (",\"no\":7", ""),
@@ -68,10 +71,34 @@ const MISFITS: [(&str, &str); 33] = [
     ("\"request\"", "\"approve\""),
     ("\"request\"", "\"refuse\""),
     ("\"request\"", "\"ask\""),
+    ("[\"/bin/ls\"]", "[\"/bin/ls -l\",\"/bin/ls \\\"\\\"\"]"),
+    (
+        "[\"/bin/ls\"]",
+        "[\"/bin/ls \\\"\\\"\",\"/bin/ls \\\"\\\"\"]",
+    ),
+    (
+        "[\"/bin/ls\"]",
+        "[\"/bin/echo a\\\\:b\",\"/bin/echo a\\\\,b\"]",
+    ),
+    (
+        "[\"/bin/ls\"]",
+        "[\"/a\",\"/b\",\"/c\",\"/d\",\"/e\",\"/f\",\"/g\",\"/h\",\"/i\",\"/j\",\"/k\",\"/l\",\"/m\",\"/n\",\"/o\",\"/p\",\"/q\"]",
+    ),
+    ("[\"/bin/ls\"]", "[\"/bin/echo a:b\"]"),
+    ("[\"/bin/ls\"]", "[\"/bin/echo a\\\\b\"]"),
+    ("[\"/bin/ls\"]", "[\"/bin/ls  -l\"]"),
+    ("[\"/bin/ls\"]", "[\"/bin/ls\\t-l\"]"),
+    ("[\"/bin/ls\"]", "[\"/bin/ls -l \"]"),
+    ("[\"/bin/ls\"]", "[\"/bin/ls \\\"\"]"),
+    ("[\"/bin/ls\"]", "[\"/usr/bin/ -l\"]"),
+    ("[\"/bin/ls\"]", "[\"ALL -l\"]"),
+    ("[\"/bin/ls\"]", "[\"!/bin/ls\"]"),
+    ("[\"/bin/ls\"]", "[\"LS\"]"),
+    ("[\"/bin/ls\"]", "[\"/\"]"),
 ];
 
 /// Parts of the request, and what is read as well in their place.
-const ALTERED: [(&str, &str); 7] = [
+const ALTERED: [(&str, &str); 12] = [
     ("20260105110000Z", "20250105110000Z"),
     ("\"no\":7", "\"no\":0"),
     ("\"no\":7", "\"no\":999999999"),
@@ -82,6 +109,17 @@ const ALTERED: [(&str, &str); 7] = [
     ),
     ("[\"/bin/ls\"]", "[\"/bin/cat\",\"/bin/ls\",\"ALL\"]"),
     ("[\"/bin/ls\"]", "[\"ALL\"]"),
+    ("[\"/bin/ls\"]", "[\"/usr/bin/\"]"),
+    ("[\"/bin/ls\"]", "[\"/bin/ls \\\"\\\"\"]"),
+    ("[\"/bin/ls\"]", "[\"/bin/echo a\\\\:b\"]"),
+    (
+        "[\"/bin/ls\"]",
+        "[\"/bin/echo a\\\\,b\",\"/bin/echo a\\\\:b\",\"/bin/ls\",\"/bin/ls \\\"\\\"\",\"/bin/ls -l\",\"/bin/ls -l /\",\"/bin/lsof\"]",
+    ),
+    (
+        "[\"/bin/ls\"]",
+        "[\"/a\",\"/b\",\"/c\",\"/d\",\"/e\",\"/f\",\"/g\",\"/h\",\"/i\",\"/j\",\"/k\",\"/l\",\"/m\",\"/n\",\"/o\",\"/p\"]",
+    ),
 ];
 
 /// Canonical texts that are no message's.

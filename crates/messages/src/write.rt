@@ -7,12 +7,12 @@ ghost use Rattle.messages.specs.Wire as wires;
 
 use crate::kind::VerdictKind;
 use crate::message::Message;
-use crate::order::text_of;
 use crate::request::Request;
 use crate::verdict::Verdict;
+use serde_json::Value;
 use std::alloc::{AllocError, Global};
 use std::fmt::Write;
-use sudo_words::{Cmnd, HostName, Moment, NoMemory};
+use sudo_words::{Cmnd, HostName, Moment, NoMemory, print_cmnd};
 
 /// Appends a text between quotes. It has no byte that needs an escape.
 #[tactic(auto, unfolding(crate::specs::Wire::quoted))]
@@ -88,33 +88,43 @@ fn push_hosts(out: &mut String, hosts: &[HostName]) -> Result<(), AllocError>
     }
 }
 
+/// Appends a command's text between quotes, with its escapes.
+fn push_cmnd(out: &mut String, alloc: Global, cmnd: &Cmnd) -> Result<(), NoMemory>
+    requires { IsLawful cmnd.now }
+    ensures { OnOk result (string_bytes out.new ≡ string_bytes out.old ++ wires.quoted (cmnd_text cmnd.now)) }
+{
+    let text = Value::String(print_cmnd(alloc, cmnd)?).to_string(alloc)?;
+    out.push_str(&text)?;
+    Ok(())
+}
+
 /// Appends what stands behind the first command of a list.
-#[tactic(auto, using(crate::proofs::PlainTexts::escaped_cmnd), unfolding(crate::specs::Wire::rest_text, crate::specs::Wire::list_text))]
-fn push_more_cmnds(out: &mut String, cmnds: &[Cmnd]) -> Result<(), AllocError>
+#[tactic(auto, unfolding(crate::specs::Wire::rest_text))]
+fn push_more_cmnds(out: &mut String, alloc: Global, cmnds: &[Cmnd]) -> Result<(), NoMemory>
     requires { All IsLawful cmnds.now }
     ensures { OnOk result (string_bytes out.new ≡ string_bytes out.old ++ wires.rest_text (map cmnd_text cmnds.now)) }
 {
     match cmnds {
-        [] => out.push_str("]"),
+        [] => Ok(out.push_str("]")?),
         [cmnd, rest @ ..] => {
             out.push_str(",")?;
-            push_text(out, text_of(cmnd))?;
-            push_more_cmnds(out, rest)
+            push_cmnd(out, alloc, cmnd)?;
+            push_more_cmnds(out, alloc, rest)
         }
     }
 }
 
-#[tactic(auto, using(crate::proofs::PlainTexts::escaped_cmnd), unfolding(crate::specs::Wire::rest_text, crate::specs::Wire::list_text))]
-fn push_cmnds(out: &mut String, cmnds: &[Cmnd]) -> Result<(), AllocError>
+#[tactic(auto, unfolding(crate::specs::Wire::list_text))]
+fn push_cmnds(out: &mut String, alloc: Global, cmnds: &[Cmnd]) -> Result<(), NoMemory>
     requires { All IsLawful cmnds.now }
     ensures { OnOk result (string_bytes out.new ≡ string_bytes out.old ++ wires.list_text (map cmnd_text cmnds.now)) }
 {
     match cmnds {
-        [] => out.push_str("[]"),
+        [] => Ok(out.push_str("[]")?),
         [cmnd, rest @ ..] => {
             out.push_str("[")?;
-            push_text(out, text_of(cmnd))?;
-            push_more_cmnds(out, rest)
+            push_cmnd(out, alloc, cmnd)?;
+            push_more_cmnds(out, alloc, rest)
         }
     }
 }
@@ -133,17 +143,18 @@ fn push_asked(out: &mut String, r: &Request) -> Result<(), AllocError>
 }
 
 /// Appends the members that say what and where, with the window's first moment between.
-fn push_lists(out: &mut String, r: &Request) -> Result<(), AllocError>
+fn push_lists(out: &mut String, alloc: Global, r: &Request) -> Result<(), NoMemory>
     ensures { OnOk result (string_bytes out.new ≡ string_bytes out.old
         ++ codes ",\"cmnds\":" ++ wires.list_text (map cmnd_text r.now.cmnds)
         ++ codes ",\"from\":" ++ wires.quoted (wires.moment_text r.now.from)
         ++ codes ",\"hosts\":" ++ wires.list_text r.now.hosts) }
 {
     out.push_str(",\"cmnds\":")?;
-    push_cmnds(out, &r.cmnds)?;
+    push_cmnds(out, alloc, &r.cmnds)?;
     push_moment(out, ",\"from\":", r.from)?;
     out.push_str(",\"hosts\":")?;
-    push_hosts(out, &r.hosts)
+    push_hosts(out, &r.hosts)?;
+    Ok(())
 }
 
 /// Appends the members behind the lists.
@@ -163,12 +174,13 @@ fn push_rest(out: &mut String, r: &Request) -> Result<(), AllocError>
     out.push_str("}")
 }
 
-fn push_request(out: &mut String, r: &Request) -> Result<(), AllocError>
+fn push_request(out: &mut String, alloc: Global, r: &Request) -> Result<(), NoMemory>
     ensures { OnOk result (string_bytes out.new ≡ string_bytes out.old ++ wires.request_text r.now) }
 {
     push_asked(out, r)?;
-    push_lists(out, r)?;
-    push_rest(out, r)
+    push_lists(out, alloc, r)?;
+    push_rest(out, r)?;
+    Ok(())
 }
 
 #[tactic(auto, unfolding(crate::specs::Wire::escaped))]
@@ -201,7 +213,7 @@ pub fn text(alloc: Global, m: &Message) -> Result<String, NoMemory>
 {
     let mut out = String::new(alloc);
     match m {
-        Message::Request(request) => push_request(&mut out, request)?,
+        Message::Request(request) => push_request(&mut out, alloc, request)?,
         Message::Verdict(verdict) => push_verdict(&mut out, verdict)?,
     }
     Ok(out)

@@ -1,7 +1,7 @@
 -- The last answer given, of lists that grow at their ends.
-use Rattle.std.proofs.Common.{◌≡◌, ℕ, ◌+◌, ◌<◌, Bool, Option, Some, None, List, [], ◌∷◌, ◌++◌, length, take, get_or, map, refl, sym, ap, ◌∙◌}
+use Rattle.std.proofs.Common.{◌≡◌, ℕ, ◌+◌, ◌<◌, Bool, true, false, not, Option, Some, None, List, [], ◌∷◌, ◌++◌, length, take, get_or, map, refl, sym, ap, ◌∙◌}
 use Rattle.std.proofs.lemmas.List.{map_push, take_more}
-use Rattle.std.specs.Option.{option_or}
+use Rattle.std.specs.Option.{option_map, option_or}
 use Rattle.sudo_syntax.specs.declared.entry.Signed.{Signed}
 use Rattle.sudo_decide.specs.Decision.{last_given, signed_answer, list_answer}
 
@@ -35,3 +35,7 @@ pub list_answer-take_more : {X : Type 0} (item_says : X → Option Bool) (list :
     → list_answer item_says (take (i + 1) list) ≡ option_or (signed_answer x.negated (item_says x.item)) (list_answer item_says (take i list))
 list_answer-take_more item_says list i x within is =
     ap (list_answer item_says) (take_one_more list i x within is) ∙ list_answer-push item_says (take i list) x
+
+pub signed_answer_silent : (negated : Bool) (answer : Option Bool) → answer ≡ None → signed_answer negated answer ≡ None
+signed_answer_silent true answer quiet = ap (option_map not) quiet
+signed_answer_silent false answer quiet = quiet

@@ -1,2 +1,5 @@
+pub mod AliasLemmas
 pub mod AnswerLemmas
 pub mod DecisionLemmas
+pub mod Reaching
+pub mod Speakers

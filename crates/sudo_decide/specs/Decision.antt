@@ -1,5 +1,5 @@
 -- What a policy decides of an invocation (sudoers(5), "SUDOERS FILE FORMAT": where several entries match, the last match is used).
-use Rattle.std.specs.Prelude.{◌≡◌, ℕ, Bool, true, false, not, ◌&&◌, nat_le, List, [], ◌∷◌, ◌++◌, map, Option, Some, None, if◌then◌else◌, ◌⊎◌, codes}
+use Rattle.std.specs.Prelude.{◌≡◌, ℕ, Bool, true, false, not, ◌&&◌, nat_le, List, [], ◌∷◌, ◌++◌, map, reverse, Option, Some, None, if◌then◌else◌, ◌⊎◌, codes}
 use Rattle.std.specs.List.{AllByRecursion}
 use Rattle.std.specs.Option.{option_map, option_or}
 use Rattle.std.specs.Str.{bytes_eq}
@@ -12,6 +12,8 @@ use Rattle.sudo_syntax.specs.declared.entry.CmndItem.TheVariants as cmnds
 use Rattle.sudo_syntax.specs.declared.entry.Rule.{Rule}
 use Rattle.sudo_syntax.specs.declared.entry.Entry.{Entry}
 use Rattle.sudo_syntax.specs.declared.entry.Entry.TheVariants as entries
+use Rattle.sudo_syntax.specs.declared.tree.Definition.{Definition}
+use Rattle.sudo_syntax.specs.Alias.{by_definition, user_defs, host_defs, runas_defs, cmnd_defs}
 use Rattle.sudo_decide.specs.declared.decision.Decision.{Decision}
 use Rattle.sudo_decide.specs.declared.decision.Decision.TheVariants.{Deny, Allow, AllowNoPassword}
 use Rattle.sudo_decide.specs.declared.invocation.Invocation.{Invocation}
@@ -36,16 +38,27 @@ signed_answer negated answer = if negated then option_map not answer else answer
 abbrev pub list_answer : {X : Type 0} → (X → Option Bool) → List (Signed X) → Option Bool
 list_answer item_says list = last_given (map (λ x. signed_answer x.negated (item_says x.item)) list)
 
--- `ALL` says yes, and a name where it is the one asked for; an alias of which nothing is known is silent
-abbrev pub item_answer : List ℕ → Item (List ℕ) → Option Bool
-item_answer asked items.All = Some true
-item_answer asked (items.Name name) = if bytes_eq name asked then Some true else None
-item_answer asked (items.Alias name) = None
+-- `ALL` says yes, a name where it is the one asked for, and an alias what is known of it
+abbrev pub item_answer : (List ℕ → Option Bool) → List ℕ → Item (List ℕ) → Option Bool
+item_answer alias_says asked items.All = Some true
+item_answer alias_says asked (items.Name name) = if bytes_eq name asked then Some true else None
+item_answer alias_says asked (items.Alias name) = alias_says name
 
 -- a command says yes where it matches the path with these arguments
-abbrev pub cmnd_answer : List ℕ → List (List ℕ) → CmndItem → Option Bool
-cmnd_answer path args (cmnds.Alias name) = None
-cmnd_answer path args (cmnds.Cmnd cmnd) = if matches cmnd path args then Some true else None
+abbrev pub cmnd_answer : (List ℕ → Option Bool) → List ℕ → List (List ℕ) → CmndItem → Option Bool
+cmnd_answer alias_says path args (cmnds.Alias name) = alias_says name
+cmnd_answer alias_says path args (cmnds.Cmnd cmnd) = if matches cmnd path args then Some true else None
+
+-- an alias says what its list says, by definitions listed from the last to the first; one that is not defined is silent
+abbrev pub name_alias_says : List (Definition (Item (List ℕ))) → List ℕ → List ℕ → Option Bool
+name_alias_says defs asked = by_definition (λ says list. list_answer (item_answer says asked) list) None defs
+
+abbrev pub cmnd_alias_says : List (Definition CmndItem) → List ℕ → List (List ℕ) → List ℕ → Option Bool
+cmnd_alias_says defs path args = by_definition (λ says list. list_answer (cmnd_answer says path args) list) None defs
+
+-- what a list of users, hosts or targets says of the name asked for
+abbrev pub names_say : List (Definition (Item (List ℕ))) → List ℕ → List (Signed (Item (List ℕ))) → Option Bool
+names_say defs asked list = list_answer (item_answer (name_alias_says defs asked) asked) list
 
 -- ---- rules
 
@@ -61,25 +74,29 @@ is_not_after (Some last) at = nat_le at last
 abbrev pub takes_part : Rule → ℕ → Bool
 takes_part r at = is_not_before r.not_before at && is_not_after r.not_after at
 
--- its users, its hosts and its targets each say yes
-abbrev pub is_about : Rule → Invocation → Bool
-is_about r i =
-    is_yes (list_answer (item_answer i.user) r.users)
-    && is_yes (list_answer (item_answer i.host) r.hosts)
-    && is_yes (list_answer (item_answer i.runas) r.runas)
+-- its users, its hosts and its targets each say yes, by the definitions among the entries, which are listed from the last to the first
+abbrev pub is_about : List Entry → Rule → Invocation → Bool
+is_about defined r i =
+    is_yes (names_say (user_defs defined) i.user r.users)
+    && is_yes (names_say (host_defs defined) i.host r.hosts)
+    && is_yes (names_say (runas_defs defined) i.runas r.runas)
+
+-- what its command says
+abbrev pub cmnd_says : List Entry → Rule → Invocation → Option Bool
+cmnd_says defined r i =
+    signed_answer r.cmnd.negated (cmnd_answer (cmnd_alias_says (cmnd_defs defined) i.path i.args) i.path i.args r.cmnd.item)
 
 -- a rule that takes part and is about the invocation says what its command says; any other is silent
-abbrev pub says : Rule → Invocation → Option Bool
-says r i =
-    if takes_part r i.at && is_about r i then signed_answer r.cmnd.negated (cmnd_answer i.path i.args r.cmnd.item) else None
+abbrev pub says : List Entry → Rule → Invocation → Option Bool
+says defined r i = if takes_part r i.at && is_about defined r i then cmnd_says defined r i else None
 
 -- only rules speak
-abbrev pub entry_says : Entry → Invocation → Option Bool
-entry_says (entries.UserAlias name list) i = None
-entry_says (entries.RunasAlias name list) i = None
-entry_says (entries.HostAlias name list) i = None
-entry_says (entries.CmndAlias name list) i = None
-entry_says (entries.Rule rule) i = says rule i
+abbrev pub entry_says : List Entry → Entry → Invocation → Option Bool
+entry_says defined (entries.UserAlias name list) i = None
+entry_says defined (entries.RunasAlias name list) i = None
+entry_says defined (entries.HostAlias name list) i = None
+entry_says defined (entries.CmndAlias name list) i = None
+entry_says defined (entries.Rule rule) i = says defined rule i
 
 -- ---- policies: the last rule that speaks decides, and silence denies
 
@@ -87,27 +104,32 @@ entry_says (entries.Rule rule) i = says rule i
 abbrev pub outcome : Rule → Bool → Decision
 outcome r answer = if answer then (if r.nopasswd then AllowNoPassword else Allow) else Deny
 
-abbrev pub AllSilent : List Entry → Invocation → Type 0
-AllSilent es i = AllByRecursion (λ e. entry_says e i ≡ None) es
+abbrev pub AllSilent : List Entry → List Entry → Invocation → Type 0
+AllSilent defined es i = AllByRecursion (λ e. entry_says defined e i ≡ None) es
 
 -- a rule speaks, each entry behind it is silent, and the decision is the rule's
-pub record DecidesByRule (es : List Entry) (i : Invocation) (d : Decision) : Type 0 where
+pub record DecidesByRule (defined : List Entry) (es : List Entry) (i : Invocation) (d : Decision) : Type 0 where
   pub before : List Entry
   pub rule : Rule
   pub after : List Entry
   pub answer : Bool
   pub entries_are : es ≡ before ++ entries.Rule rule ∷ after
-  pub speaks : says rule i ≡ Some answer
-  pub silent : AllSilent after i
+  pub speaks : says defined rule i ≡ Some answer
+  pub silent : AllSilent defined after i
   pub decision : d ≡ outcome rule answer
 
 -- nothing speaks, and the decision is to deny
-pub record DecidesBySilence (es : List Entry) (i : Invocation) (d : Decision) : Type 0 where
-  pub silent : AllSilent es i
+pub record DecidesBySilence (defined : List Entry) (es : List Entry) (i : Invocation) (d : Decision) : Type 0 where
+  pub silent : AllSilent defined es i
   pub decision : d ≡ Deny
 
+-- what the entries decide where these define the aliases
+abbrev pub DecidesBy : List Entry → List Entry → Invocation → Decision → Type 0
+DecidesBy defined es i d = DecidesByRule defined es i d ⊎ DecidesBySilence defined es i d
+
+-- what a policy decides, by its own definitions
 abbrev pub Decides : List Entry → Invocation → Decision → Type 0
-Decides es i d = DecidesByRule es i d ⊎ DecidesBySilence es i d
+Decides es i d = DecidesBy (reverse es) es i d
 
 -- ---- texts
 

@@ -1,2 +1,4 @@
 pub mod Decision
+pub mod Kinds
+pub mod Reach
 pub mod Worked

@@ -1,11 +1,14 @@
-//! What items, lists and commands answer: `Some(true)` is yes, `Some(false)` is no, and `None` is silence.
+//! What items and lists answer: `Some(true)` is yes, `Some(false)` is no, and `None` is silence.
 
-ghost use Rattle.std.specs.Prelude.{◌≡◌};
+ghost use Rattle.std.specs.Prelude.{◌≡◌, reverse, take};
+ghost use Rattle.std.specs.List.{flat_map};
+ghost use Rattle.sudo_syntax.specs.Policy.{IsPolicy};
 ghost use Rattle.sudo_decide.specs.Decision as answers;
+ghost use Rattle.sudo_decide.specs.Kinds.{aliases_say, item_says_by, list_says_by};
 
 use crate::invocation::Invocation;
-use sudo_syntax::{CmndItem, Item, Signed};
-use sudo_words::{Form, Word};
+use crate::kind::{Kind, Meaning};
+use sudo_syntax::{AliasName, Policy, Signed};
 
 /// Only a yes is one: neither a no nor silence.
 pub(crate) fn is_yes(answer: Option<bool>) -> bool
@@ -15,48 +18,71 @@ pub(crate) fn is_yes(answer: Option<bool>) -> bool
 }
 
 /// Negation swaps yes and no, and keeps silence.
-fn signed_answer(negated: bool, answer: Option<bool>) -> Option<bool>
+pub(crate) fn signed_answer(negated: bool, answer: Option<bool>) -> Option<bool>
     ensures { result ≡ answers.signed_answer negated answer }
 {
     if negated { answer.map(|b| !b) } else { answer }
 }
 
-/// `ALL` says yes, and a name where it is the one asked for.
-fn item_answer<F: Form>(item: &Item<Word<F>>, asked: &Word<F>) -> Option<bool>
-    ensures { result ≡ answers.item_answer asked.now item.now }
+/// An alias answers what its list answers by the definitions above its own. One that is not defined below the place is
+/// silent.
+#[cycle(answers)]
+fn alias_answer<K: Kind>(p: &Policy, below: usize, name: &AliasName, i: &Invocation) -> Option<bool>
+    requires { IsPolicy p.now }
+    ensures { result ≡ aliases_say (K.says i.now) (flat_map K.def (reverse (take below p.now))) name.now }
 {
-    match item {
-        Item::All => Some(true),
-        Item::Name(name) => (name == asked).then_some(true),
-        Item::Alias(_) => None,
+    let (place, list) = K::definition(p, name)?;
+    if place < below {
+        list_answer::<K>(p, place, list, i)
+    } else {
+        None
     }
 }
 
-/// A list's answer is the last one that an item of it gives.
-pub(crate) fn list_answer<F: Form>(list: &[Signed<Item<Word<F>>>], asked: &Word<F>) -> Option<bool>
-    ensures { result ≡ answers.list_answer (answers.item_answer asked.now) list.now }
+/// What an item answers, by the definitions below the place.
+#[cycle(answers)]
+fn item_answer<K: Kind>(p: &Policy, below: usize, item: &K::Item, i: &Invocation) -> Option<bool>
+    requires { IsPolicy p.now }
+    ensures { result ≡ item_says_by (K.says i.now) (flat_map K.def (reverse (take below p.now))) item.now }
+{
+    match K::meaning(item, i) {
+        Meaning::Answer(answer) => answer,
+        Meaning::Alias(name) => alias_answer::<K>(p, below, name, i),
+    }
+}
+
+/// A list's answer is the last one that an item of it gives, by the definitions below the place.
+#[cycle(answers)]
+fn list_answer<K: Kind>(
+    p: &Policy,
+    below: usize,
+    list: &[Signed<K::Item>],
+    i: &Invocation,
+) -> Option<bool>
+    requires { IsPolicy p.now }
+    ensures { result ≡ list_says_by (K.says i.now) (flat_map K.def (reverse (take below p.now))) list.now }
 {
     let mut answer = None;
     for x in list {
-        answer = signed_answer(x.negated, item_answer(&x.item, asked)).or(answer);
+        answer = signed_answer(x.negated, item_answer::<K>(p, below, &x.item, i)).or(answer);
     }
     answer
 }
 
-/// A command says yes where it matches.
-fn cmnd_item_answer(item: &CmndItem, i: &Invocation) -> Option<bool>
-    ensures { result ≡ answers.cmnd_answer i.now.path i.now.args item.now }
+/// What an item answers by the definitions of the policy.
+pub(crate) fn item_says<K: Kind>(p: &Policy, item: &K::Item, i: &Invocation) -> Option<bool>
+    ensures { result ≡ item_says_by (K.says i.now) (flat_map K.def (reverse p.now)) item.now }
 {
-    match item {
-        CmndItem::Alias(_) => None,
-        CmndItem::Cmnd(cmnd) => cmnd.matches(&i.path, i.args.as_slice()).then_some(true),
-    }
+    item_answer::<K>(p, p.entries().len(), item, i)
 }
 
-/// The answer of a command, or of its negation.
-pub(crate) fn cmnd_answer(cmnd: &Signed<CmndItem>, i: &Invocation) -> Option<bool>
-    ensures { result ≡ answers.signed_answer cmnd.now.negated
-        (answers.cmnd_answer i.now.path i.now.args cmnd.now.item) }
+/// What a list answers by the definitions of the policy.
+pub(crate) fn list_says<K: Kind>(
+    p: &Policy,
+    list: &[Signed<K::Item>],
+    i: &Invocation,
+) -> Option<bool>
+    ensures { result ≡ list_says_by (K.says i.now) (flat_map K.def (reverse p.now)) list.now }
 {
-    signed_answer(cmnd.negated, cmnd_item_answer(&cmnd.item, i))
+    list_answer::<K>(p, p.entries().len(), list, i)
 }

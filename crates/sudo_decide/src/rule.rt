@@ -1,12 +1,13 @@
 //! What a rule says of an invocation.
 
-ghost use Rattle.std.specs.Prelude.{◌≡◌};
+ghost use Rattle.std.specs.Prelude.{◌≡◌, reverse};
 ghost use Rattle.sudo_decide.specs.Decision as rules;
 
-use crate::answer::{cmnd_answer, is_yes, list_answer};
+use crate::answer::{is_yes, item_says, list_says, signed_answer};
 use crate::decision::Decision;
 use crate::invocation::Invocation;
-use sudo_syntax::Rule;
+use crate::kind::{Cmnds, Hosts, Targets, Users};
+use sudo_syntax::{Policy, Rule};
 use sudo_words::Moment;
 
 /// Whether the moment is within the rule's dates, both of them included.
@@ -24,23 +25,30 @@ fn takes_part(rule: &Rule, at: Moment) -> bool
     begun && lasts
 }
 
-/// Whether the rule's users, hosts and targets each say yes.
-fn is_about(rule: &Rule, i: &Invocation) -> bool
-    ensures { result ≡ rules.is_about rule.now i.now }
+/// Whether the rule's users, hosts and targets each say yes; one that does not ends the look.
+fn is_about(p: &Policy, rule: &Rule, i: &Invocation) -> bool
+    ensures { result ≡ rules.is_about (reverse p.now) rule.now i.now }
 {
-    is_yes(list_answer(rule.users.as_slice(), &i.user))
-        && is_yes(list_answer(rule.hosts.as_slice(), &i.host))
-        && is_yes(list_answer(rule.runas.as_slice(), &i.runas))
+    is_yes(list_says::<Users>(p, rule.users.as_slice(), i))
+        && is_yes(list_says::<Hosts>(p, rule.hosts.as_slice(), i))
+        && is_yes(list_says::<Targets>(p, rule.runas.as_slice(), i))
+}
+
+/// What the rule's command says.
+fn cmnd_says(p: &Policy, rule: &Rule, i: &Invocation) -> Option<bool>
+    ensures { result ≡ rules.cmnd_says (reverse p.now) rule.now i.now }
+{
+    signed_answer(rule.cmnd.negated, item_says::<Cmnds>(p, &rule.cmnd.item, i))
 }
 
 /// What the rule says: nothing outside its dates, or where it is not about the invocation; else what its command says.
-pub(crate) fn says(rule: &Rule, i: &Invocation) -> Option<bool>
-    ensures { result ≡ rules.says rule.now i.now }
+pub(crate) fn says(p: &Policy, rule: &Rule, i: &Invocation) -> Option<bool>
+    ensures { result ≡ rules.says (reverse p.now) rule.now i.now }
 {
-    if !takes_part(rule, i.at) || !is_about(rule, i) {
+    if !takes_part(rule, i.at) || !is_about(p, rule, i) {
         return None;
     }
-    cmnd_answer(&rule.cmnd, i)
+    cmnd_says(p, rule, i)
 }
 
 /// What the rule decides by its answer.

@@ -1,9 +1,31 @@
 pub mod Spans
+pub mod PolicyFronts
+pub mod EntryLemmas
+pub mod TreeForms
+pub mod WordTexts
 pub mod Lexing
-pub mod Dating
-pub mod Rules
+pub mod LineTexts
 pub mod LineLemmas
-pub mod LimitLemmas
 pub mod Printed
+pub mod ListTexts
+pub mod ItemTexts
+pub mod SpecTexts
 pub mod One
+pub mod PrintedWords
+pub mod PrintedLists
+pub mod PrintedLines
+pub mod PrintedRules
 pub mod Canon
+mod Measuring
+mod Tables
+mod Entering
+mod Growing
+pub mod Leads
+pub mod ListLemmas
+pub mod DateLemmas
+pub mod TagLemmas
+pub mod ArgLemmas
+pub mod NameLemmas
+pub mod CmndLemmas
+pub mod SpecLemmas
+pub mod TreeLemmas

@@ -1,86 +1,159 @@
--- A line is skipped or has a rule, and the lines of a text are read in one way.
-use Rattle.std.proofs.Common.{Bor, eqb, ◌⊎◌, ◌≡◌, ℕ, zero, suc, ◌+◌, ◌<◌, ◌≤◌, Bool, true, false, List, [], ◌∷◌, ◌++◌, length, get_or, drop, map, refl, sym, ap, subst, ◌∙◌, inl, inr, append_assoc, arith}
+-- The lines of a text are read one by one: what is read so far stands before what is left.
+use Rattle.std.proofs.Common.{Bor, eqb, ◌⊎◌, ◌≡◌, ℕ, zero, suc, ◌+◌, ◌<◌, ◌≤◌, Bool, true, List, [], ◌∷◌, ◌++◌, length, get_or, drop, map, refl, sym, ap, subst, ◌∙◌, inl, inr, append_assoc, arith}
 use Rattle.std.proofs.lemmas.Bool.{false≢true}
 use Rattle.std.proofs.lemmas.List.{append-nil, length-append, drop_all, length-map}
-use Rattle.sudo_syntax.specs.declared.entry.Rule.{Rule}
-use Rattle.sudo_syntax.specs.declared.entry.Entry.{Entry}
 use Rattle.std.proofs.lemmas.List.Splits.{length-slice_split}
-use Rattle.sudo_syntax.specs.Span.{IsCut, Each}
-use Rattle.sudo_syntax.specs.Reading.{HasOtherByte, IsLineOf}
-use Rattle.sudo_syntax.specs.Lex.{is_blank, is_text_byte, is_word_byte, Tok, word, mark, Lexes}
-use Rattle.sudo_syntax.specs.Printing.{item_text}
-use Rattle.std.specs.List.{AllByRecursion}
-use Rattle.sudo_syntax.specs.Policy.{IsRule, IsEntry}
-use Rattle.sudo_syntax.specs.Grammar.{lines_of, is_comment, IsNote, IsSkipped, SpellsRule, SpellsLine, SpellsLines}
-use Rattle.sudo_syntax.proofs.Spans.{one_cut}
-use Rattle.sudo_syntax.proofs.Lexing.{after}
+use Rattle.sudo_syntax.specs.declared.entry.Entry.{Entry}
+use Rattle.sudo_syntax.specs.Span.{Each}
+use Rattle.sudo_syntax.specs.Lex.{is_text_byte}
+use Rattle.sudo_syntax.specs.Lines.{lines_of, IsBody, IsContinued, Joined}
+use Rattle.sudo_syntax.specs.Pending.{JoinedBehind, SpellsBehind, Leads}
+use Rattle.sudo_syntax.specs.Policy.{IsPolicy}
+use Rattle.sudo_syntax.specs.Reading.{HasOtherByte, IsLineOf, SpellsBy}
+use Rattle.sudo_syntax.specs.Spelling.{SpellsLine, SpellsLines}
+use Rattle.sudo_syntax.proofs.EntryLemmas.{front_is}
+use Rattle.sudo_syntax.proofs.LineTexts.{body_one, front_one, body_or_front}
 
--- what follows the blanks of a skipped line is nothing or a comment
-pub note_of : (line blanks s : List ℕ) → IsCut is_blank line blanks s → IsSkipped line → IsNote s
-note_of line blanks s c (others, rest, d, n) =
-    subst IsNote (sym (one_cut is_blank blanks s others rest c.each c.stops d.each d.stops (sym c.whole ∙ d.whole)).1) n
+-- ---- the first of the lines
 
-pub note_is : (s : List ℕ) (x : ℕ) (xs : List ℕ) → s ≡ x ∷ xs → IsNote s → (x ≡ 35) × (is_comment xs ≡ true)
-note_is s x xs e n = subst IsNote e n
+-- where there is a line, there is a joined one that begins with the front
+behind_first : (front line : List ℕ) (rest joined : List (List ℕ)) → JoinedBehind front (line ∷ rest) joined
+    → (body : List ℕ) × (more : List (List ℕ)) × (joined ≡ (front ++ body) ∷ more) × Joined (line ∷ rest) (body ∷ more)
+behind_first front line rest joined (inl (none, inl (body, more, is, e, j))) = (body, more, rw none e, inl (body, more, is, refl, j))
+behind_first front line rest joined (inl (none, inr (part, body, more, is, e, j))) = (part ++ 32 ∷ body, more, rw none e, inr (part, body, more, is, refl, j))
+behind_first front line rest joined (inr (some, body, more, e, j)) = (body, more, e, j)
 
-hash_no_word : is_word_byte 35 ≡ false
-hash_no_word = refl
+first_behind : (front line : List ℕ) (rest : List (List ℕ)) (body : List ℕ) (more : List (List ℕ)) → Joined (line ∷ rest) (body ∷ more) → JoinedBehind front (line ∷ rest) ((front ++ body) ∷ more)
+first_behind [] line rest body more j = inl (refl, j)
+first_behind (b ∷ front) line rest body more j = inr (omega arith, body, more, refl, j)
 
--- and a skipped line has no rule
-no_rule : (line : List ℕ) → IsSkipped line → (a : Bool) (w : List ℕ) (ts : List Tok) → Lexes line (word a w ∷ ts) → ⊥
-no_rule line s a [] ts h = let bad : 0 < 0 = h.4.0 in absurd (omega arith)
-no_rule line (blanks, [], d, n) a (b ∷ bs) ts h = let t = (after line blanks [] d (word a (b ∷ bs)) ts h).0 in absurd cc
-no_rule line (blanks, y ∷ ys, d, n) a (b ∷ bs) ts h =
-    let t = (after line blanks (y ∷ ys) d (word a (b ∷ bs)) ts h).0 in
-    let same : y ≡ b = cc in
-    absurd (false≢true (sym hash_no_word ∙ ap is_word_byte (sym n.0 ∙ same) ∙ h.4.1.0))
+-- a line that is neither a body nor goes on stands in no text
+pub stands_nowhere : (front line : List ℕ) (rest : List (List ℕ)) → ((body : List ℕ) → IsBody line body → ⊥) → ((part : List ℕ) → IsContinued line part → ⊥) → (es : List Entry) → SpellsBehind front (line ∷ rest) es → ⊥
+stands_nowhere front line rest no_body no_part es (joined, j, s) =
+    elim (behind_first front line rest joined j).3 [
+      | inl h ↦ no_body h.0 h.2
+      | inr h ↦ no_part h.0 h.3
+    ]
 
-pub skipped_no_rule : (line : List ℕ) → IsSkipped line → (ts : List Tok) (r : Rule) → Lexes line ts → SpellsRule ts r → ⊥
-skipped_no_rule line s ts r h rule = no_rule line s rule.a (item_text rule.user) (word true (item_text rule.host) ∷ mark rule.b 61 ∷ (rule.front ++ rule.rest)) (subst (Lexes line) rule.toks_are h)
+-- ---- a line that ends
 
-pub skipped_only : (line : List ℕ) → IsSkipped line → (es : List Entry) → SpellsLine line es → [] ≡ es
-skipped_only line s es (inl h) = sym h.1
-skipped_only line s es (inr (ts, r, lexes, rule, is, e)) = absurd (skipped_no_rule line s ts r lexes rule)
+ends_first : (line body : List ℕ) (rest : List (List ℕ)) (other : List ℕ) (more : List (List ℕ)) → IsBody line body → Joined (line ∷ rest) (other ∷ more) → (other ≡ body) × Joined rest more
+ends_first line body rest other more is (inl (b, m, is_b, e, j)) =
+    let one = body_one line b body is_b is in
+    let same : other ≡ b = cc in
+    let others : m ≡ more = cc in
+    (same ∙ one, subst (Joined rest) others j)
+ends_first line body rest other more is (inr (part, b, m, is_part, e, j)) = absurd (body_or_front line body part is is_part)
+
+-- without a front the lines are joined as they stand
+pub none_behind : (lines joined : List (List ℕ)) → JoinedBehind [] lines joined → Joined lines joined
+none_behind lines joined (inl (none, j)) = j
+none_behind lines joined (inr (some, body, more, e, j)) = absurd (omega (arith, some))
+
+-- the entries begin with those of the line
+ends_with_more : (front line body : List ℕ) (rest : List (List ℕ)) → IsBody line body → (es : List Entry) → SpellsBehind front (line ∷ rest) es
+    → (here more : List Entry) × SpellsLine (front ++ body) here × (es ≡ here ++ more) × SpellsBehind [] rest more
+ends_with_more front line body rest is es (joined, j, spelled) =
+    let first = behind_first front line rest joined j in
+    let ends = ends_first line body rest first.0 first.1 is first.3 in
+    let whole = subst (λ (lines : List (List ℕ)). SpellsLines lines es) (first.2 ∙ ap (λ (b : List ℕ). (front ++ b) ∷ first.1) ends.0) spelled in
+    (whole.0, whole.1, whole.2, whole.3, (first.1, inl (refl, ends.1), whole.4))
+
+pub leads_ends : (front line body : List ℕ) (rest : List (List ℕ)) (here : List Entry) → IsBody line body → SpellsLine (front ++ body) here
+    → ((es : List Entry) → SpellsLine (front ++ body) es → es ≡ here) → Leads front (line ∷ rest) here [] rest
+leads_ends front line body rest here is s one = record {
+  adds = λ es (joined, j, more). ((front ++ body) ∷ joined, first_behind front line rest body joined (inl (body, joined, is, refl, none_behind rest joined j)), (here, es, s, refl, more));
+  only = λ es spelled.
+      let first = ends_with_more front line body rest is es spelled in
+      (first.1, first.3 ∙ ap (λ (h : List Entry). h ++ first.1) (one first.0 first.2), first.4);
+}
+
+-- where a fault of a line that ends is memory's wherever the entries so far and those of the line are a policy, so it is for all that follow
+pub ends_stuck : (front line body : List ℕ) (rest : List (List ℕ)) (out : List Entry) (P : Type 0) → IsBody line body
+    → ((es : List Entry) → SpellsLine (front ++ body) es → IsPolicy (out ++ es) → P) → (es : List Entry) → SpellsBehind front (line ∷ rest) es → IsPolicy (out ++ es) → P
+ends_stuck front line body rest out P is then es s policy =
+    let first = ends_with_more front line body rest is es s in
+    then first.0 first.2 (front_is out first.0 first.1 (out ++ es) (ap (λ (more : List Entry). out ++ more) (sym first.3)) policy)
+
+-- ---- a line that goes on
+
+goes_on_first : (line part : List ℕ) (rest : List (List ℕ)) (first : List ℕ) (more : List (List ℕ)) → IsContinued line part → Joined (line ∷ rest) (first ∷ more)
+    → (body : List ℕ) × (first ≡ part ++ 32 ∷ body) × Joined rest (body ∷ more)
+goes_on_first line part rest first more is (inl (b, m, is_b, e, j)) = absurd (body_or_front line b part is_b is)
+goes_on_first line part rest first more is (inr (p, b, m, is_p, e, j)) =
+    let one = front_one line p part is_p is in
+    let same : first ≡ p ++ 32 ∷ b = cc in
+    let others : m ≡ more = cc in
+    (b, same ∙ ap (λ (q : List ℕ). q ++ 32 ∷ b) one, subst (λ (ls : List (List ℕ)). Joined rest (b ∷ ls)) others j)
+
+some_front : (front part : List ℕ) → 0 < length ((front ++ part) ++ 32 ∷ [])
+some_front front part = omega (arith, length-append (front ++ part) (32 ∷ []))
+
+joined_front : (front part body : List ℕ) → front ++ (part ++ 32 ∷ body) ≡ ((front ++ part) ++ 32 ∷ []) ++ body
+joined_front front part body = sym (append_assoc (front ++ part) (32 ∷ []) body ∙ append_assoc front part (32 ∷ body))
+
+goes_on : (front line part : List ℕ) (rest joined : List (List ℕ)) → IsContinued line part → JoinedBehind front (line ∷ rest) joined → JoinedBehind ((front ++ part) ++ 32 ∷ []) rest joined
+goes_on front line part rest joined is j =
+    let first = behind_first front line rest joined j in
+    let on = goes_on_first line part rest first.0 first.1 is first.3 in
+    inr (some_front front part, on.0, first.1, first.2 ∙ ap (λ (line : List ℕ). line ∷ first.1) (ap (λ (b : List ℕ). front ++ b) on.1 ∙ joined_front front part on.0), on.2)
+
+came_from : (front line part : List ℕ) (rest joined : List (List ℕ)) → IsContinued line part → JoinedBehind ((front ++ part) ++ 32 ∷ []) rest joined → JoinedBehind front (line ∷ rest) joined
+came_from front line part rest joined is (inl (none, j)) = absurd (omega (arith, some_front front part, ap length none))
+came_from front line part rest joined is (inr (some, body, more, e, j)) =
+    subst (JoinedBehind front (line ∷ rest)) (ap (λ (line : List ℕ). line ∷ more) (joined_front front part body) ∙ sym e)
+    (first_behind front line rest (part ++ 32 ∷ body) more (inr (part, body, more, is, refl, j)))
+
+pub leads_on : (front line part : List ℕ) (rest : List (List ℕ)) → IsContinued line part → Leads front (line ∷ rest) [] ((front ++ part) ++ 32 ∷ []) rest
+leads_on front line part rest is = record {
+  adds = λ es (joined, j, s). (joined, came_from front line part rest joined is j, s);
+  only = λ es (joined, j, s). (es, refl, (joined, goes_on front line part rest joined is j, s));
+}
 
 -- ---- all lines
 
--- The entries of the lines are those of the rest, with these before them.
-pub record LeadsLines (lines : List (List ℕ)) (out : List Entry) (rest : List (List ℕ)) : Type 0 where
-  pub adds : (es : List Entry) → SpellsLines rest es → SpellsLines lines (out ++ es)
-  pub only : (es : List Entry) → SpellsLines lines es → (more : List Entry) × (es ≡ out ++ more) × SpellsLines rest more
+pub leads_none : (lines : List (List ℕ)) → Leads [] lines [] [] lines
+leads_none lines = record { adds = λ es h. h; only = λ es h. (es, refl, h) }
 
-pub lines_none : (lines : List (List ℕ)) → LeadsLines lines [] lines
-lines_none lines = record { adds = λ es h. h; only = λ es h. (es, refl, h) }
-
-pub lines_more : (lines : List (List ℕ)) (out : List Entry) (line : List ℕ) (rest : List (List ℕ)) (here : List Entry) → LeadsLines lines out (line ∷ rest) → SpellsLine line here
-    → ((es : List Entry) → SpellsLine line es → here ≡ es) → LeadsLines lines (out ++ here) rest
-lines_more lines out line rest here l is one = record {
-  adds = λ es h. rw append_assoc (l.adds (here ++ es) (here, es, is, refl, h));
+pub leads_more : (a : List ℕ) (lines : List (List ℕ)) (out : List Entry) (b : List ℕ) (rest : List (List ℕ)) (here : List Entry) (c : List ℕ) (last : List (List ℕ))
+    → Leads a lines out b rest → Leads b rest here c last → Leads a lines (out ++ here) c last
+leads_more a lines out b rest here c last l m = record {
+  adds = λ es h. rw append_assoc (l.adds (here ++ es) (m.adds es h));
   only = λ es h.
-      let a = l.only es h in
-      let s = a.2 in
-      let same = one s.0 s.2 in
-      (s.1, a.1 ∙ ap (λ (more : List Entry). out ++ more) (s.3 ∙ ap (λ (p : List Entry). p ++ s.1) (sym same)) ∙ sym (append_assoc out here s.1), s.4);
+      let first = l.only es h in
+      let second = m.only first.0 first.2 in
+      (second.0, first.1 ∙ ap (λ (more : List Entry). out ++ more) second.1 ∙ sym (append_assoc out here second.0), second.2);
 }
 
-pub lines_end : (lines : List (List ℕ)) (out : List Entry) → LeadsLines lines out [] → SpellsLines lines out × ((es : List Entry) → SpellsLines lines es → out ≡ es)
-lines_end lines out l = (
-  subst (SpellsLines lines) (append-nil out) (l.adds [] refl),
-  λ es h. let a = l.only es h in sym (a.1 ∙ ap (λ (more : List Entry). out ++ more) a.2 ∙ append-nil out),
-)
+spells_all : (lines : List (List ℕ)) (es : List Entry) → SpellsBy lines es → SpellsBehind [] lines es
+spells_all lines es (joined, j, s) = (joined, inl (refl, j), s)
 
--- where P holds of each reading of a line, as that memory ran out, it holds of each reading of the lines
-pub lines_stuck : (lines : List (List ℕ)) (out : List Entry) (line : List ℕ) (rest : List (List ℕ)) (P : Type 0) → LeadsLines lines out (line ∷ rest)
-    → ((es : List Entry) → SpellsLine line es → P) → (es : List Entry) → SpellsLines lines es → P
-lines_stuck lines out line rest P l none es h = let a = l.only es h in let s = a.2 in none s.0 s.2
+nothing_left : (es : List Entry) → SpellsBehind [] [] es → es ≡ []
+nothing_left es (joined, j, s) = subst (λ (lines : List (List ℕ)). SpellsLines lines es) (none_behind [] joined j) s
 
--- the same, where P needs that the entries so far and those of the line are few
-pub lines_room : (lines : List (List ℕ)) (out : List Entry) (line : List ℕ) (rest : List (List ℕ)) (n : ℕ) (P : Type 0) → LeadsLines lines out (line ∷ rest)
-    → ((es : List Entry) → SpellsLine line es → length (out ++ es) ≤ n → P) → (es : List Entry) → SpellsLines lines es → length es ≤ n → P
-lines_room lines out line rest n P l then es h few =
-    let a = l.only es h in
-    let s = a.2 in
-    then s.0 s.2 (omega (arith, few, ap length a.1, ap length s.3, length-append out a.0, length-append s.0 s.1, length-append out s.0))
+nothing_behind : (front : List ℕ) (es : List Entry) → 0 < length front → SpellsBehind front [] es → ⊥
+nothing_behind front es some (joined, inl (none, j), s) = absurd (omega (arith, some, ap length none))
+nothing_behind front es some (joined, inr (more, body, others, e, j), s) = absurd cc
+
+pub leads_end : (lines : List (List ℕ)) (out : List Entry) → Leads [] lines out [] [] → SpellsBy lines out × ((es : List Entry) → SpellsBy lines es → out ≡ es)
+leads_end lines out l =
+    let none : SpellsBehind [] [] [] = ([], inl (refl, refl), refl) in
+    let found = l.adds [] none in (
+      subst (SpellsBy lines) (append-nil out) (found.0, none_behind lines found.0 found.1, found.2),
+      λ es h.
+          let a = l.only es (spells_all lines es h) in
+          sym (a.1 ∙ ap (λ (more : List Entry). out ++ more) (nothing_left a.0 a.2) ∙ append-nil out),
+    )
+
+-- where the last line goes on, the lines spell nothing
+pub leads_nowhere : (lines : List (List ℕ)) (out : List Entry) (front : List ℕ) → Leads [] lines out front [] → 0 < length front → (es : List Entry) → SpellsBy lines es → ⊥
+leads_nowhere lines out front l some es h = let a = l.only es (spells_all lines es h) in nothing_behind front a.0 some a.2
+
+-- where a fault of the line is memory's wherever the entries so far and the line's and those of the rest are a policy, so it is for all lines
+pub leads_stuck : (lines : List (List ℕ)) (out : List Entry) (front : List ℕ) (rest : List (List ℕ)) (P : Type 0) → Leads [] lines out front rest
+    → ((es : List Entry) → SpellsBehind front rest es → IsPolicy (out ++ es) → P) → (es : List Entry) → SpellsBy lines es → IsPolicy es → P
+leads_stuck lines out front rest P l then es h policy =
+    let a = l.only es (spells_all lines es h) in then a.0 a.2 (subst IsPolicy a.1 policy)
 
 -- ---- the line at a place of the list, and those after it
 
@@ -94,26 +167,6 @@ at_line f xs lines i d e h = let one : i + 1 ≡ suc i = omega arith in rw (← 
 
 pub no_lines : {A : Type 0} (f : A → List ℕ) (xs : List A) (lines : List (List ℕ)) (i : ℕ) → map f xs ≡ lines → length xs ≤ i → drop i lines ≡ []
 no_lines f xs lines i e h = rw (← e) (drop_all i (map f xs) (omega (arith, length-map xs f)))
-
--- ---- the entries of lines are those of the grammar
-
-spelled_line : (line : List ℕ) (es : List Entry) → SpellsLine line es → AllByRecursion IsEntry es
-spelled_line line es (inl h) = subst (AllByRecursion IsEntry) (sym h.1) tt
-spelled_line line es (inr (ts, r, lexes, rule, is, e)) = subst (AllByRecursion IsEntry) (sym e) (is, tt)
-
-all_append : (xs ys : List Entry) → AllByRecursion IsEntry xs → AllByRecursion IsEntry ys → AllByRecursion IsEntry (xs ++ ys)
-all_append [] ys h k = k
-all_append (x ∷ xs) ys h k = (h.0, all_append xs ys h.1 k)
-
-pub spelled_entries : (lines : List (List ℕ)) (es : List Entry) → SpellsLines lines es → AllByRecursion IsEntry es
-spelled_entries [] es h = subst (AllByRecursion IsEntry) (sym h) tt
-spelled_entries (line ∷ lines) es h =
-    subst (AllByRecursion IsEntry) (sym h.3) (all_append h.0 h.1 (spelled_line line h.0 h.2) (spelled_entries lines h.1 h.4))
-
--- ---- room
-
-pub too_many : (out here es : List Entry) → here ≡ es → 16_384 < length (out ++ here) → length (out ++ es) ≤ 16_384 → ⊥
-too_many out here es e many few = omega (arith, many, few, ap (λ (xs : List Entry). length (out ++ xs)) e)
 
 -- ---- bytes and lines of a text
 

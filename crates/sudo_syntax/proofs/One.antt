@@ -1,183 +1,195 @@
--- A text spells one policy: what stands in it is read in one way, from its tokens up to its lines.
-use Rattle.std.proofs.Common.{◌≡◌, ℕ, ◌<◌, Bool, true, false, List, [], ◌∷◌, ◌++◌, Option, None, refl, sym, ap, subst, ◌∙◌, inl, inr, arith}
+-- A text spells one policy: what stands in it is read in one way, from the tokens of a line up to its lines.
+use Rattle.std.proofs.Common.{◌≡◌, ℕ, Bool, false, List, [], ◌∷◌, ◌++◌, refl, sym, ap, subst, ◌∙◌, inl, inr, arith}
 use Rattle.std.specs.Prelude.{codes}
+use Rattle.std.specs.Str.{bytes_eq}
 use Rattle.std.proofs.lemmas.Bool.{false≢true}
-use Rattle.std.proofs.lemmas.List.{append-nil}
-use Rattle.sudo_words.specs.Word.{is_name, is_host_name}
-use Rattle.sudo_words.specs.Moment as moments
-use Rattle.sudo_words.specs.Command.{IsLawful}
-use Rattle.sudo_words.specs.declared.cmnd.Cmnd.{Cmnd}
-use Rattle.sudo_words.proofs.CommandLemmas.{one_command}
-use Rattle.sudo_words.proofs.MomentTexts.{one_spelled}
+use Rattle.std.proofs.lemmas.Slice.Eq.{bytes_eq-Decides}
+use Rattle.sudo_words.specs.Word.{is_name, is_host_name, is_alias_name}
+use Rattle.sudo_syntax.specs.declared.entry.Signed.{Signed}
 use Rattle.sudo_syntax.specs.declared.entry.Item.{Item}
 use Rattle.sudo_syntax.specs.declared.entry.Item.TheVariants as items
-use Rattle.sudo_syntax.specs.declared.entry.Rule.{Rule}
+use Rattle.sudo_syntax.specs.declared.entry.CmndItem.{CmndItem}
 use Rattle.sudo_syntax.specs.declared.entry.Entry.{Entry}
-use Rattle.sudo_syntax.specs.declared.entry.Entry.TheVariants as entries
-use Rattle.sudo_syntax.specs.Span.{Each}
-use Rattle.sudo_syntax.specs.Lex.{is_blank, is_mark, is_word_byte, Tok, word, mark, Lexes, IsFirst}
+use Rattle.sudo_syntax.specs.declared.tree.Definition.{Definition}
+use Rattle.sudo_syntax.specs.declared.tree.Spec.{Spec}
+use Rattle.sudo_syntax.specs.declared.tree.Part.{Part}
+use Rattle.sudo_syntax.specs.declared.tree.Line.{Line}
+use Rattle.sudo_syntax.specs.declared.tree.Line.TheVariants as lines
+use Rattle.sudo_syntax.specs.Lex.{Tok, word, mark}
 use Rattle.sudo_syntax.specs.Printing.{item_text}
-use Rattle.sudo_syntax.specs.Policy.{IsItem, IsRule}
-use Rattle.sudo_syntax.specs.Grammar.{Date, GivesBound, Bounds, SpellsTarget, SpellsDated, SpellsRule, one, IsSkipped, SpellsLine, SpellsLines}
-use Rattle.sudo_syntax.specs.Heads.{NoOpening}
-use Rattle.sudo_syntax.proofs.Lexing.{starts, after, lex_mark, lex_word}
-use Rattle.sudo_syntax.proofs.Rules.{rule_parts, same_rule, signed_cmnd}
+use Rattle.sudo_syntax.specs.Policy.{IsItem}
+use Rattle.sudo_syntax.specs.Grammar.{Listed, SpellsItem, SpellsCmnd, SpellsSpec, SpellsPart, SpellsDef, SpellsAliases, SpellsRights, SpellsTree}
+use Rattle.sudo_syntax.specs.Inheritance.{entries_of}
+use Rattle.sudo_syntax.specs.Lines.{lines_of}
+use Rattle.sudo_syntax.specs.Spelling.{SpellsEntries, SpellsLine, SpellsLines, Spells}
+use Rattle.sudo_syntax.proofs.Lexing.{lex_one}
+use Rattle.sudo_syntax.proofs.LineTexts.{joined_one}
+use Rattle.sudo_syntax.proofs.ListTexts.{IsOne, listed_one}
+use Rattle.sudo_syntax.proofs.ItemTexts.{user_form, host_form, EndsCmnd, spelled_cmnd_one}
+use Rattle.sudo_syntax.proofs.SpecTexts.{NotMark, BeginsWord, word_no_mark, items_one, spec_one}
 
--- ---- tokens
+-- ---- parts and definitions
 
--- the token at the front of a reading is the first of each reading
-first_of : (line : List ℕ) (t : Tok) (ts : List Tok) (h : Lexes line (t ∷ ts)) → IsFirst line t h.1
-first_of line (mark a m) ts h = lex_mark line h.0 (m ∷ h.1) (record { whole = h.5; each = h.2; stops = starts (mark a m) h.1 h.4 }) a m h.1 h.3 h.4 refl
-first_of line (word a w) ts h =
-    lex_word line h.0 (w ++ h.1) w h.1 (record { whole = h.5; each = h.2; stops = starts (word a w) h.1 h.4 }) a h.3 h.4.0 (record { whole = refl; each = h.4.1; stops = h.4.2 })
+-- what may stand behind a part or a definition: nothing or `:`
+abbrev EndsPart : List Tok → Type 0
+EndsPart [] = Unit {0}
+EndsPart (word a n w ∷ ts) = ⊥
+EndsPart (mark a m ∷ ts) = m ≡ 58
 
--- nothing but blanks has no token
-blank_bare : (line : List ℕ) → Each is_blank line → (t : Tok) (ts : List Tok) → Lexes line (t ∷ ts) → ⊥
-blank_bare line e (mark a m) ts h = let t = (after line line [] (record { whole = sym (append-nil line); each = e; stops = tt }) (mark a m) ts h).0 in absurd cc
-blank_bare line e (word a []) ts h = let bad : 0 < 0 = h.4.0 in absurd (omega arith)
-blank_bare line e (word a (b ∷ bs)) ts h = let t = (after line line [] (record { whole = sym (append-nil line); each = e; stops = tt }) (word a (b ∷ bs)) ts h).0 in absurd cc
+part_no_comma : (a : Bool) (next : List Tok) → EndsPart (mark a 44 ∷ next) → ⊥
+part_no_comma a next h = absurd (omega arith)
 
-pub lex_one : (line : List ℕ) (ts us : List Tok) → Lexes line ts → Lexes line us → ts ≡ us
-lex_one line [] [] g h = refl
-lex_one line [] (u ∷ us) g h = absurd (blank_bare line g u us h)
-lex_one line (t ∷ ts) [] g h = absurd (blank_bare line h t ts g)
-lex_one line (t ∷ ts) (u ∷ us) g h =
-    let first = (first_of line t ts g).only (u ∷ us) h in
-    ap (λ (more : List Tok). t ∷ more) (lex_one g.1 ts first.0 g.6 first.2) ∙ sym first.1
+part_ends_cmnd : (ts : List Tok) → EndsPart ts → EndsCmnd ts
+part_ends_cmnd [] h = tt
+part_ends_cmnd (word a n w ∷ ts) h = absurd h
+part_ends_cmnd (mark a m ∷ ts) h = inr h
 
--- ---- items
+not_own_mark : (m : ℕ) (a : Bool) (next : List Tok) → NotMark m (mark a m ∷ next) → ⊥
+not_own_mark m a next h = h refl
 
--- where `ALL` is no name, a text is one item's
-pub item_one : (form : List ℕ → Bool) → form (codes "ALL") ≡ false → (i j : Item (List ℕ)) → IsItem form i → IsItem form j → item_text i ≡ item_text j → i ≡ j
-item_one form all items.All items.All x y e = refl
-item_one form all items.All (items.Name m) x y e = absurd (false≢true (sym all ∙ ap form e ∙ y))
-item_one form all items.All (items.Alias m) x y e = absurd y
-item_one form all (items.Name n) items.All x y e = absurd (false≢true (sym all ∙ ap form (sym e) ∙ x))
-item_one form all (items.Name n) (items.Name m) x y e = ap (λ (w : List ℕ). items.Name w) e
-item_one form all (items.Name n) (items.Alias m) x y e = absurd y
-item_one form all (items.Alias n) j x y e = absurd x
+specs_one : IsOne (Listed 44 SpellsSpec) EndsPart
+specs_one = listed_one 44 SpellsSpec EndsCmnd EndsPart (λ a next. inl refl) part_ends_cmnd part_no_comma spec_one
 
--- `ALL` is neither a user's name nor a host's
-pub all_no_user : is_name (codes "ALL") ≡ false
-all_no_user = refl
+part_of : List (Signed (Item (List ℕ))) → List Spec → Part
+part_of hosts specs = record { hosts = hosts; specs = specs }
 
-pub all_no_host : is_host_name (codes "ALL") ≡ false
-all_no_host = refl
+part_one : IsOne SpellsPart EndsPart
+unfolding part_of
+part_one ts p q r s g h n k =
+    let hosts = items_one is_host_name host_form (NotMark 44) (not_own_mark 44) ts p.hosts q.hosts (mark g.spaced 61 ∷ g.next) (mark h.spaced 61 ∷ h.next) g.hosts h.hosts (λ e. omega arith) (λ e. omega arith) in
+    let behind = hosts.1 in
+    let next : g.next ≡ h.next = cc in
+    let specs = specs_one h.next p.specs q.specs r s (subst (λ (x : List Tok). Listed 44 SpellsSpec x p.specs r) next g.specs) h.specs n k in
+    let same : part_of p.hosts p.specs ≡ part_of q.hosts q.specs = ap (λ x. part_of x p.specs) hosts.0 ∙ ap (λ x. part_of q.hosts x) specs.0 in
+    (same, specs.1)
 
--- ---- the target
+def_of : {X : Type 0} → List ℕ → List (Signed X) → Definition X
+def_of name list = record { name = name; list = list }
 
--- tokens give one target where what stands behind it begins with no `(`
-pub target_one : (ts front rest other more : List Tok) (i j : Item (List ℕ)) → IsItem is_name i → IsItem is_name j → SpellsTarget front i → SpellsTarget other j
-    → NoOpening rest → NoOpening more → ts ≡ front ++ rest → ts ≡ other ++ more → (i ≡ j) × (rest ≡ more)
-target_one ts front rest other more i j x y (inl g) (inl h) m n d e =
-    (g.1 ∙ sym h.1, ap (λ (f : List Tok). f ++ rest) (sym g.0) ∙ sym d ∙ e ∙ ap (λ (f : List Tok). f ++ more) h.0)
-target_one ts front rest other more i j x y (inl g) (inr h) m n d e =
-    let opens : rest ≡ mark h.0 40 ∷ (word h.1 (item_text j) ∷ mark h.2 41 ∷ more) = ap (λ (f : List Tok). f ++ rest) (sym g.0) ∙ sym d ∙ e ∙ ap (λ (f : List Tok). f ++ more) h.3 in
-    absurd (subst NoOpening opens m refl)
-target_one ts front rest other more i j x y (inr g) (inl h) m n d e =
-    let opens : more ≡ mark g.0 40 ∷ (word g.1 (item_text i) ∷ mark g.2 41 ∷ rest) = ap (λ (f : List Tok). f ++ more) (sym h.0) ∙ sym e ∙ d ∙ ap (λ (f : List Tok). f ++ rest) g.3 in
-    absurd (subst NoOpening opens n refl)
-target_one ts front rest other more i j x y (inr g) (inr h) m n d e =
-    let both : mark g.0 40 ∷ (word g.1 (item_text i) ∷ mark g.2 41 ∷ rest) ≡ mark h.0 40 ∷ (word h.1 (item_text j) ∷ mark h.2 41 ∷ more) =
-    ap (λ (f : List Tok). f ++ rest) (sym g.3) ∙ sym d ∙ e ∙ ap (λ (f : List Tok). f ++ more) h.3 in
-    let text : item_text i ≡ item_text j = cc in
-    let left : rest ≡ more = cc in
-    (item_one is_name all_no_user i j x y text, left)
+def_one : {X : Type 0} (Is : List Tok → Signed X → List Tok → Type 0) → IsOne (Listed 44 Is) EndsPart → IsOne (SpellsDef Is) EndsPart
+unfolding def_of
+def_one {X} Is one ts d e r s g h n k =
+    let both = sym g.toks ∙ h.toks in
+    let name : d.name ≡ e.name = cc in
+    let next : g.next ≡ h.next = cc in
+    let list = one h.next d.list e.list r s (subst (λ (x : List Tok). Listed 44 Is x d.list r) next g.list) h.list n k in
+    let same : def_of d.name d.list ≡ def_of e.name e.list = ap (λ (x : List ℕ). def_of x d.list) name ∙ ap (λ (x : List (Signed X)). def_of e.name x) list.0 in
+    (same, list.1)
 
--- ---- options and command
-
-named : List ℕ → ℕ → Date
-named name moment = record { word = name; moment = moment }
-
-date_one : (c d : Date) → c.word ≡ d.word → c.moment ≡ d.moment → c ≡ d
-unfolding named
-date_one c d w m =
-    let same : named c.word c.moment ≡ named d.word d.moment = ap (λ (name : List ℕ). named name c.moment) w ∙ ap (λ (t : ℕ). named d.word t) m in
-    same
-
--- tokens give the options and the command in one way
-pub dated_one : (behind : Bool) (ts : List Tok) (ds es : List Date) (c d : Cmnd) → IsLawful c → IsLawful d → SpellsDated behind ts ds c → SpellsDated behind ts es d → (ds ≡ es) × (c ≡ d)
-dated_one behind ts [] [] c d x y g h =
-    let both = sym g.2 ∙ h.2 in
-    (refl, one_command c d x y cc)
-dated_one behind ts [] (e ∷ es) c d x y g h = let both = sym g.2 ∙ h.5 in absurd cc
-dated_one behind ts (f ∷ ds) [] c d x y g h = let both = sym g.5 ∙ h.2 in absurd cc
-dated_one behind ts (f ∷ ds) (e ∷ es) c d x y g h =
-    let both = sym g.5 ∙ h.5 in
-    let name : f.word ≡ e.word = cc in
-    let time : g.1 ≡ h.1 = cc in
-    let left : g.2 ≡ h.2 = cc in
-    let moment = one_spelled h.1 f.moment e.moment (subst (λ (t : List ℕ). moments.Spells t f.moment) time g.4) h.4 in
-    let more = dated_one true h.2 ds es c d x y (subst (λ (r : List Tok). SpellsDated true r ds c) left g.6) h.6 in
-    (ap (λ (z : Date). z ∷ ds) (date_one f e name moment) ∙ ap (λ (zs : List Date). e ∷ zs) more.0, more.1)
-
--- ---- bounds
-
-names_differ : codes "NOTBEFORE" ≡ codes "NOTAFTER" → ⊥
-names_differ e = absurd cc
-
--- an option gives its bound in one way
-bound_one : (before after : Option ℕ) (d : Date) (b a c e : Option ℕ) → GivesBound before after d b a → GivesBound before after d c e → (b ≡ c) × (a ≡ e)
-bound_one before after d b a c e (inl g) (inl h) = (g.2 ∙ sym h.2, g.3 ∙ sym h.3)
-bound_one before after d b a c e (inl g) (inr h) = absurd (names_differ (sym g.0 ∙ h.0))
-bound_one before after d b a c e (inr g) (inl h) = absurd (names_differ (sym h.0 ∙ g.0))
-bound_one before after d b a c e (inr g) (inr h) = (g.3 ∙ sym h.3, g.2 ∙ sym h.2)
-
-pub bounds_one : (before after : Option ℕ) (ds : List Date) (b a c e : Option ℕ) → Bounds before after ds b a → Bounds before after ds c e → (b ≡ c) × (a ≡ e)
-bounds_one before after [] b a c e g h = (g.0 ∙ sym h.0, g.1 ∙ sym h.1)
-bounds_one before after (d ∷ ds) b a c e g h =
-    let first = bound_one before after d g.0 g.1 h.0 h.1 g.2 h.2 in
-    bounds_one h.0 h.1 ds b a c e (subst (λ (x : Option ℕ). Bounds x h.1 ds b a) first.0 (subst (λ (x : Option ℕ). Bounds g.0 x ds b a) first.1 g.3)) h.3
-
--- ---- rules
-
--- tokens spell one rule
-pub rule_one : (ts : List Tok) (r s : Rule) → SpellsRule ts r → IsRule r → SpellsRule ts s → IsRule s → r ≡ s
-rule_one ts r s g x h y =
-    let p = rule_parts ts g.a g.b (item_text g.user) (item_text g.host) (g.front ++ g.rest) g.toks_are r g x in
-    let q = rule_parts ts g.a g.b (item_text g.user) (item_text g.host) (g.front ++ g.rest) g.toks_are s h y in
-    let user = item_one is_name all_no_user p.user_item q.user_item p.user_form q.user_form (sym p.user_is ∙ q.user_is) in
-    let host = item_one is_host_name all_no_host p.host_item q.host_item p.host_form q.host_form (sym p.host_is ∙ q.host_is) in
-    let target = target_one (g.front ++ g.rest) p.front p.rest q.front q.rest p.target q.target p.target_form q.target_form p.target_is q.target_is p.closed q.closed p.tail_is q.tail_is in
-    let dated = dated_one false q.rest p.dates q.dates p.cmnd q.cmnd p.lawful q.lawful (subst (λ (z : List Tok). SpellsDated false z p.dates p.cmnd) target.1 p.dated) q.dated in
-    let bounds = bounds_one None None q.dates r.not_before r.not_after s.not_before s.not_after (subst (λ (z : List Date). Bounds None None z r.not_before r.not_after) dated.0 p.bounds) q.bounds in
-    same_rule s r.users r.hosts r.runas r.not_before r.not_after r.nopasswd r.cmnd (p.users_are ∙ ap one user ∙ sym q.users_are) (p.hosts_are ∙ ap one host ∙ sym q.hosts_are)
-    (p.runas_are ∙ ap one target.0 ∙ sym q.runas_are) bounds.0 bounds.1 (p.passwd ∙ sym q.passwd) (p.cmnd_is ∙ ap signed_cmnd dated.1 ∙ sym q.cmnd_is)
+-- a list with `:` between, to the end of the line
+whole_one : {X : Type 0} (Is : List Tok → X → List Tok → Type 0) → IsOne Is EndsPart → (ts : List Tok) (xs ys : List X) → Listed 58 Is ts xs [] → Listed 58 Is ts ys [] → xs ≡ ys
+whole_one Is one ts xs ys g h =
+    (listed_one 58 Is EndsPart (λ (r : List Tok). r ≡ []) (λ a next. refl) (λ r e. subst EndsPart (sym e) tt) (λ a next e. absurd cc) one ts xs ys [] [] g h refl refl).0
 
 -- ---- lines
 
-hash_no_word : is_word_byte 35 ≡ false
-hash_no_word = refl
+aliases_one : {X : Type 0} (kind : List ℕ) (Is : List Tok → Signed X → List Tok → Type 0) → IsOne (Listed 44 Is) EndsPart → (ts : List Tok) (ds es : List (Definition X))
+    → SpellsAliases kind Is ts ds → SpellsAliases kind Is ts es → ds ≡ es
+aliases_one {X} kind Is one ts ds es g h =
+    let both = sym g.2 ∙ h.2 in
+    let next : g.1 ≡ h.1 = cc in
+    whole_one (SpellsDef Is) (def_one Is one) h.1 ds es (subst (λ (x : List Tok). Listed 58 (SpellsDef Is) x ds []) next g.4) h.4
 
-hash_no_mark : is_mark 35 ≡ false
-hash_no_mark = refl
+users_items_one : IsOne (Listed 44 (SpellsItem is_name)) EndsPart
+users_items_one = items_one is_name user_form EndsPart part_no_comma
 
--- a line that is skipped has no token
-pub skipped_bare : (line : List ℕ) → IsSkipped line → (t : Tok) (ts : List Tok) → Lexes line (t ∷ ts) → ⊥
-skipped_bare line s (word a []) ts h = let bad : 0 < 0 = h.4.0 in absurd (omega arith)
-skipped_bare line (blanks, [], c, n) (word a (b ∷ bs)) ts h = let t = (after line blanks [] c (word a (b ∷ bs)) ts h).0 in absurd cc
-skipped_bare line (blanks, [], c, n) (mark a m) ts h = let t = (after line blanks [] c (mark a m) ts h).0 in absurd cc
-skipped_bare line (blanks, y ∷ ys, c, n) (word a (b ∷ bs)) ts h =
-    let t = (after line blanks (y ∷ ys) c (word a (b ∷ bs)) ts h).0 in
-    let same : y ≡ b = cc in
-    absurd (false≢true (sym hash_no_word ∙ ap is_word_byte (sym n.0 ∙ same) ∙ h.4.1.0))
-skipped_bare line (blanks, y ∷ ys, c, n) (mark a m) ts h =
-    let t = (after line blanks (y ∷ ys) c (mark a m) ts h).0 in
-    let same : y ≡ m = cc in
-    absurd (false≢true (sym hash_no_mark ∙ ap is_mark (sym n.0 ∙ same) ∙ h.4))
+hosts_items_one : IsOne (Listed 44 (SpellsItem is_host_name)) EndsPart
+hosts_items_one = items_one is_host_name host_form EndsPart part_no_comma
 
--- nor a rule
-pub skipped_no_rule : (line : List ℕ) → IsSkipped line → (ts : List Tok) (r : Rule) → Lexes line ts → SpellsRule ts r → ⊥
-skipped_no_rule line s ts r h g = skipped_bare line s (word g.a (item_text g.user)) (word true (item_text g.host) ∷ mark g.b 61 ∷ (g.front ++ g.rest)) (subst (Lexes line) g.toks_are h)
+cmnds_items_one : IsOne (Listed 44 SpellsCmnd) EndsPart
+cmnds_items_one = listed_one 44 SpellsCmnd EndsCmnd EndsPart (λ a next. inl refl) part_ends_cmnd part_no_comma spelled_cmnd_one
+
+items_word : (form : List ℕ → Bool) (ts : List Tok) (xs : List (Signed (Item (List ℕ)))) (r : List Tok) → Listed 44 (SpellsItem form) ts xs r → BeginsWord ts
+items_word form ts [] r g = absurd g
+items_word form ts (x ∷ xs) r g = subst BeginsWord (sym (g.1).toks) tt
+
+parts_word : (ts : List Tok) (parts : List Part) (r : List Tok) → Listed 58 SpellsPart ts parts r → BeginsWord ts
+parts_word ts [] r g = absurd g
+parts_word ts (p ∷ parts) r g = items_word is_host_name ts p.hosts (mark (g.1).spaced 61 ∷ (g.1).next) (g.1).hosts
+
+rights_one : (ts : List Tok) (us vs : List (Signed (Item (List ℕ)))) (ps qs : List Part) → SpellsRights ts us ps → SpellsRights ts vs qs → lines.Rights us ps ≡ lines.Rights vs qs
+rights_one ts us vs ps qs g h =
+    let users = items_one is_name user_form (NotMark 44) (not_own_mark 44) ts us vs g.0 h.0 g.1 h.1 (word_no_mark 44 g.0 (parts_word g.0 ps [] g.3)) (word_no_mark 44 h.0 (parts_word h.0 qs [] h.3)) in
+    let parts = whole_one SpellsPart part_one h.0 ps qs (subst (λ (x : List Tok). Listed 58 SpellsPart x ps []) users.1 g.3) h.3 in
+    ap (λ (x : List (Signed (Item (List ℕ)))). lines.Rights x ps) users.0 ∙ ap (λ (x : List Part). lines.Rights vs x) parts
+
+-- ---- the word that a line begins with tells its kind
+
+kinds_same : {X Y : Type 0} (k l : List ℕ) (Is : List Tok → Signed X → List Tok → Type 0) (Js : List Tok → Signed Y → List Tok → Type 0) (ts : List Tok) (ds : List (Definition X)) (es : List (Definition Y))
+    → SpellsAliases k Is ts ds → SpellsAliases l Js ts es → k ≡ l
+kinds_same k l Is Js ts ds es g h = let both = sym g.2 ∙ h.2 in cc
+
+kinds_differ : (k l : List ℕ) → bytes_eq k l ≡ false → k ≡ l → ⊥
+kinds_differ k l h e = false≢true (sym h ∙ (bytes_eq-Decides k l).1 e)
+
+-- a word that no item is
+record IsKind (kind : List ℕ) : Type 0 where
+  pub all : codes "ALL" ≡ kind → ⊥
+  pub name : is_name kind ≡ false
+  pub alias : is_alias_name kind ≡ false
+
+kind_no_item : (kind : List ℕ) → IsKind kind → (i : Item (List ℕ)) → IsItem is_name i → item_text i ≡ kind → ⊥
+kind_no_item kind k items.All h e = k.all e
+kind_no_item kind k (items.Name n) h e = false≢true (sym k.name ∙ ap is_name (sym e) ∙ h)
+kind_no_item kind k (items.Alias n) h e = false≢true (sym k.alias ∙ ap is_alias_name (sym e) ∙ h)
+
+kind_no_rights : {X : Type 0} (kind : List ℕ) → IsKind kind → (Is : List Tok → Signed X → List Tok → Type 0) (ts : List Tok) (ds : List (Definition X)) (us : List (Signed (Item (List ℕ)))) (ps : List Part)
+    → SpellsAliases kind Is ts ds → SpellsRights ts us ps → ⊥
+kind_no_rights kind k Is ts ds [] ps g h = absurd h.1
+kind_no_rights kind k Is ts ds (u ∷ us) ps g h =
+    let first = h.1.1 in
+    let both = sym first.toks ∙ g.2 in
+    let text : item_text u.item ≡ kind = cc in
+    kind_no_item kind k u.item first.item text
+
+user_kind : IsKind (codes "User_Alias")
+user_kind = record { all = λ e. absurd cc; name = refl; alias = refl }
+
+runas_kind : IsKind (codes "Runas_Alias")
+runas_kind = record { all = λ e. absurd cc; name = refl; alias = refl }
+
+host_kind : IsKind (codes "Host_Alias")
+host_kind = record { all = λ e. absurd cc; name = refl; alias = refl }
+
+cmnd_kind : IsKind (codes "Cmnd_Alias")
+cmnd_kind = record { all = λ e. absurd cc; name = refl; alias = refl }
+
+-- tokens spell one tree
+pub tree_one : (ts : List Tok) (a b : Line) → SpellsTree ts a → SpellsTree ts b → a ≡ b
+tree_one ts (lines.Users ds) (lines.Users es) g h = ap (λ (xs : List (Definition (Item (List ℕ)))). lines.Users xs) (aliases_one (codes "User_Alias") (SpellsItem is_name) users_items_one ts ds es g h)
+tree_one ts (lines.Users ds) (lines.Runas es) g h = absurd (kinds_differ (codes "User_Alias") (codes "Runas_Alias") refl (kinds_same (codes "User_Alias") (codes "Runas_Alias") (SpellsItem is_name) (SpellsItem is_name) ts ds es g h))
+tree_one ts (lines.Users ds) (lines.Hosts es) g h = absurd (kinds_differ (codes "User_Alias") (codes "Host_Alias") refl (kinds_same (codes "User_Alias") (codes "Host_Alias") (SpellsItem is_name) (SpellsItem is_host_name) ts ds es g h))
+tree_one ts (lines.Users ds) (lines.Cmnds es) g h = absurd (kinds_differ (codes "User_Alias") (codes "Cmnd_Alias") refl (kinds_same (codes "User_Alias") (codes "Cmnd_Alias") (SpellsItem is_name) SpellsCmnd ts ds es g h))
+tree_one ts (lines.Users ds) (lines.Rights us ps) g h = absurd (kind_no_rights (codes "User_Alias") user_kind (SpellsItem is_name) ts ds us ps g h)
+tree_one ts (lines.Runas ds) (lines.Users es) g h = absurd (kinds_differ (codes "Runas_Alias") (codes "User_Alias") refl (kinds_same (codes "Runas_Alias") (codes "User_Alias") (SpellsItem is_name) (SpellsItem is_name) ts ds es g h))
+tree_one ts (lines.Runas ds) (lines.Runas es) g h = ap (λ (xs : List (Definition (Item (List ℕ)))). lines.Runas xs) (aliases_one (codes "Runas_Alias") (SpellsItem is_name) users_items_one ts ds es g h)
+tree_one ts (lines.Runas ds) (lines.Hosts es) g h = absurd (kinds_differ (codes "Runas_Alias") (codes "Host_Alias") refl (kinds_same (codes "Runas_Alias") (codes "Host_Alias") (SpellsItem is_name) (SpellsItem is_host_name) ts ds es g h))
+tree_one ts (lines.Runas ds) (lines.Cmnds es) g h = absurd (kinds_differ (codes "Runas_Alias") (codes "Cmnd_Alias") refl (kinds_same (codes "Runas_Alias") (codes "Cmnd_Alias") (SpellsItem is_name) SpellsCmnd ts ds es g h))
+tree_one ts (lines.Runas ds) (lines.Rights us ps) g h = absurd (kind_no_rights (codes "Runas_Alias") runas_kind (SpellsItem is_name) ts ds us ps g h)
+tree_one ts (lines.Hosts ds) (lines.Users es) g h = absurd (kinds_differ (codes "Host_Alias") (codes "User_Alias") refl (kinds_same (codes "Host_Alias") (codes "User_Alias") (SpellsItem is_host_name) (SpellsItem is_name) ts ds es g h))
+tree_one ts (lines.Hosts ds) (lines.Runas es) g h = absurd (kinds_differ (codes "Host_Alias") (codes "Runas_Alias") refl (kinds_same (codes "Host_Alias") (codes "Runas_Alias") (SpellsItem is_host_name) (SpellsItem is_name) ts ds es g h))
+tree_one ts (lines.Hosts ds) (lines.Hosts es) g h = ap (λ (xs : List (Definition (Item (List ℕ)))). lines.Hosts xs) (aliases_one (codes "Host_Alias") (SpellsItem is_host_name) hosts_items_one ts ds es g h)
+tree_one ts (lines.Hosts ds) (lines.Cmnds es) g h = absurd (kinds_differ (codes "Host_Alias") (codes "Cmnd_Alias") refl (kinds_same (codes "Host_Alias") (codes "Cmnd_Alias") (SpellsItem is_host_name) SpellsCmnd ts ds es g h))
+tree_one ts (lines.Hosts ds) (lines.Rights us ps) g h = absurd (kind_no_rights (codes "Host_Alias") host_kind (SpellsItem is_host_name) ts ds us ps g h)
+tree_one ts (lines.Cmnds ds) (lines.Users es) g h = absurd (kinds_differ (codes "Cmnd_Alias") (codes "User_Alias") refl (kinds_same (codes "Cmnd_Alias") (codes "User_Alias") SpellsCmnd (SpellsItem is_name) ts ds es g h))
+tree_one ts (lines.Cmnds ds) (lines.Runas es) g h = absurd (kinds_differ (codes "Cmnd_Alias") (codes "Runas_Alias") refl (kinds_same (codes "Cmnd_Alias") (codes "Runas_Alias") SpellsCmnd (SpellsItem is_name) ts ds es g h))
+tree_one ts (lines.Cmnds ds) (lines.Hosts es) g h = absurd (kinds_differ (codes "Cmnd_Alias") (codes "Host_Alias") refl (kinds_same (codes "Cmnd_Alias") (codes "Host_Alias") SpellsCmnd (SpellsItem is_host_name) ts ds es g h))
+tree_one ts (lines.Cmnds ds) (lines.Cmnds es) g h = ap (λ (xs : List (Definition CmndItem)). lines.Cmnds xs) (aliases_one (codes "Cmnd_Alias") SpellsCmnd cmnds_items_one ts ds es g h)
+tree_one ts (lines.Cmnds ds) (lines.Rights us ps) g h = absurd (kind_no_rights (codes "Cmnd_Alias") cmnd_kind SpellsCmnd ts ds us ps g h)
+tree_one ts (lines.Rights us ps) (lines.Users es) g h = absurd (kind_no_rights (codes "User_Alias") user_kind (SpellsItem is_name) ts es us ps h g)
+tree_one ts (lines.Rights us ps) (lines.Runas es) g h = absurd (kind_no_rights (codes "Runas_Alias") runas_kind (SpellsItem is_name) ts es us ps h g)
+tree_one ts (lines.Rights us ps) (lines.Hosts es) g h = absurd (kind_no_rights (codes "Host_Alias") host_kind (SpellsItem is_host_name) ts es us ps h g)
+tree_one ts (lines.Rights us ps) (lines.Cmnds es) g h = absurd (kind_no_rights (codes "Cmnd_Alias") cmnd_kind SpellsCmnd ts es us ps h g)
+tree_one ts (lines.Rights us ps) (lines.Rights vs qs) g h = rights_one ts us vs ps qs g h
+
+-- ---- lines and texts
+
+entries_one : (ts : List Tok) (a b : List Entry) → SpellsEntries ts a → SpellsEntries ts b → a ≡ b
+entries_one [] a b g h = g ∙ sym h
+entries_one (t ∷ ts) a b g h = g.2 ∙ ap entries_of (tree_one (t ∷ ts) g.0 h.0 g.1 h.1) ∙ sym h.2
 
 pub line_one : (line : List ℕ) (a b : List Entry) → SpellsLine line a → SpellsLine line b → a ≡ b
-line_one line a b (inl g) (inl h) = g.1 ∙ sym h.1
-line_one line a b (inl g) (inr h) = absurd (skipped_no_rule line g.0 h.0 h.1 h.2 h.3)
-line_one line a b (inr g) (inl h) = absurd (skipped_no_rule line h.0 g.0 g.1 g.2 g.3)
-line_one line a b (inr g) (inr h) =
-    let toks = lex_one line g.0 h.0 g.2 h.2 in
-    let rule = rule_one h.0 g.1 h.1 (subst (λ (ts : List Tok). SpellsRule ts g.1) toks g.3) g.4 h.3 h.4 in
-    g.5 ∙ ap (λ (r : Rule). entries.Rule r ∷ []) rule ∙ sym h.5
+line_one line a b g h = entries_one h.0 a b (subst (λ (ts : List Tok). SpellsEntries ts a) (lex_one line g.0 h.0 g.1 h.1) g.2) h.2
 
 pub lines_one : (lines : List (List ℕ)) (a b : List Entry) → SpellsLines lines a → SpellsLines lines b → a ≡ b
 lines_one [] a b g h = g ∙ sym h
@@ -185,3 +197,8 @@ lines_one (line ∷ lines) a b g h =
     let here = line_one line g.0 h.0 g.2 h.2 in
     let rest = lines_one lines g.1 h.1 g.4 h.4 in
     g.3 ∙ ap (λ (es : List Entry). es ++ g.1) here ∙ ap (λ (es : List Entry). h.0 ++ es) rest ∙ sym h.3
+
+-- no text spells two policies
+pub text_one : (text : List ℕ) (a b : List Entry) → Spells text a → Spells text b → a ≡ b
+text_one text a b g h =
+    lines_one h.joined a b (subst (λ (ls : List (List ℕ)). SpellsLines ls a) (joined_one (lines_of text) g.joined h.joined g.lines h.lines) g.entries) h.entries

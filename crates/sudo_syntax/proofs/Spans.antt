@@ -3,6 +3,7 @@ use Rattle.std.proofs.Common.{◌≡◌, ℕ, suc, ◌+◌, ◌<◌, Bool, true,
 use Rattle.std.specs.Prelude.{take_while}
 use Rattle.std.specs.List.{prefix_len}
 use Rattle.std.proofs.lemmas.Bool.{false≢true}
+use Rattle.std.proofs.lemmas.List.{append-nil}
 use Rattle.sudo_syntax.specs.Span.{Each, Stops, IsCut}
 
 cut_more : (p : ℕ → Bool) (b : ℕ) (bs front rest : List ℕ) → p b ≡ true → IsCut p bs front rest → IsCut p (b ∷ bs) (b ∷ front) rest
@@ -29,3 +30,8 @@ one_cut p (x ∷ a) r (y ∷ b) s each_a stop_r each_b stop_s e =
     let rest : a ++ r ≡ b ++ s = cc in
     let t = one_cut p a r b s each_a.1 stop_r each_b.1 stop_s rest in
     (cc, t.1)
+
+-- where nothing is left, the front is all
+pub cut_all : (p : ℕ → Bool) (bytes front rest : List ℕ) → IsCut p bytes front rest → length rest < 1 → bytes ≡ front
+cut_all p bytes front [] c none = c.whole ∙ append-nil front
+cut_all p bytes front (b ∷ bs) c none = absurd (omega arith)

@@ -1,48 +1,105 @@
--- The grammar of policies (sudoers(5), "User specification"): lines, each blank, a comment, or
--- `USER HOST = [(TARGET)] [NOTBEFORE=TIME] [NOTAFTER=TIME] COMMAND`.
--- In what follows a token's Bool says whether blanks stand before it: a variable where they may, true where they must, false where they may not.
-use Rattle.std.specs.Prelude.{◌≡◌, ◌≢◌, ℕ, ◌-◌, ◌≤◌, ◌==◌, nat_eq, Bool, true, false, not, ◌&&◌, ◌⊎◌, slice_index, List, [], ◌∷◌, ◌++◌, length, Option, Some, None, codes}
-use Rattle.std.specs.List.{slice_split, starts_with}
-use Rattle.sudo_words.specs.Word.{is_digit}
+-- The grammar of a line (sudoers(5), "SUDOERS FILE FORMAT"): definitions of aliases, or a user specification.
+-- Each relation is of tokens, what stands at their front, and the tokens that follow it.
+-- A token's Bool says whether blanks stand before it: a variable where they may, true where they must, false where they may not.
+use Rattle.std.specs.Prelude.{◌≡◌, ℕ, ◌%◌, ◌==◌, Bool, true, false, ◌⊎◌, List, [], ◌∷◌, ◌++◌, map, Option, Some, None, if◌then◌else◌, codes}
+use Rattle.std.specs.Option.{option_or}
+use Rattle.sudo_words.specs.Word.{is_name, is_host_name, is_alias_name}
 use Rattle.sudo_words.specs.Moment as moments
-use Rattle.sudo_words.specs.Command.{cmnd_text}
-use Rattle.sudo_words.specs.declared.cmnd.Cmnd.{Cmnd}
+use Rattle.sudo_words.specs.Command.{head_text, rule_of, arg_text}
+use Rattle.sudo_words.specs.declared.cmnd.ArgRule.{ArgRule}
+use Rattle.sudo_words.specs.declared.cmnd.ArgRule.TheVariants as rules
 use Rattle.sudo_syntax.specs.declared.entry.Signed.{Signed}
 use Rattle.sudo_syntax.specs.declared.entry.Item.{Item}
-use Rattle.sudo_syntax.specs.declared.entry.Item.TheVariants as items
 use Rattle.sudo_syntax.specs.declared.entry.CmndItem.{CmndItem}
 use Rattle.sudo_syntax.specs.declared.entry.CmndItem.TheVariants as cmnds
-use Rattle.sudo_syntax.specs.declared.entry.Rule.{Rule}
-use Rattle.sudo_syntax.specs.declared.entry.Entry.{Entry}
-use Rattle.sudo_syntax.specs.declared.entry.Entry.TheVariants as entries
-use Rattle.sudo_syntax.specs.Span.{Each, IsCut}
-use Rattle.sudo_syntax.specs.Lex.{Tok, word, mark, Lexes, is_blank, is_text_byte}
-use Rattle.sudo_syntax.specs.Policy.{IsRule, IsPolicy}
+use Rattle.sudo_syntax.specs.declared.tree.Definition.{Definition}
+use Rattle.sudo_syntax.specs.declared.tree.Spec.{Spec}
+use Rattle.sudo_syntax.specs.declared.tree.Part.{Part}
+use Rattle.sudo_syntax.specs.declared.tree.Line.{Line}
+use Rattle.sudo_syntax.specs.declared.tree.Line.TheVariants as lines
+use Rattle.sudo_syntax.specs.Lex.{Tok, word, mark, is_spaced}
+use Rattle.sudo_syntax.specs.Policy.{IsItem, IsCmndItem}
 use Rattle.sudo_syntax.specs.Printing.{item_text}
 
--- ---- the target: one in parentheses, or `root` where none is given
+-- whether blanks stand before the first token
+abbrev pub begins_spaced : List Tok → Bool
+begins_spaced [] = false
+begins_spaced (t ∷ ts) = is_spaced t
 
-abbrev pub root : Item (List ℕ)
-root = items.Name (codes "root")
+-- ---- lists: one or more, with a mark between, and blanks round it or not
 
-abbrev pub SpellsTarget : List Tok → Item (List ℕ) → Type 0
-SpellsTarget front target =
-    ((front ≡ []) × (target ≡ root))
-    ⊎ ((a b c : Bool) × (front ≡ mark a 40 ∷ word b (item_text target) ∷ mark c 41 ∷ []))
+abbrev pub More : {X : Type 0} → ℕ → (List Tok → X → List Tok → Type 0) → List Tok → List X → List Tok → Type 0
+More m Is ts [] rest = ts ≡ rest
+More m Is ts (x ∷ xs) rest =
+    (a : Bool) × (next mid : List Tok) × (ts ≡ mark a m ∷ next) × Is next x mid × More m Is mid xs rest
 
--- ---- dates and command: each option is given at most once, in either order, with blanks behind it
+abbrev pub Listed : {X : Type 0} → ℕ → (List Tok → X → List Tok → Type 0) → List Tok → List X → List Tok → Type 0
+Listed m Is ts [] rest = ⊥
+Listed m Is ts (x ∷ xs) rest = (mid : List Tok) × Is ts x mid × More m Is mid xs rest
+
+-- ---- items: an odd number of `!` negates
+
+abbrev pub is_odd : ℕ → Bool
+is_odd n = n % 2 == 1
+
+-- `ALL`, a name of the form, or an alias
+pub record SpellsItem (form : List ℕ → Bool) (ts : List Tok) (s : Signed (Item (List ℕ))) (rest : List Tok) : Type 0 where
+  pub spaced : Bool
+  pub bangs : ℕ
+  pub toks : ts ≡ word spaced bangs (item_text s.item) ∷ rest
+  pub item : IsItem form s.item
+  pub sign : s.negated ≡ is_odd bangs
+
+-- what stands behind a path: nothing, `""`, or arguments, each behind blanks
+abbrev pub rule_toks : ArgRule → List Tok
+rule_toks rules.Any = []
+rule_toks rules.Empty = mark true 34 ∷ mark false 34 ∷ []
+rule_toks (rules.Exactly args) = map (λ arg. word true 0 (arg_text arg)) args
+
+abbrev pub head_of : CmndItem → List ℕ
+head_of (cmnds.Alias name) = name
+head_of (cmnds.Cmnd cmnd) = head_text cmnd
+
+abbrev pub args_of : CmndItem → List Tok
+args_of (cmnds.Alias name) = []
+args_of (cmnds.Cmnd cmnd) = rule_toks (rule_of cmnd)
+
+-- a command, or an alias of commands
+pub record SpellsCmnd (ts : List Tok) (s : Signed CmndItem) (rest : List Tok) : Type 0 where
+  pub spaced : Bool
+  pub bangs : ℕ
+  pub toks : ts ≡ word spaced bangs (head_of s.item) ∷ (args_of s.item ++ rest)
+  pub item : IsCmndItem s.item
+  pub sign : s.negated ≡ is_odd bangs
+
+abbrev pub Users : List Tok → List (Signed (Item (List ℕ))) → List Tok → Type 0
+Users = Listed 44 (SpellsItem is_name)
+
+abbrev pub Hosts : List Tok → List (Signed (Item (List ℕ))) → List Tok → Type 0
+Hosts = Listed 44 (SpellsItem is_host_name)
+
+abbrev pub Cmnds : List Tok → List (Signed CmndItem) → List Tok → Type 0
+Cmnds = Listed 44 SpellsCmnd
+
+-- ---- a command of a user specification: targets, dates and tags of its own, and the command
+
+-- the targets, in parentheses
+abbrev pub SpellsRunas : List Tok → Option (List (Signed (Item (List ℕ)))) → List Tok → Type 0
+SpellsRunas ts None rest = ts ≡ rest
+SpellsRunas ts (Some runas) rest =
+    (a b : Bool) × (next mid : List Tok) × (ts ≡ mark a 40 ∷ next) × Users next runas mid × (mid ≡ mark b 41 ∷ rest)
 
 -- an option: its word, and its moment
 pub record Date : Type 0 where
   pub word : List ℕ
   pub moment : ℕ
 
--- The tokens are these options and then the command; where `behind` is true they stand behind an option.
-abbrev pub SpellsDated : Bool → List Tok → List Date → Cmnd → Type 0
-SpellsDated behind toks [] cmnd = (a : Bool) × (behind ≡ true → a ≡ true) × (toks ≡ word a (cmnd_text cmnd) ∷ [])
-SpellsDated behind toks (date ∷ dates) cmnd =
-    (a : Bool) × (time : List ℕ) × (rest : List Tok) × (behind ≡ true → a ≡ true) × moments.Spells time date.moment
-    × (toks ≡ word a date.word ∷ mark false 61 ∷ word false time ∷ rest) × SpellsDated true rest dates cmnd
+-- the options, with blanks behind each
+abbrev pub SpellsDates : List Tok → List Date → List Tok → Type 0
+SpellsDates ts [] rest = ts ≡ rest
+SpellsDates ts (date ∷ dates) rest =
+    (a : Bool) × (time : List ℕ) × (next : List Tok) × moments.Spells time date.moment
+    × (ts ≡ word a 0 date.word ∷ mark false 61 ∷ word false 0 time ∷ next) × (begins_spaced next ≡ true) × SpellsDates next dates rest
 
 -- An option gives a bound that was not given before; the other stays.
 abbrev pub GivesBound : (before after : Option ℕ) → Date → (new_before new_after : Option ℕ) → Type 0
@@ -56,76 +113,66 @@ Bounds before after [] not_before not_after = (not_before ≡ before) × (not_af
 Bounds before after (date ∷ dates) not_before not_after =
     (new_before new_after : Option ℕ) × GivesBound before after date new_before new_after × Bounds new_before new_after dates not_before not_after
 
--- ---- a user specification and its rule
+-- the tags, with `:` behind each; the last one holds
+abbrev pub tag_word : Bool → List ℕ
+tag_word nopasswd = if nopasswd then codes "NOPASSWD" else codes "PASSWD"
 
-abbrev pub one : Item (List ℕ) → List (Signed (Item (List ℕ)))
-one item = record { negated = false; item = item } ∷ []
+abbrev pub SpellsTags : List Tok → List Bool → List Tok → Type 0
+SpellsTags ts [] rest = ts ≡ rest
+SpellsTags ts (tag ∷ tags) rest =
+    (a b : Bool) × (next : List Tok) × (ts ≡ word a 0 (tag_word tag) ∷ mark b 58 ∷ next) × SpellsTags next tags rest
 
-pub record SpellsRule (toks : List Tok) (r : Rule) : Type 0 where
-  pub user : Item (List ℕ)
-  pub host : Item (List ℕ)
-  pub target : Item (List ℕ)
-  pub cmnd : Cmnd
+abbrev pub last_tag : List Bool → Option Bool
+last_tag [] = None
+last_tag (tag ∷ tags) = option_or (last_tag tags) (Some tag)
+
+pub record SpellsSpec (ts : List Tok) (s : Spec) (rest : List Tok) : Type 0 where
+  pub behind_runas : List Tok
   pub dates : List Date
-  pub a : Bool
-  pub b : Bool
-  pub front : List Tok
-  pub rest : List Tok
-  pub toks_are : toks ≡ word a (item_text user) ∷ word true (item_text host) ∷ mark b 61 ∷ (front ++ rest)
-  pub target_is : SpellsTarget front target
-  pub dated : SpellsDated false rest dates cmnd
-  pub bounds : Bounds None None dates r.not_before r.not_after
-  pub users_are : r.users ≡ one user
-  pub hosts_are : r.hosts ≡ one host
-  pub runas_are : r.runas ≡ one target
-  pub passwd : r.nopasswd ≡ false
-  pub cmnd_is : r.cmnd ≡ record { negated = false; item = cmnds.Cmnd cmnd }
+  pub behind_dates : List Tok
+  pub tags : List Bool
+  pub behind_tags : List Tok
+  pub runas : SpellsRunas ts s.runas behind_runas
+  pub dated : SpellsDates behind_runas dates behind_dates
+  pub bounds : Bounds None None dates s.not_before s.not_after
+  pub tagged : SpellsTags behind_dates tags behind_tags
+  pub passwd : s.nopasswd ≡ last_tag tags
+  pub cmnd : SpellsCmnd behind_tags s.cmnd rest
+
+abbrev pub Specs : List Tok → List Spec → List Tok → Type 0
+Specs = Listed 44 SpellsSpec
 
 -- ---- lines
 
--- what may follow the `#` of a comment: neither a digit nor `include`, and no backslash at its end
-abbrev pub begins_with_digit : List ℕ → Bool
-begins_with_digit [] = false
-begins_with_digit (b ∷ bs) = is_digit b
+-- hosts, `=` and commands
+pub record SpellsPart (ts : List Tok) (p : Part) (rest : List Tok) : Type 0 where
+  pub spaced : Bool
+  pub next : List Tok
+  pub hosts : Hosts ts p.hosts (mark spaced 61 ∷ next)
+  pub specs : Specs next p.specs rest
 
-abbrev pub ends_with_backslash : List ℕ → Bool
-ends_with_backslash [] = false
-ends_with_backslash (b ∷ bs) = slice_index (b ∷ bs) (length (b ∷ bs) - 1) == 92
+-- a name, `=` and a list
+pub record SpellsDef {X : Type 0} (Is : List Tok → Signed X → List Tok → Type 0) (ts : List Tok) (d : Definition X) (rest : List Tok) : Type 0 where
+  pub name_spaced : Bool
+  pub spaced : Bool
+  pub next : List Tok
+  pub toks : ts ≡ word name_spaced 0 d.name ∷ mark spaced 61 ∷ next
+  pub name : is_alias_name d.name ≡ true
+  pub list : Listed 44 Is next d.list rest
 
-abbrev pub is_comment : List ℕ → Bool
-is_comment text =
-    not (begins_with_digit text) && not (starts_with nat_eq text (codes "include")) && not (ends_with_backslash text)
+-- the word of a kind, and behind blanks definitions with `:` between
+abbrev pub SpellsAliases : {X : Type 0} → List ℕ → (List Tok → Signed X → List Tok → Type 0) → List Tok → List (Definition X) → Type 0
+SpellsAliases kind Is ts defs =
+    (a : Bool) × (next : List Tok) × (ts ≡ word a 0 kind ∷ next) × (begins_spaced next ≡ true) × Listed 58 (SpellsDef Is) next defs []
 
--- nothing, or a comment
-abbrev pub IsNote : List ℕ → Type 0
-IsNote [] = Unit {0}
-IsNote (b ∷ bs) = (b ≡ 35) × (is_comment bs ≡ true)
+-- users, and behind blanks parts with `:` between
+abbrev pub SpellsRights : List Tok → List (Signed (Item (List ℕ))) → List Part → Type 0
+SpellsRights ts users parts =
+    (next : List Tok) × Users ts users next × (begins_spaced next ≡ true) × Listed 58 SpellsPart next parts []
 
--- a line that is blank, or a comment behind blanks
-abbrev pub IsSkipped : List ℕ → Type 0
-IsSkipped line = (blanks rest : List ℕ) × IsCut is_blank line blanks rest × IsNote rest
-
--- a line and the entries that it stands for
-abbrev pub SpellsLine : List ℕ → List Entry → Type 0
-SpellsLine line es =
-    (IsSkipped line × (es ≡ []))
-    ⊎ ((ts : List Tok) × (r : Rule) × Lexes line ts × SpellsRule ts r × IsRule r × (es ≡ entries.Rule r ∷ []))
-
--- the lines stand for these entries in order
-abbrev pub SpellsLines : List (List ℕ) → List Entry → Type 0
-SpellsLines [] es = es ≡ []
-SpellsLines (line ∷ lines) es =
-    (here rest : List Entry) × SpellsLine line here × (es ≡ here ++ rest) × SpellsLines lines rest
-
--- ---- texts
-
--- a line ends at a newline or where the text ends
-abbrev pub lines_of : List ℕ → List (List ℕ)
-lines_of text = slice_split (λ b. b == 10) text
-
--- The text, of at most 16 MiB of the bytes that a text may have, spells the policy.
-pub record Spells (text : List ℕ) (es : List Entry) : Type 0 where
-  pub short : length text ≤ 16_777_216
-  pub bytes : Each is_text_byte text
-  pub lines : SpellsLines (lines_of text) es
-  pub policy : IsPolicy es
+abbrev pub SpellsTree : List Tok → Line → Type 0
+SpellsTree ts (lines.Users defs) = SpellsAliases (codes "User_Alias") (SpellsItem is_name) ts defs
+SpellsTree ts (lines.Runas defs) = SpellsAliases (codes "Runas_Alias") (SpellsItem is_name) ts defs
+SpellsTree ts (lines.Hosts defs) = SpellsAliases (codes "Host_Alias") (SpellsItem is_host_name) ts defs
+SpellsTree ts (lines.Cmnds defs) = SpellsAliases (codes "Cmnd_Alias") SpellsCmnd ts defs
+SpellsTree ts (lines.Rights users parts) = SpellsRights ts users parts

@@ -1,7 +1,8 @@
 -- A line as words and marks, and where blanks stand between them.
-use Rattle.std.specs.Prelude.{◌≡◌, ℕ, ◌<◌, Bool, true, false, ◌&&◌, ◌||◌, ◌==◌, nat_le, List, [], ◌∷◌, ◌++◌, length, map}
+use Rattle.std.specs.Prelude.{◌≡◌, ℕ, zero, suc, ◌<◌, Bool, true, false, ◌&&◌, ◌||◌, ◌==◌, nat_le, if◌then◌else◌, List, [], ◌∷◌, ◌++◌, length, map}
 use Rattle.sudo_words.specs.Word.{is_letter_or_digit}
-use Rattle.sudo_syntax.specs.Span.{Each, Stops}
+use Rattle.sudo_words.specs.Command.{is_escaped}
+use Rattle.sudo_syntax.specs.Span.{Each}
 use Rattle.sudo_syntax.specs.declared.token.Token.{Token}
 use Rattle.sudo_syntax.specs.declared.token.Token.TheVariants.{Word, Mark}
 
@@ -13,25 +14,42 @@ is_text_byte b = (b == 9) || (b == 10) || (nat_le 32 b && nat_le b 126)
 abbrev pub is_blank : ℕ → Bool
 is_blank b = (b == 32) || (b == 9)
 
--- `=`, `,`, `:`, `!`, `(` and `)` stand for themselves
+-- `=`, `,`, `:`, `(`, `)` and `"` stand for themselves
 abbrev pub is_mark : ℕ → Bool
-is_mark b = (b == 61) || (b == 44) || (b == 58) || (b == 33) || (b == 40) || (b == 41)
+is_mark b = (b == 61) || (b == 44) || (b == 58) || (b == 40) || (b == 41) || (b == 34)
 
 -- a word is made of letters, digits and `. _ / + - @ %`
 abbrev pub is_word_byte : ℕ → Bool
 is_word_byte b = is_letter_or_digit b || (b == 46) || (b == 95) || (b == 47) || (b == 43) || (b == 45) || (b == 64) || (b == 37)
 
--- A word or a mark, each with whether blanks stand before it.
+-- and of `,`, `:` and `=`, each behind a backslash
+abbrev pub is_word_text : List ℕ → Bool
+is_word_text [] = true
+is_word_text (b ∷ []) = is_word_byte b
+is_word_text (b ∷ c ∷ rest) = if b == 92 then is_escaped c && is_word_text rest else is_word_byte b && is_word_text (c ∷ rest)
+
+-- whether a word before these bytes would go on with them
+abbrev pub goes_on : List ℕ → Bool
+goes_on [] = false
+goes_on (b ∷ []) = is_word_byte b
+goes_on (b ∷ c ∷ rest) = is_word_byte b || ((b == 92) && is_escaped c)
+
+-- so many `!`
+abbrev pub bangs : ℕ → List ℕ
+bangs zero = []
+bangs (suc n) = 33 ∷ bangs n
+
+-- A word, with how many `!` stand directly before it, or a mark. The Bool says whether blanks stand before.
 pub data Tok : Type 0 where
-  word : Bool → List ℕ → Tok
+  word : Bool → ℕ → List ℕ → Tok
   mark : Bool → ℕ → Tok
 
 abbrev pub is_spaced : Tok → Bool
-is_spaced (word spaced text) = spaced
+is_spaced (word spaced n text) = spaced
 is_spaced (mark spaced byte) = spaced
 
 abbrev pub text_of : Tok → List ℕ
-text_of (word spaced text) = text
+text_of (word spaced n text) = bangs n ++ text
 text_of (mark spaced byte) = byte ∷ []
 
 -- whether there is any
@@ -41,7 +59,7 @@ is_some_blank (b ∷ bs) = true
 
 -- the token is one, and ends where the rest begins
 abbrev pub IsTok : Tok → List ℕ → Type 0
-IsTok (word spaced text) rest = (0 < length text) × Each is_word_byte text × Stops is_word_byte rest
+IsTok (word spaced n text) rest = (0 < length text) × (is_word_text text ≡ true) × (goes_on rest ≡ false)
 IsTok (mark spaced byte) rest = is_mark byte ≡ true
 
 -- The bytes are these tokens in order, with blanks before those that say so and after the last.
@@ -53,7 +71,7 @@ Lexes bytes (t ∷ ts) =
 
 -- a token of the code, without where its bytes lie
 abbrev pub tok : Token → Tok
-tok (Word spaced text) = word spaced text.now
+tok (Word spaced n text) = word spaced n text.now
 tok (Mark spaced byte) = mark spaced byte
 
 abbrev pub toks : List Token → List Tok

@@ -1,16 +1,17 @@
 -- What the reader answers: the entries of a line, and where a fault is.
-use Rattle.std.specs.Prelude.{◌≡◌, ◌≢◌, ℕ, ◌+◌, ◌≤◌, ◌==◌, false, List, [], ◌∷◌, ◌++◌, Option, Some, None, count_by, map}
+use Rattle.std.specs.Prelude.{◌≡◌, ◌≢◌, ℕ, ◌+◌, ◌≤◌, ◌==◌, false, List, [], ◌∷◌, ◌++◌, count_by, map}
 use Rattle.sudo_syntax.specs.Lex.{is_text_byte}
+use Rattle.sudo_syntax.specs.Lines.{Joined}
+use Rattle.sudo_syntax.specs.Spelling.{SpellsLines}
 use Rattle.sudo_syntax.specs.declared.fault.FaultKind.{FaultKind}
 use Rattle.sudo_syntax.specs.declared.fault.FaultKind.TheVariants.{TooLong, BadByte}
 use Rattle.sudo_syntax.specs.declared.entry.Rule.{Rule}
 use Rattle.sudo_syntax.specs.declared.entry.Entry.{Entry}
 use Rattle.sudo_syntax.specs.declared.entry.Entry.TheVariants as entries
 
--- the entries of a line that has this rule, or none
-abbrev pub said : Option Rule → List Entry
-said None = []
-said (Some rule) = entries.Rule rule ∷ []
+-- the lines, joined where they go on, spell these entries
+abbrev pub SpellsBy : List (List ℕ) → List Entry → Type 0
+SpellsBy lines es = (joined : List (List ℕ)) × Joined lines joined × SpellsLines joined es
 
 -- a byte stands in the text that no text may have
 abbrev pub HasOtherByte : List ℕ → Type 0

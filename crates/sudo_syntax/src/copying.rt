@@ -1,18 +1,20 @@
 //! Entries copied.
 
-ghost use Rattle.std.specs.Prelude.{◌≡◌, ◌++◌, IfOk, OnOk};
+ghost use Rattle.std.specs.Prelude.{◌≡◌, IfOk};
 
 use crate::entry::{CmndItem, Entry, Item, Rule, Signed};
 use std::alloc::AllocError;
 use sudo_words::{HostName, Items, Name};
 
-fn copied_names(list: &Items<Signed<Item<Name>>>) -> Result<Items<Signed<Item<Name>>>, AllocError>
+pub(crate) fn copied_names(
+    list: &Items<Signed<Item<Name>>>,
+) -> Result<Items<Signed<Item<Name>>>, AllocError>
     ensures { IfOk result (λ x. x ≡ list.now) }
 {
     list.clone()
 }
 
-fn copied_hosts(
+pub(crate) fn copied_hosts(
     list: &Items<Signed<Item<HostName>>>,
 ) -> Result<Items<Signed<Item<HostName>>>, AllocError>
     ensures { IfOk result (λ x. x ≡ list.now) }
@@ -46,7 +48,8 @@ fn copied_rule(rule: &Rule) -> Result<Rule, AllocError>
     })
 }
 
-fn copied_entry(entry: &Entry) -> Result<Entry, AllocError>
+/// A copy of the entry.
+pub(crate) fn copied_entry(entry: &Entry) -> Result<Entry, AllocError>
     ensures { IfOk result (λ x. x ≡ entry.now) }
 {
     match entry {
@@ -56,14 +59,4 @@ fn copied_entry(entry: &Entry) -> Result<Entry, AllocError>
         Entry::CmndAlias(name, list) => Ok(Entry::CmndAlias(name.clone()?, copied_cmnds(list)?)),
         Entry::Rule(rule) => Ok(Entry::Rule(copied_rule(rule)?)),
     }
-}
-
-/// Adds copies of the entries.
-pub(crate) fn push_copies(out: &mut Vec<Entry>, entries: &[Entry]) -> Result<(), AllocError>
-    ensures { OnOk result (out.new.items ≡ out.old.items ++ entries.now) }
-{
-    for entry in entries {
-        out.push(copied_entry(entry)?)?;
-    }
-    Ok(())
 }

@@ -1,58 +1,87 @@
 //! Policies with further rules behind them.
 
-ghost use Rattle.std.specs.Prelude.{◌≡◌, ◌⊎◌, ◌++◌, IfOk, IfErr, OnOk, MatchResult, length, map};
+ghost use Rattle.std.specs.Prelude.{◌≡◌, ◌⊎◌, IfOk, IfErr, MatchResult, reverse};
 ghost use Rattle.std.specs.List.{AllByRecursion};
-ghost use Rattle.sudo_syntax.specs.declared.fault.FaultKind.TheVariants.{TooLarge, NoMemory};
-ghost use Rattle.sudo_syntax.specs.Policy.{IsPolicy, IsRule};
-ghost use Rattle.sudo_syntax.specs.Reading.{with_rules};
+ghost use Rattle.sudo_syntax.specs.declared.fault.FaultKind.TheVariants.{TooLarge, UnknownAlias, NoMemory};
+ghost use Rattle.sudo_syntax.specs.Policy.{IsPolicy, IsRule, KnowsRule};
+ghost use Rattle.sudo_syntax.specs.Reading as reading;
+ghost use Rattle.sudo_syntax.specs.declared.fault.LineFault.TheVariants as fault;
 
-use crate::copying::push_copies;
+use crate::copying::copied_entry;
 use crate::entry::{Entry, Rule};
-use crate::fault::{FaultKind, ReadFault};
-use crate::policy::{MOST_ENTRIES, Policy};
-use std::alloc::{AllocError, Global};
+use crate::fault::{FaultKind, LineFault, ReadFault};
+use crate::policy::Policy;
+use std::alloc::Global;
 
-/// Adds the rules as entries.
-fn push_rules(out: &mut Vec<Entry>, rules: Vec<Rule>) -> Result<(), AllocError>
-    ensures { OnOk result (out.new.items ≡ with_rules out.old.items rules.items) }
+/// A copy of the policy.
+fn copied(alloc: Global, base: &Policy) -> Result<Policy, LineFault>
+    ensures found { IfOk result (λ p. p ≡ base.now) }
+    ensures only { IfErr result (λ e. e ≡ fault.NoMemory) }
 {
-    let mut rules = rules;
-    rules.reverse();
-    while let Some(rule) = rules.pop() {
-        out.push(Entry::Rule(rule))?;
+    let entries = base.entries();
+    let mut policy = Policy::empty(alloc);
+    for entry in entries {
+        policy = policy.add(alloc, copied_entry(entry)?)?;
     }
-    Ok(())
+    Ok(policy)
 }
 
-fn extended(alloc: Global, base: &[Entry], rules: Vec<Rule>) -> Result<Vec<Entry>, AllocError>
-    ensures { IfOk result (λ v. v.items ≡ with_rules base.now rules.items) }
+/// The policy with these rules behind its entries.
+fn with_rules(alloc: Global, base: Policy, rules: Vec<Rule>) -> Result<Policy, LineFault>
+    requires { AllByRecursion IsRule rules.items }
+    ensures found { IfOk result (λ p. p ≡ reading.with_rules base rules.items) }
+    ensures only { IsPolicy (reading.with_rules base rules.items) → IfErr result (λ e. e ≡ fault.NoMemory) }
 {
-    let mut out = Vec::new(alloc);
-    push_copies(&mut out, base)?;
-    push_rules(&mut out, rules)?;
-    Ok(out)
+    let mut policy = base;
+    for rule in rules {
+        policy = policy.add(alloc, Entry::Rule(rule))?;
+    }
+    Ok(policy)
+}
+
+/// Why rules whose aliases are all known were not added.
+fn limit_kind(line_fault: LineFault) -> FaultKind
+    ensures memory { line_fault ≡ fault.NoMemory → result ≡ NoMemory }
+    ensures limit { (result ≡ TooLarge) ⊎ (result ≡ NoMemory) }
+{
+    match line_fault {
+        LineFault::NoMemory => FaultKind::NoMemory,
+        _ => FaultKind::TooLarge,
+    }
+}
+
+/// A copy of the base, with these rules behind its entries.
+fn extended(alloc: Global, base: &Policy, rules: Vec<Rule>) -> Result<Policy, LineFault>
+    requires { AllByRecursion IsRule rules.items }
+    ensures found { IfOk result (λ p. p ≡ reading.with_rules base.now rules.items) }
+    ensures only { IsPolicy (reading.with_rules base.now rules.items) → IfErr result (λ e. e ≡ fault.NoMemory) }
+{
+    with_rules(alloc, copied(alloc, base)?, rules)
 }
 
 /// The policy with these rules behind its entries.
 ///
-/// `TooLarge` comes where the whole is past a limit, and `NoMemory` where memory runs out. There is no text, so the line is 0.
+/// `UnknownAlias` comes where a rule uses an alias that the base lacks, else `TooLarge` where the whole is past a limit, and
+/// `NoMemory` where memory runs out. There is no text, so the line is 0.
 pub fn extend(alloc: Global, base: &Policy, rules: Vec<Rule>) -> Result<Policy, ReadFault>
     requires { AllByRecursion IsRule rules.items }
-    ensures found { IfOk result (λ p. p ≡ with_rules base.now rules.items) }
-    ensures only { IsPolicy (with_rules base.now rules.items) → MatchResult result (λ p. p ≡ with_rules base.now rules.items) (λ f. f.kind ≡ NoMemory) }
-    ensures kind { IfErr result (λ f. (f.line ≡ 0) × ((f.kind ≡ TooLarge) ⊎ (f.kind ≡ NoMemory))) }
+    ensures found { IfOk result (λ p. p ≡ reading.with_rules base.now rules.items) }
+    ensures only { IsPolicy (reading.with_rules base.now rules.items) → MatchResult result (λ p. p ≡ reading.with_rules base.now rules.items) (λ f. f.kind ≡ NoMemory) }
+    ensures line { IfErr result (λ f. f.line ≡ 0) }
+    ensures unknown { ¬ AllByRecursion (KnowsRule (reverse base.now)) rules.items → IfErr result (λ f. (f.kind ≡ UnknownAlias) ⊎ (f.kind ≡ NoMemory)) }
+    ensures kind { AllByRecursion (KnowsRule (reverse base.now)) rules.items → IfErr result (λ f. (f.kind ≡ TooLarge) ⊎ (f.kind ≡ NoMemory)) }
 {
-    if base.entries().len() + rules.len() > MOST_ENTRIES {
+    if !base.knows(&rules) {
         return Err(ReadFault {
             line: 0,
-            kind: FaultKind::TooLarge,
+            kind: FaultKind::UnknownAlias,
         });
     }
-    match extended(alloc, base.entries(), rules) {
-        Ok(entries) => Ok(Policy::new(entries)),
-        Err(_) => Err(ReadFault {
+    match extended(alloc, base, rules) {
+        Ok(policy) => Ok(policy),
+        Err(fault) => Err(ReadFault {
             line: 0,
-            kind: FaultKind::NoMemory,
+            kind: limit_kind(fault),
         }),
     }
 }

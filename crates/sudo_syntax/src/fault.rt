@@ -74,8 +74,12 @@ impl fmt::Display for ReadFault {
 pub(crate) enum LineFault {
     BadWord,
     Unexpected,
+    UnknownAlias,
+    AliasTwice,
+    Reserved,
     BadMoment,
     LeftOut,
+    TooLarge,
     NoMemory,
 }
 

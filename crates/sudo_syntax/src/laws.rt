@@ -2,7 +2,7 @@
 
 ghost use Rattle.std.specs.Prelude.{◌≡◌, ℕ, List};
 ghost use Rattle.sudo_syntax.specs.declared.entry.Entry.{Entry as Entered};
-ghost use Rattle.sudo_syntax.specs.Grammar.{Spells};
+ghost use Rattle.sudo_syntax.specs.Spelling.{Spells};
 ghost use Rattle.sudo_syntax.specs.Policy.{IsPolicy};
 ghost use Rattle.sudo_syntax.specs.Printing.{canon};
 

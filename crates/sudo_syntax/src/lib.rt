@@ -1,19 +1,30 @@
 //! Policies: sudoers texts read, printed and kept in normal form.
 #![tactic(auto)]
 
+mod aliases;
+mod commands;
 mod copying;
+mod definitions;
 mod entry;
 mod extending;
 mod fault;
-mod heads;
+mod fronts;
+mod items;
 mod laws;
-mod lines;
+mod line_entries;
+mod listing;
 mod misplaced;
+mod options;
+mod parts;
+mod pieces;
 mod policy;
 mod printing;
 mod read;
-mod reading;
+mod scope;
+mod spec;
 mod token;
+mod tree;
+mod tree_reading;
 
 pub use entry::{CmndItem, Entry, Item, Rule, Signed};
 pub use extending::extend;

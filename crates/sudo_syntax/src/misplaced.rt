@@ -1,21 +1,12 @@
-//! The fault that fits words and marks which are no specification.
+//! The fault that fits words and marks which the grammar has not.
 
 use crate::fault::LineFault;
 use crate::token::Token;
-use sudo_words::{AliasForm, DirForm, Form};
+use sudo_words::{AliasForm, Form};
 
-/// The first words of lines that sudoers has and the desk leaves out.
+/// Whether the word begins a line that sudoers has and the desk leaves out.
 fn begins_left_out(text: &str) -> bool {
-    matches!(
-        text,
-        "User_Alias"
-            | "Runas_Alias"
-            | "Host_Alias"
-            | "Cmnd_Alias"
-            | "Defaults"
-            | "@include"
-            | "@includedir"
-    )
+    text.starts_with("Defaults") || text.starts_with('@') || text == "Cmd_Alias"
 }
 
 /// Whether the word is one of an address: digits, dots and slashes.
@@ -24,25 +15,62 @@ fn is_address(text: &[u8]) -> bool {
         .all(|b| b.is_ascii_digit() || *b == b'.' || *b == b'/')
 }
 
-/// Whether the word is of a form that sudoers has and the desk leaves out: an alias, a group, a netgroup,
-/// an address, a domain name or a directory.
+/// Whether the word is a group, a netgroup, an address or a domain name.
 fn is_left_out(text: &[u8]) -> bool {
     match text {
         [b'%' | b'+', ..] => true,
-        [b'/', ..] => DirForm::test(text),
+        [b'/', ..] => false,
         [first, ..] if first.is_ascii_digit() => is_address(text),
-        _ => AliasForm::test(text) || text.contains(&b'.'),
+        _ => text.contains(&b'.'),
     }
 }
 
-/// Whether the word stands for a command of sudo's own.
-fn names_no_path(text: &str) -> bool {
-    text == "sudoedit" || text == "list"
+/// Whether the word has the shape of an alias's name.
+fn is_alias_shape(text: &[u8]) -> bool {
+    let begins_upper = match text {
+        [] => false,
+        [first, ..] => first.is_ascii_uppercase(),
+    };
+    begins_upper
+        && text.len() <= 32
+        && text.iter().all(|b| b.is_ascii_uppercase() || b.is_ascii_digit() || *b == b'_')
+}
+
+/// Whether sudoers keeps the word for itself: it has the shape of an alias's name and is none.
+fn is_reserved(text: &[u8]) -> bool {
+    is_alias_shape(text) && !AliasForm::test(text)
 }
 
 /// What is wrong with a word that is not of the form that its place asks for.
 pub(crate) fn bad_word(text: &str) -> LineFault {
-    if begins_left_out(text) || names_no_path(text) || is_left_out(text.as_bytes()) {
+    let bytes = text.as_bytes();
+    if is_reserved(bytes) {
+        LineFault::Reserved
+    } else if begins_left_out(text) || is_left_out(bytes) {
+        LineFault::LeftOut
+    } else {
+        LineFault::BadWord
+    }
+}
+
+/// Whether the word is an option or a tag that the desk has.
+fn is_known(text: &str) -> bool {
+    matches!(text, "NOTBEFORE" | "NOTAFTER" | "PASSWD" | "NOPASSWD")
+}
+
+/// Whether the word names no path in the place of a command: sudo's own commands, and digests.
+fn names_no_path(text: &str) -> bool {
+    matches!(
+        text,
+        "sudoedit" | "list" | "sha224" | "sha256" | "sha384" | "sha512"
+    )
+}
+
+/// What is wrong with a word that begins no command.
+pub(crate) fn bad_cmnd(text: &str) -> LineFault {
+    if is_known(text) {
+        LineFault::Unexpected
+    } else if names_no_path(text) || (is_reserved(text.as_bytes()) && text != "ALL") {
         LineFault::LeftOut
     } else {
         LineFault::BadWord
@@ -50,37 +78,26 @@ pub(crate) fn bad_word(text: &str) -> LineFault {
 }
 
 /// What is wrong with an option that is none of the two dates, or given twice.
-pub(crate) fn bad_option(option: &str) -> LineFault {
-    match option {
-        "NOTBEFORE" | "NOTAFTER" => LineFault::Unexpected,
-        _ => LineFault::LeftOut,
+pub(crate) fn bad_option(name: &str) -> LineFault {
+    if is_known(name) || !is_reserved(name.as_bytes()) {
+        LineFault::Unexpected
+    } else {
+        LineFault::LeftOut
     }
 }
 
-/// Whether the token is a mark of a form that the desk leaves out: a list, a joined part, a tag or a negation.
-fn marks_left_out(token: &Token<'_>) -> bool {
-    matches!(token, Token::Mark(_, b',' | b':' | b'!'))
-}
-
-/// Whether the word begins a command, so that what stands behind it are arguments.
-fn begins_command(text: &str) -> bool {
-    text.starts_with('/') || text == "sudoedit"
-}
-
-/// What is wrong with tokens that the grammar has not.
+/// What is wrong with tokens that the grammar has not in their place: quoted words are left out.
 pub(crate) fn misplaced(tokens: &[Token<'_>]) -> LineFault {
     match tokens {
-        [Token::Word(_, first), ..] if begins_left_out(first) => LineFault::LeftOut,
-        [Token::Word(_, first), Token::Word(_, _), ..] if begins_command(first) => {
-            LineFault::LeftOut
-        }
-        [Token::Mark(_, b'('), Token::Mark(_, b')'), ..] => LineFault::LeftOut,
-        _ => {
-            if tokens.iter().any(|token| marks_left_out(token)) {
-                LineFault::LeftOut
-            } else {
-                LineFault::Unexpected
-            }
-        }
+        [Token::Mark(_, b'"'), ..] => LineFault::LeftOut,
+        _ => LineFault::Unexpected,
+    }
+}
+
+/// What is wrong with tokens behind targets, where no `)` stands: a group behind `:` is left out.
+pub(crate) fn unclosed(tokens: &[Token<'_>]) -> LineFault {
+    match tokens {
+        [Token::Mark(_, b':'), ..] => LineFault::LeftOut,
+        _ => misplaced(tokens),
     }
 }

@@ -1,32 +1,53 @@
 //! Policies in normal form.
 
-ghost use Rattle.std.specs.Prelude.{◌≡◌};
+ghost use Rattle.std.specs.Prelude.{◌≡◌, ◌++◌, ◌∷◌, [], ◌↔◌, IsTrue, List, length, reverse, false, IfOk, IfErr, MatchOption};
+ghost use Rattle.std.specs.List.{AllByRecursion};
+ghost use Rattle.sudo_syntax.specs.Alias.{DefinedAt, is_defined, user_def, runas_def, host_def, cmnd_def, user_defs, runas_defs, host_defs, cmnd_defs};
+ghost use Rattle.sudo_syntax.specs.Printing.{canon};
+ghost use Rattle.sudo_syntax.specs.declared.entry.Entry.{Entry as Entered};
+ghost use Rattle.sudo_syntax.specs.declared.fault.LineFault.TheVariants as fault;
+ghost use Rattle.sudo_syntax.specs.Policy.{IsEntry, IsPolicy as IsOne, KnowsRule, weight};
 
-use crate::entry::Entry;
+use crate::entry::{CmndItem, Entry, Item, Rule, Signed};
+use crate::fault::LineFault;
+use crate::printing::line_len;
+use crate::scope::Scope;
+use std::alloc::Global;
 use std::marker::Model;
+use sudo_words::{AliasName, HostName, Name};
 
 /// The most entries that a policy has.
-pub(crate) const MOST_ENTRIES: usize = 16_384;
+const MOST_ENTRIES: usize = 16_384;
+
+/// The most that a policy weighs.
+const MOST_WEIGHT: usize = 131_072;
+
+/// The most bytes that its canonical text has: 16 MiB.
+const MOST_TEXT: usize = 16_777_216;
 
 /// A policy in normal form, which contracts see as the list of its entries.
 ///
-/// It has at most 16,384 entries, a weight of at most 131,072, and a canonical text of at most 16 MiB.
-/// Each entry is a rule: one user, host and target, each a name or `ALL`, and one lawful command.
+/// It has at most 16,384 entries, a weight of at most 131,072, and a canonical text of at most 16 MiB. Each alias is defined
+/// once in its kind, above its uses, and has a depth of at most 64.
 #[derive(Debug, Drop)]
 pub struct Policy {
     entries: Vec<Entry>,
+    scope: Scope,
+    weight: usize,
+    text_len: usize,
 }
 
 impl Model for Policy {
     ghost use Rattle.std.specs.Prelude.{List};
     ghost use Rattle.sudo_syntax.specs.declared.entry.Entry.{Entry};
-    ghost use Rattle.sudo_syntax.specs.Policy.{IsPolicy};
 
     ghost Value = { List Entry };
 
+    ghost use Rattle.sudo_syntax.specs.Scope.{IsWhole};
+
     ghost view = { λ p. p.entries.items };
 
-    ghost invariant = { λ p. IsPolicy p.entries.items };
+    ghost invariant = { λ p. IsWhole p.entries.items p.scope p.weight p.text_len };
 }
 
 impl Policy {
@@ -40,11 +61,112 @@ impl Policy {
         &self.entries
     }
 
-    /// The policy of these entries.
-    pub(crate) fn new(entries: Vec<Entry>) -> Policy
-        requires { IsPolicy entries.items }
-        ensures { result ≡ entries.items }
+    /// How much the policy weighs.
+    pub fn weight(&self) -> usize
+        ensures { result ≡ weight self.now }
     {
-        Policy { entries }
+        self.weight
+    }
+
+    /// How many bytes its canonical text has.
+    pub fn text_len(&self) -> usize
+        ensures { result ≡ length (canon self.now) }
+    {
+        self.text_len
+    }
+
+    /// Where the alias of users is defined, and its list. It takes no memory.
+    pub fn user_alias(&self, name: &AliasName) -> Option<(usize, &[Signed<Item<Name>>])>
+        ensures { MatchOption result (is_defined (user_defs self.now) name.now ≡ false) (λ x. DefinedAt user_def self.now x.0 name.now x.1.now) }
+    {
+        let alias = self.scope.users.get(name)?;
+        match self.entries.get(alias.place) {
+            Some(Entry::UserAlias(_, list)) => Some((alias.place, list.as_slice())),
+            _ => None,
+        }
+    }
+
+    /// Where the alias of targets is defined, and its list. It takes no memory.
+    pub fn runas_alias(&self, name: &AliasName) -> Option<(usize, &[Signed<Item<Name>>])>
+        ensures { MatchOption result (is_defined (runas_defs self.now) name.now ≡ false) (λ x. DefinedAt runas_def self.now x.0 name.now x.1.now) }
+    {
+        let alias = self.scope.runas.get(name)?;
+        match self.entries.get(alias.place) {
+            Some(Entry::RunasAlias(_, list)) => Some((alias.place, list.as_slice())),
+            _ => None,
+        }
+    }
+
+    /// Where the alias of hosts is defined, and its list. It takes no memory.
+    pub fn host_alias(&self, name: &AliasName) -> Option<(usize, &[Signed<Item<HostName>>])>
+        ensures { MatchOption result (is_defined (host_defs self.now) name.now ≡ false) (λ x. DefinedAt host_def self.now x.0 name.now x.1.now) }
+    {
+        let alias = self.scope.hosts.get(name)?;
+        match self.entries.get(alias.place) {
+            Some(Entry::HostAlias(_, list)) => Some((alias.place, list.as_slice())),
+            _ => None,
+        }
+    }
+
+    /// Where the alias of commands is defined, and its list. It takes no memory.
+    pub fn cmnd_alias(&self, name: &AliasName) -> Option<(usize, &[Signed<CmndItem>])>
+        ensures { MatchOption result (is_defined (cmnd_defs self.now) name.now ≡ false) (λ x. DefinedAt cmnd_def self.now x.0 name.now x.1.now) }
+    {
+        let alias = self.scope.cmnds.get(name)?;
+        match self.entries.get(alias.place) {
+            Some(Entry::CmndAlias(_, list)) => Some((alias.place, list.as_slice())),
+            _ => None,
+        }
+    }
+
+    /// Whether each alias in the rules is defined, in the kind of its place. It takes no memory.
+    pub(crate) fn knows(&self, rules: &[Rule]) -> bool
+        ensures { IsTrue result ↔ AllByRecursion (KnowsRule (reverse self.now)) rules.now }
+    {
+        self.scope.knows(rules)
+    }
+
+    /// The policy without entries.
+    pub(crate) fn empty(alloc: Global) -> Policy
+        ensures { result ≡ [] }
+    {
+        Policy {
+            entries: Vec::new(alloc),
+            scope: Scope::new(alloc),
+            weight: 0,
+            text_len: 0,
+        }
+    }
+
+    /// The policy with one more entry behind its own.
+    ///
+    /// `AliasTwice` comes where the entry defines an alias that is defined in its kind, else `UnknownAlias` where it uses one
+    /// that is not, else `TooLarge` where the whole is past a limit.
+    pub(crate) fn add(self, alloc: Global, entry: Entry) -> Result<Policy, LineFault>
+        requires { IsEntry entry }
+        ensures found { IfOk result (λ p. p ≡ self ++ entry ∷ []) }
+        ensures only { IsOne (self ++ entry ∷ []) → IfErr result (λ e. e ≡ fault.NoMemory) }
+    {
+        let Policy {
+            mut entries,
+            mut scope,
+            weight,
+            text_len,
+        } = self;
+        let place = entries.len();
+        let more = scope.enter(alloc, place, &entry)?;
+        let Ok(len) = line_len(alloc, &entry) else {
+            return Err(LineFault::NoMemory);
+        };
+        if place >= MOST_ENTRIES || weight + more > MOST_WEIGHT || len > MOST_TEXT - text_len {
+            return Err(LineFault::TooLarge);
+        }
+        entries.push(entry)?;
+        Ok(Policy {
+            entries,
+            scope,
+            weight: weight + more,
+            text_len: text_len + len,
+        })
     }
 }

@@ -1,16 +1,16 @@
 //! Policies printed as their canonical text.
 
-ghost use Rattle.std.specs.Prelude.{◌≡◌, List, ℕ, IfOk, OnOk, ◌++◌, string_bytes};
+ghost use Rattle.std.specs.Prelude.{◌≡◌, [], List, ℕ, IfOk, OnOk, ◌++◌, codes, length, string_bytes};
 ghost use Rattle.std.specs.List.{AllByRecursion};
 ghost use Rattle.sudo_words.specs.Moment.{stamp};
-ghost use Rattle.sudo_syntax.specs.Grammar.{Spells};
+ghost use Rattle.sudo_syntax.specs.Spelling.{Spells};
 ghost use Rattle.sudo_syntax.specs.Policy.{IsEntry, IsRule, IsCmndItem};
-ghost use Rattle.sudo_syntax.specs.Printing.{canon, date_text, tag_text, item_text, cmnd_item_text, line_text, names_text, rule_text, signed_text, tail_text, what_text, who_text};
+ghost use Rattle.sudo_syntax.specs.Printing.{alias_text, canon, cmnds_text, date_text, tag_text, item_text, cmnd_item_text, entry_text, line_text, names_text, rule_text, signed_text, tail_text, what_text, who_text};
 
 use crate::entry::{CmndItem, Entry, Item, Rule, Signed};
 use crate::policy::Policy;
 use std::alloc::{AllocError, Global};
-use sudo_words::{Form, Moment, NoMemory, Word, print_cmnd};
+use sudo_words::{AliasName, Form, Moment, NoMemory, Word, print_cmnd};
 
 fn push_item<F: Form>(out: &mut String, item: &Item<Word<F>>) -> Result<(), AllocError>
     ensures { OnOk result (string_bytes out.new ≡ string_bytes out.old ++ item_text item.now) }
@@ -116,6 +116,71 @@ fn push_cmnd(alloc: Global, out: &mut String, signed: &Signed<CmndItem>) -> Resu
     push_cmnd_item(alloc, out, &signed.item)
 }
 
+/// The commands behind the first, with a comma and a space before each.
+fn push_cmnd_tail(
+    alloc: Global,
+    out: &mut String,
+    items: &[Signed<CmndItem>],
+) -> Result<(), NoMemory>
+    requires { AllByRecursion (λ s. IsCmndItem s.item) items.now }
+    ensures { OnOk result (string_bytes out.new ≡ string_bytes out.old ++ tail_text (signed_text cmnd_item_text) items.now) }
+{
+    for item in items {
+        out.push_str(", ")?;
+        push_cmnd(alloc, out, item)?;
+    }
+    Ok(())
+}
+
+fn push_cmnds(alloc: Global, out: &mut String, items: &[Signed<CmndItem>]) -> Result<(), NoMemory>
+    requires { AllByRecursion (λ s. IsCmndItem s.item) items.now }
+    ensures { OnOk result (string_bytes out.new ≡ string_bytes out.old ++ cmnds_text items.now) }
+{
+    match items {
+        [] => Ok(()),
+        [first, others @ ..] => {
+            push_cmnd(alloc, out, first)?;
+            push_cmnd_tail(alloc, out, others)
+        }
+    }
+}
+
+/// What stands before an alias's list.
+fn push_head(out: &mut String, kind: &str, name: &AliasName) -> Result<(), AllocError>
+    ensures { OnOk result (string_bytes out.new ≡ string_bytes out.old ++ alias_text kind.now name.now []) }
+{
+    out.push_str(kind)?;
+    out.push_str(" ")?;
+    out.push_str(name.as_str())?;
+    out.push_str(" = ")
+}
+
+fn push_alias<F: Form>(
+    out: &mut String,
+    kind: &str,
+    name: &AliasName,
+    list: &[Signed<Item<Word<F>>>],
+) -> Result<(), NoMemory>
+    ensures { OnOk result (string_bytes out.new ≡ string_bytes out.old ++ alias_text kind.now name.now (names_text list.now)) }
+{
+    push_head(out, kind, name)?;
+    push_names(out, list)?;
+    Ok(())
+}
+
+fn push_cmnd_alias(
+    alloc: Global,
+    out: &mut String,
+    name: &AliasName,
+    list: &[Signed<CmndItem>],
+) -> Result<(), NoMemory>
+    requires { AllByRecursion (λ s. IsCmndItem s.item) list.now }
+    ensures { OnOk result (string_bytes out.new ≡ string_bytes out.old ++ alias_text (codes "Cmnd_Alias") name.now (cmnds_text list.now)) }
+{
+    push_head(out, "Cmnd_Alias", name)?;
+    push_cmnds(alloc, out, list)
+}
+
 fn push_rule(alloc: Global, out: &mut String, rule: &Rule) -> Result<(), NoMemory>
     requires { IsRule rule.now }
     ensures { OnOk result (string_bytes out.new ≡ string_bytes out.old ++ rule_text rule.now) }
@@ -127,17 +192,37 @@ fn push_rule(alloc: Global, out: &mut String, rule: &Rule) -> Result<(), NoMemor
     push_cmnd(alloc, out, &rule.cmnd)
 }
 
+fn push_entry(alloc: Global, out: &mut String, entry: &Entry) -> Result<(), NoMemory>
+    requires { IsEntry entry.now }
+    ensures { OnOk result (string_bytes out.new ≡ string_bytes out.old ++ entry_text entry.now) }
+{
+    match entry {
+        Entry::UserAlias(name, list) => push_alias(out, "User_Alias", name, list.as_slice()),
+        Entry::RunasAlias(name, list) => push_alias(out, "Runas_Alias", name, list.as_slice()),
+        Entry::HostAlias(name, list) => push_alias(out, "Host_Alias", name, list.as_slice()),
+        Entry::CmndAlias(name, list) => push_cmnd_alias(alloc, out, name, list.as_slice()),
+        Entry::Rule(rule) => push_rule(alloc, out, rule),
+    }
+}
+
 /// One entry and a newline.
 fn push_line(alloc: Global, out: &mut String, entry: &Entry) -> Result<(), NoMemory>
     requires { IsEntry entry.now }
     ensures { OnOk result (string_bytes out.new ≡ string_bytes out.old ++ line_text entry.now) }
 {
-    match entry {
-        Entry::Rule(rule) => push_rule(alloc, out, rule)?,
-        _ => unreachable!(),
-    }
+    push_entry(alloc, out, entry)?;
     out.push_str("\n")?;
     Ok(())
+}
+
+/// How many bytes the entry's line has.
+pub(crate) fn line_len(alloc: Global, entry: &Entry) -> Result<usize, NoMemory>
+    requires { IsEntry entry.now }
+    ensures { IfOk result (λ n. n ≡ length (line_text entry.now)) }
+{
+    let mut line = String::new(alloc);
+    push_line(alloc, &mut line, entry)?;
+    Ok(line.len())
 }
 
 /// All entries, one a line.

@@ -1,20 +1,24 @@
 //! Policies read from text.
 
-ghost use Rattle.std.specs.Prelude.{◌≡◌, ◌+◌, ◌<◌, ◌≤◌, ◌==◌, ◌⊎◌, List, ℕ, IfOk, IfErr, IsErrAnd, MatchResult, OnOk, map, length, count_by, ◌++◌};
+ghost use Rattle.std.specs.Prelude.{◌≡◌, ◌+◌, ◌<◌, ◌≤◌, ◌==◌, ◌⊎◌, List, ℕ, IfOk, IfErr, IsErrAnd, MatchResult, OnOk, map, length, count_by, ◌++◌, ◌∷◌};
 ghost use Rattle.sudo_syntax.specs.declared.entry.Entry.{Entry as Entered};
 ghost use Rattle.sudo_syntax.specs.declared.fault.FaultKind.TheVariants.{TooLong, BadByte, TooLarge, NoMemory};
 ghost use Rattle.sudo_syntax.specs.declared.fault.LineFault.TheVariants.{NoMemory as OutOfMemory};
-ghost use Rattle.sudo_syntax.specs.Grammar.{Spells, SpellsLine, SpellsLines};
+ghost use Rattle.sudo_syntax.specs.Spelling.{Spells, SpellsLine};
+ghost use Rattle.sudo_syntax.specs.Pending.{Leads, SpellsBehind};
 ghost use Rattle.sudo_syntax.specs.Lex as lex;
-ghost use Rattle.sudo_syntax.specs.Reading.{HasOtherByte, IsInLine, IsLineOf, said};
+ghost use Rattle.sudo_syntax.specs.Reading.{HasOtherByte, IsInLine, IsLineOf, SpellsBy};
+ghost use Rattle.sudo_syntax.specs.Policy.{IsPolicy};
 ghost use Rattle.sudo_syntax.specs.Span.{Each};
+ghost use Rattle.sudo_syntax.specs.Lines.{lines_of};
 
-use crate::entry::{Entry, Rule};
 use crate::fault::{FaultKind, LineFault, ReadFault};
-use crate::lines::{line_of, lines};
-use crate::policy::{MOST_ENTRIES, Policy};
-use crate::token::cut_text;
-use std::alloc::Global;
+use crate::line_entries::add_line;
+use crate::pieces::{Piece, piece_of};
+use crate::policy::Policy;
+use crate::token::{cut_text, tokens};
+use crate::tree_reading::tree_of;
+use std::alloc::{AllocError, Global};
 
 /// The most bytes that a text has: 16 MiB.
 const MOST_BYTES: usize = 16_777_216;
@@ -63,65 +67,111 @@ fn kind_of(fault: LineFault) -> FaultKind
     match fault {
         LineFault::BadWord => FaultKind::BadWord,
         LineFault::Unexpected => FaultKind::Unexpected,
+        LineFault::UnknownAlias => FaultKind::UnknownAlias,
+        LineFault::AliasTwice => FaultKind::AliasTwice,
+        LineFault::Reserved => FaultKind::Reserved,
         LineFault::BadMoment => FaultKind::BadMoment,
         LineFault::LeftOut => FaultKind::LeftOut,
+        LineFault::TooLarge => FaultKind::TooLarge,
         LineFault::NoMemory => FaultKind::NoMemory,
     }
 }
 
-/// Adds a rule, if there is one and room for it.
-fn add(entries: &mut Vec<Entry>, rule: Option<Rule>) -> Result<(), FaultKind>
-    requires { length entries.old.items ≤ 16_384 }
-    ensures ok { OnOk result ((entries.new.items ≡ entries.old.items ++ said rule) × (length entries.new.items ≤ 16_384)) }
-    ensures err { IfErr result (λ k. ((k ≡ NoMemory) ⊎ ((k ≡ TooLarge) × (16_384 < length (entries.old.items ++ said rule)))) × IsInLine k) }
+/// The lines of a text.
+fn lines(alloc: Global, text: &[u8]) -> Result<Vec<&[u8]>, AllocError>
+    ensures { IfOk result (λ v. map (λ line. line.now) v.items ≡ lines_of text.now) }
 {
-    let Some(rule) = rule else {
-        return Ok(());
-    };
-    if entries.len() >= MOST_ENTRIES {
-        return Err(FaultKind::TooLarge);
+    text.split(|b| *b == b'\n').collect(alloc)
+}
+
+/// The policy with what a line stands for behind its entries, where the line is joined with those that continue it.
+fn add_joined(alloc: Global, policy: Policy, line: &[u8]) -> Result<Policy, LineFault>
+    ensures found { IfOk result (λ p. (here : List Entered) × SpellsLine line.now here × ((es : List Entered) → SpellsLine line.now es → es ≡ here) × (p ≡ policy ++ here)) }
+    ensures only { IfErr result (λ e. (es : List Entered) → SpellsLine line.now es → IsPolicy (policy ++ es) → e ≡ OutOfMemory) }
+{
+    let tokens = tokens(alloc, line)?;
+    if tokens.is_empty() {
+        return Ok(policy);
     }
-    match entries.push(Entry::Rule(rule)) {
-        Ok(()) => Ok(()),
-        Err(_) => Err(FaultKind::NoMemory),
+    let line = tree_of(alloc, &tokens)?;
+    add_line(alloc, policy, line)
+}
+
+/// The policy with what a line of the text stands for behind its entries. Before the line stands the front that the lines
+/// before it left; where the line goes on, it adds to that front, and else the front is empty afterwards.
+fn add_piece(
+    alloc: Global,
+    policy: Policy,
+    pending: &mut Vec<u8>,
+    line: &[u8],
+) -> Result<Policy, LineFault>
+    ensures found { IfOk result (λ p. (here : List Entered) × (p ≡ policy ++ here) × ((rest : List (List ℕ)) → Leads pending.old.items (line.now ∷ rest) here pending.new.items rest)) }
+    ensures only { IfErr result (λ e. (rest : List (List ℕ)) (es : List Entered) → SpellsBehind pending.old.items (line.now ∷ rest) es → IsPolicy (policy ++ es) → e ≡ OutOfMemory) }
+{
+    match piece_of(line)? {
+        Piece::GoesOn(front) => {
+            pending.extend_from_slice(front)?;
+            pending.push(b' ')?;
+            Ok(policy)
+        }
+        Piece::Ends(body) => {
+            if pending.is_empty() {
+                // A line that is not continued is read where it stands.
+                return add_joined(alloc, policy, body);
+            }
+            pending.extend_from_slice(body)?;
+            let policy = add_joined(alloc, policy, pending)?;
+            pending.clear();
+            Ok(policy)
+        }
     }
 }
 
-/// Adds what a line stands for.
-fn add_line(alloc: Global, entries: &mut Vec<Entry>, line: &[u8]) -> Result<(), FaultKind>
-    requires { length entries.old.items ≤ 16_384 }
-    ensures ok { OnOk result ((here : List Entered) × SpellsLine line.now here × ((es : List Entered) → SpellsLine line.now es → here ≡ es) × (entries.new.items ≡ entries.old.items ++ here)) }
-    ensures room { OnOk result (length entries.new.items ≤ 16_384) }
-    ensures only { IfErr result (λ k. (es : List Entered) → SpellsLine line.now es → length (entries.old.items ++ es) ≤ 16_384 → k ≡ NoMemory) }
-    ensures line { IfErr result IsInLine }
+/// Where a fault is that came up at a line: there, where its comment or its continuation is wrong, and else where the line begins
+/// that is continued there.
+fn fault_line(line: &[u8], begins: usize, here: usize) -> usize
+    ensures { (result ≡ begins) ⊎ (result ≡ here) }
 {
-    match line_of(alloc, line) {
-        Ok(rule) => add(entries, rule),
-        Err(fault) => Err(kind_of(fault)),
+    if piece_of(line).is_err() {
+        here
+    } else {
+        begins
     }
 }
 
-/// The entries of the lines.
-fn entries_of(alloc: Global, lines: &[&[u8]]) -> Result<Vec<Entry>, ReadFault>
-    ensures found { IfOk result (λ v. SpellsLines (map (λ l. l.now) lines.now) v.items × (length v.items ≤ 16_384)) }
-    ensures only { (es : List Entered) → SpellsLines (map (λ l. l.now) lines.now) es → length es ≤ 16_384
-        → MatchResult result (λ v. v.items ≡ es) (λ f. f.kind ≡ NoMemory) }
+/// The policy of the lines.
+fn policy_of(alloc: Global, lines: &[&[u8]]) -> Result<Policy, ReadFault>
+    ensures found { IfOk result (λ p. SpellsBy (map (λ l. l.now) lines.now) p) }
+    ensures only { (es : List Entered) → SpellsBy (map (λ l. l.now) lines.now) es → IsPolicy es
+        → MatchResult result (λ p. p ≡ es) (λ f. f.kind ≡ NoMemory) }
     ensures line { IfErr result (λ f. (1 ≤ f.line) × (f.line ≤ length lines.now)) }
     ensures kind { IfErr result (λ f. IsInLine f.kind) }
 {
-    let mut entries = Vec::new(alloc);
+    let mut policy = Policy::empty(alloc);
+    let mut pending = Vec::new(alloc);
+    let mut begins = 0;
     for (index, line) in lines.iter().enumerate() {
-        match add_line(alloc, &mut entries, line) {
-            Ok(()) => {}
-            Err(kind) => {
+        if pending.is_empty() {
+            begins = index + 1;
+        }
+        match add_piece(alloc, policy, &mut pending, line) {
+            Ok(added) => policy = added,
+            Err(fault) => {
                 return Err(ReadFault {
-                    line: index + 1,
-                    kind,
+                    line: fault_line(line, begins, index + 1),
+                    kind: kind_of(fault),
                 });
             }
         }
     }
-    Ok(entries)
+    if !pending.is_empty() {
+        // The last line goes on, and nothing follows.
+        return Err(ReadFault {
+            line: lines.len(),
+            kind: FaultKind::Unexpected,
+        });
+    }
+    Ok(policy)
 }
 
 /// The policy that a text spells (sudoers(5), "SUDOERS FILE FORMAT"), as far as the desk reads it.
@@ -146,6 +196,5 @@ pub fn read_policy(alloc: Global, text: &[u8]) -> Result<Policy, ReadFault>
             kind: FaultKind::NoMemory,
         });
     };
-    let entries = entries_of(alloc, &lines)?;
-    Ok(Policy::new(entries))
+    policy_of(alloc, &lines)
 }

@@ -1,18 +1,20 @@
 //! The words and marks of a line.
 
-ghost use Rattle.std.specs.Prelude.{◌≡◌, length, take_while, MatchResult, MatchOption, List, IfOk, IfErr, IfSome, IsSome, ℕ, ◌++◌};
+ghost use Rattle.std.specs.Prelude.{◌≡◌, ◌≤◌, true, false, length, take, drop, take_while, MatchResult, MatchOption, List, IfOk, IfErr, IfSome, IsSome, None, ℕ, ◌++◌};
 ghost use Rattle.sudo_syntax.specs.declared.fault.LineFault.TheVariants.{NoMemory};
-ghost use Rattle.sudo_syntax.specs.Span.{IsCut, Each};
+ghost use Rattle.sudo_words.specs.Command as command;
+ghost use Rattle.sudo_syntax.specs.Span.{IsCut};
+ghost use Rattle.sudo_syntax.specs.Cuts.{is_bang, IsBehindPart, IsWordCut};
 ghost use Rattle.sudo_syntax.specs.Lex as lex;
 
 use crate::fault::LineFault;
 use std::alloc::Global;
 use std::str;
 
-/// A word or a mark of a line, each with whether blanks stand before it.
+/// A word or a mark of a line, each with whether blanks stand before it, and a word with how many `!` stand directly before it.
 #[derive(Clone, Copy, Debug)]
 pub(crate) enum Token<'a> {
-    Word(bool, &'a str),
+    Word(bool, usize, &'a str),
     Mark(bool, u8),
 }
 
@@ -22,7 +24,7 @@ fn is_text_byte(b: u8) -> bool
     b == b'\t' || b == b'\n' || (b >= b' ' && b <= b'~')
 }
 
-fn is_blank(b: u8) -> bool
+pub(crate) fn is_blank(b: u8) -> bool
     ensures { result ≡ lex.is_blank b }
 {
     b == b' ' || b == b'\t'
@@ -31,7 +33,7 @@ fn is_blank(b: u8) -> bool
 fn is_mark(b: u8) -> bool
     ensures { result ≡ lex.is_mark b }
 {
-    b == b'=' || b == b',' || b == b':' || b == b'!' || b == b'(' || b == b')'
+    b == b'=' || b == b',' || b == b':' || b == b'(' || b == b')' || b == b'"'
 }
 
 fn is_word_byte(b: u8) -> bool
@@ -47,6 +49,13 @@ fn is_word_byte(b: u8) -> bool
         || b == b'%'
 }
 
+/// A byte that a word has behind a backslash alone.
+fn is_escaped(b: u8) -> bool
+    ensures { result ≡ command.is_escaped b }
+{
+    b == b',' || b == b':' || b == b'='
+}
+
 /// How many blanks stand at the front.
 fn blank_len(bytes: &[u8]) -> usize
     ensures { result ≡ length (take_while lex.is_blank bytes.now) }
@@ -54,11 +63,11 @@ fn blank_len(bytes: &[u8]) -> usize
     bytes.iter().take_while(|b| is_blank(**b)).count()
 }
 
-/// How long the word at the front is.
-fn word_len(bytes: &[u8]) -> usize
-    ensures { result ≡ length (take_while lex.is_word_byte bytes.now) }
+/// How many `!` stand at the front.
+fn bang_len(bytes: &[u8]) -> usize
+    ensures { result ≡ length (take_while is_bang bytes.now) }
 {
-    bytes.iter().take_while(|b| is_word_byte(**b)).count()
+    bytes.iter().take_while(|b| **b == b'!').count()
 }
 
 /// How many bytes at the front a text may have.
@@ -82,9 +91,40 @@ pub(crate) fn cut_blanks(bytes: &[u8]) -> (&[u8], &[u8])
     bytes.split_at(blank_len(bytes))
 }
 
+/// The `!` at the front, and what follows them.
+fn cut_bangs(bytes: &[u8]) -> (&[u8], &[u8])
+    ensures { IsCut is_bang bytes.now result.0.now result.1.now }
+{
+    bytes.split_at(bang_len(bytes))
+}
+
+/// What follows a byte of a word, or a backslash and the byte that it escapes, where such a part of a word stands at the front.
+fn behind_part(bytes: &[u8]) -> Option<&[u8]>
+    ensures found { IfSome result (λ rest. (part : List ℕ) × IsBehindPart bytes.now part rest.now) }
+    ensures none { result ≡ None → lex.goes_on bytes.now ≡ false }
+{
+    match bytes {
+        [byte, rest @ ..] if is_word_byte(*byte) => Some(rest),
+        [b'\\', escaped, rest @ ..] if is_escaped(*escaped) => Some(rest),
+        _ => None,
+    }
+}
+
+/// How long the word at the front is, which may be empty.
+fn word_len(bytes: &[u8]) -> usize
+    ensures within { result ≤ length bytes.now }
+    ensures cut { IsWordCut bytes.now (take result bytes.now) (drop result bytes.now) }
+{
+    let mut rest = bytes;
+    while let Some(after) = behind_part(rest) {
+        rest = after;
+    }
+    bytes.len() - rest.len()
+}
+
 /// The word at the front, which may be empty, and what follows it.
 fn cut_word(bytes: &[u8]) -> (&[u8], &[u8])
-    ensures { IsCut lex.is_word_byte bytes.now result.0.now result.1.now }
+    ensures { IsWordCut bytes.now result.0.now result.1.now }
 {
     bytes.split_at(word_len(bytes))
 }
@@ -92,17 +132,26 @@ fn cut_word(bytes: &[u8]) -> (&[u8], &[u8])
 /// A word's bytes as text: they are ASCII.
 fn text_of(word: &[u8]) -> Option<&str>
     ensures found { IfSome result (λ s. s.now ≡ word.now) }
-    ensures only { Each lex.is_word_byte word.now → IsSome result }
+    ensures only { lex.is_word_text word.now ≡ true → IsSome result }
 {
     str::from_utf8(word).ok()
 }
 
-/// What is wrong with a byte that begins neither a word nor a mark: wildcards, quotes, escapes and
-/// comments are left out, and no other has a place.
+/// What is wrong where no word begins with this byte, which is no `!`: wildcards, quotes, escapes and comments are left out,
+/// marks and blanks may not follow a `!`, and no other byte has a place.
 fn stray(byte: u8) -> LineFault {
     match byte {
         b'*' | b'?' | b'[' | b']' | b'"' | b'\\' | b'#' => LineFault::LeftOut,
+        _ if is_blank(byte) || is_mark(byte) => LineFault::Unexpected,
         _ => LineFault::BadWord,
+    }
+}
+
+/// What is wrong with bytes that begin with no word.
+fn no_word(bytes: &[u8]) -> LineFault {
+    match bytes {
+        [] => LineFault::Unexpected,
+        [first, ..] => stray(*first),
     }
 }
 
@@ -119,12 +168,13 @@ pub(crate) fn next_token(bytes: &[u8]) -> Result<Option<(Token<'_>, &[u8])>, Lin
     if is_mark(*first) {
         return Ok(Some((Token::Mark(spaced, *first), others)));
     }
-    let (word, after) = cut_word(rest);
+    let (bangs, behind) = cut_bangs(rest);
+    let (word, after) = cut_word(behind);
     if word.is_empty() {
-        return Err(stray(*first));
+        return Err(no_word(behind));
     }
     match text_of(word) {
-        Some(text) => Ok(Some((Token::Word(spaced, text), after))),
+        Some(text) => Ok(Some((Token::Word(spaced, bangs.len(), text), after))),
         None => Err(LineFault::BadWord),
     }
 }

@@ -1,35 +1,70 @@
--- A text is one command's.
-use Rattle.std.proofs.Common.{◌≡◌, ℕ, List, true, false, refl, sym, ap, ◌∙◌}
+-- A text is one command's, and so are a head and a rule.
+use Rattle.std.proofs.Common.{◌≡◌, ℕ, List, ◌∷◌, ◌++◌, true, false, eqb, refl, sym, ap, ◌∙◌}
 use Rattle.std.specs.Prelude.{codes}
+use Rattle.std.specs.List.{slice_split}
 use Rattle.std.proofs.lemmas.Bool.{false≢true}
-use Rattle.sudo_words.specs.Word.{is_file_path}
-use Rattle.sudo_words.specs.Command.{IsLawful, cmnd_text}
+use Rattle.sudo_words.specs.Word.{is_dir_path, is_file_path}
+use Rattle.sudo_words.specs.Command.{IsHead, IsLawful, cmnd_text, head_text, rule_of}
+use Rattle.sudo_words.specs.Pieces.{words_of}
 use Rattle.sudo_words.specs.declared.cmnd.Cmnd.{Cmnd}
 use Rattle.sudo_words.specs.declared.cmnd.Cmnd.TheVariants.{All, Path, Dir}
-use Rattle.sudo_words.specs.declared.cmnd.ArgRule.TheVariants.{Any, Empty, Exactly}
+use Rattle.sudo_words.specs.declared.cmnd.ArgRule.{ArgRule}
+use Rattle.sudo_words.proofs.PathLemmas.{dir_parts, no_slash_ended}
+use Rattle.sudo_words.proofs.PieceLemmas.{cut_words, head_no_space, words_no_space, words_text, one_rule}
 
--- `ALL` is no path
-all_no_path : is_file_path (codes "ALL") ≡ false
-all_no_path = refl
+-- `ALL` is neither a file nor a directory
+pub all_no_file : is_file_path (codes "ALL") ≡ false
+all_no_file = refl
 
-all_one : (d : Cmnd) → IsLawful d → codes "ALL" ≡ cmnd_text d → All ≡ d
-all_one All is e = refl
-all_one (Path file Any) is e = absurd (false≢true (sym all_no_path ∙ ap is_file_path e ∙ is.0))
-all_one (Path file Empty) is e = absurd is
-all_one (Path file (Exactly args)) is e = absurd is
-all_one (Dir dir) is e = absurd is
+pub all_no_dir : is_dir_path (codes "ALL") ≡ false
+all_no_dir = refl
 
-file_one : (file : List ℕ) → is_file_path file ≡ true → (d : Cmnd) → IsLawful d → file ≡ cmnd_text d → Path file Any ≡ d
-file_one file path All is e = absurd (false≢true (sym all_no_path ∙ ap is_file_path (sym e) ∙ path))
-file_one file path (Path other Any) is e = ap (λ (f : List ℕ). Path f Any) e
-file_one file path (Path other Empty) is e = absurd is
-file_one file path (Path other (Exactly args)) is e = absurd is
-file_one file path (Dir dir) is e = absurd is
+pub no_file_all : (file : List ℕ) → is_file_path file ≡ true → file ≡ codes "ALL" → ⊥
+no_file_all file h e = false≢true (sym all_no_file ∙ ap is_file_path (sym e) ∙ h)
+
+pub no_dir_all : (dir : List ℕ) → is_dir_path dir ≡ true → dir ≡ codes "ALL" → ⊥
+no_dir_all dir h e = false≢true (sym all_no_dir ∙ ap is_dir_path (sym e) ∙ h)
+
+-- no file is a directory
+pub no_file_dir : (file dir : List ℕ) → is_file_path file ≡ true → is_dir_path dir ≡ true → file ≡ dir → ⊥
+no_file_dir file dir h k e = no_slash_ended dir (dir_parts dir k).0 (ap is_file_path (sym e) ∙ h)
+
+-- a path of its form, of any length
+abbrev pub HasForm : Cmnd → Type 0
+HasForm All = Unit {0}
+HasForm (Path file rule) = is_file_path file ≡ true
+HasForm (Dir dir) = is_dir_path dir ≡ true
+
+pub head_form : (c : Cmnd) → IsHead c → HasForm c
+head_form All h = tt
+head_form (Path file rule) h = h.0
+head_form (Dir dir) h = h.0
+
+pub same_form : (c d : Cmnd) → HasForm c → HasForm d → head_text c ≡ head_text d → rule_of c ≡ rule_of d → c ≡ d
+same_form All All h k e r = refl
+same_form All (Path file rule) h k e r = absurd (no_file_all file k (sym e))
+same_form All (Dir dir) h k e r = absurd (no_dir_all dir k (sym e))
+same_form (Path file rule) All h k e r = absurd (no_file_all file h e)
+same_form (Path file rule) (Path other same) h k e r = ap (λ (f : List ℕ). Path f rule) e ∙ ap (λ (q : ArgRule). Path other q) r
+same_form (Path file rule) (Dir dir) h k e r = absurd (no_file_dir file dir h k e)
+same_form (Dir dir) All h k e r = absurd (no_dir_all dir h e)
+same_form (Dir dir) (Path file rule) h k e r = absurd (no_file_dir file dir k h (sym e))
+same_form (Dir dir) (Dir other) h k e r = ap (λ (d : List ℕ). Dir d) e
+
+-- no two commands have one head and one rule
+pub same_command : (c d : Cmnd) → IsLawful c → IsLawful d → head_text c ≡ head_text d → rule_of c ≡ rule_of d → c ≡ d
+same_command c d x y e r = same_form c d (head_form c x.head) (head_form d y.head) e r
+
+-- the words of a command's text
+pub cmnd_words : (c : Cmnd) → IsLawful c → slice_split (λ b. eqb b 32) (cmnd_text c) ≡ head_text c ∷ words_of (rule_of c)
+cmnd_words c x =
+    ap (λ (t : List ℕ). slice_split (λ (b : ℕ). eqb b 32) (head_text c ++ t)) (words_text (rule_of c))
+    ∙ cut_words (head_text c) (words_of (rule_of c)) (head_no_space c x.head) (words_no_space (rule_of c) x.args)
 
 -- no text is two commands'
 pub one_command : (c d : Cmnd) → IsLawful c → IsLawful d → cmnd_text c ≡ cmnd_text d → c ≡ d
-one_command All d x y e = all_one d y e
-one_command (Path file Any) d x y e = file_one file x.0 d y e
-one_command (Path file Empty) d x y e = absurd x
-one_command (Path file (Exactly args)) d x y e = absurd x
-one_command (Dir dir) d x y e = absurd x
+one_command c d x y e =
+    let both : head_text c ∷ words_of (rule_of c) ≡ head_text d ∷ words_of (rule_of d) = sym (cmnd_words c x) ∙ ap (slice_split (λ (b : ℕ). eqb b 32)) e ∙ cmnd_words d y in
+    let heads : head_text c ≡ head_text d = cc in
+    let others : words_of (rule_of c) ≡ words_of (rule_of d) = cc in
+    same_command c d x y heads (one_rule (rule_of c) (rule_of d) x.args y.args others)

@@ -1,9 +1,10 @@
 -- Commands of a sudoers text: which invocations they match, which of them are lawful, and how each is written
 -- (sudoers(5), "Cmnd_List" and "Command arguments").
-use Rattle.std.specs.Prelude.{◌≡◌, ℕ, ◌≤◌, Bool, true, ◌&&◌, ◌==◌, List, length, take, drop, codes}
+use Rattle.std.specs.Prelude.{◌≡◌, ℕ, ◌≤◌, Bool, true, ◌&&◌, ◌||◌, ◌==◌, if◌then◌else◌, List, [], ◌∷◌, ◌++◌, length, take, drop, codes}
+use Rattle.std.specs.List.{AllByRecursion, flat_map}
 use Rattle.std.specs.Str.{bytes_eq}
 use Rattle.std.specs.Cmp.Lexicographic.{pointwise}
-use Rattle.sudo_words.specs.Word.{is_component, is_file_path}
+use Rattle.sudo_words.specs.Word.{is_component, is_file_path, is_dir_path, is_arg}
 use Rattle.sudo_words.specs.declared.cmnd.Cmnd.{Cmnd}
 use Rattle.sudo_words.specs.declared.cmnd.Cmnd.TheVariants.{All, Path, Dir}
 use Rattle.sudo_words.specs.declared.cmnd.ArgRule.{ArgRule}
@@ -25,16 +26,57 @@ matches All path args = true
 matches (Path file rule) path args = bytes_eq path file && allows rule args
 matches (Dir dir) path args = is_directly_in dir path
 
--- The commands that policies hold: `ALL`, and a path of at most 255 bytes with any arguments.
-abbrev pub IsLawful : Cmnd → Type 0
-IsLawful All = Unit {0}
-IsLawful (Path file Any) = (is_file_path file ≡ true) × (length file ≤ 255)
-IsLawful (Path file Empty) = ⊥
-IsLawful (Path file (Exactly args)) = ⊥
-IsLawful (Dir dir) = ⊥
+-- ---- texts: a path, and its arguments behind single spaces
+
+-- `,`, `:` and `=` stand in an argument's text behind a backslash
+abbrev pub is_escaped : ℕ → Bool
+is_escaped b = (b == 44) || (b == 58) || (b == 61)
+
+abbrev pub escaped_byte : ℕ → List ℕ
+escaped_byte b = if is_escaped b then 92 ∷ b ∷ [] else b ∷ []
+
+abbrev pub arg_text : List ℕ → List ℕ
+arg_text arg = flat_map escaped_byte arg
+
+abbrev pub spaced_arg : List ℕ → List ℕ
+spaced_arg arg = 32 ∷ arg_text arg
+
+-- what stands behind a path: nothing where any arguments are allowed, `""` where none is, else the arguments
+abbrev pub rule_text : ArgRule → List ℕ
+rule_text Any = []
+rule_text Empty = codes " \"\""
+rule_text (Exactly args) = flat_map spaced_arg args
+
+-- a command is its head, which is `ALL`, a file or a directory, and what it says of the arguments
+abbrev pub head_text : Cmnd → List ℕ
+head_text All = codes "ALL"
+head_text (Path file rule) = file
+head_text (Dir dir) = dir
+
+abbrev pub rule_of : Cmnd → ArgRule
+rule_of All = Any
+rule_of (Path file rule) = rule
+rule_of (Dir dir) = Any
 
 -- the one text of a lawful command
 abbrev pub cmnd_text : Cmnd → List ℕ
-cmnd_text All = codes "ALL"
-cmnd_text (Path file rule) = file
-cmnd_text (Dir dir) = dir
+cmnd_text cmnd = head_text cmnd ++ rule_text (rule_of cmnd)
+
+-- ---- The commands that policies hold: `ALL`, a directory, or a file with a rule for its arguments.
+
+abbrev pub IsHead : Cmnd → Type 0
+IsHead All = Unit {0}
+IsHead (Path file rule) = (is_file_path file ≡ true) × (length file ≤ 255)
+IsHead (Dir dir) = (is_dir_path dir ≡ true) × (length dir ≤ 255)
+
+-- from 1 to 16 arguments where they are listed
+abbrev pub IsArgRule : ArgRule → Type 0
+IsArgRule Any = Unit {0}
+IsArgRule Empty = Unit {0}
+IsArgRule (Exactly args) = AllByRecursion (λ arg. is_arg arg ≡ true) args × (1 ≤ length args) × (length args ≤ 16)
+
+-- The path has at most 255 bytes, and the text, with its backslashes, at most 1,024.
+pub record IsLawful (cmnd : Cmnd) : Type 0 where
+  pub head : IsHead cmnd
+  pub args : IsArgRule (rule_of cmnd)
+  pub short : length (cmnd_text cmnd) ≤ 1024

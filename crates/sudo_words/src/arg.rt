@@ -7,7 +7,7 @@ ghost use Rattle.sudo_words.specs.Word as word;
 use crate::path::is_path_byte;
 use crate::word::{Form, Word};
 
-fn is_arg_byte(b: u8) -> bool
+pub(crate) fn is_arg_byte(b: u8) -> bool
     ensures { result ≡ word.is_arg_byte b }
 {
     is_path_byte(b) || b == b'/' || b == b'@' || b == b'%' || b == b',' || b == b':' || b == b'='

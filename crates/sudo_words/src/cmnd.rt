@@ -1,10 +1,9 @@
 //! Commands, and what they match.
 
-ghost use Rattle.std.specs.Prelude.{◌≡◌, ◌↔◌, IsTrue};
+ghost use Rattle.std.specs.Prelude.{◌≡◌};
 ghost use Rattle.std.specs.Str.{bytes_eq};
 ghost use Rattle.std.specs.Cmp.Lexicographic.{pointwise};
 ghost use Rattle.sudo_words.specs.Command as command;
-ghost use Rattle.sudo_words.specs.Command.{IsLawful};
 
 use crate::arg::Arg;
 use crate::items::Items;
@@ -67,18 +66,5 @@ impl Cmnd {
             Cmnd::Path(file, rule) => path == file && allows(rule, args),
             Cmnd::Dir(dir) => is_directly_in(dir.as_str().as_bytes(), path.as_str().as_bytes()),
         }
-    }
-}
-
-/// Whether policies hold the command: `ALL`, or a path of at most 255 bytes with any arguments.
-/// It takes no memory.
-pub fn is_lawful(cmnd: &Cmnd) -> bool
-    ensures { IsTrue result ↔ IsLawful cmnd.now }
-{
-    match cmnd {
-        Cmnd::All => true,
-        Cmnd::Path(file, ArgRule::Any) => file.as_str().len() <= 255,
-        Cmnd::Path(_, _) => false,
-        Cmnd::Dir(_) => false,
     }
 }

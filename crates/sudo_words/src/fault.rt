@@ -39,6 +39,14 @@ impl From<AllocError> for WordFault {
     }
 }
 
+impl<T: Drop> From<AllocFailed<T>> for WordFault {
+    ghost from_gives = { λ _ e. e ≡ word.NoMemory };
+
+    fn from(_e: AllocFailed<T>) -> WordFault {
+        WordFault::NoMemory
+    }
+}
+
 /// Why a text was read as no command.
 #[derive(Clone, Copy, Debug, PartialEq, Eq)]
 pub enum CmndFault {
@@ -61,5 +69,16 @@ impl<T: Drop> From<AllocFailed<T>> for CmndFault {
 
     fn from(_e: AllocFailed<T>) -> CmndFault {
         CmndFault::NoMemory
+    }
+}
+
+impl From<WordFault> for CmndFault {
+    ghost from_gives = { λ w e. w ≡ word.NoMemory → e ≡ cmnd.NoMemory };
+
+    fn from(e: WordFault) -> CmndFault {
+        match e {
+            WordFault::BadWord => CmndFault::BadCmnd,
+            WordFault::NoMemory => CmndFault::NoMemory,
+        }
     }
 }

@@ -3,11 +3,13 @@
 
 mod alias;
 mod arg;
+mod arg_text;
 mod civil;
 mod cmnd;
 mod cmnd_text;
 mod fault;
 mod items;
+mod lawful;
 mod laws;
 mod moment;
 mod moment_laws;
@@ -19,10 +21,12 @@ mod word;
 
 pub use alias::{AliasForm, AliasName};
 pub use arg::{Arg, ArgForm};
-pub use cmnd::{ArgRule, Cmnd, is_lawful};
-pub use cmnd_text::{print_cmnd, read_cmnd};
+pub use arg_text::read_arg;
+pub use cmnd::{ArgRule, Cmnd};
+pub use cmnd_text::{command_of, print_cmnd, read_cmnd};
 pub use fault::{CmndFault, NoMemory, WordFault};
 pub use items::Items;
+pub use lawful::is_lawful;
 pub use laws::one_command;
 pub use moment::Moment;
 pub use moment_laws::{one_moment, stamp_is_stamp, stamp_spells};
@@ -30,5 +34,7 @@ pub use name::{HostForm, HostName, Label, LabelForm, Name, UserForm};
 pub use path::{DirForm, DirPath, FileForm, FilePath};
 pub use word::{Form, Word};
 
+#[cfg(test)]
+mod cmnd_tests;
 #[cfg(test)]
 mod moment_tests;

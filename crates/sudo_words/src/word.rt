@@ -1,10 +1,11 @@
 //! Texts of a given form.
 
-ghost use Rattle.std.specs.Prelude.{◌≡◌, List, ℕ, IfOk, Bool, MatchResult, true};
+ghost use Rattle.std.specs.Prelude.{◌≡◌, List, ℕ, IfOk, Bool, MatchResult, string_bytes, true};
 ghost use Rattle.sudo_words.specs.declared.fault.WordFault.TheVariants.{NoMemory};
 
 use crate::fault::WordFault;
 use std::alloc::Global;
+use std::cmp::Ordering;
 use std::marker::{Model, PhantomData};
 
 /// Which texts are words of a form.
@@ -48,6 +49,21 @@ impl<F: Form> Word<F> {
         })
     }
 
+    /// The word that the text is, which it keeps; `BadWord` where it has not the form.
+    pub fn from_string(text: String) -> Result<Word<F>, WordFault>
+        ensures found { IfOk result (λ w. (w ≡ string_bytes text) × (F.has (string_bytes text) ≡ true)) }
+        ensures only { F.has (string_bytes text) ≡ true → result ≡ Ok (string_bytes text) }
+    {
+        if F::test(text.as_bytes()) {
+            Ok(Word {
+                text,
+                form: PhantomData,
+            })
+        } else {
+            Err(WordFault::BadWord)
+        }
+    }
+
     /// Its text.
     pub fn as_str(&self) -> &str
         ensures value { result.now ≡ self.now }
@@ -76,4 +92,37 @@ impl<F: Form> Eq for Word<F> {
     ghost use Rattle.std.proofs.Common.{rules};
 
     ghost laws = { Prim.search (comparing, rules) };
+}
+
+impl<F: Form> PartialOrd for Word<F> {
+    ghost use Rattle.std.specs.Prelude.{Some};
+    ghost use Rattle.std.specs.Cmp.Lexicographic.{slice_cmp, texts_po};
+    ghost use Rattle.std.specs.Ordering.{nat_cmp};
+
+    ghost partial_cmp = { λ x y. Some (slice_cmp nat_cmp x y) };
+
+    ghost laws = { texts_po };
+
+    fn partial_cmp(&self, other: &Word<F>) -> Option<Ordering> {
+        Some(self.cmp(other))
+    }
+}
+
+/// In the order of the bytes.
+impl<F: Form> Ord for Word<F> {
+    ghost use Rattle.std.proofs.Common.{refl};
+    ghost use Rattle.std.specs.Cmp.Lexicographic.{slice_cmp, nat_list_cmp_total, texts_ties};
+    ghost use Rattle.std.specs.Ordering.{nat_cmp};
+
+    ghost cmp = { slice_cmp nat_cmp };
+
+    ghost total = { nat_list_cmp_total };
+
+    ghost matches_partial_cmp = { λ x y. refl };
+
+    ghost matches_eq = { texts_ties };
+
+    fn cmp(&self, other: &Word<F>) -> Ordering {
+        self.text.as_str().cmp(other.text.as_str())
+    }
 }

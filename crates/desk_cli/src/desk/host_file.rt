@@ -2,12 +2,14 @@
 
 ghost use Rattle.std.specs.Prelude.{◌≡◌, ◌⊎◌, ◌<◌, ◌≤◌, List, IfOk, IfErr, length, map, string_bytes};
 ghost use Rattle.std.specs.List.{AllByRecursion};
-ghost use Rattle.sudo_syntax.specs.Grammar.{Spells};
-ghost use Rattle.sudo_syntax.specs.Policy.{IsPolicy, IsRule};
+ghost use Rattle.sudo_syntax.specs.Policy.{IsPolicy};
 ghost use Rattle.sudo_syntax.specs.Printing.{canon};
 ghost use Rattle.sudo_syntax.specs.Reading.{with_rules};
+ghost use Rattle.sudo_syntax.specs.Spelling.{Spells};
 ghost use Rattle.desk_cli.specs.declared.desk.refusal.Refusal.TheVariants as refusal;
+ghost use Rattle.desk_cli.specs.Granted.{IsGrantRule};
 ghost use Rattle.desk_cli.specs.HostFile.{Line, AreLines};
+ghost use Rattle.desk_cli.specs.State.{FitsBase};
 
 use crate::desk::approved::approved_of;
 use crate::desk::asked::asked_of;
@@ -22,7 +24,7 @@ use sudo_words::HostName;
 pub(crate) fn lines(alloc: Global, set: &[Message], host: &HostName) -> Result<Vec<Rule>, Refusal>
     ensures lines { IfOk result (λ v. (ls : List Line) × AreLines set.now host.now ls × (v.items ≡ map (λ l. l.rule) ls)) }
     ensures few { IfOk result (λ v. length v.items ≤ 8_192) }
-    ensures lawful { IfOk result (λ v. AllByRecursion IsRule v.items) }
+    ensures grants { IfOk result (λ v. AllByRecursion IsGrantRule v.items) }
     ensures err { IfErr result (λ e. (e ≡ refusal.NoMemory)
         ⊎ ((e ≡ refusal.TooManyRules) × ((ls : List Line) × AreLines set.now host.now ls × (8_192 < length ls)))) }
 {
@@ -31,12 +33,12 @@ pub(crate) fn lines(alloc: Global, set: &[Message], host: &HostName) -> Result<V
     rules_for(alloc, host, &asked, &approved)
 }
 
-/// The text of the base with some rules behind it.
+/// The text of the base with the rules of grants behind it.
 pub(crate) fn text(alloc: Global, base: &Policy, rules: Vec<Rule>) -> Result<String, Refusal>
     requires policy { IsPolicy base.now }
-    requires count { length base.now ≤ 4_096 }
+    requires fits { FitsBase base.now }
     requires few { length rules.items ≤ 8_192 }
-    requires lawful { AllByRecursion IsRule rules.items }
+    requires grants { AllByRecursion IsGrantRule rules.items }
     ensures text { IfOk result (λ s. string_bytes s ≡ canon (with_rules base.now rules.items)) }
     ensures spells { IfOk result (λ s. Spells (string_bytes s) (with_rules base.now rules.items)) }
     ensures err { IfErr result (λ e. e ≡ refusal.NoMemory) }

@@ -3,13 +3,11 @@
 ghost use Rattle.std.specs.Prelude.{◌≡◌, ◌⊎◌, ◌++◌, ◌<◌, ◌≤◌, IfOk, IfErr, OnOk, IfSome, map, length, false};
 ghost use Rattle.std.specs.List.{AllByRecursion};
 ghost use Rattle.std.specs.BTreeMap.{values};
-ghost use Rattle.sudo_syntax.specs.Grammar.{one};
-ghost use Rattle.sudo_syntax.specs.Policy.{IsRule};
 ghost use Rattle.sudo_syntax.specs.declared.entry.Item.TheVariants as items;
 ghost use Rattle.sudo_syntax.specs.declared.entry.CmndItem.TheVariants as cmnds;
 ghost use Rattle.desk_cli.specs.declared.desk.refusal.Refusal.TheVariants as refusal;
-ghost use Rattle.desk_cli.specs.HostFile.{grant_rule};
-ghost use Rattle.desk_cli.specs.Granted.{AreMoments, rules_by, rules_of, window_rules};
+ghost use Rattle.desk_cli.specs.HostFile.{grant_rule, one};
+ghost use Rattle.desk_cli.specs.Granted.{AreMoments, IsGrantRule, rules_by, rules_of, window_rules};
 
 use crate::desk::approved::Approval;
 use crate::desk::asked::Asked;
@@ -104,7 +102,7 @@ fn push_granted(
 ) -> Result<(), AllocError>
     requires { IfSome window AreMoments }
     ensures rules { OnOk result (rules.new.items ≡ rules.old.items ++ window_rules host.now request.now window) }
-    ensures lawful { AllByRecursion IsRule rules.old.items → OnOk result (AllByRecursion IsRule rules.new.items) }
+    ensures grants { AllByRecursion IsGrantRule rules.old.items → OnOk result (AllByRecursion IsGrantRule rules.new.items) }
 {
     match window {
         Some(window) if request.hosts().contains(host) => {
@@ -123,7 +121,7 @@ fn push_asked<'a>(
     approved: &BTreeMap<RequestName<'a>, Approval<'a>>,
 ) -> Result<(), AllocError>
     ensures rules { OnOk result (rules.new.items ≡ rules.old.items ++ rules_by host.now approved.now asked.now) }
-    ensures lawful { AllByRecursion IsRule rules.old.items → OnOk result (AllByRecursion IsRule rules.new.items) }
+    ensures grants { AllByRecursion IsGrantRule rules.old.items → OnOk result (AllByRecursion IsGrantRule rules.new.items) }
 {
     let name = name_of(asked.request);
     let window = granted(asked, approved.get(&name));
@@ -139,7 +137,7 @@ pub(crate) fn rules_for<'a>(
 ) -> Result<Vec<Rule>, Refusal>
     ensures rules { IfOk result (λ v. v.items ≡ rules_of host.now approved.now (values asked.now)) }
     ensures few { IfOk result (λ v. length v.items ≤ 8_192) }
-    ensures lawful { IfOk result (λ v. AllByRecursion IsRule v.items) }
+    ensures grants { IfOk result (λ v. AllByRecursion IsGrantRule v.items) }
     ensures err { IfErr result (λ e. (e ≡ refusal.NoMemory)
         ⊎ ((e ≡ refusal.TooManyRules) × (8_192 < length (rules_of host.now approved.now (values asked.now))))) }
 {

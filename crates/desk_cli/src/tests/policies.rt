@@ -7,7 +7,6 @@ use crate::status::code;
 use std::alloc::Global;
 use std::io;
 use std::io::Write;
-use std::process::Abort;
 use std::test::Fail;
 
 const POLICY: &str = "ann db1 = NOTBEFORE=2026010509Z NOTAFTER=202601051100Z /bin/ls\n";
@@ -37,7 +36,7 @@ impl Write for Narrow {
 }
 
 /// Does the line's job over one file of this text.
-fn done(alloc: Global, text: &str, words: &[&str]) -> Result<Shown, Fail> {
+pub(super) fn done(alloc: Global, text: &str, words: &[&str]) -> Result<Shown, Fail> {
     run_line(alloc, words, text.as_bytes(), &mut b"".as_slice())
 }
 
@@ -119,161 +118,6 @@ fn nothing_allows(rt: HostRuntime) -> Result<(), Fail> {
     let decided = done(rt.alloc(), "", &words)?;
     assert_eq!(rt; decided.out.as_slice(), b"deny\n".as_slice());
     assert_eq!(rt; decided.status, 1);
-    Ok(())
-}
-
-/// What is printed of a text that is no policy: nothing on the output, and the refusal with status 2.
-fn refusal(rt: &impl Abort, alloc: Global, text: &[u8]) -> Result<Vec<u8>, Fail> {
-    let Ok(job) = job(alloc, line(alloc, &["desk", "check", "base.sudo"])?) else {
-        return Err(Fail::from("no job"));
-    };
-    let mut files = Vec::new(alloc);
-    files.push(Vec::from_slice(alloc, text)?)?;
-    let mut out = Vec::new(alloc);
-    let mut err = Vec::new(alloc);
-    let status = run(
-        alloc,
-        &job,
-        files.as_slice(),
-        &mut b"".as_slice(),
-        &mut out,
-        &mut err,
-    );
-    assert_eq!(rt; code(status), 2);
-    assert!(rt; out.is_empty());
-    Ok(err)
-}
-
-#[test]
-fn forms_left_out(rt: HostRuntime) -> Result<(), Fail> {
-    for text in [
-        "User_Alias A = ann",
-        "Cmnd_Alias LS = /bin/ls",
-        "ann, bob db1 = ALL",
-        "!ann db1 = ALL",
-        "OPS db1 = ALL",
-        "ann SERVERS = ALL",
-        "ann db1 = (op, root) ALL",
-        "ann db1 = (:wheel) ALL",
-        "ann db1 = () ALL",
-        "ann db1 = NOPASSWD: ALL",
-        "ann db1 = /bin/ls -l",
-        "ann db1 = /bin/ls \"\"",
-        "ann db1 = /usr/bin/",
-        "ann db1 = /bin/ls, /bin/cat",
-        "ann db1 = ALL : db2 = ALL",
-        "ann db1 = ALL # all",
-        "ann db1 = \\\n/bin/ls",
-        "Defaults env_reset",
-        "@include /etc/sudoers.d/x",
-        "%wheel ALL = ALL",
-        "+ops ALL = ALL",
-        "#1000 ALL = ALL",
-        "#include /etc/x",
-        "ann 10.0.0.1 = ALL",
-        "ann db1.example.com = ALL",
-        "ann db1 = sudoedit /etc/hosts",
-        "ann db1 = TIMEOUT=5 ALL",
-        "ann db1 = /bin/l*",
-    ] {
-        let printed = refusal(&rt, rt.alloc(), text.as_bytes())?;
-        assert_eq!(rt;
-            printed.as_slice(),
-            b"S9 LeftOut line 1\n".as_slice(),
-            "{text}"
-        );
-    }
-    Ok(())
-}
-
-#[test]
-fn faults_of_lines(rt: HostRuntime) -> Result<(), Fail> {
-    for (text, printed) in [
-        ("# one\n\nAnn db1 = ALL\n", "S3 BadWord line 3\n"),
-        (
-            "a23456789012345678901234567890123 db1 = ALL",
-            "S3 BadWord line 1\n",
-        ),
-        ("ann db_1 = ALL", "S3 BadWord line 1\n"),
-        ("ann db1 = bin/ls", "S3 BadWord line 1\n"),
-        ("ann db1 = /bin//ls", "S3 BadWord line 1\n"),
-        ("ann db1 = /bin/./ls", "S3 BadWord line 1\n"),
-        ("ann db1 = /bin/../ls", "S3 BadWord line 1\n"),
-        ("ann db1 = //", "S3 BadWord line 1\n"),
-        ("ann db1 = /bin/ls;id", "S3 BadWord line 1\n"),
-        ("ann", "S4 Unexpected line 1\n"),
-        ("ann db1", "S4 Unexpected line 1\n"),
-        ("ann db1 =", "S4 Unexpected line 1\n"),
-        ("ann = ALL", "S4 Unexpected line 1\n"),
-        ("ann db1 ALL", "S4 Unexpected line 1\n"),
-        ("ann db1 = = ALL", "S4 Unexpected line 1\n"),
-        ("ann db1 = (op ALL", "S4 Unexpected line 1\n"),
-        (
-            "ann db1 = NOTBEFORE =2026010509Z ALL",
-            "S4 Unexpected line 1\n",
-        ),
-        (
-            "ann db1 = NOTBEFORE= 2026010509Z ALL",
-            "S4 Unexpected line 1\n",
-        ),
-        (
-            "ann db1 = NOTBEFORE=2026010509Z NOTBEFORE=2026010509Z ALL",
-            "S4 Unexpected line 1\n",
-        ),
-        ("ann db1 = NOTBEFORE=2026010509Z", "S4 Unexpected line 1\n"),
-        (
-            "ann db1 = NOTBEFORE=2026010509 ALL",
-            "S8 BadMoment line 1\n",
-        ),
-        (
-            "ann db1 = NOTBEFORE=2026023009Z ALL",
-            "S8 BadMoment line 1\n",
-        ),
-        (
-            "ann db1 = NOTAFTER=2026010524Z ALL",
-            "S8 BadMoment line 1\n",
-        ),
-        (
-            "ann db1 = NOTAFTER=20260105230060Z ALL",
-            "S8 BadMoment line 1\n",
-        ),
-        (
-            "ann db1 = NOTAFTER=2100010100Z ALL",
-            "S8 BadMoment line 1\n",
-        ),
-        ("ann db1 = ALL\r\n", "S2 BadByte line 1\n"),
-        ("ann db1 = ALL\n\n\0", "S2 BadByte line 3\n"),
-        ("# \u{80}\n", "S2 BadByte line 1\n"),
-    ] {
-        let found = refusal(&rt, rt.alloc(), text.as_bytes())?;
-        assert_eq!(rt; found.as_slice(), printed.as_bytes(), "{text:?}");
-    }
-    let found = refusal(&rt, rt.alloc(), b"ann db1 = ALL\n\xff\xfe")?;
-    assert_eq!(rt; found.as_slice(), b"S2 BadByte line 2\n".as_slice());
-    Ok(())
-}
-
-/// So many copies of a text, joined.
-fn repeated(alloc: Global, text: &[u8], times: usize) -> Result<Vec<u8>, Fail> {
-    let mut all = Vec::new(alloc);
-    for _ in 0..times {
-        all.extend_from_slice(text)?;
-    }
-    Ok(all)
-}
-
-#[test]
-fn limits(rt: HostRuntime) -> Result<(), Fail> {
-    let alloc = rt.alloc();
-    let rule = b"ann db1 = ALL\n".as_slice();
-    let found = refusal(&rt, rt.alloc(), repeated(alloc, rule, 16_385)?.as_slice())?;
-    assert_eq!(rt; found.as_slice(), b"S10 TooLarge line 16385\n".as_slice());
-    let blanks = vec![in alloc; b'\n'; 16_777_217]?;
-    let found = refusal(&rt, rt.alloc(), blanks.as_slice())?;
-    assert_eq!(rt; found.as_slice(), b"S1 TooLong line 16777217\n".as_slice());
-    let long = vec![in alloc; b'a'; 10_000_000]?;
-    let found = refusal(&rt, rt.alloc(), long.as_slice())?;
-    assert_eq!(rt; found.as_slice(), b"S4 Unexpected line 1\n".as_slice());
     Ok(())
 }
 

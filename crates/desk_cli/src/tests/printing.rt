@@ -35,7 +35,7 @@ const BACKWARDS: &str =
 const SPACED: &str =
     "{\"at\":\"20260105060000Z\",\"by\":\"ann\",\"ceiling\":\"db-root\",\"cmnds\":[\"/bin/ls\"],\"from\":\"20260105090000Z\",\"hosts\":[\"db1\"],\"kind\":\"request\",\"no\":7,\"runas\":\"root\",\"until\":\"20260105110000Z\"} ";
 
-const APPROVAL: &str =
+pub(super) const APPROVAL: &str =
     "{\"at\":\"20260105083000Z\",\"by\":\"bob\",\"kind\":\"approve\",\"no\":7,\"of\":\"ann\"}";
 
 /// The asker's own.
@@ -43,7 +43,7 @@ const OWN: &str =
     "{\"at\":\"20260105083000Z\",\"by\":\"ann\",\"kind\":\"approve\",\"no\":7,\"of\":\"ann\"}";
 
 /// The lines, each with a newline behind it.
-fn joined(alloc: Global, lines: &[&str]) -> Result<Vec<u8>, Fail> {
+pub(super) fn joined(alloc: Global, lines: &[&str]) -> Result<Vec<u8>, Fail> {
     let mut text = Vec::new(alloc);
     for line in lines {
         text.extend_from_slice(line.as_bytes())?;
@@ -53,7 +53,12 @@ fn joined(alloc: Global, lines: &[&str]) -> Result<Vec<u8>, Fail> {
 }
 
 /// What the program makes of an input.
-fn printed<R: Read>(alloc: Global, base: &[u8], host: &str, input: &mut R) -> Result<Shown, Fail> {
+pub(super) fn printed<R: Read>(
+    alloc: Global,
+    base: &[u8],
+    host: &str,
+    input: &mut R,
+) -> Result<Shown, Fail> {
     run_line(
         alloc,
         &["desk", "print", "-", "base.sudo", "-", host],
@@ -62,7 +67,7 @@ fn printed<R: Read>(alloc: Global, base: &[u8], host: &str, input: &mut R) -> Re
     )
 }
 
-fn expect(rt: &impl Abort, shown: &Shown, status: u8, out: &str, err: &str, name: &str) {
+pub(super) fn expect(rt: &impl Abort, shown: &Shown, status: u8, out: &str, err: &str, name: &str) {
     assert_eq!(rt; shown.out.as_slice(), out.as_bytes(), "{name}");
     assert_eq!(rt; shown.err.as_slice(), err.as_bytes(), "{name}");
     assert_eq!(rt; shown.status, status, "{name}");

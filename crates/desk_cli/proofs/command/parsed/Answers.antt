@@ -1,7 +1,6 @@
-use Rattle.std.proofs.Common.{◌≡◌, [], map, ap, sym, subst, ◌∙◌, inl, inr, Option, List}
+use Rattle.std.proofs.Common.{[], map, ap, sym, subst, ◌∙◌, inl, inr}
 use Rattle.std.specs.Prelude.{string_bytes}
-use Rattle.clap.specs.Words.{App, HasKind, Kinds, Row, Text, fault_of, is_simple, is_simple_and_free, subcommand_of}
-use Rattle.desk_cli.specs.CommandLine.{desk}
+use Rattle.clap.specs.Words.{App, HasKind, Kinds, fault_of, is_simple, is_simple_and_free, subcommand_of}
 use Rattle.desk_cli.proofs.Commands.{desk_free, desk_simple}
 use Rattle.desk_cli.proofs.command.parsed.Goals as goal
 

@@ -1,4 +1,3 @@
-use Rattle.std.proofs.Common.{◌≡◌}
 use Rattle.desk_cli.proofs.Runs.{same_run}
 use Rattle.desk_cli.proofs.command_line.invocation.Goals as goal
 

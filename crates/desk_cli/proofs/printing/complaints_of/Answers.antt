@@ -1,4 +1,4 @@
-use Rattle.std.proofs.Common.{◌≡◌, ◌<◌, length, string_bytes, ap, ◌∙◌}
+use Rattle.std.proofs.Common.{◌<◌, length, string_bytes, ap, ◌∙◌}
 use Rattle.desk_cli.proofs.ComplaintLemmas.{said_nothing, said_refusal}
 use Rattle.desk_cli.proofs.printing.complaints_of.Goals as goal
 use Rattle.desk_cli.proofs.printing.complaints_of.Goals.{in-Err+in_ok-complain, in_default}

@@ -1,5 +1,4 @@
-use Rattle.std.proofs.Common.{◌≡◌, List, ℕ, OnOk, Result, Ok, Err, ap, map, string_bytes}
-use Rattle.std.specs.Io.KnownBytes.{Appends}
+use Rattle.std.proofs.Common.{OnOk, Result, Ok, Err, ap, map, string_bytes}
 use Rattle.desk_cli.specs.Printing.{IsTaken}
 use Rattle.desk_cli.proofs.BroughtLemmas.{taken}
 use Rattle.desk_cli.proofs.printing.take_lines.Goals as goal

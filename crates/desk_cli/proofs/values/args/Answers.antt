@@ -1,4 +1,4 @@
-use Rattle.std.proofs.Common.{◌≡◌, ◌<◌, ◌∙◌, List, arith, ap, inl, length, map, sym, true}
+use Rattle.std.proofs.Common.{◌≡◌, ◌∙◌, List, arith, inl, length, map, sym, true}
 use Rattle.std.specs.List.{list_all}
 use Rattle.sudo_words.specs.Word.{is_arg}
 use Rattle.std.proofs.lemmas.Result.{IfOk-weaker}

@@ -1,4 +1,3 @@
-use Rattle.std.proofs.Common.{arith}
 use Rattle.sudo_words.proofs.MomentLemmas.{stamp_spells}
 use Rattle.desk_cli.proofs.values.stamped.Goals as goal
 

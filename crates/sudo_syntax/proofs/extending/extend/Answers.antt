@@ -1,9 +1,14 @@
-use Rattle.std.proofs.Common.{ap, length, arith}
-use Rattle.sudo_syntax.proofs.LimitLemmas.{extended_is}
+use Rattle.std.proofs.Common.{List, reverse, sym, subst}
+use Rattle.std.specs.List.{AllByRecursion}
+use Rattle.std.proofs.lemmas.Bool.{both_ways}
+use Rattle.sudo_syntax.specs.declared.entry.Rule.{Rule}
+use Rattle.sudo_syntax.specs.Policy.{KnowsRule}
+use Rattle.sudo_syntax.proofs.PolicyFronts.{extended_known}
 use Rattle.sudo_syntax.proofs.extending.extend.Goals as goal
 
-pub new-requires : goal.new-requires
-new-requires c =
-    let few = c.if-entries-len-gt-MOST_ENTRIES.false in
-    rw (c.in-Ok.ensures, c.entries-2.ensures.value)
-    (extended_is c.args.base.now c.args.rules.items c.entries-2.ensures.policy c.requires (omega (arith, few, ap length c.entries.ensures.value, c.len.ensures)))
+pub returns-then-not-knows-clause-only : goal.returns-then-not-knows-clause-only
+returns-then-not-knows-clause-only c = λ whole.
+    let base = c.args.base.now in
+    let all = extended_known base c.args.rules.items whole in
+    let known = subst (λ (rules : List Rule). AllByRecursion (KnowsRule (reverse base)) rules) (sym c.deref.ensures.value) all in
+    absurd (both_ways c.knows.result c.if-not-knows.true (c.knows.ensures.1 known))

@@ -1,11 +1,10 @@
 use Rattle.std.proofs.Common.{List, ℕ, sym, subst}
-use Rattle.sudo_syntax.specs.Grammar.{lines_of, Spells}
 use Rattle.sudo_syntax.specs.Printing.{canon}
+use Rattle.sudo_syntax.specs.Spelling.{Spells}
 use Rattle.sudo_syntax.proofs.Canon.{canon_spells}
-use Rattle.sudo_syntax.proofs.One.{lines_one}
+use Rattle.sudo_syntax.proofs.One.{text_one}
 use Rattle.sudo_syntax.proofs.laws.canon_is_one.Goals as goal
 
 pub returns : goal.returns
 returns c = λ a b x y e.
-    let spelled = subst (λ (text : List ℕ). Spells text b) (sym e) (canon_spells b y) in
-    lines_one (lines_of (canon a)) a b (canon_spells a x).lines spelled.lines
+    text_one (canon a) a b (canon_spells a x) (subst (λ (text : List ℕ). Spells text b) (sym e) (canon_spells b y))

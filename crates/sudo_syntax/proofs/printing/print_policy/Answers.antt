@@ -1,7 +1,7 @@
 use Rattle.std.proofs.Common.{List, ℕ, subst, sym}
 use Rattle.std.specs.Prelude.{string_bytes}
 use Rattle.std.proofs.lemmas.Result.{IfOk-weaker}
-use Rattle.sudo_syntax.specs.Grammar.{Spells}
+use Rattle.sudo_syntax.specs.Spelling.{Spells}
 use Rattle.sudo_syntax.proofs.Canon.{canon_spells}
 use Rattle.sudo_syntax.proofs.printing.print_policy.Goals as goal
 

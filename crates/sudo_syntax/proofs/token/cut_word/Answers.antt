@@ -1,6 +1,4 @@
-use Rattle.sudo_syntax.specs.Lex.{is_word_byte}
-use Rattle.sudo_syntax.proofs.Spans.{cut_is}
 use Rattle.sudo_syntax.proofs.token.cut_word.Goals as goal
 
 pub returns : goal.returns
-returns c = rw (c.split_at.ensures.front, c.split_at.ensures.back, c.word_len.ensures) (cut_is is_word_byte c.args.bytes.now)
+returns c = rw (c.split_at.ensures.front, c.split_at.ensures.back) c.word_len.ensures.cut

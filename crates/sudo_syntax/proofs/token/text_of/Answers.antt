@@ -1,7 +1,6 @@
-use Rattle.std.proofs.Common.{◌≡◌, List, ℕ, subst, sym}
-use Rattle.std.specs.Prelude.{IsSome}
 use Rattle.std.specs.Str.{IsUtf8}
-use Rattle.sudo_syntax.proofs.Lexing.{word_utf8, given_text}
+use Rattle.sudo_syntax.proofs.Lexing.{given_text}
+use Rattle.sudo_syntax.proofs.WordTexts.{word_utf8}
 use Rattle.sudo_syntax.proofs.token.text_of.Goals as goal
 
 pub returns-clause-only : goal.returns-clause-only

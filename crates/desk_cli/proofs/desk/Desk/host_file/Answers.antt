@@ -4,7 +4,7 @@ use Rattle.std.specs.Prelude.{string_bytes}
 use Rattle.std.proofs.lemmas.Result.{err_from_is_err_and, IfOk-weaker, MatchResult-from_both}
 use Rattle.messages.specs.declared.message.Message.{Message}
 use Rattle.sudo_syntax.specs.declared.entry.Entry.{Entry}
-use Rattle.sudo_syntax.specs.Grammar.{Spells}
+use Rattle.sudo_syntax.specs.Spelling.{Spells}
 use Rattle.sudo_syntax.specs.Printing.{canon}
 use Rattle.sudo_syntax.specs.Reading.{with_rules}
 use Rattle.desk_cli.specs.State.{DeskState}

@@ -1,13 +1,12 @@
 use Rattle.std.proofs.Common.{◌≡◌, ◌++◌, ◌≤◌, length}
 use Rattle.std.specs.List.{AllByRecursion}
 use Rattle.std.specs.BTreeMap.{values}
-use Rattle.sudo_syntax.specs.Policy.{IsRule}
-use Rattle.desk_cli.specs.Granted.{rules_of}
+use Rattle.desk_cli.specs.Granted.{IsGrantRule, rules_of}
 use Rattle.desk_cli.proofs.desk.rules.rules_for.Given as goal
 
 abbrev pub invariant-loop-asked : goal.invariant-loop-asked
 invariant-loop-asked l = record {
   rules : l.rules.items ++ rules_of l.host l.approved l.asked-iterator ≡ rules_of l.host l.approved (values l.asked);
   few : length l.rules.items ≤ 8_192;
-  lawful : AllByRecursion IsRule l.rules.items;
+  grants : AllByRecursion IsGrantRule l.rules.items;
 }

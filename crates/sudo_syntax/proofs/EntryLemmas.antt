@@ -1,0 +1,52 @@
+-- Entries that are added one by one to a policy: what is reached so far is a policy where the whole is.
+use Rattle.std.proofs.Common.{◌≡◌, ℕ, List, [], ◌∷◌, ◌++◌, length, refl, sym, subst, ◌∙◌, append_assoc}
+use Rattle.std.specs.List.{AllByRecursion, flat_map}
+use Rattle.std.proofs.lemmas.List.Concat.{flat_map-cons}
+use Rattle.sudo_syntax.specs.declared.entry.Signed.{Signed}
+use Rattle.sudo_syntax.specs.declared.entry.Item.{Item}
+use Rattle.sudo_syntax.specs.declared.entry.CmndItem.{CmndItem}
+use Rattle.sudo_syntax.specs.declared.entry.Rule.{Rule}
+use Rattle.sudo_syntax.specs.declared.entry.Entry.{Entry}
+use Rattle.sudo_syntax.specs.declared.entry.Entry.TheVariants as entries
+use Rattle.sudo_syntax.specs.declared.tree.Spec.{Spec}
+use Rattle.sudo_syntax.specs.declared.tree.Part.{Part}
+use Rattle.sudo_syntax.specs.declared.tree.Settings.{Settings}
+use Rattle.sudo_syntax.specs.declared.tree.Line.{Line}
+use Rattle.sudo_syntax.specs.declared.token.Token.{Token}
+use Rattle.sudo_syntax.specs.Lex.{toks}
+use Rattle.sudo_syntax.specs.Grammar.{SpellsTree}
+use Rattle.sudo_syntax.specs.Spelling.{SpellsEntries}
+use Rattle.sudo_syntax.specs.Inheritance.{with_spec, rule_with, rules_of, part_rules}
+use Rattle.sudo_syntax.specs.Policy.{IsEntry, IsPolicy}
+use Rattle.sudo_syntax.proofs.PolicyFronts.{all_front, all_rest, policy_front}
+
+pub all_append : {X : Type 0} (P : X → Type 0) (xs ys : List X) → AllByRecursion P xs → AllByRecursion P ys → AllByRecursion P (xs ++ ys)
+all_append P [] ys h k = k
+all_append P (x ∷ xs) ys h k = (h.0, all_append P xs ys h.1 k)
+
+pub front_is : (done here more all : List Entry) → done ++ (here ++ more) ≡ all → IsPolicy all → IsPolicy (done ++ here)
+front_is done here more all e p = policy_front (done ++ here) more (subst IsPolicy (sym e ∙ sym (append_assoc done here more)) p)
+
+-- ---- the tree of tokens
+
+-- entries of one token or more are those of a tree
+pub tree_from : (tokens : List Token) (es : List Entry) → (length tokens ≡ 0 → ⊥) → SpellsEntries (toks tokens) es → (line : Line) × SpellsTree (toks tokens) line
+tree_from [] es some h = absurd (some refl)
+tree_from (t ∷ ts) es some h = (h.0, h.1)
+
+-- ---- what comes next of a user specification
+
+pub rules_next : (users hosts : List (Signed (Item (List ℕ)))) (done : List Entry) (before : Settings) (s : Spec) (specs : List Spec) (all : List Entry) (behind : Settings) (cmnd : Signed CmndItem) (rule : Rule)
+    → behind ≡ with_spec before s → cmnd ≡ s.cmnd → rule ≡ rule_with users hosts behind cmnd → done ++ rules_of users hosts before (s ∷ specs) ≡ all
+    → done ++ (entries.Rule rule ∷ [] ++ rules_of users hosts behind specs) ≡ all
+rules_next users hosts done before s specs all behind cmnd rule settings_are cmnd_is rule_is whole = rw (rule_is, settings_are, cmnd_is) whole
+
+pub parts_next : (users : List (Signed (Item (List ℕ)))) (done : List Entry) (part : Part) (parts : List Part) (all : List Entry)
+    → done ++ flat_map (part_rules users) (part ∷ parts) ≡ all → done ++ (part_rules users part ++ flat_map (part_rules users) parts) ≡ all
+parts_next users done part parts all whole = rw flat_map-cons at whole
+
+pub parts_are : (users : List (Signed (Item (List ℕ)))) (part : Part) (parts : List Part) → AllByRecursion IsEntry (flat_map (part_rules users) (part ∷ parts))
+    → AllByRecursion IsEntry (part_rules users part) × AllByRecursion IsEntry (flat_map (part_rules users) parts)
+parts_are users part parts are =
+    let both = rw flat_map-cons at are in
+    (all_front IsEntry (part_rules users part) _ both, all_rest IsEntry (part_rules users part) _ both)

@@ -1,0 +1,17 @@
+use Rattle.std.proofs.Common.{◌<◌, length}
+use Rattle.sudo_syntax.specs.Lex.{toks}
+use Rattle.sudo_syntax.specs.Grammar.{Listed}
+use Rattle.sudo_syntax.proofs.Leads.{Leads}
+use Rattle.sudo_syntax.proofs.ListLemmas.{Behind, Left}
+use Rattle.sudo_syntax.proofs.listing.list_at.Given as goal
+
+abbrev pub invariant-loop-others : goal.invariant-loop-others
+invariant-loop-others g l =
+    let Is = g.T.Spelled.spells in
+    let F = g.T.Spelled.follows in record {
+      leads : Leads (Behind l.byte Is F) (Listed l.byte Is (toks l.tokens)) (Left l.byte Is F l.items.items (toks l.rest));
+      shorter : length l.rest < length l.tokens;
+    }
+
+abbrev pub decreases-loop-others : goal.decreases-loop-others
+decreases-loop-others g l = length l.rest

@@ -1,0 +1,15 @@
+use Rattle.std.proofs.Common.{[], sym}
+use Rattle.sudo_syntax.proofs.LineTexts.{no_hash_cut, front_is, backslash_no_body, bad_front}
+use Rattle.sudo_syntax.proofs.pieces.without_comment.Goals as goal
+
+pub returns-in-None-clause-found : goal.returns-in-None-clause-found
+returns-in-None-clause-found c = ([], no_hash_cut c.args.line.now c.requires, c.in-None.ensures)
+
+pub returns-in-Some-clause-found : goal.returns-in-Some-clause-found
+returns-in-Some-clause-found c = record { whole = c.in-Some.ensures; each = front_is c.args.line.now c.in-Some.front.now c.requires c.in-Some.ensures; behind = sym c.if-may_go_on.ensures }
+
+pub returns-in-Some-2-clause-body : goal.returns-in-Some-2-clause-body
+returns-in-Some-2-clause-body c = backslash_no_body c.args.line.now c.in-Some.front.now c.requires c.in-Some.ensures
+
+pub returns-in-Some-2-clause-front : goal.returns-in-Some-2-clause-front
+returns-in-Some-2-clause-front c = bad_front c.args.line.now c.in-Some.front.now c.in-Some.ensures (sym c.if-may_go_on.ensures)

@@ -1,0 +1,55 @@
+//! Lists read from tokens.
+
+ghost use Rattle.std.specs.Prelude.{◌≡◌, ◌<◌, ◌∷◌, Bool, List, ℕ, length, IfOk, MatchResult};
+ghost use Rattle.sudo_syntax.specs.declared.fault.LineFault.TheVariants.{NoMemory};
+ghost use Rattle.sudo_syntax.specs.Fronts.{NoMark};
+ghost use Rattle.sudo_syntax.specs.Grammar.{Listed};
+ghost use Rattle.sudo_syntax.specs.Lex.{Tok, mark, toks};
+
+use crate::fault::LineFault;
+use crate::fronts::behind_mark;
+use crate::token::Token;
+use std::alloc::Global;
+use sudo_words::Items;
+
+/// What tokens spell in one way.
+pub(crate) trait Spelled: Sized + Drop {
+    /// Tokens, what stands at their front, and those behind it.
+    ghost spells: { List Tok → Self → List Tok → Type 0 };
+
+    /// What may stand behind one.
+    ghost follows: { List Tok → Type 0 };
+
+    /// The one at the front, and what follows it.
+    fn at<'a, 'b>(
+        alloc: Global,
+        tokens: &'b [Token<'a>],
+    ) -> Result<(Self, &'b [Token<'a>]), LineFault>
+        ensures found { IfOk result (λ x. spells (toks tokens.now) x.0 (toks x.1.now)) }
+        ensures shorter { IfOk result (λ x. length x.1.now < length tokens.now) }
+        ensures only { (v : Self) (rest : List Tok) → follows rest → spells (toks tokens.now) v rest
+            → MatchResult result (λ x. (x.0 ≡ v) × (toks x.1.now ≡ rest)) (λ e. e ≡ NoMemory) };
+}
+
+/// One or more with this mark between, and what follows them.
+pub(crate) fn list_at<'a, 'b, T: Spelled>(
+    alloc: Global,
+    byte: u8,
+    tokens: &'b [Token<'a>],
+) -> Result<(Items<T>, &'b [Token<'a>]), LineFault>
+    requires { (a : Bool) (rest : List Tok) → T.follows (mark a byte ∷ rest) }
+    ensures found { IfOk result (λ x. Listed byte T.spells (toks tokens.now) x.0 (toks x.1.now)) }
+    ensures shorter { IfOk result (λ x. length x.1.now < length tokens.now) }
+    ensures only { (xs : List T) (rest : List Tok) → T.follows rest → NoMark byte rest → Listed byte T.spells (toks tokens.now) xs rest
+        → MatchResult result (λ x. (x.0 ≡ xs) × (toks x.1.now ≡ rest)) (λ e. e ≡ NoMemory) }
+{
+    let mut items = Vec::new(alloc);
+    let (first, mut rest) = T::at(alloc, tokens)?;
+    items.push(first)?;
+    while let Some(others) = behind_mark(byte, rest) {
+        let (item, after) = T::at(alloc, others)?;
+        items.push(item)?;
+        rest = after;
+    }
+    Ok((Items::new(items), rest))
+}

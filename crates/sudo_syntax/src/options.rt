@@ -1,0 +1,132 @@
+//! Dates and tags read from tokens.
+
+ghost use Rattle.std.specs.Prelude.{◌≡◌, ◌≤◌, ◌<◌, ◌∷◌, List, ℕ, Bool, length, IfOk, IfSome, MatchOption, MatchResult, Option, Some, None, Ok, true, false};
+ghost use Rattle.sudo_words.specs.Moment.{Spells};
+ghost use Rattle.sudo_syntax.specs.declared.fault.LineFault.TheVariants.{NoMemory};
+ghost use Rattle.sudo_syntax.specs.Fronts.{AddsBound, Dated, NoDate, NoTag, Tagged};
+ghost use Rattle.sudo_syntax.specs.Grammar as grammar;
+ghost use Rattle.sudo_syntax.specs.Grammar.{tag_word};
+ghost use Rattle.sudo_syntax.specs.Lex.{Tok, toks, word, mark};
+
+use crate::fault::LineFault;
+use crate::fronts::{date_at, head_at};
+use crate::misplaced::bad_option;
+use crate::token::Token;
+use sudo_words::Moment;
+
+/// The first and the last moment at which a command may run.
+#[derive(Clone, Copy, Debug)]
+pub(crate) struct Bounds {
+    pub(crate) not_before: Option<Moment>,
+    pub(crate) not_after: Option<Moment>,
+}
+
+/// Whether blanks stand before the first token.
+pub(crate) fn begins_spaced(tokens: &[Token<'_>]) -> bool
+    ensures { result ≡ grammar.begins_spaced (toks tokens.now) }
+{
+    match tokens {
+        [Token::Word(spaced, _, _), ..] => *spaced,
+        [Token::Mark(spaced, _), ..] => *spaced,
+        [] => false,
+    }
+}
+
+/// The moment that a time spells.
+fn moment_of(time: &str) -> Result<Moment, LineFault>
+    ensures found { IfOk result (λ t. Spells time.now t) }
+    ensures only { (t : ℕ) → Spells time.now t → result ≡ Ok t }
+{
+    Moment::read(time).ok_or(LineFault::BadMoment)
+}
+
+/// Whether an option has this name and gives a bound that was not given before.
+fn gives(option: &str, name: &str, bound: &Option<Moment>) -> bool
+    ensures yes { result ≡ true → (option.now ≡ name.now) × (bound.now ≡ None) }
+    ensures no { result ≡ false → option.now ≡ name.now → bound.now ≡ None → ⊥ }
+{
+    option == name && bound.is_none()
+}
+
+/// The bounds with the one that an option gives, which none gave before.
+fn with_bound(bounds: Bounds, option: &str, time: &str) -> Result<Bounds, LineFault>
+    ensures found { IfOk result (λ b. AddsBound bounds.not_before bounds.not_after option.now time.now b.not_before b.not_after) }
+    ensures only { (before after : Option ℕ) → AddsBound bounds.not_before bounds.not_after option.now time.now before after
+        → MatchResult result (λ b. (b.not_before ≡ before) × (b.not_after ≡ after)) (λ e. ⊥) }
+{
+    if gives(option, "NOTBEFORE", &bounds.not_before) {
+        return Ok(Bounds {
+            not_before: Some(moment_of(time)?),
+            not_after: bounds.not_after,
+        });
+    }
+    if gives(option, "NOTAFTER", &bounds.not_after) {
+        return Ok(Bounds {
+            not_before: bounds.not_before,
+            not_after: Some(moment_of(time)?),
+        });
+    }
+    Err(bad_option(option))
+}
+
+/// The bounds that the options at the front give, with blanks behind each, and what follows them.
+pub(crate) fn bounds_at<'a, 'b>(
+    tokens: &'b [Token<'a>],
+) -> Result<(Bounds, &'b [Token<'a>]), LineFault>
+    ensures found { IfOk result (λ x. Dated None None (toks tokens.now) x.0.not_before x.0.not_after (toks x.1.now)) }
+    ensures shorter { IfOk result (λ x. length x.1.now ≤ length tokens.now) }
+    ensures only { (before after : Option ℕ) (rest : List Tok) → NoDate rest → Dated None None (toks tokens.now) before after rest
+        → MatchResult result (λ x. (x.0.not_before ≡ before) × (x.0.not_after ≡ after) × (toks x.1.now ≡ rest)) (λ e. ⊥) }
+{
+    let none = Bounds {
+        not_before: None,
+        not_after: None,
+    };
+    let mut read = (none, tokens);
+    while let Some((option, time, after)) = date_at(read.1) {
+        if !begins_spaced(after) {
+            return Err(LineFault::Unexpected);
+        }
+        read = (with_bound(read.0, option, time)?, after);
+    }
+    Ok(read)
+}
+
+/// Whether a tag's word says that no password is asked for.
+fn tag_of(name: &str) -> Option<bool>
+    ensures { MatchOption result ((tag : Bool) → name.now ≡ tag_word tag → ⊥) (λ tag. name.now ≡ tag_word tag) }
+{
+    match name {
+        "NOPASSWD" => Some(true),
+        "PASSWD" => Some(false),
+        _ => None,
+    }
+}
+
+/// The tag at the front, and what follows it.
+fn tag_at<'a, 'b>(tokens: &'b [Token<'a>]) -> Option<(bool, &'b [Token<'a>])>
+    ensures found { MatchOption result (NoTag (toks tokens.now)) (λ x. (a b : Bool) × (toks tokens.now ≡ word a 0 (tag_word x.0) ∷ mark b 58 ∷ toks x.1.now)) }
+    ensures shorter { IfSome result (λ x. length x.1.now < length tokens.now) }
+{
+    match head_at(b':', tokens) {
+        Some((name, rest)) => match tag_of(name) {
+            Some(tag) => Some((tag, rest)),
+            None => None,
+        },
+        None => None,
+    }
+}
+
+/// What the last of the tags at the front says, if there is one, and what follows them.
+pub(crate) fn tags_at<'a, 'b>(tokens: &'b [Token<'a>]) -> (Option<bool>, &'b [Token<'a>])
+    ensures found { Tagged (toks tokens.now) result.0 (toks result.1.now) }
+    ensures shorter { length result.1.now ≤ length tokens.now }
+    ensures only { (nopasswd : Option Bool) (rest : List Tok) → NoTag rest → Tagged (toks tokens.now) nopasswd rest
+        → (result.0 ≡ nopasswd) × (toks result.1.now ≡ rest) }
+{
+    let mut read = (None, tokens);
+    while let Some((tag, after)) = tag_at(read.1) {
+        read = (Some(tag), after);
+    }
+    read
+}

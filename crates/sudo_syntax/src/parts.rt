@@ -1,0 +1,63 @@
+//! User specifications read from tokens.
+
+ghost use Rattle.std.specs.Prelude.{◌≡◌, List, ℕ, IfOk, MatchResult};
+ghost use Rattle.sudo_syntax.specs.declared.entry.Item.{Item as Said};
+ghost use Rattle.sudo_syntax.specs.declared.entry.Signed.{Signed as Sign};
+ghost use Rattle.sudo_syntax.specs.declared.fault.LineFault.TheVariants.{NoMemory};
+ghost use Rattle.sudo_syntax.specs.declared.tree.Part.{Part as Parted};
+ghost use Rattle.sudo_syntax.specs.Fronts.{EndsBy};
+ghost use Rattle.sudo_syntax.specs.Grammar.{SpellsPart, SpellsRights};
+ghost use Rattle.sudo_syntax.specs.Lex.{Tok, toks};
+
+use crate::entry::{Item, Signed};
+use crate::fault::LineFault;
+use crate::fronts::behind_mark;
+use crate::listing::{Spelled, list_at};
+use crate::misplaced::misplaced;
+use crate::options::begins_spaced;
+use crate::token::Token;
+use crate::tree::Part;
+use std::alloc::Global;
+use sudo_words::{Items, Name};
+
+impl Spelled for Part {
+    ghost spells = { SpellsPart };
+
+    ghost follows = { EndsBy 58 };
+
+    fn at<'a, 'b>(
+        alloc: Global,
+        tokens: &'b [Token<'a>],
+    ) -> Result<(Part, &'b [Token<'a>]), LineFault> {
+        let (hosts, behind) = list_at(alloc, b',', tokens)?;
+        let Some(next) = behind_mark(b'=', behind) else {
+            return Err(misplaced(behind));
+        };
+        let (specs, rest) = list_at(alloc, b',', next)?;
+        Ok((Part { hosts, specs }, rest))
+    }
+}
+
+/// Users and the parts of their specification.
+#[derive(Debug, Drop)]
+pub(crate) struct Rights {
+    pub(crate) users: Items<Signed<Item<Name>>>,
+    pub(crate) parts: Items<Part>,
+}
+
+/// The user specification that the tokens spell.
+pub(crate) fn rights_of(alloc: Global, tokens: &[Token<'_>]) -> Result<Rights, LineFault>
+    ensures found { IfOk result (λ r. SpellsRights (toks tokens.now) r.users r.parts) }
+    ensures only { (users : List (Sign (Said (List ℕ)))) (parts : List Parted) → SpellsRights (toks tokens.now) users parts
+        → MatchResult result (λ r. (r.users ≡ users) × (r.parts ≡ parts)) (λ e. e ≡ NoMemory) }
+{
+    let (users, next) = list_at(alloc, b',', tokens)?;
+    if !begins_spaced(next) {
+        return Err(misplaced(next));
+    }
+    let (parts, rest) = list_at(alloc, b':', next)?;
+    if !rest.is_empty() {
+        return Err(misplaced(rest));
+    }
+    Ok(Rights { users, parts })
+}

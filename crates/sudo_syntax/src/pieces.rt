@@ -1,0 +1,125 @@
+//! Lines of a text: what stands before a comment, and whether a line goes on in the next.
+
+ghost use Rattle.std.specs.Prelude.{◌≡◌, ℕ, false, List, [], ◌∷◌, ◌++◌, IfOk, IfErr, MatchOption, length, take_while};
+ghost use Rattle.sudo_syntax.specs.Lines.{IsBody, IsContinued};
+ghost use Rattle.sudo_syntax.specs.Lines as lines;
+ghost use Rattle.sudo_syntax.specs.Pieces.{IsPiece};
+ghost use Rattle.sudo_syntax.specs.Span.{Each, IsCut};
+
+use crate::fault::LineFault;
+use crate::token::is_blank;
+
+/// What a line of the text says.
+#[derive(Clone, Copy, Debug)]
+pub(crate) enum Piece<'a> {
+    /// It ends here: what stands before its comment.
+    Ends(&'a [u8]),
+    /// It goes on in the next line: what stands before the backslash.
+    GoesOn(&'a [u8]),
+}
+
+/// How many bytes stand before the first `#`.
+fn body_len(line: &[u8]) -> usize
+    ensures { result ≡ length (take_while lines.is_no_hash line.now) }
+{
+    line.iter().take_while(|b| **b != b'#').count()
+}
+
+/// The bytes before the first `#`, and what follows them.
+fn cut_body(line: &[u8]) -> (&[u8], &[u8])
+    ensures { IsCut lines.is_no_hash line.now result.0.now result.1.now }
+{
+    line.split_at(body_len(line))
+}
+
+fn begins_with_digit(text: &[u8]) -> bool
+    ensures { result ≡ lines.begins_with_digit text.now }
+{
+    match text {
+        [] => false,
+        [first, ..] => first.is_ascii_digit(),
+    }
+}
+
+fn ends_with_backslash(text: &[u8]) -> bool
+    ensures { result ≡ lines.ends_with lines.is_backslash text.now }
+{
+    match text {
+        [] => false,
+        [.., last] => *last == b'\\',
+    }
+}
+
+/// Whether the text may follow the `#` of a comment.
+fn is_comment(text: &[u8]) -> bool
+    ensures { result ≡ lines.is_comment text.now }
+{
+    !begins_with_digit(text) && !text.starts_with(b"include") && !ends_with_backslash(text)
+}
+
+/// Whether a comment may follow: it begins a line, or stands behind a blank.
+fn is_before_comment(body: &[u8]) -> bool
+    ensures { result ≡ lines.is_before_comment body.now }
+{
+    match body {
+        [] => true,
+        [.., last] => is_blank(*last),
+    }
+}
+
+/// Whether a line may go on behind these bytes.
+fn may_go_on(front: &[u8]) -> bool
+    ensures { result ≡ lines.ends_with lines.may_go_on front.now }
+{
+    match front {
+        [] => false,
+        [.., last] => is_blank(*last) || *last == b',' || *last == b'=' || *last == b':',
+    }
+}
+
+/// What stands before the backslash that the line ends in, if it ends in one.
+fn before_backslash(line: &[u8]) -> Option<&[u8]>
+    ensures { MatchOption result (lines.ends_with lines.is_backslash line.now ≡ false) (λ front. line.now ≡ front.now ++ 92 ∷ []) }
+{
+    line.strip_suffix(b"\\")
+}
+
+/// What a line without a `#` says: a backslash at its end is one of a line that goes on.
+fn without_comment(line: &[u8]) -> Result<Piece<'_>, LineFault>
+    requires { Each lines.is_no_hash line.now }
+    ensures found { IfOk result (IsPiece line.now) }
+    ensures body { (body : List ℕ) → IsBody line.now body → IfErr result (λ e. ⊥) }
+    ensures front { (front : List ℕ) → IsContinued line.now front → IfErr result (λ e. ⊥) }
+{
+    match before_backslash(line) {
+        None => Ok(Piece::Ends(line)),
+        Some(front) if may_go_on(front) => Ok(Piece::GoesOn(front)),
+        Some(_) => Err(LineFault::Unexpected),
+    }
+}
+
+/// What is wrong with a `#` that begins no comment, and that this text follows.
+fn bad_comment(text: &[u8]) -> LineFault {
+    if ends_with_backslash(text) {
+        LineFault::Unexpected
+    } else {
+        LineFault::LeftOut
+    }
+}
+
+/// What a line of the text says.
+pub(crate) fn piece_of(line: &[u8]) -> Result<Piece<'_>, LineFault>
+    ensures found { IfOk result (IsPiece line.now) }
+    ensures body { (body : List ℕ) → IsBody line.now body → IfErr result (λ e. ⊥) }
+    ensures front { (front : List ℕ) → IsContinued line.now front → IfErr result (λ e. ⊥) }
+{
+    let (body, rest) = cut_body(line);
+    let [_, text @ ..] = rest else {
+        return without_comment(body);
+    };
+    if is_before_comment(body) && is_comment(text) {
+        Ok(Piece::Ends(body))
+    } else {
+        Err(bad_comment(text))
+    }
+}

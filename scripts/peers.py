@@ -1,0 +1,195 @@
+#!/usr/bin/env python3
+"""Asks sudo itself what the desk decides.
+
+Each policy under examples/ that the desk accepts and its canonical text, and each text that the tests of the subset accept and its
+canonical text there, must pass `visudo -cf`; each
+invocation of examples/peers/invocations must be answered by `sudo -l` as `desk decide` answers it. sudo compares files by inode, so
+the commands are small files of this script's own under /srv, and its clock stands still at the moment that is asked about
+(`faketime -f`). All runs in a mount namespace of its own, with its own /etc/sudoers and /etc/passwd bound over the machine's, so
+nothing of the machine changes. `sudo -l` says nothing of NOPASSWD: only allow and deny are compared.
+"""
+
+import ast
+import os
+import re
+import shutil
+import subprocess
+import sys
+import tempfile
+
+ROOT = os.path.dirname(os.path.dirname(os.path.abspath(__file__)))
+DESK = os.path.join(ROOT, "build", "desk")
+EXAMPLES = os.path.join(ROOT, "examples")
+PEERS = os.path.join(EXAMPLES, "peers")
+ROWS = os.path.join(ROOT, "crates", "desk_cli", "src", "tests", "subset.rt")
+USERS = ("ann", "bob", "eve", "op", "dba")
+# where sudo really differs, by choice of the desk (docs/DECISIONS.md, "Beside sudo"): it refuses these, and the desk reads them
+DIFFERS = ("ann db1 = ALL \\\n",)
+COMMANDS = ("bin/ls", "bin/kill", "bin/echo", "lib/tool", "lib/danger", "lib/deep/tool")
+
+
+def tool(name):
+    """The path of a program that this script needs."""
+    path = shutil.which(name) or shutil.which(name, path="/usr/sbin:/sbin:/usr/bin")
+    if path is None:
+        sys.exit(f"{name} is missing: install Debian's packages sudo, faketime and util-linux")
+    return path
+
+
+def run(words, given=None):
+    return subprocess.run(words, input=given, stdout=subprocess.PIPE, stderr=subprocess.PIPE, text=True, check=False)
+
+
+def enter_namespace():
+    """Starts this script again in a mount namespace of its own."""
+    if os.geteuid() != 0:
+        sys.exit("peers needs root: sudo -l answers for another user only to root")
+    words = [tool("unshare"), "--mount", "--propagation", "private", sys.executable, os.path.abspath(__file__), "--inside"]
+    sys.exit(subprocess.run(words, check=False).returncode)
+
+
+def bind(source, target):
+    subprocess.run(["mount", "--bind", source, target], check=True)
+
+
+def furnish(folder):
+    """Commands, users and a sudoers file, bound over the machine's in this namespace alone."""
+    commands = os.path.join(folder, "srv")
+    for name in COMMANDS:
+        path = os.path.join(commands, name)
+        os.makedirs(os.path.dirname(path), exist_ok=True)
+        with open(path, "w") as file:
+            file.write(f"#!/bin/sh\n# {name}\n")
+        os.chmod(path, 0o755)
+    os.makedirs("/srv", exist_ok=True)
+    bind(commands, "/srv")
+    passwd = os.path.join(folder, "passwd")
+    with open(passwd, "w") as file:
+        file.write("root:x:0:0:root:/root:/bin/sh\n")
+        for number, user in enumerate(USERS):
+            file.write(f"{user}:x:{2001 + number}:2001::/:/bin/sh\n")
+    os.chmod(passwd, 0o644)
+    bind(passwd, "/etc/passwd")
+    sudoers = os.path.join(folder, "sudoers")
+    with open(sudoers, "w") as file:
+        file.write("")
+    os.chmod(sudoers, 0o440)
+    bind(sudoers, "/etc/sudoers")
+    return sudoers
+
+
+def check_text(visudo, what, text, folder):
+    """Whether visudo accepts the text."""
+    path = os.path.join(folder, "checked")
+    with open(path, "w") as file:
+        file.write(text)
+    os.chmod(path, 0o440)
+    answer = run([visudo, "-cf", path])
+    if answer.returncode != 0:
+        print(f"visudo refuses {what}: {answer.stdout}{answer.stderr}")
+    return answer.returncode == 0
+
+
+def accepted_rows():
+    """The pairs of a text and its canonical text in the tests of the subset."""
+    literal = r'"(?:[^"\\]|\\.)*"'
+    with open(ROWS) as file:
+        source = file.read()
+    pairs = re.findall(rf"\(\s*({literal}),\s*({literal}),?\s*\)", source)
+    return [tuple(ast.literal_eval(each) for each in pair) for pair in pairs]
+
+
+def check_policies(visudo, folder):
+    """Every policy that the desk accepts, and its canonical text."""
+    texts, wrong = 0, 0
+    for row in accepted_rows():
+        for text in row:
+            if text in DIFFERS:
+                continue
+            texts += 1
+            wrong += not check_text(visudo, f"the row {text!r}", text, folder)
+    for where, _, names in sorted(os.walk(EXAMPLES)):
+        for name in sorted(names):
+            if not name.endswith(".sudo"):
+                continue
+            path = os.path.join(where, name)
+            shown = os.path.relpath(path, ROOT)
+            canonical = run([DESK, "check", path])
+            if canonical.returncode != 0:
+                if name != "left_out.sudo":
+                    print(f"the desk refuses {shown}: {canonical.stderr}")
+                    wrong += 1
+                continue
+            with open(path) as file:
+                text = file.read()
+            for what, each in ((shown, text), (f"the canonical text of {shown}", canonical.stdout)):
+                texts += 1
+                wrong += not check_text(visudo, what, each, folder)
+    return texts, wrong
+
+
+def sudo_allows(programs, words):
+    """What sudo itself answers, at the moment that is asked about."""
+    user, host, runas, moment, path, *args = words
+    day = f"{moment[0:4]}-{moment[4:6]}-{moment[6:8]} {moment[8:10]}:{moment[10:12]}:{moment[12:14]}"
+    asked = [programs["sudo"], "-n", "-l", "-U", user, "-h", host, "-u", runas, "--", path, *args]
+    answer = subprocess.run(
+        [programs["faketime"], "-f", day, *asked],
+        stdin=subprocess.DEVNULL,
+        stdout=subprocess.PIPE,
+        stderr=subprocess.PIPE,
+        text=True,
+        check=False,
+        env={"PATH": "/usr/sbin:/usr/bin:/sbin:/bin", "TZ": "UTC", "LC_ALL": "C"},
+    )
+    if answer.returncode not in (0, 1) or "parse error" in answer.stderr:
+        sys.exit(f"sudo fails on {' '.join(words)}: {answer.stdout}{answer.stderr}")
+    return answer.returncode == 0
+
+
+def desk_allows(policy, words):
+    answer = run([DESK, "decide", policy, *words[:5], "--", *words[5:]])
+    if answer.returncode not in (0, 1):
+        sys.exit(f"the desk fails on {' '.join(words)}: {answer.stdout}{answer.stderr}")
+    return answer.returncode == 0
+
+
+def compare(programs, sudoers):
+    """Asks both, policy by policy."""
+    asked, allowed, wrong, policies = 0, 0, 0, set()
+    with open(os.path.join(PEERS, "invocations")) as file:
+        lines = [line.split() for line in file if line.strip() and not line.startswith("#")]
+    for name, *words in lines:
+        policy = os.path.join(PEERS, f"{name}.sudo")
+        if name not in policies:
+            policies.add(name)
+        with open(policy) as source, open(sudoers, "w") as target:
+            target.write(source.read())
+        theirs, ours = sudo_allows(programs, words), desk_allows(policy, words)
+        asked += 1
+        allowed += theirs
+        if theirs != ours:
+            wrong += 1
+            print(f"{name}: {' '.join(words)}: sudo {'allows' if theirs else 'denies'}, the desk {'allows' if ours else 'denies'}")
+    return asked, allowed, len(policies), wrong
+
+
+def inside():
+    programs = {name: tool(name) for name in ("sudo", "visudo", "faketime")}
+    if not os.path.exists(DESK):
+        sys.exit("build/desk is missing: run make desk")
+    with tempfile.TemporaryDirectory() as folder:
+        os.chmod(folder, 0o755)
+        sudoers = furnish(folder)
+        texts, refused = check_policies(programs["visudo"], folder)
+        print(f"visudo accepts {texts - refused} of {texts} texts")
+        asked, allowed, policies, wrong = compare(programs, sudoers)
+        print(f"sudo was asked {asked} times over {policies} policies: {allowed} allowed, {asked - allowed} denied, {wrong} otherwise than the desk")
+        for place in ("/etc/sudoers", "/etc/passwd", "/srv"):
+            subprocess.run(["umount", place], check=True)
+    sys.exit(1 if refused or wrong else 0)
+
+
+if sys.argv[1:] == ["--inside"]:
+    inside()
+enter_namespace()
