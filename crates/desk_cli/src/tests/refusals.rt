@@ -265,7 +265,7 @@ fn expect_most(
     let shown = super::run_line(alloc, &CHECK, longest.as_slice(), &mut b"".as_slice())?;
     assert!(rt; shown.err.is_empty(), "{err}");
     assert_eq!(rt; shown.status, 0, "{err}");
-    let longer = lengthened(alloc, front, part, most + 1, rest)?;
+    let longer = lengthened(alloc, front, part, most.wrapping_add(1), rest)?;
     expect_refused(rt, alloc, longer.as_slice(), err)
 }
 

@@ -216,7 +216,7 @@ fn arguments_of_commands(rt: HostRuntime) -> Result<(), Fail> {
 /// `User_Alias X1 = a, a`, and so many aliases in all, each twice the one before.
 pub(super) fn doubled(alloc: Global, count: usize) -> Result<String, AllocError> {
     let mut text = String::from_str(alloc, "User_Alias X1 = a, a\n")?;
-    for n in 2..count + 1 {
+    for n in 2..count.wrapping_add(1) {
         let before = n - 1;
         let line = format!(in alloc; "User_Alias X{n} = X{before}, X{before}\n")?;
         text.push_str(line.as_str())?;
