@@ -34,6 +34,8 @@ def commands(folder):
     return [
         (print_words, MESSAGES),
         (["check", base], b""),
+        (["check", os.path.join(ROOT, "examples", "team.sudo")], b""),
+        (["check", os.path.join(ROOT, "examples", "peers", "layout.sudo")], b""),
         (["decide", base, "ann", "db1", "root", "20260105093000Z", "/bin/ls", "--", "-l", "x"], b""),
         (["decide", base, "bob", "db2", "op", "20260105093000Z", "/bin/cat"], b""),
     ]
