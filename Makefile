@@ -1,6 +1,6 @@
 # The commands of the repository. `rt` is the toolchain's command.
 
-.PHONY: all desk demo test peers bench faults clean
+.PHONY: all desk demo test gate-times edits peers bench faults clean
 
 all: desk
 
@@ -12,9 +12,19 @@ desk:
 demo: desk
 	bash scripts/demo.sh
 
-# The gate: every proof from nothing, every edit that must be refused, every test. Its last line is 'N passed, 0 failed'.
+# The whole gate (docs/GATE.md): `rt ci`, which proves everything from nothing, tries the edits that must be refused and runs the tests; then,
+# over the program that it left at build/desk, the demo, peers and faults. What it needs of Debian is installed where this is root; with
+# WHOLE=1 nothing may be left out. Its last line is 'N passed, 0 failed'.
 test:
-	rt ci
+	WHOLE=$(WHOLE) bash scripts/test.sh
+
+# `rt ci` alone, and what it cost each crate: the table of docs/GATE.md.
+gate-times:
+	python3 scripts/gate_times.py
+
+# The edits of crates/NAME/more-edits/, which the prover must refuse as well: of all crates, or of those that CRATES names.
+edits:
+	python3 scripts/edits.py $(CRATES)
 
 # What the desk decides beside what sudo itself answers (as root; Debian's packages sudo and faketime). Nothing of the machine changes.
 peers: desk

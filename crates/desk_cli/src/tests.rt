@@ -5,7 +5,10 @@ use std::alloc::{AllocError, Global};
 use std::io::Read;
 use std::test::Fail;
 
+mod bodies;
+mod commands;
 mod grants;
+mod moments;
 mod policies;
 mod printing;
 mod refusals;

@@ -22,6 +22,3 @@ pub use read::read_message;
 pub use request::Request;
 pub use verdict::Verdict;
 pub use write::text;
-
-#[cfg(test)]
-mod tests;

@@ -9,8 +9,6 @@ mod kind;
 mod laws;
 mod policy;
 mod rule;
-#[cfg(test)]
-mod tests;
 
 pub use alias_laws::{
     alias_answers_its_list, alias_keeps_silence, worked_cmnd_aliases, worked_user_aliases,

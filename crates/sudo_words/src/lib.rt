@@ -33,8 +33,3 @@ pub use moment_laws::{one_moment, stamp_is_stamp, stamp_spells};
 pub use name::{HostForm, HostName, Label, LabelForm, Name, UserForm};
 pub use path::{DirForm, DirPath, FileForm, FilePath};
 pub use word::{Form, Word};
-
-#[cfg(test)]
-mod cmnd_tests;
-#[cfg(test)]
-mod moment_tests;

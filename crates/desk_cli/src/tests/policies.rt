@@ -8,6 +8,7 @@ use std::alloc::Global;
 use std::io;
 use std::io::Write;
 use std::test::Fail;
+use sudo_decide::Decision;
 
 const POLICY: &str = "ann db1 = NOTBEFORE=2026010509Z NOTAFTER=202601051100Z /bin/ls\n";
 
@@ -100,6 +101,16 @@ fn decisions_with_arguments(rt: HostRuntime) -> Result<(), Fail> {
     let decided = decided(rt.alloc(), "root", "20260105093000Z", &["--", "-l"])?;
     assert_eq!(rt; decided.out.as_slice(), b"allow\n".as_slice());
     assert_eq!(rt; decided.status, 0);
+    Ok(())
+}
+
+#[test]
+fn decisions_are_printed(rt: HostRuntime) -> Result<(), Fail> {
+    let deny = Decision::Deny;
+    let allow = Decision::Allow;
+    let free = Decision::AllowNoPassword;
+    let text = format!(in rt.alloc(); "{deny}, {allow}, {free}")?;
+    assert_eq!(rt; text.as_str(), "deny, allow, allow nopasswd");
     Ok(())
 }
 

@@ -1,7 +1,11 @@
-use super::*;
+//! Texts of commands, read, printed and matched.
+
 use std::alloc::{AllocError, Global};
 use std::collections::BTreeMap;
-use std::test::*;
+use std::test::Fail;
+use sudo_words::{
+    AliasName, ArgRule, FilePath, Items, command_of, is_lawful, print_cmnd, read_arg, read_cmnd,
+};
 
 /// Texts of commands, each the one text of its command.
 const COMMANDS: [&str; 9] = [

@@ -1,5 +1,7 @@
-use super::*;
-use std::test::*;
+//! Texts of moments, read and printed.
+
+use std::test::Fail;
+use sudo_words::Moment;
 
 /// Texts that spell a moment, its seconds as another program gives them, and its canonical text.
 const SPELLED: [(&str, u64, &str); 12] = [

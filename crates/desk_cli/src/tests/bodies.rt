@@ -1,6 +1,8 @@
-use super::*;
+//! Bodies of messages, read and written.
+
+use messages::{Message, MessageFault, VerdictKind, read_message, text};
 use std::alloc::{AllocError, Global};
-use std::test::*;
+use std::test::Fail;
 
 /// A request, of 181 bytes.
 const REQUEST: &str =

@@ -1,0 +1,104 @@
+#!/usr/bin/env python3
+"""Runs `rt ci`, passes on what it prints, and then prints what it cost: a table of docs/GATE.md.
+
+The processor time of a crate's proof, of its tests' proof and of its edits is read twice a second from /proc, of each run of the prover
+that this script started: so a figure lacks at most half a second a run. The status is that of `rt ci`.
+"""
+
+import collections
+import os
+import subprocess
+import sys
+import threading
+import time
+
+MARK = "STEELNEWT_GATE"
+TICKS = os.sysconf("SC_CLK_TCK")
+KINDS = ("proof", "tests", "edits")
+
+
+def read(path):
+    with open(path, "rb") as file:
+        return file.read()
+
+
+def work_of(pid):
+    """What a process proves: a crate's name and the kind of work; None where it is no run of the prover under this script."""
+    words = read(f"/proc/{pid}/cmdline").decode(errors="replace").split("\0")
+    if "--crate-name" not in words or f"{MARK}={os.getpid()}".encode() not in read(f"/proc/{pid}/environ").split(b"\0"):
+        return None
+    name = words[words.index("--crate-name") + 1]
+    if "/rt-edit-" in os.readlink(f"/proc/{pid}/cwd"):
+        return name, "edits"
+    return name, "tests" if "--test" in words else "proof"
+
+
+class Meter(threading.Thread):
+    """Reads the processor time of the runs of the prover while they last."""
+
+    def __init__(self):
+        super().__init__(daemon=True)
+        self.done = threading.Event()
+        self.begins = time.monotonic()
+        self.works = {}
+        self.seconds = {}
+        self.ends = collections.defaultdict(float)
+
+    def run(self):
+        while not self.done.wait(0.5):
+            for pid in filter(str.isdigit, os.listdir("/proc")):
+                try:
+                    self.look(pid)
+                except (OSError, ValueError, IndexError):
+                    continue  # it has ended, or is not ours to read
+
+    def look(self, pid):
+        # behind the name in parentheses: the time in user mode and in the system is the 12th and the 13th field, the beginning the 20th
+        fields = read(f"/proc/{pid}/stat").rpartition(b")")[2].split()
+        key = pid, fields[19]
+        # (a process that was just started becomes the prover only then, so what is no work now is looked at again)
+        work = self.works.get(key) or work_of(pid)
+        if work:
+            self.works[key] = work
+            self.seconds[key] = (int(fields[11]) + int(fields[12])) / TICKS
+            self.ends[work] = time.monotonic() - self.begins
+
+    def minutes(self):
+        """The processor minutes of each crate and kind of work."""
+        sums = collections.defaultdict(float)
+        for key, seconds in self.seconds.items():
+            sums[self.works[key]] += seconds / 60
+        return sums
+
+
+def show(meter, wall):
+    """Prints the table, in the order of crates.txt."""
+    minutes = meter.minutes()
+    with open("crates.txt") as file:
+        names = [line.partition(":")[0] for line in file if ":" in line and not line.startswith("#")]
+    print("\n| crate | proof | proof of its tests | edits | all | done at minute |")
+    print("|---|---|---|---|---|---|")
+    for name in names:
+        each = [minutes[name, kind] for kind in KINDS]
+        ends = max(meter.ends[name, kind] for kind in KINDS) / 60
+        cells = [f"{it:.1f}" if it else "" for it in (*each, sum(each))]
+        print(f"| `{name}` | {' | '.join(cells)} | {ends:.0f} |")
+    jobs = os.environ.get("RT_JOBS") or len(os.sched_getaffinity(0))
+    slowest = max(names, key=lambda name: minutes[name, "proof"])
+    print(f"\nProcessor minutes. `rt ci` took {wall / 60:.1f} minutes on {jobs} processors, {sum(minutes.values()):.0f} processor minutes in all.")
+    print(f"The slowest proof is that of `{slowest}`: {minutes[slowest, 'proof']:.1f} processor minutes.\n", flush=True)
+
+
+def main():
+    os.chdir(os.path.dirname(os.path.dirname(os.path.abspath(__file__))))
+    meter = Meter()
+    meter.start()
+    status = subprocess.run(["rt", "ci"], env=dict(os.environ, **{MARK: str(os.getpid())}), check=False).returncode
+    wall = time.monotonic() - meter.begins
+    meter.done.set()
+    meter.join()
+    show(meter, wall)
+    sys.exit(status)
+
+
+main()

@@ -1,0 +1,64 @@
+#!/usr/bin/env bash
+# The whole gate: `rt ci`, and then, over the program that it left, the demo, sudo beside the desk, and each request for memory refused.
+# With WHOLE=1 a part that cannot run here fails; without it, it is left out and named. The last line is 'N passed, M failed'.
+set -euo pipefail
+cd "$(dirname "$0")/.."
+export PATH="$PATH:/usr/sbin:/sbin"
+log=$(mktemp)
+trap 'rm -f "$log"' EXIT
+passed=0 failed=0
+
+# Runs a part: its name, then the words of its command.
+part() {
+    local name=$1
+    shift
+    echo "== $name"
+    if "$@"; then
+        passed=$((passed + 1))
+    else
+        echo "$name: FAILED"
+        failed=$((failed + 1))
+    fi
+}
+
+# Runs a part where the programs that it needs are there: its name, these programs, '--', then the words of its command.
+part_with() {
+    local name=$1 lacks=()
+    shift
+    while [ "$1" != -- ]; do
+        case $1 in
+            root) [ "$(id -u)" = 0 ] || lacks+=("root's rights") ;;
+            *) command -v "$1" >/dev/null || lacks+=("the program $1") ;;
+        esac
+        shift
+    done
+    shift
+    if [ "${#lacks[@]}" = 0 ]; then
+        part "$name" "$@"
+    elif [ -n "${WHOLE:-}" ]; then
+        part "$name (it lacks ${lacks[*]})" false
+    else
+        echo "== $name: LEFT OUT, for it lacks ${lacks[*]}. Once they are there, run: make $name"
+    fi
+}
+
+demo() {
+    bash scripts/demo.sh | diff examples/demo.expected -
+}
+
+bash scripts/tools.sh
+status=0
+python3 scripts/gate_times.py | tee "$log" || status=$?
+if [ "$status" != 0 ]; then
+    grep -E '^[0-9]+ passed, [0-9]+ failed$' "$log" | tail -n 1 || echo "0 passed, 1 failed"
+    exit 1
+fi
+passed=$(grep -E '^[0-9]+ passed, 0 failed$' "$log" | tail -n 1 | cut -d ' ' -f 1)
+mkdir -p build
+cp crates/desk_cli/out/desk_cli build/desk
+
+part demo demo
+part_with peers root sudo visudo faketime unshare -- python3 scripts/peers.py
+part_with faults cc -- python3 scripts/faults.py
+echo "$passed passed, $failed failed"
+[ "$failed" = 0 ]
