@@ -16,7 +16,7 @@ use sudo_syntax::{print_policy, read_policy};
 use sudo_words::HostName;
 
 /// What a job answers.
-#[derive(Debug, Drop)]
+#[derive(Drop)]
 struct Answer {
     text: String,
     status: Status,

@@ -5,7 +5,7 @@ use sudo_decide::Invocation;
 use sudo_words::HostName;
 
 /// What the command line says to do.
-#[derive(Debug, Drop)]
+#[derive(Drop)]
 pub enum Job {
     /// Print the canonical text of a file's policy.
     Check {

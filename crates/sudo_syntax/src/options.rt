@@ -15,7 +15,7 @@ use crate::token::Token;
 use sudo_words::Moment;
 
 /// The first and the last moment at which a command may run.
-#[derive(Clone, Copy, Debug)]
+#[derive(Clone, Copy)]
 pub(crate) struct Bounds {
     pub(crate) not_before: Option<Moment>,
     pub(crate) not_after: Option<Moment>,

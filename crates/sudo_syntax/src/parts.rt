@@ -39,7 +39,7 @@ impl Spelled for Part {
 }
 
 /// Users and the parts of their specification.
-#[derive(Debug, Drop)]
+#[derive(Drop)]
 pub(crate) struct Rights {
     pub(crate) users: Items<Signed<Item<Name>>>,
     pub(crate) parts: Items<Part>,

@@ -10,7 +10,7 @@ use crate::fault::LineFault;
 use crate::token::is_blank;
 
 /// What a line of the text says.
-#[derive(Clone, Copy, Debug)]
+#[derive(Clone, Copy)]
 pub(crate) enum Piece<'a> {
     /// It ends here: what stands before its comment.
     Ends(&'a [u8]),

@@ -12,7 +12,7 @@ use std::alloc::Global;
 use std::str;
 
 /// A word or a mark of a line, each with whether blanks stand before it, and a word with how many `!` stand directly before it.
-#[derive(Clone, Copy, Debug)]
+#[derive(Clone, Copy)]
 pub(crate) enum Token<'a> {
     Word(bool, usize, &'a str),
     Mark(bool, u8),

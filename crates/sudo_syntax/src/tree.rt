@@ -4,7 +4,7 @@ use crate::entry::{CmndItem, Item, Signed};
 use sudo_words::{AliasName, HostName, Items, Moment, Name};
 
 /// A definition of an alias: `NAME = LIST`.
-#[derive(Debug, Drop)]
+#[derive(Drop)]
 pub struct Definition<T> {
     /// The alias.
     pub(crate) name: AliasName,
@@ -13,7 +13,7 @@ pub struct Definition<T> {
 }
 
 /// A command of a user specification, with what it gives of its own.
-#[derive(Debug, Drop)]
+#[derive(Drop)]
 pub(crate) struct Spec {
     pub(crate) runas: Option<Items<Signed<Item<Name>>>>,
     pub(crate) not_before: Option<Moment>,
@@ -23,14 +23,14 @@ pub(crate) struct Spec {
 }
 
 /// Hosts and the commands that may run on them.
-#[derive(Debug, Drop)]
+#[derive(Drop)]
 pub(crate) struct Part {
     pub(crate) hosts: Items<Signed<Item<HostName>>>,
     pub(crate) specs: Items<Spec>,
 }
 
 /// What holds behind some commands of a list, for those that follow.
-#[derive(Debug, Drop)]
+#[derive(Drop)]
 pub(crate) struct Settings {
     pub(crate) runas: Items<Signed<Item<Name>>>,
     pub(crate) not_before: Option<Moment>,
@@ -39,7 +39,7 @@ pub(crate) struct Settings {
 }
 
 /// A line: definitions of aliases of one kind, or a user specification.
-#[derive(Debug, Drop)]
+#[derive(Drop)]
 pub(crate) enum Line {
     Users(Items<Definition<Item<Name>>>),
     Runas(Items<Definition<Item<Name>>>),

@@ -14,7 +14,7 @@ use std::alloc::Global;
 use std::collections::BTreeMap;
 
 /// An approval that counts towards the request that it is about.
-#[derive(Clone, Copy, Debug)]
+#[derive(Clone, Copy)]
 pub(crate) struct Approval<'a> {
     pub(crate) verdict: &'a Verdict,
 }

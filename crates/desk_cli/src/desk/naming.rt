@@ -5,7 +5,7 @@ ghost use Rattle.std.specs.Prelude.{◌≡◌};
 use messages::{Request, Verdict};
 
 /// A request's name: its asker and its number. Names are in the byte order of their askers, and then by number.
-#[derive(Clone, Copy, Debug, PartialEq, Eq, PartialOrd, Ord)]
+#[derive(Clone, Copy, PartialEq, Eq, PartialOrd, Ord)]
 pub(crate) struct RequestName<'a> {
     pub(crate) by: &'a str,
     pub(crate) no: u32,

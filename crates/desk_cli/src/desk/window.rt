@@ -11,7 +11,7 @@ use messages::Request;
 use sudo_words::Moment;
 
 /// An unbroken run of moments, by its first and its last.
-#[derive(Clone, Copy, Debug)]
+#[derive(Clone, Copy)]
 pub(crate) struct Window {
     pub(crate) first: Moment,
     pub(crate) last: Moment,
