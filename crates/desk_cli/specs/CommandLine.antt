@@ -35,11 +35,13 @@ with_run command = with_rule (with_rule (with_rule command (wanted (codes "AT"))
 abbrev pub decide : App
 decide = with_run (with_place (with_rule (new_app (codes "decide")) (wanted (codes "FILE"))))
 
+-- `.. ROSTER BASE STORE`
+abbrev pub with_desk : App → App
+with_desk command = with_rule (with_rule (with_rule command (wanted (codes "ROSTER"))) (wanted (codes "BASE"))) (wanted (codes "STORE"))
+
 -- `print ROSTER BASE STORE HOST`
 abbrev pub print : App
-print =
-    with_rule (with_rule (with_rule (with_rule (new_app (codes "print")) (wanted (codes "ROSTER"))) (wanted (codes "BASE"))) (wanted (codes "STORE")))
-    (wanted (codes "HOST"))
+print = with_rule (with_desk (new_app (codes "print"))) (wanted (codes "HOST"))
 
 -- the commands on one policy
 abbrev pub on_policies : App

@@ -75,20 +75,29 @@ fn decide<'a>(alloc: Global) -> Result<Command<'a>, AllocError>
     with_run(alloc, with_place(alloc, command)?)
 }
 
-fn print<'a>(alloc: Global) -> Result<Command<'a>, AllocError>
-    ensures app { IfOk result (λ c. app_of c ≡ line.print) }
+fn with_desk<'a>(alloc: Global, command: Command<'a>) -> Result<Command<'a>, AllocError>
+    requires { (fields_of command).has_globals ≡ false }
+    ensures app { IfOk result (λ c. app_of c ≡ line.with_desk (app_of command.entry)) }
     ensures globals { IfOk result (λ c. (fields_of c).has_globals ≡ false) }
 {
-    Command::new(alloc, "print")
-        .about("Print a host's sudoers file, from a base policy and the messages on standard input")
+    command
         .arg(wanted(alloc, "ROSTER", "`-`: there is no roster"))?
         .arg(wanted(alloc, "BASE", "The base policy"))?
         .arg(wanted(
             alloc,
             "STORE",
             "`-`: the messages are the lines of standard input",
-        ))?
-        .arg(wanted(alloc, "HOST", "The host"))
+        ))
+}
+
+fn print<'a>(alloc: Global) -> Result<Command<'a>, AllocError>
+    ensures app { IfOk result (λ c. app_of c ≡ line.print) }
+    ensures globals { IfOk result (λ c. (fields_of c).has_globals ≡ false) }
+{
+    let command = Command::new(alloc, "print").about(
+        "Print a host's sudoers file, from a base policy and the messages on standard input",
+    );
+    with_desk(alloc, command)?.arg(wanted(alloc, "HOST", "The host"))
 }
 
 fn on_policies<'a>(alloc: Global) -> Result<Command<'a>, AllocError>

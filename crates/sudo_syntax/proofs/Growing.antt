@@ -19,7 +19,7 @@ use Rattle.sudo_syntax.proofs.PolicyFronts.{placed_push, weight_push, canon_push
 use Rattle.sudo_syntax.proofs.Entering.{IsEntered}
 
 pub whole_push : (es : List Entry) (e : Entry) (old new : Scope) (w more t len : ℕ) → IsWhole es old w t → IsEntry e → IsEntered es e new more → len ≡ length (line_text e)
-    → length es < 16_384 → w + more ≤ 131_072 → len ≤ 16_777_216 - t → IsWhole (es ++ e ∷ []) new (w + more) (t + len)
+    → length es < 16_384 → more ≤ 131_072 - w → len ≤ 16_777_216 - t → IsWhole (es ++ e ∷ []) new (w + more) (t + len)
 whole_push es e old new w more t len whole is entered line few light short =
     let sum = weight_push es e in
     let text = canon_push es e in
@@ -30,7 +30,7 @@ whole_push es e old new w more t len whole is entered line few light short =
         each = each_push IsEntry es e whole.policy.each is;
         placed = placed_push es e whole.policy.placed entered.0;
         count = omega (arith, length-append es (e ∷ []));
-        light = omega (arith, weighs);
+        light = omega (arith, weighs, whole.weight_is, whole.policy.light);
         short = omega (arith, long, whole.text_is, whole.policy.short);
       };
       scope = entered.1;
@@ -40,7 +40,7 @@ whole_push es e old new w more t len whole is entered line few light short =
 
 -- the limits hold where the whole is a policy
 pub limits_hold : (es : List Entry) (e : Entry) (old new : Scope) (w more t len : ℕ) → IsWhole es old w t → IsEntered es e new more → len ≡ length (line_text e)
-    → IsPolicy (es ++ e ∷ []) → (length es < 16_384) × (w + more ≤ 131_072) × (len ≤ 16_777_216 - t)
+    → IsPolicy (es ++ e ∷ []) → (length es < 16_384) × (more ≤ 131_072 - w) × (len ≤ 16_777_216 - t)
 limits_hold es e old new w more t len whole entered line p =
     (omega (arith, p.count, length-append es (e ∷ [])), omega (arith, p.light, weight_push es e, whole.weight_is, entered.2), omega (arith, p.short, canon_push es e, whole.text_is, line))
 

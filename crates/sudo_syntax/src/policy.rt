@@ -1,12 +1,13 @@
 //! Policies in normal form.
 
-ghost use Rattle.std.specs.Prelude.{◌≡◌, ◌++◌, ◌∷◌, [], ◌↔◌, IsTrue, List, length, reverse, false, IfOk, IfErr, MatchOption};
+ghost use Rattle.std.specs.Prelude.{◌≡◌, ◌≤◌, ◌++◌, ◌∷◌, [], ◌↔◌, IsTrue, List, length, reverse, false, IfOk, IfErr, MatchOption};
 ghost use Rattle.std.specs.List.{AllByRecursion};
 ghost use Rattle.sudo_syntax.specs.Alias.{DefinedAt, is_defined, user_def, runas_def, host_def, cmnd_def, user_defs, runas_defs, host_defs, cmnd_defs};
 ghost use Rattle.sudo_syntax.specs.Printing.{canon};
 ghost use Rattle.sudo_syntax.specs.declared.entry.Entry.{Entry as Entered};
 ghost use Rattle.sudo_syntax.specs.declared.fault.LineFault.TheVariants as fault;
 ghost use Rattle.sudo_syntax.specs.Policy.{IsEntry, IsPolicy as IsOne, KnowsRule, weight};
+ghost use Rattle.sudo_syntax.specs.Scope.{IsWhole as IsAll};
 
 use crate::entry::{CmndItem, Entry, Item, Rule, Signed};
 use crate::fault::LineFault;
@@ -154,19 +155,43 @@ impl Policy {
             text_len,
         } = self;
         let place = entries.len();
-        let more = scope.enter(alloc, place, &entry)?;
-        let Ok(len) = line_len(alloc, &entry) else {
-            return Err(LineFault::NoMemory);
-        };
-        if place >= MOST_ENTRIES || weight + more > MOST_WEIGHT || len > MOST_TEXT - text_len {
-            return Err(LineFault::TooLarge);
-        }
+        let (weight, text_len) = enter(alloc, &mut scope, place, &entry, weight, text_len)?;
         entries.push(entry)?;
         Ok(Policy {
             entries,
             scope,
-            weight: weight + more,
-            text_len: text_len + len,
+            weight,
+            text_len,
         })
     }
+}
+
+/// Enters what an entry at this place defines, behind entries of this weight and this length of text, and gives the weight and the
+/// length of the whole.
+///
+/// Its faults are those of `Policy::add`.
+fn enter(
+    alloc: Global,
+    scope: &mut Scope,
+    place: usize,
+    entry: &Entry,
+    weight: usize,
+    text_len: usize,
+) -> Result<(usize, usize), LineFault>
+    requires entry { IsEntry entry.now }
+    requires light { weight ≤ 131_072 }
+    requires short { text_len ≤ 16_777_216 }
+    ensures found { (es : List Entered) → IsAll es scope.old weight text_len → place ≡ length es
+        → IfOk result (λ all. IsAll (es ++ entry.now ∷ []) scope.new all.0 all.1) }
+    ensures only { (es : List Entered) → IsAll es scope.old weight text_len → place ≡ length es
+        → IsOne (es ++ entry.now ∷ []) → IfErr result (λ e. e ≡ fault.NoMemory) }
+{
+    let more = scope.enter(alloc, place, entry)?;
+    let Ok(len) = line_len(alloc, entry) else {
+        return Err(LineFault::NoMemory);
+    };
+    if place >= MOST_ENTRIES || more > MOST_WEIGHT - weight || len > MOST_TEXT - text_len {
+        return Err(LineFault::TooLarge);
+    }
+    Ok((weight + more, text_len + len))
 }
