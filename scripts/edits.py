@@ -17,7 +17,7 @@ import tempfile
 ROOT = os.path.dirname(os.path.dirname(os.path.abspath(__file__)))
 CRATES = os.path.join(ROOT, "crates")
 MOST = 24
-MEMORY = 5 << 30
+MEMORY = 4 << 30
 
 
 def listed():
@@ -83,11 +83,13 @@ def main():
         if subprocess.run(["rt", "lib"], cwd=os.path.join(CRATES, name), stdout=subprocess.DEVNULL, check=False).returncode:
             sys.exit(f"{name} is not proved: run rt check in crates/{name}")
     lanes = [lane for name in reversed(list(crates)) if name in names for lane in lanes_of(name)]
-    free = os.sysconf("SC_AVPHYS_PAGES") * os.sysconf("SC_PAGE_SIZE")
+    with open("/proc/meminfo") as file:
+        free = int(re.search(r"MemAvailable:\s+(\d+)", file.read())[1]) << 10
     workers = max(1, min(len(os.sched_getaffinity(0)), free // MEMORY))
     refused = 0
     with concurrent.futures.ThreadPoolExecutor(workers) as pool:
-        for count, shown in pool.map(lambda lane: tried(*lane), lanes):
+        for lane in concurrent.futures.as_completed([pool.submit(tried, *lane) for lane in lanes]):
+            count, shown = lane.result()
             refused += count
             for line in shown:
                 print(line, flush=True)
