@@ -38,7 +38,7 @@ part_with() {
     elif [ -n "${WHOLE:-}" ]; then
         part "$name (it lacks ${lacks[*]})" false
     else
-        echo "== $name: LEFT OUT, for it lacks ${lacks[*]}. Once they are there, run: make $name"
+        echo "== $name: LEFT OUT, for this machine lacks ${lacks[*]}. To run it later: make $name"
     fi
 }
 
