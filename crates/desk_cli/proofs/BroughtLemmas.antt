@@ -4,11 +4,11 @@ use Rattle.std.specs.List.{AllZip, Contains}
 use Rattle.messages.specs.Wire.{IsMessage, wire}
 use Rattle.messages.specs.declared.message.Message.{Message}
 use Rattle.messages.proofs.Uniqueness.{one_message}
-use Rattle.desk_cli.specs.Delivery.{Answers, IsAcked, IsAnswer, IsBodyOf, IsDelivered, IsKept}
+use Rattle.desk.specs.Delivery.{Answers, IsAcked, IsAnswer, IsBodyOf, IsDelivered, IsKept}
 use Rattle.desk_cli.specs.Printing.{AreBrought, HadMemory, IsBrought, IsTaken, complaints, lines_of}
-use Rattle.desk_cli.specs.declared.desk.ack.Ack.{Ack}
-use Rattle.desk_cli.specs.declared.desk.refusal.Refusal.{Refusal}
-use Rattle.desk_cli.specs.declared.desk.refusal.Refusal.TheVariants.{NoMemory}
+use Rattle.desk.specs.declared.ack.Ack.{Ack}
+use Rattle.desk.specs.declared.refusal.Refusal.{Refusal}
+use Rattle.desk.specs.declared.refusal.Refusal.TheVariants.{NoMemory}
 
 right_answer : (body : List ℕ) (answer : Result Ack Refusal) → IsAnswer body answer → answer ≢ Err NoMemory → Answers body answer
 right_answer body answer is had =

@@ -1,9 +1,9 @@
 -- How the complaints of lines grow, answer by answer.
 use Rattle.std.proofs.Common.{◌≡◌, ◌≢◌, ℕ, suc, ◌+◌, ◌<◌, List, [], ◌∷◌, ◌++◌, ◌∙◌, Result, Ok, Err, add-one, append_assoc, arith, drop, drop-cons, get_or, length, refl, subst, sym}
 use Rattle.desk_cli.specs.Printing.{HadMemory, complaint, complaints}
-use Rattle.desk_cli.specs.declared.desk.ack.Ack.{Ack}
-use Rattle.desk_cli.specs.declared.desk.refusal.Refusal.{Refusal}
-use Rattle.desk_cli.specs.declared.desk.refusal.Refusal.TheVariants.{NoMemory}
+use Rattle.desk.specs.declared.ack.Ack.{Ack}
+use Rattle.desk.specs.declared.refusal.Refusal.{Refusal}
+use Rattle.desk.specs.declared.refusal.Refusal.TheVariants.{NoMemory}
 
 -- what is said of the answers before a place, and that memory did not run out at them
 pub record AreSaid (answers : List (Result Ack Refusal)) (said : List ℕ) (i : ℕ) : Type 0 where

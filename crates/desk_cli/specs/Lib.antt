@@ -1,16 +1,4 @@
 pub mod Faults
 pub mod CommandLine
-pub mod Grants
-pub mod HostFile
-pub mod State
-pub mod Refusals
-pub mod Delivery
-pub mod Rights
 pub mod Printing
 pub mod Answers
-pub mod Sets
-pub mod Names
-pub mod Asked
-pub mod Approved
-pub mod Granted
-pub mod Runs

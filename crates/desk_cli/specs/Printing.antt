@@ -4,13 +4,13 @@ use Rattle.std.specs.List.{AllZip, onto_first}
 use Rattle.messages.specs.declared.message.Message.{Message}
 use Rattle.sudo_syntax.specs.Spelling.{Spells}
 use Rattle.sudo_syntax.specs.declared.entry.Entry.{Entry}
-use Rattle.desk_cli.specs.Delivery.{Answers, IsBodyOf, IsKept}
-use Rattle.desk_cli.specs.HostFile.{IsHostFile}
-use Rattle.desk_cli.specs.Refusals.{refusal_text}
-use Rattle.desk_cli.specs.Rights.{GivesRights}
-use Rattle.desk_cli.specs.declared.desk.ack.Ack.{Ack}
-use Rattle.desk_cli.specs.declared.desk.refusal.Refusal.{Refusal}
-use Rattle.desk_cli.specs.declared.desk.refusal.Refusal.TheVariants as desk
+use Rattle.desk.specs.Delivery.{Answers, IsBodyOf, IsKept}
+use Rattle.desk.specs.HostFile.{IsHostFile}
+use Rattle.desk.specs.Refusals.{refusal_text}
+use Rattle.desk.specs.Rights.{GivesRights}
+use Rattle.desk.specs.declared.ack.Ack.{Ack}
+use Rattle.desk.specs.declared.refusal.Refusal.{Refusal}
+use Rattle.desk.specs.declared.refusal.Refusal.TheVariants as desk
 use Rattle.desk_cli.specs.declared.refusal.Refusal.{Refusal as Reason}
 use Rattle.desk_cli.specs.declared.refusal.Refusal.TheVariants as reasons
 use Rattle.desk_cli.specs.declared.status.Status.{Status}

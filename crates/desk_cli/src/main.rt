@@ -3,7 +3,6 @@
 
 mod command;
 mod command_line;
-mod desk;
 mod fault;
 mod laws;
 mod printing;

@@ -3,12 +3,11 @@
 ghost use Rattle.std.specs.Prelude.{◌≡◌, ◌≢◌, ◌⊎◌, ◌++◌, ℕ, List, [], IfErr, IfOk, IfSome, OnOk, map, string_bytes};
 ghost use Rattle.std.specs.Io.KnownBytes.{Appends};
 ghost use Rattle.desk_cli.specs.Printing.{EndsPrinting, HadMemory, IsTaken, PrintsHost, complaint, complaints, lines_of};
-ghost use Rattle.desk_cli.specs.declared.desk.refusal.Refusal.TheVariants as refusals;
+ghost use Rattle.desk.specs.declared.refusal.Refusal.TheVariants as refusals;
 ghost use Rattle.desk_cli.specs.declared.status.Status.TheVariants.{Done};
 
-use crate::desk;
-use crate::desk::{Ack, Desk};
 use crate::refusal::Refusal;
+use desk::{Ack, Desk};
 use std::alloc::{AllocError, Global};
 use std::fmt::Write as _;
 use std::io::{Read, Write};

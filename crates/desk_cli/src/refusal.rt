@@ -2,7 +2,6 @@
 
 ghost use Rattle.std.specs.Prelude.{◌≡◌};
 
-use crate::desk;
 use std::alloc::{AllocError, AllocFailed};
 use std::fmt;
 use sudo_syntax::{NoMemory, ReadFault};

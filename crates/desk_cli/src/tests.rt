@@ -1,18 +1,15 @@
-//! Command lines, and what the program makes of them.
+//! Command lines, and what the program makes of them. What it does over files stands in the cases that `make cases` runs.
 
 use super::*;
 use std::alloc::{AllocError, Global};
-use std::io::Read;
+use std::process::Abort;
 use std::test::Fail;
 
 mod bodies;
 mod commands;
-mod grants;
+mod desks;
 mod moments;
-mod policies;
-mod printing;
-mod refusals;
-mod subset;
+mod streams;
 
 /// A line whose every word is good.
 const LINE: [&str; 8] = [
@@ -32,36 +29,6 @@ fn line(alloc: Global, words: &[&str]) -> Result<Vec<String>, Fail> {
         line.push(String::from_str(alloc, word)?)?;
     }
     Ok(line)
-}
-
-/// What the program did with a line: its status, and what it wrote.
-#[derive(Drop)]
-struct Shown {
-    status: u8,
-    out: Vec<u8>,
-    err: Vec<u8>,
-}
-
-/// Does the line's job over one file and an input.
-fn run_line<R: Read>(
-    alloc: Global,
-    words: &[&str],
-    file: &[u8],
-    input: &mut R,
-) -> Result<Shown, Fail> {
-    let Ok(job) = job(alloc, line(alloc, words)?) else {
-        return Err(Fail::from("no job"));
-    };
-    let mut files = Vec::new(alloc);
-    files.push(Vec::from_slice(alloc, file)?)?;
-    let mut out = Vec::new(alloc);
-    let mut err = Vec::new(alloc);
-    let status = run(alloc, &job, files.as_slice(), input, &mut out, &mut err);
-    Ok(Shown {
-        status: code(status),
-        out,
-        err,
-    })
 }
 
 fn fault_text(alloc: Global, fault: &JobFault) -> Result<String, AllocError> {
@@ -105,6 +72,11 @@ fn said_behind(alloc: Global, more: &[&str]) -> Result<String, Fail> {
     said(alloc, words.as_slice())
 }
 
+/// That much was said of the word.
+fn expect(rt: &impl Abort, said: &str, wanted: &str, word: &str) {
+    assert_eq!(rt; said, wanted, "at {word}");
+}
+
 /// A slash and so many letters.
 fn path_of(alloc: Global, letters: usize) -> Result<String, Fail> {
     let mut path = String::from_str(alloc, "/")?;
@@ -114,48 +86,51 @@ fn path_of(alloc: Global, letters: usize) -> Result<String, Fail> {
     Ok(path)
 }
 
+/// Places of the good line, words for them, and what is said of each.
+const WORDS: [(usize, &str, &str); 18] = [
+    (3, "_ann.b-2", "ok"),
+    (3, "a2345678901234567890123456789012", "ok"),
+    (3, "a23456789012345678901234567890123", "bad word"),
+    (3, "Ann", "bad word"),
+    (4, "db-1", "ok"),
+    (4, "db_1", "bad word"),
+    (5, "op", "ok"),
+    (5, "", "bad word"),
+    (6, "19700101000000Z", "ok"),
+    (6, "20991231235959Z", "ok"),
+    (6, "2026010509Z", "bad word"),
+    (6, "20260230090000Z", "bad word"),
+    (7, "bin/ls", "bad word"),
+    (7, "/", "bad word"),
+    (7, "/bin/", "bad word"),
+    (7, "/bin//ls", "bad word"),
+    (7, "/bin/./ls", "bad word"),
+    (7, "/bin/../ls", "bad word"),
+];
+
 #[test]
-fn words_of_their_forms(rt: HostRuntime) -> Result<(), Fail> {
-    let alloc = rt.alloc();
-    let long = path_of(alloc, 4095)?;
-    for (place, word) in [
-        (3, "_ann.b-2"),
-        (3, "a2345678901234567890123456789012"),
-        (4, "db-1"),
-        (5, "op"),
-        (6, "19700101000000Z"),
-        (6, "20991231235959Z"),
-        (7, long.as_str()),
-    ] {
-        assert_eq!(rt; said_with(alloc, place, word)?.as_str(), "ok", "at {word}");
+fn words_of_decide(rt: HostRuntime) -> Result<(), Fail> {
+    for (place, word, wanted) in WORDS {
+        let said = said_with(rt.alloc(), place, word)?;
+        expect(&rt, said.as_str(), wanted, word);
     }
     Ok(())
 }
 
 #[test]
-fn bad_words(rt: HostRuntime) -> Result<(), Fail> {
+fn longest_words(rt: HostRuntime) -> Result<(), Fail> {
     let alloc = rt.alloc();
-    let long = path_of(alloc, 4096)?;
-    for (place, word) in [
-        (3, "Ann"),
-        (3, "a23456789012345678901234567890123"),
-        (4, "db_1"),
-        (5, ""),
-        (6, "2026010509Z"),
-        (6, "20260230090000Z"),
-        (7, "bin/ls"),
-        (7, "/"),
-        (7, "/bin/"),
-        (7, "/bin//ls"),
-        (7, "/bin/./ls"),
-        (7, "/bin/../ls"),
-        (7, long.as_str()),
+    for (letters, path, argument) in [
+        (63, "ok", "ok"),
+        (64, "ok", "bad word"),
+        (4095, "ok", "bad word"),
+        (4096, "bad word", "bad word"),
     ] {
-        assert_eq!(rt;
-            said_with(alloc, place, word)?.as_str(),
-            "bad word",
-            "at {word}"
-        );
+        let word = path_of(alloc, letters)?;
+        let of_path = said_with(alloc, 7, word.as_str())?;
+        expect(&rt, of_path.as_str(), path, "the path");
+        let of_argument = said_behind(alloc, &[word.as_str()])?;
+        expect(&rt, of_argument.as_str(), argument, "an argument");
     }
     Ok(())
 }
@@ -163,28 +138,18 @@ fn bad_words(rt: HostRuntime) -> Result<(), Fail> {
 #[test]
 fn arguments(rt: HostRuntime) -> Result<(), Fail> {
     let alloc = rt.alloc();
-    let mut many = Vec::new(alloc);
-    for _ in 0..64 {
-        many.push("x")?;
+    let many = vec![in alloc; "x"; 65]?;
+    for (more, wanted) in [
+        (&many.as_slice()[1..], "ok"),
+        (many.as_slice(), "bad word"),
+        (["x", ""].as_slice(), "bad word"),
+        (["x", "a b"].as_slice(), "bad word"),
+        (["--", "-l", "--", "x"].as_slice(), "ok"),
+        (["-l"].as_slice(), "UnknownArgument"),
+    ] {
+        let said = said_behind(alloc, more)?;
+        expect(&rt, said.as_str(), wanted, "the arguments");
     }
-    assert_eq!(rt; said_behind(alloc, many.as_slice())?.as_str(), "ok");
-    many.push("x")?;
-    assert_eq!(rt; said_behind(alloc, many.as_slice())?.as_str(), "bad word");
-    let fine = path_of(alloc, 63)?;
-    let long = path_of(alloc, 64)?;
-    assert_eq!(rt; said_behind(alloc, &[fine.as_str()])?.as_str(), "ok");
-    for word in [long.as_str(), "", "a b"] {
-        assert_eq!(rt;
-            said_behind(alloc, &["x", word])?.as_str(),
-            "bad word",
-            "at {word}"
-        );
-    }
-    assert_eq!(rt;
-        said_behind(alloc, &["--", "-l", "--", "x"])?.as_str(),
-        "ok"
-    );
-    assert_eq!(rt; said_behind(alloc, &["-l"])?.as_str(), "UnknownArgument");
     Ok(())
 }
 
@@ -213,26 +178,35 @@ fn arguments_in_order(rt: HostRuntime) -> Result<(), Fail> {
     Ok(())
 }
 
+/// Whole lines, and what is said of each.
+const LINES: [(&[&str], &str); 14] = [
+    (&["desk"], "MissingSubcommand"),
+    (&["desk", "frob"], "InvalidSubcommand"),
+    (&["desk", "decide", "f", "ann"], "MissingRequiredArgument"),
+    (&["desk", "check"], "MissingRequiredArgument"),
+    (&["desk", "check", "a", "b"], "UnknownArgument"),
+    (&["desk", "--help"], "DisplayHelp"),
+    (&["desk", "print", "-", "base.sudo", "-", "db1"], "ok"),
+    (&["desk", "print", "-", "-", "-", "db-1"], "ok"),
+    (&["desk", "print", "r", "base.sudo", "-", "db1"], "bad word"),
+    (&["desk", "print", "", "base.sudo", "-", "db1"], "bad word"),
+    (&["desk", "print", "-", "base.sudo", "s", "db1"], "bad word"),
+    (
+        &["desk", "print", "-", "base.sudo", "-", "db_1"],
+        "bad word",
+    ),
+    (&["desk", "print", "-", "base.sudo", "-", "-"], "bad word"),
+    (
+        &["desk", "print", "--", "base.sudo", "-", "db1"],
+        "MissingRequiredArgument",
+    ),
+];
+
 #[test]
-fn lines_of_no_command(rt: HostRuntime) -> Result<(), Fail> {
-    let alloc = rt.alloc();
-    assert_eq!(rt; said(alloc, &["desk"])?.as_str(), "MissingSubcommand");
-    assert_eq!(rt;
-        said(alloc, &["desk", "frob"])?.as_str(),
-        "InvalidSubcommand"
-    );
-    assert_eq!(rt;
-        said(alloc, &["desk", "decide", "f", "ann"])?.as_str(),
-        "MissingRequiredArgument"
-    );
-    assert_eq!(rt;
-        said(alloc, &["desk", "check"])?.as_str(),
-        "MissingRequiredArgument"
-    );
-    assert_eq!(rt;
-        said(alloc, &["desk", "check", "a", "b"])?.as_str(),
-        "UnknownArgument"
-    );
-    assert_eq!(rt; said(alloc, &["desk", "--help"])?.as_str(), "DisplayHelp");
+fn whole_lines(rt: HostRuntime) -> Result<(), Fail> {
+    for (words, wanted) in LINES {
+        let said = said(rt.alloc(), words)?;
+        expect(&rt, said.as_str(), wanted, "a line");
+    }
     Ok(())
 }

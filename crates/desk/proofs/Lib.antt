@@ -1,0 +1,15 @@
+pub mod Membership
+pub mod LineOrder
+pub mod GrantLemmas
+pub mod SetLemmas
+pub mod GrantedRules
+pub mod Headline
+pub mod NameMaps
+pub mod AskedLemmas
+pub mod ApprovedLemmas
+pub mod LawfulRules
+pub mod WindowLemmas
+pub mod GrantedLines
+pub mod DeliveryLemmas
+pub mod FileLemmas
+pub mod RunLemmas

@@ -1,0 +1,12 @@
+pub mod Grants
+pub mod HostFile
+pub mod State
+pub mod Refusals
+pub mod Delivery
+pub mod Rights
+pub mod Sets
+pub mod Names
+pub mod Asked
+pub mod Approved
+pub mod Granted
+pub mod Runs
