@@ -1,6 +1,6 @@
 //! The aliases of one kind: where each is defined, how much it weighs and how deep it is.
 
-ghost use Rattle.std.specs.Prelude.{◌≡◌, ◌+◌, ◌∷◌, [], List, ℕ, Option, max, MatchOption, OnOk, IfErr, Some};
+ghost use Rattle.std.specs.Prelude.{◌≡◌, ◌+◌, ◌∷◌, [], List, ℕ, Option, max, MatchOption, OnOk, OnErr, IfOk, IfErr, Some};
 ghost use Rattle.std.specs.Option.{option_copied};
 ghost use Rattle.sudo_syntax.specs.Alias.{item_alias, cmnd_alias};
 ghost use Rattle.sudo_syntax.specs.Measures.{alias_at, stopped, IsUnmeasured, IsMeasured, IsItemUnmeasured, IsItemMeasured, IsDefinable, Defines};
@@ -135,19 +135,17 @@ impl Aliases {
         Some(all)
     }
 
-    /// Adds a definition, which stands at this place.
+    /// The measure of a list that may define an alias of this name.
     ///
     /// `AliasTwice` comes where the name is defined, else `UnknownAlias` where the list uses an alias that is not, else
     /// `TooLarge` where its depth is past the limit.
-    pub(crate) fn define<T: Aliased>(
-        &mut self,
-        alloc: Global,
+    fn definable<T: Aliased>(
+        &self,
         name: &AliasName,
-        place: usize,
         list: &[Signed<T>],
-    ) -> Result<(), LineFault>
-        ensures found { OnOk result (Defines T.alias_of self.old self.new name.now place list.now) }
-        ensures only { IsDefinable T.alias_of self.old name.now list.now → IfErr result (λ e. e ≡ fault.NoMemory) }
+    ) -> Result<Measure, LineFault>
+        ensures found { IfOk result (λ a. IsDefinable T.alias_of self.now name.now list.now × IsMeasured T.alias_of self.now list.now a) }
+        ensures only { OnErr result (IsDefinable T.alias_of self.now name.now list.now → ⊥) }
     {
         if self.get(name).is_some() {
             return Err(LineFault::AliasTwice);
@@ -158,6 +156,21 @@ impl Aliases {
         if measure.depth >= MOST_DEPTH {
             return Err(LineFault::TooLarge);
         }
+        Ok(measure)
+    }
+
+    /// Adds a definition, which stands at this place. Its faults are those of `definable`.
+    pub(crate) fn define<T: Aliased>(
+        &mut self,
+        alloc: Global,
+        name: &AliasName,
+        place: usize,
+        list: &[Signed<T>],
+    ) -> Result<(), LineFault>
+        ensures found { OnOk result (Defines T.alias_of self.old self.new name.now place list.now) }
+        ensures only { IsDefinable T.alias_of self.old name.now list.now → IfErr result (λ e. e ≡ fault.NoMemory) }
+    {
+        let measure = self.definable(name, list)?;
         let alias = Alias {
             place,
             measure: Measure {

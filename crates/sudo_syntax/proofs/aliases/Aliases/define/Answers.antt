@@ -15,20 +15,17 @@ returns-clause-found g c =
     let old = c.args.self.now in
     let name = c.args.name.now in
     let list = c.args.list.now in
-    let measure = c.in-Some.measure in
+    let found = c.in_ok-measure.ensures.found in
+    let measure = c.in_ok-measure.measure in
     let alias : Alias = record { place = c.args.place; measure = record { weight = measure.weight; depth = measure.depth + 1 } } in
     let named : string_bytes c.in_ok-from_str.field-0 ≡ name = c.in_ok-from_str.ensures.ok ∙ c.as_str.ensures.value in
-    let deep : measure.depth + 1 ≡ depth_of of (depth_in old) list = omega (arith, c.in-Some.ensures.depth) in
+    let deep : measure.depth + 1 ≡ depth_of of (depth_in old) list = omega (arith, found.1.depth) in
     record {
-      definable = record {
-        new = sym (ap (λ (o : Option Alias). is_some o) c.get.ensures) ∙ sym c.is_some.ensures ∙ c.if-is_some.false;
-        knows = c.in-Some.ensures.knows;
-        shallow = omega (arith, c.in-Some.ensures.depth, c.if-measure-ge-MOST_DEPTH.false);
-      };
+      definable = found.0;
       alias = alias;
       kept = record {
         place_is = refl;
-        weight = c.in-Some.ensures.weight;
+        weight = found.1.weight;
         depth = deep;
       };
       updates = λ n.
