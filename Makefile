@@ -1,6 +1,6 @@
 # The commands of the repository. `rt` is the toolchain's command.
 
-.PHONY: all desk demo test gate-times edits peers bench faults clean
+.PHONY: all desk demo test cases gate-times edits peers bench faults clean
 
 all: desk
 
@@ -12,8 +12,12 @@ desk:
 demo: desk
 	bash scripts/demo.sh
 
+# The program on each case of cases/: files, words and inputs, with all that it answers.
+cases: desk
+	python3 scripts/cases.py
+
 # The whole gate (docs/GATE.md): `rt ci`, which proves everything from nothing, tries the edits that must be refused and runs the tests; then,
-# over the program that it left at build/desk, the demo, peers and faults. What it needs of Debian is installed where this is root; with
+# over the program that it left at build/desk, the demo, the cases, peers and faults. What it needs of Debian is installed where this is root; with
 # WHOLE=1 nothing may be left out. Its last line is 'N passed, 0 failed'.
 test:
 	WHOLE=$(WHOLE) bash scripts/test.sh

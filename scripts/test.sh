@@ -1,5 +1,6 @@
 #!/usr/bin/env bash
-# The whole gate: `rt ci`, and then, over the program that it left, the demo, sudo beside the desk, and each request for memory refused.
+# The whole gate: `rt ci`, and then, over the program that it left, the demo, the cases, sudo beside the desk, and each
+# request for memory refused.
 # With WHOLE=1 a part that cannot run here fails; without it, it is left out and named. The last line is 'N passed, M failed'.
 set -euo pipefail
 cd "$(dirname "$0")/.."
@@ -58,6 +59,7 @@ mkdir -p build
 cp crates/desk_cli/out/desk_cli build/desk
 
 part demo demo
+part cases python3 scripts/cases.py
 part_with peers root sudo visudo faketime unshare -- python3 scripts/peers.py
 part_with faults cc -- python3 scripts/faults.py
 echo "$passed passed, $failed failed"
