@@ -51,7 +51,7 @@ impl Aliased for CmndItem {
 }
 
 /// How much a list weighs, and how deep the aliases in it are.
-#[derive(Clone, Copy, Debug)]
+#[derive(Clone, Copy)]
 pub(crate) struct Measure {
     /// The weight, which stops at `TOO_HEAVY`.
     pub(crate) weight: usize,
@@ -73,7 +73,7 @@ impl Measure {
 }
 
 /// What is kept of an alias.
-#[derive(Clone, Copy, Debug)]
+#[derive(Clone, Copy)]
 pub(crate) struct Alias {
     /// The place of its definition among the policy's entries.
     pub(crate) place: usize,
@@ -82,7 +82,7 @@ pub(crate) struct Alias {
 }
 
 /// The aliases of one kind, by name.
-#[derive(Debug, Drop)]
+#[derive(Drop)]
 pub(crate) struct Aliases {
     known: BTreeMap<String, Alias>,
 }

@@ -1,4 +1,4 @@
-//! Entries copied.
+//! Entries copied, each as it is.
 
 ghost use Rattle.std.specs.Prelude.{◌≡◌, IfOk};
 
@@ -34,29 +34,44 @@ fn copied_cmnd(signed: &Signed<CmndItem>) -> Result<Signed<CmndItem>, AllocError
     signed.clone()
 }
 
-fn copied_rule(rule: &Rule) -> Result<Rule, AllocError>
-    ensures { IfOk result (λ x. x ≡ rule.now) }
-{
-    Ok(Rule {
-        users: copied_names(&rule.users)?,
-        hosts: copied_hosts(&rule.hosts)?,
-        runas: copied_names(&rule.runas)?,
-        not_before: rule.not_before,
-        not_after: rule.not_after,
-        nopasswd: rule.nopasswd,
-        cmnd: copied_cmnd(&rule.cmnd)?,
-    })
+impl Clone for Rule {
+    ghost is_clone = { λ rule copy. copy ≡ rule };
+
+    fn clone(&self) -> Result<Rule, AllocError> {
+        Ok(Rule {
+            users: copied_names(&self.users)?,
+            hosts: copied_hosts(&self.hosts)?,
+            runas: copied_names(&self.runas)?,
+            not_before: self.not_before,
+            not_after: self.not_after,
+            nopasswd: self.nopasswd,
+            cmnd: copied_cmnd(&self.cmnd)?,
+        })
+    }
 }
 
-/// A copy of the entry.
-pub(crate) fn copied_entry(entry: &Entry) -> Result<Entry, AllocError>
-    ensures { IfOk result (λ x. x ≡ entry.now) }
-{
-    match entry {
-        Entry::UserAlias(name, list) => Ok(Entry::UserAlias(name.clone()?, copied_names(list)?)),
-        Entry::RunasAlias(name, list) => Ok(Entry::RunasAlias(name.clone()?, copied_names(list)?)),
-        Entry::HostAlias(name, list) => Ok(Entry::HostAlias(name.clone()?, copied_hosts(list)?)),
-        Entry::CmndAlias(name, list) => Ok(Entry::CmndAlias(name.clone()?, copied_cmnds(list)?)),
-        Entry::Rule(rule) => Ok(Entry::Rule(copied_rule(rule)?)),
+impl Clone for Entry {
+    ghost is_clone = { λ entry copy. copy ≡ entry };
+
+    fn clone(&self) -> Result<Entry, AllocError> {
+        match self {
+            Entry::UserAlias(name, list) => Ok(Entry::UserAlias(
+                name.clone()?,
+                copied_names(list)?,
+            )),
+            Entry::RunasAlias(name, list) => Ok(Entry::RunasAlias(
+                name.clone()?,
+                copied_names(list)?,
+            )),
+            Entry::HostAlias(name, list) => Ok(Entry::HostAlias(
+                name.clone()?,
+                copied_hosts(list)?,
+            )),
+            Entry::CmndAlias(name, list) => Ok(Entry::CmndAlias(
+                name.clone()?,
+                copied_cmnds(list)?,
+            )),
+            Entry::Rule(rule) => Ok(Entry::Rule(rule.clone()?)),
+        }
     }
 }

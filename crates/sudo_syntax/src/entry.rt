@@ -32,7 +32,7 @@ pub enum CmndItem {
 }
 
 /// Who may run which command, on which hosts, as whom and when. What a later command of a list inherits is written in.
-#[derive(Clone, Debug, Drop)]
+#[derive(Debug, Drop)]
 pub struct Rule {
     /// The users whom it is about.
     pub users: Items<Signed<Item<Name>>>,
@@ -51,7 +51,7 @@ pub struct Rule {
 }
 
 /// A line of a policy in normal form.
-#[derive(Clone, Debug, Drop)]
+#[derive(Debug, Drop)]
 pub enum Entry {
     /// `User_Alias NAME = LIST`.
     UserAlias(AliasName, Items<Signed<Item<Name>>>),

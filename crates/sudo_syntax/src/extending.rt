@@ -7,7 +7,6 @@ ghost use Rattle.sudo_syntax.specs.Policy.{IsPolicy, IsRule, KnowsRule};
 ghost use Rattle.sudo_syntax.specs.Reading as reading;
 ghost use Rattle.sudo_syntax.specs.declared.fault.LineFault.TheVariants as fault;
 
-use crate::copying::copied_entry;
 use crate::entry::{Entry, Rule};
 use crate::fault::{FaultKind, LineFault, ReadFault};
 use crate::policy::Policy;
@@ -21,7 +20,7 @@ fn copied(alloc: Global, base: &Policy) -> Result<Policy, LineFault>
     let entries = base.entries();
     let mut policy = Policy::empty(alloc);
     for entry in entries {
-        policy = policy.add(alloc, copied_entry(entry)?)?;
+        policy = policy.add(alloc, entry.clone()?)?;
     }
     Ok(policy)
 }

@@ -14,6 +14,7 @@ use crate::fault::LineFault;
 use crate::printing::line_len;
 use crate::scope::Scope;
 use std::alloc::Global;
+use std::fmt;
 use std::marker::Model;
 use sudo_words::{AliasName, HostName, Name};
 
@@ -30,7 +31,7 @@ const MOST_TEXT: usize = 16_777_216;
 ///
 /// It has at most 16,384 entries, a weight of at most 131,072, and a canonical text of at most 16 MiB. Each alias is defined
 /// once in its kind, above its uses, and has a depth of at most 64.
-#[derive(Debug, Drop)]
+#[derive(Drop)]
 pub struct Policy {
     entries: Vec<Entry>,
     scope: Scope,
@@ -49,6 +50,12 @@ impl Model for Policy {
     ghost view = { λ p. p.entries.items };
 
     ghost invariant = { λ p. IsWhole p.entries.items p.scope p.weight p.text_len };
+}
+
+impl fmt::Debug for Policy {
+    fn fmt<W: fmt::Write>(&self, f: &mut fmt::Formatter<W>) -> fmt::Result {
+        self.entries.fmt(f)
+    }
 }
 
 impl Policy {

@@ -15,7 +15,7 @@ use std::alloc::Global;
 use std::slice;
 
 /// The aliases of all four kinds. One name may stand in several.
-#[derive(Debug, Drop)]
+#[derive(Drop)]
 pub(crate) struct Scope {
     pub(crate) users: Aliases,
     pub(crate) runas: Aliases,

@@ -12,10 +12,10 @@ returns-in_err-policy-clause-only c =
     let base = c.args.base.now in
     let es = c.entries-entries.result.now in
     let i = c.loop-entry.entry-index in
-    let one = c.in_ok-copied_entry.field-0 in
+    let one = c.in_ok-clone.field-0 in
     let policy : IsPolicy es = subst IsPolicy (sym c.entries-entries.ensures.value) c.entries-entries.ensures.policy in
     let front : IsPolicy (take (i + 1) es) = policy_front (take (i + 1) es) (drop (i + 1) es) (subst IsPolicy (sym (take-append-drop (i + 1) es)) policy) in
-    let same : one ≡ c.entry-item.result = c.in_ok-copied_entry.ensures in
+    let same : one ≡ c.entry-item.result = c.in_ok-clone.ensures.cases in
     let more : take (i + 1) es ≡ c.loop-entry.policy ++ one ∷ [] =
     take_more es i c.entry-item.result c.loop-entry-test.true
     ∙ ap (λ (e : Entry). take i es ++ e ∷ []) (sym c.entry-item.is ∙ sym same)
