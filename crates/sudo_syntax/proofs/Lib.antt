@@ -29,3 +29,4 @@ pub mod NameLemmas
 pub mod CmndLemmas
 pub mod SpecLemmas
 pub mod TreeLemmas
+mod Inheriting

@@ -11,6 +11,7 @@ pub mod Pieces
 pub mod Pending
 pub mod Grammar
 pub mod Inheritance
+pub mod Inherited
 pub mod Spelling
 pub mod Reading
 pub mod Fronts
