@@ -3,3 +3,4 @@ pub mod AnswerLemmas
 pub mod DecisionLemmas
 pub mod Reaching
 pub mod Speakers
+mod OneRule
