@@ -30,3 +30,4 @@ pub mod CmndLemmas
 pub mod SpecLemmas
 pub mod TreeLemmas
 mod Inheriting
+pub mod AliasPlaces

@@ -1,6 +1,7 @@
 pub mod Printing
 pub mod Alias
 pub mod Policy
+pub mod Aliased
 pub mod Measures
 pub mod Scope
 pub mod Span

@@ -1,6 +1,7 @@
 //! Policies: sudoers texts read, printed and kept in normal form.
 #![tactic(auto)]
 
+mod alias_laws;
 mod aliases;
 mod commands;
 mod copying;
@@ -27,6 +28,7 @@ mod token;
 mod tree;
 mod tree_reading;
 
+pub use alias_laws::alias_weighs_its_list;
 pub use entry::{CmndItem, Entry, Item, Rule, Signed};
 pub use extending::extend;
 pub use fault::{FaultKind, ReadFault};
