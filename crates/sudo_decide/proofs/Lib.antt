@@ -4,3 +4,4 @@ pub mod DecisionLemmas
 pub mod Reaching
 pub mod Speakers
 mod OneRule
+mod ListAnswers

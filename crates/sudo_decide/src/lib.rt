@@ -21,4 +21,4 @@ pub use laws::{
     silent_rule, some_decision, worked_dates, worked_decisions, worked_lists,
 };
 pub use policy::decide;
-pub use policy_laws::one_rule_decides;
+pub use policy_laws::{aliases_answer_their_lists, one_rule_decides};
