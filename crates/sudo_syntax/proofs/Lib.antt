@@ -31,3 +31,5 @@ pub mod SpecLemmas
 pub mod TreeLemmas
 mod Inheriting
 pub mod AliasPlaces
+mod Deriving
+mod WorkedTexts

@@ -27,6 +27,7 @@ mod spec;
 mod token;
 mod tree;
 mod tree_reading;
+mod worked_laws;
 
 pub use alias_laws::alias_weighs_its_list;
 pub use entry::{CmndItem, Entry, Item, Rule, Signed};
@@ -41,3 +42,4 @@ pub use sudo_words::{
     AliasName, Arg, ArgRule, Cmnd, CmndFault, DirPath, FilePath, HostName, Items, Moment, Name,
     NoMemory, WordFault, is_lawful, print_cmnd, read_cmnd,
 };
+pub use worked_laws::{worked_commands, worked_texts};

@@ -1,0 +1,26 @@
+//! Worked texts of policies, each the contract of a function that does nothing.
+
+ghost use Rattle.std.specs.Prelude.{[], ◌∷◌, codes};
+ghost use Rattle.sudo_words.specs.declared.cmnd.ArgRule.TheVariants as rules;
+ghost use Rattle.sudo_words.specs.declared.cmnd.Cmnd.TheVariants as commands;
+ghost use Rattle.sudo_syntax.specs.Spelling.{Spells};
+ghost use Rattle.sudo_syntax.specs.Worked.{SpellsAs, may_run};
+
+/// Worked texts, and the canonical texts of the policies that they spell: aliases and parts joined by `:`, a line that goes
+/// on, `!` that cancel out, a comment, and one name in two kinds of aliases.
+pub fn worked_texts()
+    ensures aliases { SpellsAs (codes "User_Alias A = ann, bob : B = A, !bob\nB db1 = /bin/ls : db2 = (ALL) ALL")
+        (codes "User_Alias A = ann, bob\nUser_Alias B = A, !bob\nB db1 = (root) /bin/ls\nB db2 = (ALL) ALL\n") }
+    ensures continued { SpellsAs (codes "ann db1 = \\\n/bin/ls") (codes "ann db1 = (root) /bin/ls\n") }
+    ensures signs { SpellsAs (codes "!!ann db1 = !!!/bin/su") (codes "ann db1 = (root) !/bin/su\n") }
+    ensures comment { SpellsAs (codes "ann db1 = ALL # see #12") (codes "ann db1 = (root) ALL\n") }
+    ensures kinds { SpellsAs (codes "Host_Alias B = db1\nUser_Alias B = ann\nB B = ALL")
+        (codes "Host_Alias B = db1\nUser_Alias B = ann\nB B = (root) ALL\n") }
+{}
+
+/// Worked commands: `a\:b` is the argument `a:b`, and a path that ends in a slash is a directory.
+pub fn worked_commands()
+    ensures escape { Spells (codes "ann db1 = /bin/echo a\\:b")
+        (may_run (commands.Path (codes "/bin/echo") (rules.Exactly (codes "a:b" ∷ [])))) }
+    ensures directory { Spells (codes "ann db1 = /usr/bin/") (may_run (commands.Dir (codes "/usr/bin/"))) }
+{}
