@@ -1,8 +1,11 @@
 -- Literal texts and the policies that they spell.
-use Rattle.std.proofs.Common.{◌≡◌, ℕ, Bool, true, false, List, [], ◌∷◌, ◌++◌, Option, Some, None, refl, sym, ap, ◌∙◌, inl, inr, lit<}
+use Rattle.std.proofs.Common.{◌≡◌, ℕ, Bool, true, false, List, [], ◌∷◌, ◌++◌, Option, Some, None, refl, sym, ap, ◌∙◌, ◌+◌, ◌*◌, ◌<◌, inl, inr, lit<, lit≤}
 use Rattle.std.specs.List.{list_all}
 use Rattle.std.proofs.lemmas.List.{append-nil}
 use Rattle.sudo_words.specs.Word.{is_reserved}
+use Rattle.sudo_words.specs.Moment as moments
+use Rattle.sudo_words.specs.Moment.{IsClockText, date_of, date_from_year, date_from_month}
+use Rattle.sudo_words.proofs.MomentLemmas.{date_text_is, spells_from}
 use Rattle.std.specs.Prelude.{codes}
 use Rattle.sudo_words.specs.declared.cmnd.Cmnd.TheVariants as commands
 use Rattle.sudo_words.specs.declared.cmnd.ArgRule.TheVariants as rules
@@ -303,3 +306,79 @@ pub bin_spell : Spells bin_text (may_run (commands.Dir (codes "/usr/bin/")))
 bin_spell =
     spelled bin_text (bin_text ∷ []) (entries_of bin_line) refl (plain bin_text [] [] refl refl refl)
     (one_line bin_text (entries_of bin_line) (spells_line bin_text (word false 0 (codes "ann")) bin_toks bin_line (lexed (word false 0 (codes "ann") ∷ bin_toks) [] refl) bin_tree)) refl
+
+-- ---- dates, of which the second command inherits one
+
+five_january : (clock : List ℕ) (time : ℕ) → time < 86_400 → IsClockText clock time → moments.Spells (codes "20260105" ++ clock) (20_458 * 86_400 + time)
+unfolding date_of date_from_year date_from_month
+five_january clock time within is = spells_from (codes "20260105" ++ clock) (codes "20260105") clock 20_458 time refl (lit≤ tt) (date_text_is 20_458 (lit≤ tt)) within is
+
+eleven : moments.Spells (codes "2026010511Z") 1_767_610_800
+eleven = five_january (codes "11Z") 39_600 (lit< tt) (inr (inr (refl, refl, refl)))
+
+nine : moments.Spells (codes "2026010509Z") 1_767_603_600
+nine = five_january (codes "09Z") 32_400 (lit< tt) (inr (inr (refl, refl, refl)))
+
+abbrev cat : CmndItem
+cat = cmnds.Cmnd (commands.Path (codes "/bin/cat") rules.Any)
+
+abbrev dates_text : List ℕ
+dates_text = codes "ann db1 = NOTAFTER=2026010511Z /bin/ls, NOTBEFORE=2026010509Z /bin/cat : db2 = /bin/ls"
+
+abbrev dates_toks : List Tok
+dates_toks =
+    word true 0 (codes "db1") ∷ mark true 61 ∷ word true 0 (codes "NOTAFTER") ∷ mark false 61 ∷ word false 0 (codes "2026010511Z")
+    ∷ word true 0 (codes "/bin/ls") ∷ mark false 44 ∷ word true 0 (codes "NOTBEFORE") ∷ mark false 61 ∷ word false 0 (codes "2026010509Z")
+    ∷ word true 0 (codes "/bin/cat") ∷ mark true 58 ∷ word true 0 (codes "db2") ∷ mark true 61 ∷ word true 0 (codes "/bin/ls") ∷ []
+
+abbrev until : Spec
+until = record { runas = None; not_before = None; not_after = Some 1_767_610_800; nopasswd = None; cmnd = yes ls }
+
+abbrev since : Spec
+since = record { runas = None; not_before = Some 1_767_603_600; not_after = None; nopasswd = None; cmnd = yes cat }
+
+abbrev dates_line : Line
+dates_line = rights (user (codes "ann")) (record { hosts = user (codes "db1") ∷ []; specs = until ∷ since ∷ [] } ∷ part (codes "db2") (only (yes ls)) ∷ [])
+
+dates_tree : SpellsTree (word false 0 (codes "ann") ∷ dates_toks) dates_line
+dates_tree =
+    (_, (_, item refl, refl), refl,
+    (_, record {
+      spaced = true;
+      next = _;
+      hosts = (_, item refl, refl);
+      specs = (_, record {
+        behind_runas = _;
+        dates = record { word = codes "NOTAFTER"; moment = 1_767_610_800 } ∷ [];
+        behind_dates = _;
+        tags = [];
+        behind_tags = _;
+        runas = refl;
+        dated = (true, codes "2026010511Z", _, eleven, refl, refl, refl);
+        bounds = (None, Some 1_767_610_800, inr (refl, refl, refl, refl), (refl, refl));
+        tagged = refl;
+        passwd = refl;
+        cmnd = cmnd (cmnd_is ls refl);
+      }, (false, _, _, refl, record {
+        behind_runas = _;
+        dates = record { word = codes "NOTBEFORE"; moment = 1_767_603_600 } ∷ [];
+        behind_dates = _;
+        tags = [];
+        behind_tags = _;
+        runas = refl;
+        dated = (true, codes "2026010509Z", _, nine, refl, refl, refl);
+        bounds = (Some 1_767_603_600, None, inl (refl, refl, refl, refl), (refl, refl));
+        tagged = refl;
+        passwd = refl;
+        cmnd = cmnd (cmnd_is cat refl);
+      }, refl));
+    },
+    (true, _, _, refl, record { spaced = true; next = _; hosts = (_, item refl, refl); specs = (_, only_spelled (cmnd (cmnd_is ls refl)), refl) }, refl)))
+
+pub dates_spell : SpellsAs dates_text (codes "ann db1 = (root) NOTAFTER=20260105110000Z /bin/ls\nann db1 = (root) NOTBEFORE=20260105090000Z NOTAFTER=20260105110000Z /bin/cat\nann db2 = (root) /bin/ls\n")
+unfolding date_of date_from_year date_from_month
+dates_spell =
+    (entries_of dates_line,
+    spelled dates_text (dates_text ∷ []) (entries_of dates_line) refl (plain dates_text [] [] refl refl refl)
+    (one_line dates_text (entries_of dates_line) (spells_line dates_text (word false 0 (codes "ann")) dates_toks dates_line (lexed (word false 0 (codes "ann") ∷ dates_toks) [] refl) dates_tree)) refl,
+    refl)
