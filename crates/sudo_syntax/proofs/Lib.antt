@@ -33,3 +33,4 @@ mod Inheriting
 pub mod AliasPlaces
 mod Deriving
 mod WorkedTexts
+mod RefusedTexts

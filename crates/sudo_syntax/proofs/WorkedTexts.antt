@@ -29,7 +29,7 @@ use Rattle.sudo_syntax.specs.Spelling.{Spells, SpellsLine, SpellsLines}
 use Rattle.sudo_syntax.specs.Worked.{SpellsAs, may_run}
 use Rattle.sudo_syntax.proofs.Deriving.{each_of, bytes_of, are_tokens, lexed, lexed_more, plain_body, item, cmnd, only, only_spelled, cmnd_ok, cmnd_is, policy_ok, text_ok, spelled}
 
-abbrev yes : {X : Type 0} → X → Signed X
+abbrev pub yes : {X : Type 0} → X → Signed X
 yes x = record { negated = false; item = x }
 
 abbrev no : {X : Type 0} → X → Signed X
@@ -41,28 +41,28 @@ ls = cmnds.Cmnd (commands.Path (codes "/bin/ls") rules.Any)
 abbrev su : CmndItem
 su = cmnds.Cmnd (commands.Path (codes "/bin/su") rules.Any)
 
-abbrev all : CmndItem
+abbrev pub all : CmndItem
 all = cmnds.Cmnd commands.All
 
 abbrev user : List ℕ → Signed (Item (List ℕ))
 user name = yes (items.Name name)
 
-abbrev part : List ℕ → Spec → Part
+abbrev pub part : List ℕ → Spec → Part
 part host spec = record { hosts = user host ∷ []; specs = spec ∷ [] }
 
-abbrev rights : Signed (Item (List ℕ)) → List Part → Line
+abbrev pub rights : Signed (Item (List ℕ)) → List Part → Line
 rights who parts = lines.Rights (who ∷ []) parts
 
 -- a line without a comment, and what follows it
-plain : (line : List ℕ) (rest : List (List ℕ)) (more : List (List ℕ)) → list_all is_no_hash line ≡ true → ends_with is_backslash line ≡ false
+pub plain : (line : List ℕ) (rest : List (List ℕ)) (more : List (List ℕ)) → list_all is_no_hash line ≡ true → ends_with is_backslash line ≡ false
     → Joined rest more → Joined (line ∷ rest) (line ∷ more)
 plain line rest more none last joined = inl (line, more, plain_body line none last, refl, joined)
 
 -- a line with its tree
-spells_line : (line : List ℕ) (t : Tok) (ts : List Tok) (tree : Line) → Lexes line (t ∷ ts) → SpellsTree (t ∷ ts) tree → SpellsLine line (entries_of tree)
+pub spells_line : (line : List ℕ) (t : Tok) (ts : List Tok) (tree : Line) → Lexes line (t ∷ ts) → SpellsTree (t ∷ ts) tree → SpellsLine line (entries_of tree)
 spells_line line t ts tree lexes spells = (t ∷ ts, lexes, (tree, spells, refl))
 
-one_line : (line : List ℕ) (es : List Entry) → SpellsLine line es → SpellsLines (line ∷ []) es
+pub one_line : (line : List ℕ) (es : List Entry) → SpellsLine line es → SpellsLines (line ∷ []) es
 one_line line es spells = (es, [], spells, sym (append-nil es), refl)
 
 -- ---- `!!ann db1 = !!!/bin/su`
@@ -91,7 +91,7 @@ signs_spell =
 abbrev note_body : List ℕ
 note_body = codes "ann db1 = ALL "
 
-abbrev all_toks : List Tok
+abbrev pub all_toks : List Tok
 all_toks = word true 0 (codes "db1") ∷ mark true 61 ∷ word true 0 (codes "ALL") ∷ []
 
 abbrev all_line : Line
@@ -224,10 +224,10 @@ host_tree : SpellsTree (word false 0 (codes "Host_Alias") ∷ host_toks) host_li
 unfolding is_reserved
 host_tree = (false, _, refl, refl, (_, record { name_spaced = true; spaced = true; next = _; toks = refl; name = refl; list = (_, item refl, refl) }, refl))
 
-abbrev user_toks : List Tok
+abbrev pub user_toks : List Tok
 user_toks = word true 0 (codes "B") ∷ mark true 61 ∷ word true 0 (codes "ann") ∷ []
 
-abbrev user_line : Line
+abbrev pub user_line : Line
 user_line = lines.Users (record { name = codes "B"; list = user (codes "ann") ∷ [] } ∷ [])
 
 pub user_tree : SpellsTree (word false 0 (codes "User_Alias") ∷ user_toks) user_line

@@ -4,7 +4,7 @@ ghost use Rattle.std.specs.Prelude.{[], ◌∷◌, codes};
 ghost use Rattle.sudo_words.specs.declared.cmnd.ArgRule.TheVariants as rules;
 ghost use Rattle.sudo_words.specs.declared.cmnd.Cmnd.TheVariants as commands;
 ghost use Rattle.sudo_syntax.specs.Spelling.{Spells};
-ghost use Rattle.sudo_syntax.specs.Worked.{SpellsAs, may_run};
+ghost use Rattle.sudo_syntax.specs.Worked.{SpellsAs, SpellsNone, may_run};
 
 /// Worked texts, and the canonical texts of the policies that they spell: aliases and parts joined by `:`, a date that is
 /// inherited, a line that goes on, `!` that cancel out, a comment, and one name in two kinds of aliases.
@@ -25,4 +25,14 @@ pub fn worked_commands()
     ensures escape { Spells (codes "ann db1 = /bin/echo a\\:b")
         (may_run (commands.Path (codes "/bin/echo") (rules.Exactly (codes "a:b" ∷ [])))) }
     ensures directory { Spells (codes "ann db1 = /usr/bin/") (may_run (commands.Dir (codes "/usr/bin/"))) }
+{}
+
+/// Worked texts that spell no policy: a line that goes on inside a word, an alias that is defined below its use, an argument
+/// whose `:` has no backslash, a directory with an argument, and a blank behind `!`.
+pub fn worked_refusals()
+    ensures inside { SpellsNone (codes "ann db1\\\n= /bin/ls") }
+    ensures below { SpellsNone (codes "B db1 = ALL\nUser_Alias B = ann") }
+    ensures colon { SpellsNone (codes "ann db1 = /bin/echo a:b") }
+    ensures directory { SpellsNone (codes "ann db1 = /usr/bin/ -l") }
+    ensures blank { SpellsNone (codes "! ann db1 = ALL") }
 {}
