@@ -34,3 +34,4 @@ pub mod AliasPlaces
 mod Deriving
 mod WorkedTexts
 mod RefusedTexts
+mod LinesAlike

@@ -14,6 +14,7 @@ pub mod Grammar
 pub mod Inheritance
 pub mod Inherited
 pub mod Spelling
+pub mod Alike
 pub mod Worked
 pub mod Reading
 pub mod Fronts

@@ -1,10 +1,11 @@
 //! Laws of what lines stand for, each the contract of a function that does nothing.
 
-ghost use Rattle.std.specs.Prelude.{◌≡◌, ℕ, List, ◌∷◌, ◌++◌, length};
+ghost use Rattle.std.specs.Prelude.{◌≡◌, ℕ, List, [], ◌∷◌, ◌++◌, length};
 ghost use Rattle.sudo_syntax.specs.declared.entry.Item.{Item as AnyItem};
 ghost use Rattle.sudo_syntax.specs.declared.entry.Signed.{Signed as AnySigned};
 ghost use Rattle.sudo_syntax.specs.declared.tree.Part.{Part};
 ghost use Rattle.sudo_syntax.specs.declared.tree.Spec.{Spec};
+ghost use Rattle.sudo_syntax.specs.Alike.{SpellAlike, DifferIn, MayHaveNote, GoesOnWith};
 ghost use Rattle.sudo_syntax.specs.Inheritance.{part_rules};
 ghost use Rattle.sudo_syntax.specs.Inherited.{HasRule};
 
@@ -14,4 +15,18 @@ pub fn inheritance()
     ensures rule { (users : List (AnySigned (AnyItem (List ℕ)))) (part : Part) (before after : List Spec) (s : Spec) →
         part.specs ≡ before ++ s ∷ after → HasRule users part before s }
     ensures each { (users : List (AnySigned (AnyItem (List ℕ)))) (part : Part) → length (part_rules users part) ≡ length part.specs }
+{}
+
+/// A comment may be left out: of two texts that have the same lines, but for a comment behind one of them, each spells what
+/// the other spells.
+pub fn comments()
+    ensures { (text other line note : List ℕ) → MayHaveNote line note →
+        DifferIn text other ((line ++ 35 ∷ note) ∷ []) (line ∷ []) → SpellAlike text other }
+{}
+
+/// A line that goes on spells what one line spells, with a blank in place of the backslash and the newline; the next line is
+/// no backslash alone.
+pub fn continuations()
+    ensures { (text other front next : List ℕ) → GoesOnWith front next →
+        DifferIn text other ((front ++ 92 ∷ []) ∷ next ∷ []) ((front ++ 32 ∷ next) ∷ []) → SpellAlike text other }
 {}
