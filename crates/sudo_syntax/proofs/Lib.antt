@@ -35,3 +35,4 @@ mod Deriving
 mod WorkedTexts
 mod RefusedTexts
 mod LinesAlike
+mod SignsTags

@@ -1,13 +1,16 @@
 //! Laws of what lines stand for, each the contract of a function that does nothing.
 
-ghost use Rattle.std.specs.Prelude.{◌≡◌, ℕ, List, [], ◌∷◌, ◌++◌, length};
+ghost use Rattle.std.specs.Prelude.{◌≡◌, ℕ, ◌+◌, Bool, Some, List, [], ◌∷◌, ◌++◌, length};
+ghost use Rattle.sudo_syntax.specs.declared.entry.CmndItem.{CmndItem as AnyCmnd};
 ghost use Rattle.sudo_syntax.specs.declared.entry.Item.{Item as AnyItem};
 ghost use Rattle.sudo_syntax.specs.declared.entry.Signed.{Signed as AnySigned};
 ghost use Rattle.sudo_syntax.specs.declared.tree.Part.{Part};
 ghost use Rattle.sudo_syntax.specs.declared.tree.Spec.{Spec};
 ghost use Rattle.sudo_syntax.specs.Alike.{SpellAlike, DifferIn, MayHaveNote, GoesOnWith};
+ghost use Rattle.sudo_syntax.specs.Grammar.{SpellsItem, SpellsCmnd, SpellsSpec};
 ghost use Rattle.sudo_syntax.specs.Inheritance.{part_rules};
 ghost use Rattle.sudo_syntax.specs.Inherited.{HasRule};
+ghost use Rattle.sudo_syntax.specs.Lex.{Tok, word};
 
 /// Each command of a list has one rule, at its own place, with the target, the bounds and the tag that were given last
 /// in the list up to and including it (sudoers(5), "Cmnd_Spec_List").
@@ -29,4 +32,20 @@ pub fn comments()
 pub fn continuations()
     ensures { (text other front next : List ℕ) → GoesOnWith front next →
         DifferIn text other ((front ++ 92 ∷ []) ∷ next ∷ []) ((front ++ 32 ∷ next) ∷ []) → SpellAlike text other }
+{}
+
+/// Two more `!` directly before an item or a command change nothing that it spells.
+pub fn signs()
+    ensures items { (form : List ℕ → Bool) (spaced : Bool) (n : ℕ) (text : List ℕ) (ts : List Tok) (s : AnySigned (AnyItem (List ℕ))) (rest : List Tok) →
+        (SpellsItem form (word spaced (n + 2) text ∷ ts) s rest → SpellsItem form (word spaced n text ∷ ts) s rest)
+        × (SpellsItem form (word spaced n text ∷ ts) s rest → SpellsItem form (word spaced (n + 2) text ∷ ts) s rest) }
+    ensures cmnds { (spaced : Bool) (n : ℕ) (text : List ℕ) (ts : List Tok) (s : AnySigned AnyCmnd) (rest : List Tok) →
+        (SpellsCmnd (word spaced (n + 2) text ∷ ts) s rest → SpellsCmnd (word spaced n text ∷ ts) s rest)
+        × (SpellsCmnd (word spaced n text ∷ ts) s rest → SpellsCmnd (word spaced (n + 2) text ∷ ts) s rest) }
+{}
+
+/// Of several tags before a command only the last counts.
+pub fn tags()
+    ensures { (ts : List Tok) (s : Spec) (rest : List Tok) (spelled : SpellsSpec ts s rest) (before : List Bool) (tag : Bool) →
+        spelled.tags ≡ before ++ tag ∷ [] → s.nopasswd ≡ Some tag }
 {}
