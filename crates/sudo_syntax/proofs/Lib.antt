@@ -36,3 +36,4 @@ mod WorkedTexts
 mod RefusedTexts
 mod LinesAlike
 mod SignsTags
+mod JoiningParts

@@ -15,6 +15,7 @@ pub mod Inheritance
 pub mod Inherited
 pub mod Spelling
 pub mod Alike
+pub mod Apart
 pub mod Worked
 pub mod Reading
 pub mod Fronts

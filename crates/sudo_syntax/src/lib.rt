@@ -34,7 +34,9 @@ pub use entry::{CmndItem, Entry, Item, Rule, Signed};
 pub use extending::extend;
 pub use fault::{FaultKind, ReadFault};
 pub use laws::{canon_is_one, canon_spells, one_policy};
-pub use line_laws::{comments, continuations, inheritance, signs, tags};
+pub use line_laws::{
+    comments, continuations, inheritance, joined_definitions, joined_parts, signs, tags,
+};
 pub use policy::Policy;
 pub use printing::print_policy;
 pub use read::read_policy;

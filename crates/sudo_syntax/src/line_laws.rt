@@ -1,12 +1,15 @@
 //! Laws of what lines stand for, each the contract of a function that does nothing.
 
-ghost use Rattle.std.specs.Prelude.{◌≡◌, ℕ, ◌+◌, Bool, Some, List, [], ◌∷◌, ◌++◌, length};
+ghost use Rattle.std.specs.Prelude.{◌≡◌, ℕ, ◌+◌, Bool, Some, List, [], ◌∷◌, ◌++◌, length, codes};
 ghost use Rattle.sudo_syntax.specs.declared.entry.CmndItem.{CmndItem as AnyCmnd};
 ghost use Rattle.sudo_syntax.specs.declared.entry.Item.{Item as AnyItem};
 ghost use Rattle.sudo_syntax.specs.declared.entry.Signed.{Signed as AnySigned};
+ghost use Rattle.sudo_words.specs.Word.{is_name, is_host_name};
+ghost use Rattle.sudo_syntax.specs.declared.tree.Definition.{Definition as AnyDefinition};
 ghost use Rattle.sudo_syntax.specs.declared.tree.Part.{Part};
 ghost use Rattle.sudo_syntax.specs.declared.tree.Spec.{Spec};
 ghost use Rattle.sudo_syntax.specs.Alike.{SpellAlike, DifferIn, MayHaveNote, GoesOnWith};
+ghost use Rattle.sudo_syntax.specs.Apart.{AreUsers, AreParts, AreDefs, SpellsBoth};
 ghost use Rattle.sudo_syntax.specs.Grammar.{SpellsItem, SpellsCmnd, SpellsSpec};
 ghost use Rattle.sudo_syntax.specs.Inheritance.{part_rules};
 ghost use Rattle.sudo_syntax.specs.Inherited.{HasRule};
@@ -48,4 +51,23 @@ pub fn signs()
 pub fn tags()
     ensures { (ts : List Tok) (s : Spec) (rest : List Tok) (spelled : SpellsSpec ts s rest) (before : List Bool) (tag : Bool) →
         spelled.tags ≡ before ++ tag ∷ [] → s.nopasswd ≡ Some tag }
+{}
+
+/// A specification joined by `:` spells what specifications of the same users spell on lines of their own (sudoers(5),
+/// "User specification").
+pub fn joined_parts()
+    ensures { (users_text first second : List ℕ) (users : List (AnySigned (AnyItem (List ℕ)))) (parts others : List Part) →
+        AreUsers users_text users → AreParts first parts → AreParts second others → SpellsBoth users_text first second }
+{}
+
+/// Definitions joined by `:` spell what they spell on lines of their own, in each kind (sudoers(5), "Aliases").
+pub fn joined_definitions()
+    ensures users { (first second : List ℕ) (defs others : List (AnyDefinition (AnyItem (List ℕ)))) →
+        AreDefs (SpellsItem is_name) first defs → AreDefs (SpellsItem is_name) second others → SpellsBoth (codes "User_Alias") first second }
+    ensures runas { (first second : List ℕ) (defs others : List (AnyDefinition (AnyItem (List ℕ)))) →
+        AreDefs (SpellsItem is_name) first defs → AreDefs (SpellsItem is_name) second others → SpellsBoth (codes "Runas_Alias") first second }
+    ensures hosts { (first second : List ℕ) (defs others : List (AnyDefinition (AnyItem (List ℕ)))) →
+        AreDefs (SpellsItem is_host_name) first defs → AreDefs (SpellsItem is_host_name) second others → SpellsBoth (codes "Host_Alias") first second }
+    ensures cmnds { (first second : List ℕ) (defs others : List (AnyDefinition AnyCmnd)) →
+        AreDefs SpellsCmnd first defs → AreDefs SpellsCmnd second others → SpellsBoth (codes "Cmnd_Alias") first second }
 {}
