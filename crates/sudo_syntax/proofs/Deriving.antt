@@ -1,12 +1,12 @@
 -- How a literal text is shown to spell a policy: what computes is tested.
-use Rattle.std.proofs.Common.{◌≡◌, ℕ, ◌+◌, ◌≤◌, Bool, true, false, not, ◌&&◌, List, [], ◌∷◌, ◌++◌, length, Option, Some, None, refl, sym, ap, subst, ◌∙◌, inl, inr, lit≤, IsTrue, append_assoc}
-use Rattle.std.specs.Prelude.{nat_le, nat_lt, if◌then◌else◌, codes, IfSome}
+use Rattle.std.proofs.Common.{◌≡◌, ℕ, Bool, true, false, not, ◌&&◌, List, [], ◌∷◌, ◌++◌, length, Option, Some, None, refl, sym, ap}
+use Rattle.std.specs.Prelude.{nat_le, nat_lt, if◌then◌else◌, IfSome}
 use Rattle.std.specs.List.{AllByRecursion, list_all}
 use Rattle.std.specs.Option.{option_map_or}
 use Rattle.std.proofs.lemmas.Bool.{and_parts, leb-true, ltb-true}
 use Rattle.sudo_words.specs.Word.{is_name, is_host_name, is_alias_name, is_file_path, is_dir_path, is_arg}
 use Rattle.sudo_words.specs.Moment.{IsMoment}
-use Rattle.sudo_words.specs.Command.{IsHead, IsArgRule, IsLawful, cmnd_text, rule_of}
+use Rattle.sudo_words.specs.Command.{IsHead, IsArgRule, cmnd_text, rule_of}
 use Rattle.sudo_words.specs.declared.cmnd.Cmnd.{Cmnd}
 use Rattle.sudo_words.specs.declared.cmnd.Cmnd.TheVariants as commands
 use Rattle.sudo_words.specs.declared.cmnd.ArgRule.{ArgRule}
@@ -16,21 +16,18 @@ use Rattle.sudo_syntax.specs.declared.entry.Item.{Item}
 use Rattle.sudo_syntax.specs.declared.entry.Item.TheVariants as items
 use Rattle.sudo_syntax.specs.declared.entry.CmndItem.{CmndItem}
 use Rattle.sudo_syntax.specs.declared.entry.CmndItem.TheVariants as cmnds
-use Rattle.sudo_syntax.specs.declared.entry.Rule.{Rule}
 use Rattle.sudo_syntax.specs.declared.entry.Entry.{Entry}
 use Rattle.sudo_syntax.specs.declared.entry.Entry.TheVariants as entries
 use Rattle.sudo_syntax.specs.declared.tree.Definition.{Definition}
 use Rattle.sudo_syntax.specs.declared.tree.Spec.{Spec}
-use Rattle.sudo_syntax.specs.declared.tree.Line.{Line}
 use Rattle.sudo_syntax.specs.Alias.{is_defined, item_alias, cmnd_alias, KnowsList, depth_of, alias_depth, user_defs, runas_defs, host_defs, cmnd_defs}
-use Rattle.sudo_syntax.specs.Policy.{IsItem, IsCmndItem, IsList, IsRule, IsEntry, IsNew, KnowsRule, IsPlaced, ArePlaced, weight, IsPolicy}
+use Rattle.sudo_syntax.specs.Policy.{IsItem, IsCmndItem, IsList, IsEntry, IsNew, IsPlaced, ArePlaced, weight, IsPolicy}
 use Rattle.sudo_syntax.specs.Printing.{canon, item_text}
 use Rattle.sudo_syntax.specs.Span.{Each}
 use Rattle.sudo_syntax.specs.Lex.{Tok, word, mark, is_spaced, text_of, is_some_blank, is_blank, is_mark, is_word_text, goes_on, is_text_byte, IsTok, Lexes}
-use Rattle.sudo_syntax.specs.Lines.{is_no_hash, is_backslash, ends_with, may_go_on, lines_of, IsBody, IsContinued, Joined}
-use Rattle.sudo_syntax.specs.Grammar.{SpellsItem, SpellsCmnd, SpellsSpec, SpellsRunas, SpellsTree, head_of, args_of, is_odd}
-use Rattle.sudo_syntax.specs.Inheritance.{entries_of}
-use Rattle.sudo_syntax.specs.Spelling.{SpellsEntries, SpellsLine, SpellsLines, Spells}
+use Rattle.sudo_syntax.specs.Lines.{is_no_hash, is_backslash, ends_with, lines_of, IsBody, Joined}
+use Rattle.sudo_syntax.specs.Grammar.{SpellsItem, SpellsCmnd, SpellsSpec, head_of, args_of, is_odd}
+use Rattle.sudo_syntax.specs.Spelling.{SpellsLines, Spells}
 
 pub each_of : (p : ℕ → Bool) (bs : List ℕ) → list_all p bs ≡ true → Each p bs
 each_of p [] h = tt

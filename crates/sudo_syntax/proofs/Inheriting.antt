@@ -1,15 +1,14 @@
 -- What holds behind some commands of a list is the last that they give.
-use Rattle.std.proofs.Common.{◌≡◌, ℕ, ◌+◌, suc, Bool, false, List, [], ◌∷◌, ◌++◌, length, map, Option, Some, None, refl, sym, ap, ◌∙◌, subst, arith}
+use Rattle.std.proofs.Common.{◌≡◌, ℕ, suc, List, [], ◌∷◌, ◌++◌, length, map, Option, Some, None, refl, sym, ap, ◌∙◌, subst}
 use Rattle.std.specs.Prelude.{unwrap_or}
 use Rattle.std.specs.Option.{option_or}
 use Rattle.sudo_syntax.specs.declared.entry.Signed.{Signed}
 use Rattle.sudo_syntax.specs.declared.entry.Item.{Item}
-use Rattle.sudo_syntax.specs.declared.entry.Entry.{Entry}
 use Rattle.sudo_syntax.specs.declared.entry.Entry.TheVariants as entries
 use Rattle.sudo_syntax.specs.declared.tree.Spec.{Spec}
 use Rattle.sudo_syntax.specs.declared.tree.Part.{Part}
 use Rattle.sudo_syntax.specs.declared.tree.Settings.{Settings}
-use Rattle.sudo_syntax.specs.Inheritance.{root, first_settings, with_spec, rule_with, rules_of, part_rules}
+use Rattle.sudo_syntax.specs.Inheritance.{first_settings, with_spec, rule_with, rules_of, part_rules}
 use Rattle.sudo_syntax.specs.Inherited.{LastGiven, Inherits, HasRule}
 
 -- ---- the last one given

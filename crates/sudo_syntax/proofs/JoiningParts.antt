@@ -1,8 +1,7 @@
 -- What is joined by `:` spells what its parts spell on lines of their own.
-use Rattle.std.proofs.Common.{◌≡◌, ℕ, Bool, true, false, ◌&&◌, ◌||◌, ◌==◌, List, [], ◌∷◌, ◌++◌, map, Option, Some, None, refl, sym, ap, subst, ◌∙◌, append_assoc}
+use Rattle.std.proofs.Common.{◌≡◌, ℕ, Bool, true, false, ◌&&◌, ◌==◌, List, [], ◌∷◌, ◌++◌, map, Some, None, refl, sym, ap, subst, ◌∙◌, append_assoc}
 use Rattle.std.specs.Prelude.{codes}
-use Rattle.std.specs.List.{flat_map}
-use Rattle.std.proofs.lemmas.Bool.{false≢true, or_parts, or_from}
+use Rattle.std.proofs.lemmas.Bool.{false≢true, or_from}
 use Rattle.std.proofs.lemmas.Grind.{flat_map-append}
 use Rattle.std.proofs.lemmas.List.{map-append}
 use Rattle.sudo_words.specs.Word.{is_name, is_host_name}
@@ -13,13 +12,12 @@ use Rattle.sudo_syntax.specs.declared.entry.CmndItem.{CmndItem}
 use Rattle.sudo_syntax.specs.declared.entry.Entry.{Entry}
 use Rattle.sudo_syntax.specs.declared.entry.Entry.TheVariants as entries
 use Rattle.sudo_syntax.specs.declared.tree.Definition.{Definition}
-use Rattle.sudo_syntax.specs.declared.tree.Spec.{Spec}
 use Rattle.sudo_syntax.specs.declared.tree.Part.{Part}
 use Rattle.sudo_syntax.specs.declared.tree.Line.{Line}
 use Rattle.sudo_syntax.specs.declared.tree.Line.TheVariants as lines
 use Rattle.sudo_syntax.specs.Span.{Each, Stops}
-use Rattle.sudo_syntax.specs.Lex.{Tok, word, mark, is_spaced, text_of, is_blank, is_some_blank, is_word_byte, goes_on, IsTok, Lexes}
-use Rattle.sudo_syntax.specs.Grammar.{begins_spaced, More, Listed, SpellsItem, SpellsCmnd, args_of, head_of, Users, SpellsRunas, Date, SpellsDates, SpellsTags, SpellsSpec, SpellsPart, SpellsDef, SpellsAliases, SpellsRights, SpellsTree}
+use Rattle.sudo_syntax.specs.Lex.{Tok, word, mark, text_of, is_blank, is_some_blank, is_word_byte, goes_on, IsTok, Lexes}
+use Rattle.sudo_syntax.specs.Grammar.{begins_spaced, More, Listed, SpellsItem, SpellsCmnd, args_of, head_of, Users, SpellsRunas, SpellsDates, SpellsTags, SpellsSpec, SpellsPart, SpellsDef, SpellsAliases, SpellsTree}
 use Rattle.sudo_syntax.specs.Inheritance.{part_rules, entries_of}
 use Rattle.sudo_syntax.specs.Spelling.{SpellsEntries, SpellsLine}
 use Rattle.sudo_syntax.specs.Apart.{AreUsers, AreParts, AreDefs, SpellsBoth}
@@ -62,16 +60,27 @@ blanks_before : (u v : List ℕ) (us : List Tok) → Each is_blank u → Lexes (
 blanks_before u v [] each h = each_append is_blank u (32 ∷ v) each h
 blanks_before u v (t ∷ us) each ([], rest, blank, is, tok, whole, more) =
     absurd (false≢true (sym (subst (Stops is_blank) (sym whole) (starts t rest tok))))
-blanks_before u v (t ∷ us) each (b ∷ bs, rest, blank, is, tok, whole, more) =
-    (u ++ b ∷ bs, rest, each_append is_blank u (b ∷ bs) each blank, is ∙ sym (some_behind u b bs), tok,
-    ap (λ (x : List ℕ). u ++ x) whole ∙ sym (append_assoc u (b ∷ bs) (text_of t ++ rest)), more)
+blanks_before u v (t ∷ us) each (b ∷ bs, rest, blank, is, tok, whole, more) = (
+  u ++ b ∷ bs,
+  rest,
+  each_append is_blank u (b ∷ bs) each blank,
+  is ∙ sym (some_behind u b bs),
+  tok,
+  ap (λ (x : List ℕ). u ++ x) whole ∙ sym (append_assoc u (b ∷ bs) (text_of t ++ rest)),
+  more,
+)
 
 lex_behind : (u v : List ℕ) (ts us : List Tok) → Lexes u ts → Lexes (32 ∷ v) us → Lexes (u ++ 32 ∷ v) (ts ++ us)
 lex_behind u v [] us h k = blanks_before u v us h k
-lex_behind u v (t ∷ ts) us (blanks, rest, each, is, tok, whole, more) k =
-    (blanks, rest ++ 32 ∷ v, each, is, tok_behind t rest v tok,
-    ap (λ (x : List ℕ). x ++ 32 ∷ v) whole ∙ append_assoc blanks (text_of t ++ rest) (32 ∷ v) ∙ ap (λ (x : List ℕ). blanks ++ x) (append_assoc (text_of t) rest (32 ∷ v)),
-    lex_behind rest v ts us more k)
+lex_behind u v (t ∷ ts) us (blanks, rest, each, is, tok, whole, more) k = (
+  blanks,
+  rest ++ 32 ∷ v,
+  each,
+  is,
+  tok_behind t rest v tok,
+  ap (λ (x : List ℕ). x ++ 32 ∷ v) whole ∙ append_assoc blanks (text_of t ++ rest) (32 ∷ v) ∙ ap (λ (x : List ℕ). blanks ++ x) (append_assoc (text_of t) rest (32 ∷ v)),
+  lex_behind rest v ts us more k,
+)
 
 -- ---- what is spelled at the front of some tokens is spelled at the front of more
 
@@ -256,10 +265,12 @@ users_some [] us users rest h e = listed_some 44 (SpellsItem is_name) (item_free
 users_some (t ∷ ts) us users rest h e = cc
 
 rights_line : (u p : List ℕ) (users : List (Signed (Item (List ℕ)))) (parts : List Part) → AreUsers u users → IsTail SpellsPart p parts → SpellsLine (u ++ 32 ∷ p) (entries_of (lines.Rights users parts))
-rights_line u p users parts (ts, lexes, are) t =
-    (ts ++ t.toks, lex_behind u p ts t.toks lexes t.lexes,
-    some_entries (ts ++ t.toks) (lines.Rights users parts) (users_some ts t.toks users [] are)
-    (t.toks, listed_grows 44 (SpellsItem is_name) (item_grows is_name) ts users [] t.toks are, t.begins_so, t.listed))
+rights_line u p users parts (ts, lexes, are) t = (
+  ts ++ t.toks,
+  lex_behind u p ts t.toks lexes t.lexes,
+  some_entries (ts ++ t.toks) (lines.Rights users parts) (users_some ts t.toks users [] are)
+      (t.toks, listed_grows 44 (SpellsItem is_name) (item_grows is_name) ts users [] t.toks are, t.begins_so, t.listed),
+)
 
 pub parts_apart : (u p q : List ℕ) (users : List (Signed (Item (List ℕ)))) (ps qs : List Part) → AreUsers u users → AreParts p ps → AreParts q qs → SpellsBoth u p q
 parts_apart u p q users ps qs are (tp, lex_p, list_p) (tq, lex_q, list_q) =
@@ -277,9 +288,11 @@ record IsKind {X : Type 0} (kind : List ℕ) (Is : List Tok → Signed X → Lis
 
 defs_line : {X : Type 0} (kind : List ℕ) (Is : List Tok → Signed X → List Tok → Type 0) (line : List (Definition X) → Line) (entry : Definition X → Entry) → IsKind kind Is line entry
     → (d : List ℕ) (defs : List (Definition X)) → IsTail (SpellsDef Is) d defs → SpellsLine (kind ++ 32 ∷ d) (entries_of (line defs))
-defs_line kind Is line entry k d defs t =
-    (word false 0 kind ∷ t.toks, lex_behind kind d (word false 0 kind ∷ []) t.toks k.lexes t.lexes,
-    (line defs, k.tree (word false 0 kind ∷ t.toks) defs (false, t.toks, refl, t.begins_so, t.listed), refl))
+defs_line kind Is line entry k d defs t = (
+  word false 0 kind ∷ t.toks,
+  lex_behind kind d (word false 0 kind ∷ []) t.toks k.lexes t.lexes,
+  (line defs, k.tree (word false 0 kind ∷ t.toks) defs (false, t.toks, refl, t.begins_so, t.listed), refl),
+)
 
 defs_apart : {X : Type 0} (kind : List ℕ) (Is : List Tok → Signed X → List Tok → Type 0) (line : List (Definition X) → Line) (entry : Definition X → Entry) → IsKind kind Is line entry → Grows Is
     → (d e : List ℕ) (defs others : List (Definition X)) → AreDefs Is d defs → AreDefs Is e others → SpellsBoth kind d e

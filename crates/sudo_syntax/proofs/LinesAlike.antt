@@ -1,12 +1,9 @@
 -- A line with a comment is joined as the line without it, and a line that goes on as the one line in its place.
-use Rattle.std.proofs.Common.{◌≡◌, ℕ, Bool, true, false, ◌||◌, ◌==◌, List, [], ◌∷◌, ◌++◌, refl, sym, ap, subst, ◌∙◌, inl, inr, append_assoc}
+use Rattle.std.proofs.Common.{◌≡◌, ℕ, Bool, true, false, ◌==◌, List, [], ◌∷◌, ◌++◌, refl, sym, ap, subst, ◌∙◌, inl, inr, append_assoc}
 use Rattle.std.proofs.lemmas.Bool.{false≢true, eqb-true, or_cases}
-use Rattle.std.proofs.lemmas.List.{length-append}
-use Rattle.sudo_syntax.specs.declared.entry.Entry.{Entry}
-use Rattle.sudo_syntax.specs.Span.{Each, Stops, IsCut}
+use Rattle.sudo_syntax.specs.Span.{Each, IsCut}
 use Rattle.sudo_syntax.specs.Lex.{is_blank}
-use Rattle.sudo_syntax.specs.Lines.{is_no_hash, is_backslash, ends_with, may_go_on, is_before_comment, lines_of, IsNote, IsBody, IsContinued, Joined}
-use Rattle.sudo_syntax.specs.Spelling.{Spells}
+use Rattle.sudo_syntax.specs.Lines.{is_no_hash, is_backslash, ends_with, may_go_on, is_before_comment, IsNote, IsBody, IsContinued, Joined}
 use Rattle.sudo_syntax.specs.Alike.{SpellAlike, DifferIn, MayHaveNote, GoesOnWith}
 use Rattle.sudo_syntax.proofs.Spans.{cut_is, one_cut}
 use Rattle.sudo_syntax.proofs.LineTexts.{ends_with_last, last_split, one_front, each_append, no_hash_cut, body_one, body_or_front, front_one}
@@ -23,26 +20,28 @@ alike_behind these those alike (l ∷ before) after joined (inl (body, more, is,
 alike_behind these those alike (l ∷ before) after joined (inr (front, body, more, is, e, rest)) = inr (front, body, more, is, e, alike_behind these those alike before after (body ∷ more) rest)
 
 pub spell_alike : (text other : List ℕ) (these those : List (List ℕ)) → JoinAlike these those → JoinAlike those these → DifferIn text other these those → SpellAlike text other
-spell_alike text other these those there back d ok fine es =
-    (λ s. record {
-      short = fine.0;
-      bytes = fine.1;
-      joined = s.joined;
-      lines =
-          subst (λ (ls : List (List ℕ)). Joined ls s.joined) (sym d.other_is)
-          (alike_behind these those there d.before d.after s.joined (subst (λ (ls : List (List ℕ)). Joined ls s.joined) d.text_is s.lines));
-      entries = s.entries;
-      policy = s.policy;
-    }, λ s. record {
-      short = ok.0;
-      bytes = ok.1;
-      joined = s.joined;
-      lines =
-          subst (λ (ls : List (List ℕ)). Joined ls s.joined) (sym d.text_is)
-          (alike_behind those these back d.before d.after s.joined (subst (λ (ls : List (List ℕ)). Joined ls s.joined) d.other_is s.lines));
-      entries = s.entries;
-      policy = s.policy;
-    })
+spell_alike text other these those there back d ok fine es = (
+  λ s. record {
+    short = fine.0;
+    bytes = fine.1;
+    joined = s.joined;
+    lines =
+        subst (λ (ls : List (List ℕ)). Joined ls s.joined) (sym d.other_is)
+        (alike_behind these those there d.before d.after s.joined (subst (λ (ls : List (List ℕ)). Joined ls s.joined) d.text_is s.lines));
+    entries = s.entries;
+    policy = s.policy;
+  },
+  λ s. record {
+    short = ok.0;
+    bytes = ok.1;
+    joined = s.joined;
+    lines =
+        subst (λ (ls : List (List ℕ)). Joined ls s.joined) (sym d.text_is)
+        (alike_behind those these back d.before d.after s.joined (subst (λ (ls : List (List ℕ)). Joined ls s.joined) d.other_is s.lines));
+    entries = s.entries;
+    policy = s.policy;
+  },
+)
 
 -- ---- comments
 
@@ -120,9 +119,11 @@ body_of_cut : (front next own left whole rest : List ℕ) → Each is_no_hash fr
     → (body : List ℕ) × (whole ≡ front ++ 32 ∷ body) × IsBody next body
 body_of_cut front next own left whole rest f cut c n =
     let both = cut_behind front next own left f cut in
-    let same = one_cut is_no_hash whole rest (front ++ 32 ∷ own) left c.each c.stops both.each both.stops (sym c.whole ∙ both.whole) in
-    (own, same.0,
-    (left, cut, note_back front own left (subst (IsNote (front ++ 32 ∷ own)) same.1 (subst (λ (b : List ℕ). IsNote b rest) same.0 n))))
+    let same = one_cut is_no_hash whole rest (front ++ 32 ∷ own) left c.each c.stops both.each both.stops (sym c.whole ∙ both.whole) in (
+      own,
+      same.0,
+      (left, cut, note_back front own left (subst (IsNote (front ++ 32 ∷ own)) same.1 (subst (λ (b : List ℕ). IsNote b rest) same.0 n))),
+    )
 
 body_back : (front next whole : List ℕ) → Each is_no_hash front → IsBody (front ++ 32 ∷ next) whole → (body : List ℕ) × (whole ≡ front ++ 32 ∷ body) × IsBody next body
 body_back front next whole f (rest, c, n) = body_of_cut front next _ _ whole rest f (cut_is is_no_hash next) c n
@@ -175,9 +176,15 @@ next_joined front next body after joined more f e (inl (other, rest, is, same, l
 next_joined front next body after joined more f e (inr (part, other, rest, is, same, last)) =
     let bodies : body ≡ part ++ 32 ∷ other = cc in
     let mores : more ≡ rest = cc in
-    inr (front ++ 32 ∷ part, other, rest, goes_behind front next part f is,
-    e ∙ ap (λ (b : List ℕ). (front ++ 32 ∷ b) ∷ more) bodies ∙ ap (λ (m : List (List ℕ)). (front ++ 32 ∷ (part ++ 32 ∷ other)) ∷ m) mores
-    ∙ ap (λ (w : List ℕ). w ∷ rest) (sym (append_assoc front (32 ∷ part) (32 ∷ other))), last)
+    inr (
+      front ++ 32 ∷ part,
+      other,
+      rest,
+      goes_behind front next part f is,
+      e ∙ ap (λ (b : List ℕ). (front ++ 32 ∷ b) ∷ more) bodies ∙ ap (λ (m : List (List ℕ)). (front ++ 32 ∷ (part ++ 32 ∷ other)) ∷ m) mores
+          ∙ ap (λ (w : List ℕ). w ∷ rest) (sym (append_assoc front (32 ∷ part) (32 ∷ other))),
+      last,
+    )
 
 to_one : (front next : List ℕ) → GoesOnWith front next → JoinAlike (Two front next) (One front next)
 to_one front next g after joined (inl (body, more, is, e, rest)) = absurd (body_or_front (front ++ 92 ∷ []) body front is g.0)
@@ -191,9 +198,14 @@ to_two front next g after joined (inl (whole, more, is, e, rest)) =
     inr (front, back.0, more, g.0, e ∙ ap (λ (w : List ℕ). w ∷ more) back.1, inl (back.0, more, back.2, refl, rest))
 to_two front next g after joined (inr (whole, body, more, is, e, rest)) =
     let back = goes_back front next whole g.1 is in
-    inr (front, back.0 ++ 32 ∷ body, more, g.0,
-    e ∙ ap (λ (w : List ℕ). (w ++ 32 ∷ body) ∷ more) back.1 ∙ ap (λ (w : List ℕ). w ∷ more) (append_assoc front (32 ∷ back.0) (32 ∷ body)),
-    inr (back.0, body, more, back.2, refl, rest))
+    inr (
+      front,
+      back.0 ++ 32 ∷ body,
+      more,
+      g.0,
+      e ∙ ap (λ (w : List ℕ). (w ++ 32 ∷ body) ∷ more) back.1 ∙ ap (λ (w : List ℕ). w ∷ more) (append_assoc front (32 ∷ back.0) (32 ∷ body)),
+      inr (back.0, body, more, back.2, refl, rest),
+    )
 
 pub continuations : (text other front next : List ℕ) → GoesOnWith front next → DifferIn text other ((front ++ 92 ∷ []) ∷ next ∷ []) ((front ++ 32 ∷ next) ∷ []) → SpellAlike text other
 continuations text other front next g d = spell_alike text other (Two front next) (One front next) (to_one front next g) (to_two front next g) d

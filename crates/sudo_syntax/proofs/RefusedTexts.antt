@@ -1,5 +1,5 @@
 -- Literal texts that spell no policy.
-use Rattle.std.proofs.Common.{◌≡◌, ℕ, Bool, true, false, List, [], ◌∷◌, ◌++◌, length, map, Option, Some, None, refl, sym, ap, subst, ◌∙◌, inl, inr, arith, lit≤, ◌≤◌}
+use Rattle.std.proofs.Common.{◌≡◌, ℕ, Bool, true, false, List, [], ◌∷◌, ◌++◌, length, Option, Some, None, refl, sym, ap, subst, ◌∙◌, inl, inr, arith, lit≤, ◌≤◌}
 use Rattle.std.specs.Prelude.{codes}
 use Rattle.std.specs.List.{list_all}
 use Rattle.std.proofs.lemmas.Bool.{false≢true}
@@ -17,9 +17,7 @@ use Rattle.sudo_syntax.specs.declared.tree.Line.TheVariants as lines
 use Rattle.sudo_syntax.specs.declared.tree.Part.{Part}
 use Rattle.sudo_syntax.specs.declared.tree.Spec.{Spec}
 use Rattle.sudo_syntax.specs.Policy.{IsCmndItem, IsPolicy}
-use Rattle.sudo_syntax.specs.Span.{IsCut}
-use Rattle.sudo_syntax.specs.Lex.{Tok, word, mark, is_blank, Lexes, NoLexing}
-use Rattle.sudo_syntax.specs.Cuts.{is_bang}
+use Rattle.sudo_syntax.specs.Lex.{Tok, word, mark, Lexes, NoLexing}
 use Rattle.sudo_syntax.specs.Lines.{is_no_hash, is_backslash, ends_with, lines_of, Joined}
 use Rattle.sudo_syntax.specs.Grammar.{Listed, More, SpellsItem, SpellsCmnd, SpellsRunas, SpellsDates, SpellsTags, SpellsSpec, SpellsPart, SpellsRights, SpellsTree, Date, head_of, args_of, rule_toks}
 use Rattle.sudo_syntax.specs.Inheritance.{entries_of}
@@ -79,11 +77,14 @@ abbrev below_entries : List Entry
 below_entries = entries_of use_line ++ entries_of user_line
 
 below_lines : SpellsLines (codes "B db1 = ALL" ∷ codes "User_Alias B = ann" ∷ []) below_entries
-below_lines =
-    (entries_of use_line, entries_of user_line,
-    spells_line (codes "B db1 = ALL") (word false 0 (codes "B")) all_toks use_line (lexed (word false 0 (codes "B") ∷ all_toks) [] refl) use_tree, refl,
-    one_line (codes "User_Alias B = ann") (entries_of user_line)
-    (spells_line (codes "User_Alias B = ann") (word false 0 (codes "User_Alias")) user_toks user_line (lexed (word false 0 (codes "User_Alias") ∷ user_toks) [] refl) user_tree))
+below_lines = (
+  entries_of use_line,
+  entries_of user_line,
+  spells_line (codes "B db1 = ALL") (word false 0 (codes "B")) all_toks use_line (lexed (word false 0 (codes "B") ∷ all_toks) [] refl) use_tree,
+  refl,
+  one_line (codes "User_Alias B = ann") (entries_of user_line)
+      (spells_line (codes "User_Alias B = ann") (word false 0 (codes "User_Alias")) user_toks user_line (lexed (word false 0 (codes "User_Alias") ∷ user_toks) [] refl) user_tree),
+)
 
 pub below_none : SpellsNone (codes "B db1 = ALL\nUser_Alias B = ann")
 below_none es s =

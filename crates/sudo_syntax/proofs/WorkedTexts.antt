@@ -1,5 +1,5 @@
 -- Literal texts and the policies that they spell.
-use Rattle.std.proofs.Common.{◌≡◌, ℕ, Bool, true, false, List, [], ◌∷◌, ◌++◌, Option, Some, None, refl, sym, ap, ◌∙◌, ◌+◌, ◌*◌, ◌<◌, inl, inr, lit<, lit≤}
+use Rattle.std.proofs.Common.{◌≡◌, ℕ, true, false, List, [], ◌∷◌, ◌++◌, Some, None, refl, sym, ◌+◌, ◌*◌, ◌<◌, inl, inr, lit<, lit≤}
 use Rattle.std.specs.List.{list_all}
 use Rattle.std.proofs.lemmas.List.{append-nil}
 use Rattle.sudo_words.specs.Word.{is_reserved}
@@ -15,7 +15,6 @@ use Rattle.sudo_syntax.specs.declared.entry.Item.TheVariants as items
 use Rattle.sudo_syntax.specs.declared.entry.CmndItem.{CmndItem}
 use Rattle.sudo_syntax.specs.declared.entry.CmndItem.TheVariants as cmnds
 use Rattle.sudo_syntax.specs.declared.entry.Entry.{Entry}
-use Rattle.sudo_syntax.specs.declared.entry.Entry.TheVariants as entries
 use Rattle.sudo_syntax.specs.declared.tree.Line.{Line}
 use Rattle.sudo_syntax.specs.declared.tree.Line.TheVariants as lines
 use Rattle.sudo_syntax.specs.declared.tree.Part.{Part}
@@ -24,10 +23,9 @@ use Rattle.sudo_syntax.specs.Lines.{is_no_hash, is_backslash, ends_with, Joined}
 use Rattle.sudo_syntax.specs.Lex.{Tok, word, mark, Lexes}
 use Rattle.sudo_syntax.specs.Grammar.{SpellsTree}
 use Rattle.sudo_syntax.specs.Inheritance.{entries_of}
-use Rattle.sudo_syntax.specs.Printing.{canon}
 use Rattle.sudo_syntax.specs.Spelling.{Spells, SpellsLine, SpellsLines}
 use Rattle.sudo_syntax.specs.Worked.{SpellsAs, may_run}
-use Rattle.sudo_syntax.proofs.Deriving.{each_of, bytes_of, are_tokens, lexed, lexed_more, plain_body, item, cmnd, only, only_spelled, cmnd_ok, cmnd_is, policy_ok, text_ok, spelled}
+use Rattle.sudo_syntax.proofs.Deriving.{each_of, lexed, lexed_more, plain_body, item, cmnd, only, only_spelled, cmnd_is, spelled}
 
 abbrev pub yes : {X : Type 0} → X → Signed X
 yes x = record { negated = false; item = x }
@@ -80,11 +78,12 @@ signs_tree : SpellsTree (word false 2 (codes "ann") ∷ signs_toks) signs_line
 signs_tree = (_, (_, item refl, refl), refl, (_, record { spaced = true; next = _; hosts = (_, item refl, refl); specs = (_, only_spelled (cmnd (cmnd_is su refl)), refl) }, refl))
 
 pub signs_spell : SpellsAs signs_text (codes "ann db1 = (root) !/bin/su\n")
-signs_spell =
-    (entries_of signs_line,
-    spelled signs_text (signs_text ∷ []) (entries_of signs_line) refl (plain signs_text [] [] refl refl refl)
-    (one_line signs_text (entries_of signs_line) (spells_line signs_text (word false 2 (codes "ann")) signs_toks signs_line (lexed (word false 2 (codes "ann") ∷ signs_toks) [] refl) signs_tree)) refl,
-    refl)
+signs_spell = (
+  entries_of signs_line,
+  spelled signs_text (signs_text ∷ []) (entries_of signs_line) refl (plain signs_text [] [] refl refl refl)
+      (one_line signs_text (entries_of signs_line) (spells_line signs_text (word false 2 (codes "ann")) signs_toks signs_line (lexed (word false 2 (codes "ann") ∷ signs_toks) [] refl) signs_tree)) refl,
+  refl,
+)
 
 -- ---- `ann db1 = ALL # see #12`
 
@@ -101,12 +100,13 @@ all_tree : SpellsTree (word false 0 (codes "ann") ∷ all_toks) all_line
 all_tree = (_, (_, item refl, refl), refl, (_, record { spaced = true; next = _; hosts = (_, item refl, refl); specs = (_, only_spelled (cmnd (cmnd_is all refl)), refl) }, refl))
 
 pub note_spell : SpellsAs (codes "ann db1 = ALL # see #12") (codes "ann db1 = (root) ALL\n")
-note_spell =
-    (entries_of all_line,
-    spelled (codes "ann db1 = ALL # see #12") (note_body ∷ []) (entries_of all_line) refl
-    (inl (note_body, [], (codes "# see #12", record { whole = refl; each = each_of is_no_hash note_body refl; stops = refl }, (refl, refl)), refl, refl))
-    (one_line note_body (entries_of all_line) (spells_line note_body (word false 0 (codes "ann")) all_toks all_line (lexed (word false 0 (codes "ann") ∷ all_toks) (codes " ") refl) all_tree)) refl,
-    refl)
+note_spell = (
+  entries_of all_line,
+  spelled (codes "ann db1 = ALL # see #12") (note_body ∷ []) (entries_of all_line) refl
+      (inl (note_body, [], (codes "# see #12", record { whole = refl; each = each_of is_no_hash note_body refl; stops = refl }, (refl, refl)), refl, refl))
+      (one_line note_body (entries_of all_line) (spells_line note_body (word false 0 (codes "ann")) all_toks all_line (lexed (word false 0 (codes "ann") ∷ all_toks) (codes " ") refl) all_tree)) refl,
+  refl,
+)
 
 -- ---- `ann db1 = \`, and on the next line `/bin/ls`
 
@@ -128,12 +128,13 @@ continued_lexes =
     (codes "  ", [], (refl, (refl, tt)), refl, (lit< tt, refl, refl), refl, tt)
 
 pub continued_spell : SpellsAs (codes "ann db1 = \\\n/bin/ls") (codes "ann db1 = (root) /bin/ls\n")
-continued_spell =
-    (entries_of ls_line,
-    spelled (codes "ann db1 = \\\n/bin/ls") (continued ∷ []) (entries_of ls_line) refl
-    (inr (codes "ann db1 = ", codes "/bin/ls", [], record { whole = refl; each = each_of is_no_hash (codes "ann db1 = ") refl; behind = refl }, refl, plain (codes "/bin/ls") [] [] refl refl refl))
-    (one_line continued (entries_of ls_line) (spells_line continued (word false 0 (codes "ann")) ls_toks ls_line continued_lexes ls_tree)) refl,
-    refl)
+continued_spell = (
+  entries_of ls_line,
+  spelled (codes "ann db1 = \\\n/bin/ls") (continued ∷ []) (entries_of ls_line) refl
+      (inr (codes "ann db1 = ", codes "/bin/ls", [], record { whole = refl; each = each_of is_no_hash (codes "ann db1 = ") refl; behind = refl }, refl, plain (codes "/bin/ls") [] [] refl refl refl))
+      (one_line continued (entries_of ls_line) (spells_line continued (word false 0 (codes "ann")) ls_toks ls_line continued_lexes ls_tree)) refl,
+  refl,
+)
 
 -- ---- aliases and parts joined by `:`
 
@@ -152,10 +153,17 @@ users_line =
 
 users_tree : SpellsTree (word false 0 (codes "User_Alias") ∷ users_toks) users_line
 unfolding is_reserved
-users_tree =
-    (false, _, refl, refl,
-    (_, record { name_spaced = true; spaced = true; next = _; toks = refl; name = refl; list = (_, item refl, (false, _, _, refl, item refl, refl)) },
-    (true, _, _, refl, record { name_spaced = true; spaced = true; next = _; toks = refl; name = refl; list = (_, item refl, (false, _, _, refl, item refl, refl)) }, refl)))
+users_tree = (
+  false,
+  _,
+  refl,
+  refl,
+  (
+    _,
+    record { name_spaced = true; spaced = true; next = _; toks = refl; name = refl; list = (_, item refl, (false, _, _, refl, item refl, refl)) },
+    (true, _, _, refl, record { name_spaced = true; spaced = true; next = _; toks = refl; name = refl; list = (_, item refl, (false, _, _, refl, item refl, refl)) }, refl),
+  ),
+)
 
 abbrev parts_text : List ℕ
 parts_text = codes "B db1 = /bin/ls : db2 = (ALL) ALL"
@@ -173,28 +181,44 @@ parts_line = rights (yes (items.Alias (codes "B"))) (part (codes "db1") (only (y
 
 parts_tree : SpellsTree (word false 0 (codes "B") ∷ parts_toks) parts_line
 unfolding is_reserved
-parts_tree =
-    (_, (_, item refl, refl), refl,
-    (_, record { spaced = true; next = _; hosts = (_, item refl, refl); specs = (_, only_spelled (cmnd (cmnd_is ls refl)), refl) },
-    (true, _, _, refl,
-    record {
-      spaced = true;
-      next = _;
-      hosts = (_, item refl, refl);
-      specs = (_, record {
-        behind_runas = _;
-        dates = [];
-        behind_dates = _;
-        tags = [];
-        behind_tags = _;
-        runas = (true, false, _, _, refl, (_, item tt, refl), refl);
-        dated = refl;
-        bounds = (refl, refl);
-        tagged = refl;
-        passwd = refl;
-        cmnd = cmnd (cmnd_is all refl);
-      }, refl);
-    }, refl)))
+parts_tree = (
+  _,
+  (_, item refl, refl),
+  refl,
+  (
+    _,
+    record { spaced = true; next = _; hosts = (_, item refl, refl); specs = (_, only_spelled (cmnd (cmnd_is ls refl)), refl) },
+    (
+      true,
+      _,
+      _,
+      refl,
+      record {
+        spaced = true;
+        next = _;
+        hosts = (_, item refl, refl);
+        specs = (
+          _,
+          record {
+            behind_runas = _;
+            dates = [];
+            behind_dates = _;
+            tags = [];
+            behind_tags = _;
+            runas = (true, false, _, _, refl, (_, item tt, refl), refl);
+            dated = refl;
+            bounds = (refl, refl);
+            tagged = refl;
+            passwd = refl;
+            cmnd = cmnd (cmnd_is all refl);
+          },
+          refl,
+        );
+      },
+      refl,
+    ),
+  ),
+)
 
 abbrev aliases_text : List ℕ
 aliases_text = codes "User_Alias A = ann, bob : B = A, !bob\nB db1 = /bin/ls : db2 = (ALL) ALL"
@@ -204,13 +228,17 @@ aliases_entries = entries_of users_line ++ entries_of parts_line
 
 pub aliases_spell : SpellsAs aliases_text (codes "User_Alias A = ann, bob\nUser_Alias B = A, !bob\nB db1 = (root) /bin/ls\nB db2 = (ALL) ALL\n")
 unfolding is_reserved
-aliases_spell =
-    (aliases_entries,
-    spelled aliases_text (users_text ∷ parts_text ∷ []) aliases_entries refl (plain users_text (parts_text ∷ []) (parts_text ∷ []) refl refl (plain parts_text [] [] refl refl refl))
-    (entries_of users_line, entries_of parts_line,
-    spells_line users_text (word false 0 (codes "User_Alias")) users_toks users_line (lexed (word false 0 (codes "User_Alias") ∷ users_toks) [] refl) users_tree, refl,
-    one_line parts_text (entries_of parts_line) (spells_line parts_text (word false 0 (codes "B")) parts_toks parts_line (lexed (word false 0 (codes "B") ∷ parts_toks) [] refl) parts_tree)) refl,
-    refl)
+aliases_spell = (
+  aliases_entries,
+  spelled aliases_text (users_text ∷ parts_text ∷ []) aliases_entries refl (plain users_text (parts_text ∷ []) (parts_text ∷ []) refl refl (plain parts_text [] [] refl refl refl)) (
+    entries_of users_line,
+    entries_of parts_line,
+    spells_line users_text (word false 0 (codes "User_Alias")) users_toks users_line (lexed (word false 0 (codes "User_Alias") ∷ users_toks) [] refl) users_tree,
+    refl,
+    one_line parts_text (entries_of parts_line) (spells_line parts_text (word false 0 (codes "B")) parts_toks parts_line (lexed (word false 0 (codes "B") ∷ parts_toks) [] refl) parts_tree),
+  ) refl,
+  refl,
+)
 
 -- ---- one name in two kinds
 
@@ -255,15 +283,23 @@ unfolding is_reserved
 kinds_spell =
     let a = codes "Host_Alias B = db1" in
     let b = codes "User_Alias B = ann" in
-    let c = codes "B B = ALL" in
-    (kinds_entries,
-    spelled kinds_text (a ∷ b ∷ c ∷ []) kinds_entries refl (plain a (b ∷ c ∷ []) (b ∷ c ∷ []) refl refl (plain b (c ∷ []) (c ∷ []) refl refl (plain c [] [] refl refl refl)))
-    (entries_of host_line, entries_of user_line ++ entries_of both_line,
-    spells_line a (word false 0 (codes "Host_Alias")) host_toks host_line (lexed (word false 0 (codes "Host_Alias") ∷ host_toks) [] refl) host_tree, refl,
-    (entries_of user_line, entries_of both_line,
-    spells_line b (word false 0 (codes "User_Alias")) user_toks user_line (lexed (word false 0 (codes "User_Alias") ∷ user_toks) [] refl) user_tree, refl,
-    one_line c (entries_of both_line) (spells_line c (word false 0 (codes "B")) both_toks both_line (lexed (word false 0 (codes "B") ∷ both_toks) [] refl) both_tree))) refl,
-    refl)
+    let c = codes "B B = ALL" in (
+      kinds_entries,
+      spelled kinds_text (a ∷ b ∷ c ∷ []) kinds_entries refl (plain a (b ∷ c ∷ []) (b ∷ c ∷ []) refl refl (plain b (c ∷ []) (c ∷ []) refl refl (plain c [] [] refl refl refl))) (
+        entries_of host_line,
+        entries_of user_line ++ entries_of both_line,
+        spells_line a (word false 0 (codes "Host_Alias")) host_toks host_line (lexed (word false 0 (codes "Host_Alias") ∷ host_toks) [] refl) host_tree,
+        refl,
+        (
+          entries_of user_line,
+          entries_of both_line,
+          spells_line b (word false 0 (codes "User_Alias")) user_toks user_line (lexed (word false 0 (codes "User_Alias") ∷ user_toks) [] refl) user_tree,
+          refl,
+          one_line c (entries_of both_line) (spells_line c (word false 0 (codes "B")) both_toks both_line (lexed (word false 0 (codes "B") ∷ both_toks) [] refl) both_tree),
+        ),
+      ) refl,
+      refl,
+    )
 
 -- ---- an argument with `\:`, and a directory
 
@@ -341,44 +377,62 @@ abbrev dates_line : Line
 dates_line = rights (user (codes "ann")) (record { hosts = user (codes "db1") ∷ []; specs = until ∷ since ∷ [] } ∷ part (codes "db2") (only (yes ls)) ∷ [])
 
 dates_tree : SpellsTree (word false 0 (codes "ann") ∷ dates_toks) dates_line
-dates_tree =
-    (_, (_, item refl, refl), refl,
-    (_, record {
+dates_tree = (
+  _,
+  (_, item refl, refl),
+  refl,
+  (
+    _,
+    record {
       spaced = true;
       next = _;
       hosts = (_, item refl, refl);
-      specs = (_, record {
-        behind_runas = _;
-        dates = record { word = codes "NOTAFTER"; moment = 1_767_610_800 } ∷ [];
-        behind_dates = _;
-        tags = [];
-        behind_tags = _;
-        runas = refl;
-        dated = (true, codes "2026010511Z", _, eleven, refl, refl, refl);
-        bounds = (None, Some 1_767_610_800, inr (refl, refl, refl, refl), (refl, refl));
-        tagged = refl;
-        passwd = refl;
-        cmnd = cmnd (cmnd_is ls refl);
-      }, (false, _, _, refl, record {
-        behind_runas = _;
-        dates = record { word = codes "NOTBEFORE"; moment = 1_767_603_600 } ∷ [];
-        behind_dates = _;
-        tags = [];
-        behind_tags = _;
-        runas = refl;
-        dated = (true, codes "2026010509Z", _, nine, refl, refl, refl);
-        bounds = (Some 1_767_603_600, None, inl (refl, refl, refl, refl), (refl, refl));
-        tagged = refl;
-        passwd = refl;
-        cmnd = cmnd (cmnd_is cat refl);
-      }, refl));
+      specs = (
+        _,
+        record {
+          behind_runas = _;
+          dates = record { word = codes "NOTAFTER"; moment = 1_767_610_800 } ∷ [];
+          behind_dates = _;
+          tags = [];
+          behind_tags = _;
+          runas = refl;
+          dated = (true, codes "2026010511Z", _, eleven, refl, refl, refl);
+          bounds = (None, Some 1_767_610_800, inr (refl, refl, refl, refl), (refl, refl));
+          tagged = refl;
+          passwd = refl;
+          cmnd = cmnd (cmnd_is ls refl);
+        },
+        (
+          false,
+          _,
+          _,
+          refl,
+          record {
+            behind_runas = _;
+            dates = record { word = codes "NOTBEFORE"; moment = 1_767_603_600 } ∷ [];
+            behind_dates = _;
+            tags = [];
+            behind_tags = _;
+            runas = refl;
+            dated = (true, codes "2026010509Z", _, nine, refl, refl, refl);
+            bounds = (Some 1_767_603_600, None, inl (refl, refl, refl, refl), (refl, refl));
+            tagged = refl;
+            passwd = refl;
+            cmnd = cmnd (cmnd_is cat refl);
+          },
+          refl,
+        ),
+      );
     },
-    (true, _, _, refl, record { spaced = true; next = _; hosts = (_, item refl, refl); specs = (_, only_spelled (cmnd (cmnd_is ls refl)), refl) }, refl)))
+    (true, _, _, refl, record { spaced = true; next = _; hosts = (_, item refl, refl); specs = (_, only_spelled (cmnd (cmnd_is ls refl)), refl) }, refl),
+  ),
+)
 
 pub dates_spell : SpellsAs dates_text (codes "ann db1 = (root) NOTAFTER=20260105110000Z /bin/ls\nann db1 = (root) NOTBEFORE=20260105090000Z NOTAFTER=20260105110000Z /bin/cat\nann db2 = (root) /bin/ls\n")
 unfolding date_of date_from_year date_from_month
-dates_spell =
-    (entries_of dates_line,
-    spelled dates_text (dates_text ∷ []) (entries_of dates_line) refl (plain dates_text [] [] refl refl refl)
-    (one_line dates_text (entries_of dates_line) (spells_line dates_text (word false 0 (codes "ann")) dates_toks dates_line (lexed (word false 0 (codes "ann") ∷ dates_toks) [] refl) dates_tree)) refl,
-    refl)
+dates_spell = (
+  entries_of dates_line,
+  spelled dates_text (dates_text ∷ []) (entries_of dates_line) refl (plain dates_text [] [] refl refl refl)
+      (one_line dates_text (entries_of dates_line) (spells_line dates_text (word false 0 (codes "ann")) dates_toks dates_line (lexed (word false 0 (codes "ann") ∷ dates_toks) [] refl) dates_tree)) refl,
+  refl,
+)

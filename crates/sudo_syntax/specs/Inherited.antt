@@ -1,5 +1,5 @@
 -- What holds of each command of a list, wherever it stands (sudoers(5), "Cmnd_Spec_List").
-use Rattle.std.specs.Prelude.{◌≡◌, ℕ, Bool, false, List, [], ◌∷◌, ◌++◌, length, map, Option, Some, None, unwrap_or}
+use Rattle.std.specs.Prelude.{◌≡◌, ℕ, false, List, [], ◌∷◌, ◌++◌, length, map, Option, Some, None, unwrap_or}
 use Rattle.std.specs.List.{AllByRecursion}
 use Rattle.sudo_syntax.specs.declared.entry.Signed.{Signed}
 use Rattle.sudo_syntax.specs.declared.entry.Item.{Item}
