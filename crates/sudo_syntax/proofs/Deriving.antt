@@ -190,7 +190,7 @@ moment_is : (o : Option ℕ) → moment_ok o ≡ true → IfSome o IsMoment
 moment_is None h = tt
 moment_is (Some t) h = leb-true t 4_102_444_799 h
 
-abbrev entry_ok : Entry → Bool
+abbrev pub entry_ok : Entry → Bool
 entry_ok (entries.UserAlias name list) = is_alias_name name && list_ok (item_ok is_name) list
 entry_ok (entries.RunasAlias name list) = is_alias_name name && list_ok (item_ok is_name) list
 entry_ok (entries.HostAlias name list) = is_alias_name name && list_ok (item_ok is_host_name) list
@@ -220,6 +220,9 @@ entry_is (entries.Rule r) h =
       not_after = moment_is r.not_after last.0;
       cmnd = cmnd_is r.cmnd.item last.1;
     }
+
+pub entries_are : (es : List Entry) → list_all entry_ok es ≡ true → AllByRecursion IsEntry es
+entries_are es h = all_is entry_ok IsEntry entry_is es h
 
 abbrev known : {X : Type 0} → (X → Option (List ℕ)) → List (Definition X) → List (Signed X) → Bool
 known alias_of defs list = list_all (λ s. option_map_or (is_defined defs) (alias_of s.item) true) list

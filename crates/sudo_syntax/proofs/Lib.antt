@@ -37,3 +37,4 @@ mod RefusedTexts
 mod LinesAlike
 mod SignsTags
 mod JoiningParts
+mod Doubles

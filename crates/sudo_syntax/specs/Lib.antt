@@ -17,6 +17,7 @@ pub mod Spelling
 pub mod Alike
 pub mod Apart
 pub mod Worked
+pub mod Doubling
 pub mod Reading
 pub mod Fronts
 pub mod Low

@@ -44,4 +44,4 @@ pub use sudo_words::{
     AliasName, Arg, ArgRule, Cmnd, CmndFault, DirPath, FilePath, HostName, Items, Moment, Name,
     NoMemory, WordFault, is_lawful, print_cmnd, read_cmnd,
 };
-pub use worked_laws::{worked_commands, worked_refusals, worked_texts};
+pub use worked_laws::{worked_commands, worked_refusals, worked_texts, worked_weights};

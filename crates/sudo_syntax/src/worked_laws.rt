@@ -1,8 +1,11 @@
 //! Worked texts of policies, each the contract of a function that does nothing.
 
-ghost use Rattle.std.specs.Prelude.{[], ◌∷◌, codes};
+ghost use Rattle.std.specs.Prelude.{◌≡◌, [], ◌∷◌, codes};
 ghost use Rattle.sudo_words.specs.declared.cmnd.ArgRule.TheVariants as rules;
 ghost use Rattle.sudo_words.specs.declared.cmnd.Cmnd.TheVariants as commands;
+ghost use Rattle.sudo_syntax.specs.Doubling.{doubled};
+ghost use Rattle.sudo_syntax.specs.Policy.{weight};
+ghost use Rattle.sudo_syntax.specs.Printing.{canon};
 ghost use Rattle.sudo_syntax.specs.Spelling.{Spells};
 ghost use Rattle.sudo_syntax.specs.Worked.{SpellsAs, SpellsNone, may_run};
 
@@ -35,4 +38,14 @@ pub fn worked_refusals()
     ensures colon { SpellsNone (codes "ann db1 = /bin/echo a:b") }
     ensures directory { SpellsNone (codes "ann db1 = /usr/bin/ -l") }
     ensures blank { SpellsNone (codes "! ann db1 = ALL") }
+{}
+
+/// Worked weights: 16 aliases of which each has the one above it twice, and a rule of the last, are a policy that weighs
+/// 65,539; 17 weigh 131,075, and their text spells no policy.
+pub fn worked_weights()
+    ensures text { canon (doubled 2) ≡ codes "User_Alias X1 = a, a\nUser_Alias X2 = X1, X1\nX2 db1 = (root) ALL\n" }
+    ensures sixteen { Spells (canon (doubled 16)) (doubled 16) }
+    ensures weight_of_sixteen { weight (doubled 16) ≡ 65_539 }
+    ensures seventeen { SpellsNone (canon (doubled 17)) }
+    ensures weight_of_seventeen { weight (doubled 17) ≡ 131_075 }
 {}
