@@ -1,14 +1,13 @@
 -- 16 aliases that double are a policy, and 17 weigh too much.
-use Rattle.std.proofs.Common.{◌≡◌, ℕ, zero, suc, ◌+◌, ◌*◌, ◌<◌, ◌≤◌, max, Bool, true, false, ◌||◌, if◌then◌else◌, List, [], ◌∷◌, ◌++◌, length, reverse, refl, sym, ap, subst, ◌∙◌, arith, lit≤, lit<}
-use Rattle.std.specs.Prelude.{codes, nat_le}
+use Rattle.std.proofs.Common.{◌≡◌, ℕ, zero, suc, ◌+◌, ◌*◌, ◌<◌, ◌≤◌, max, Bool, true, false, ◌||◌, if◌then◌else◌, List, [], ◌∷◌, length, reverse, refl, ap, subst, ◌∙◌, arith, lit≤, lit<}
+use Rattle.std.specs.Prelude.{codes}
 use Rattle.std.specs.Fmt.{digits}
-use Rattle.std.specs.List.{AllByRecursion, list_all}
+use Rattle.std.specs.List.{AllByRecursion}
 use Rattle.std.specs.Str.{bytes_eq}
 use Rattle.std.proofs.lemmas.Bool.{leb-true}
 use Rattle.std.proofs.lemmas.List.{reverse-append}
 use Rattle.std.proofs.lemmas.Slice.Eq.{bytes_eq-Decides}
 use Rattle.sudo_words.specs.Word.{is_reserved}
-use Rattle.sudo_syntax.specs.declared.entry.Signed.{Signed}
 use Rattle.sudo_syntax.specs.declared.entry.Item.{Item}
 use Rattle.sudo_syntax.specs.declared.entry.Entry.{Entry}
 use Rattle.sudo_syntax.specs.declared.entry.Entry.TheVariants as entries
@@ -21,7 +20,7 @@ use Rattle.sudo_syntax.specs.Lines.{lines_of}
 use Rattle.sudo_syntax.specs.Spelling.{Spells, SpellsLines}
 use Rattle.sudo_syntax.specs.Worked.{SpellsNone}
 use Rattle.sudo_syntax.proofs.Canon.{texts, canon_joined, canon_entries, canon_spells}
-use Rattle.sudo_syntax.proofs.Deriving.{entries_are, entry_ok}
+use Rattle.sudo_syntax.proofs.Deriving.{entries_are}
 use Rattle.sudo_syntax.proofs.LineTexts.{joined_one}
 use Rattle.sudo_syntax.proofs.One.{lines_one}
 use Rattle.sudo_syntax.proofs.PolicyFronts.{placed_push, weight_push}
