@@ -1,5 +1,5 @@
 -- Literal texts that are canonical, and that are not.
-use Rattle.std.proofs.Common.{◌≡◌, ℕ, ◌∙◌, Bool, true, false, ◌&&◌, List, [], ◌∷◌, Option, Some, None, option_map, refl, sym, ap, arith, get_or, length, ltb, if◌then◌else◌}
+use Rattle.std.proofs.Common.{◌≡◌, ℕ, ◌∙◌, Bool, true, false, List, Option, Some, None, option_map, refl, sym, ap, arith, get_or, ltb, if◌then◌else◌}
 use Rattle.std.specs.List.{list_all}
 use Rattle.std.specs.Prelude.{codes, IsUtf8, Float}
 use Rattle.std.proofs.lemmas.Str.{IsUtf8-from_ascii}
@@ -15,7 +15,7 @@ use Rattle.serde_json.specs.Data.{Data, Num, float, null, boolean, number, unsig
 use Rattle.serde_json.specs.Find.{is_float}
 use Rattle.serde_json.specs.Read.{read, float_of, number_of}
 use Rattle.serde_json.specs.Written.{compact_text, has_float}
-use Rattle.messages.specs.Canonical.{IsTextOf, IsCanonicalText}
+use Rattle.messages.specs.Canonical.{IsCanonicalText}
 use Rattle.messages.proofs.PlainTexts.{ascii_literal}
 
 utf8 : (w : List ℕ) → list_all (λ b. ltb b 128) w ≡ true → IsUtf8 w

@@ -1,18 +1,16 @@
 -- What a list answers depends on its own aliases alone.
-use Rattle.std.proofs.Common.{◌≡◌, ℕ, Bool, true, List, [], ◌∷◌, reverse, Option, None, refl, ap, ◌∙◌}
-use Rattle.std.specs.Prelude.{IfSome, map}
+use Rattle.std.proofs.Common.{◌≡◌, ℕ, Bool, true, List, [], ◌∷◌, Option, None, refl, ap, ◌∙◌}
+use Rattle.std.specs.Prelude.{IfSome}
 use Rattle.std.specs.Option.{option_or}
-use Rattle.sudo_syntax.specs.declared.entry.Signed.{Signed}
 use Rattle.sudo_syntax.specs.declared.entry.Item.{Item}
 use Rattle.sudo_syntax.specs.declared.entry.Item.TheVariants as items
-use Rattle.sudo_syntax.specs.declared.entry.CmndItem.{CmndItem}
 use Rattle.sudo_syntax.specs.declared.entry.CmndItem.TheVariants as cmnds
 use Rattle.sudo_syntax.specs.declared.entry.Entry.{Entry}
 use Rattle.sudo_syntax.specs.declared.tree.Definition.{Definition}
-use Rattle.sudo_syntax.specs.Alias.{is_defined, item_alias, cmnd_alias, KnowsList, user_def, runas_def, host_def, cmnd_def}
+use Rattle.sudo_syntax.specs.Alias.{is_defined, item_alias, cmnd_alias, user_def, runas_def, host_def, cmnd_def}
 use Rattle.sudo_syntax.specs.Policy.{IsPolicy}
 use Rattle.sudo_syntax.proofs.AliasPlaces.{DependsOnAliases, Step, by_all, user_step, runas_step, host_step, cmnd_step}
-use Rattle.sudo_decide.specs.Decision.{last_given, signed_answer, list_answer, item_answer, cmnd_answer}
+use Rattle.sudo_decide.specs.Decision.{signed_answer, list_answer, item_answer, cmnd_answer}
 use Rattle.sudo_decide.specs.Answered.{EachAnswersItsList, EachCmndAnswersItsList}
 
 abbrev ItemDepends : {X : Type 0} → (X → Option (List ℕ)) → ((List ℕ → Option Bool) → X → Option Bool) → Type 0
