@@ -3,3 +3,4 @@ pub mod ListTexts
 pub mod Readings
 pub mod Uniqueness
 pub mod KindLemmas
+mod WorkedTexts

@@ -11,6 +11,7 @@ mod message;
 mod order;
 mod read;
 mod request;
+mod text_laws;
 mod verdict;
 mod write;
 
@@ -20,5 +21,6 @@ pub use laws::{one_message, wire_is_canonical};
 pub use message::Message;
 pub use read::read_message;
 pub use request::Request;
+pub use text_laws::{worked_canonical_json, worked_other_json};
 pub use verdict::Verdict;
 pub use write::text;

@@ -3,3 +3,5 @@ pub mod AnswerLemmas
 pub mod DecisionLemmas
 pub mod Reaching
 pub mod Speakers
+mod OneRule
+mod ListAnswers

@@ -1,4 +1,5 @@
 pub mod Decision
+pub mod Answered
 pub mod Kinds
 pub mod Reach
 pub mod Worked

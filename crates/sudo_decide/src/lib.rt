@@ -8,6 +8,7 @@ mod invocation;
 mod kind;
 mod laws;
 mod policy;
+mod policy_laws;
 mod rule;
 
 pub use alias_laws::{
@@ -20,3 +21,4 @@ pub use laws::{
     silent_rule, some_decision, worked_dates, worked_decisions, worked_lists,
 };
 pub use policy::decide;
+pub use policy_laws::{aliases_answer_their_lists, one_rule_decides};

@@ -119,11 +119,11 @@ own_body line ts h =
     let each = each_of is_no_hash line (lexed_bytes (λ (b : ℕ). is_no_hash b ≡ true) no_hash_in_lines line ts h) in
     ([], record { whole = sym (append-nil line); each = each; stops = tt }, lexed_end line ts h)
 
-texts : List Entry → List (List ℕ)
+pub texts : List Entry → List (List ℕ)
 texts [] = [] ∷ []
 texts (e ∷ es) = entry_text e ∷ texts es
 
-canon_joined : (es : List Entry) → AllByRecursion IsEntry es → Joined (lines_of (canon es)) (texts es)
+pub canon_joined : (es : List Entry) → AllByRecursion IsEntry es → Joined (lines_of (canon es)) (texts es)
 unfolding texts
 canon_joined [] h = inl ([], [], own_body [] [] tt, refl, refl)
 canon_joined (e ∷ es) h =
@@ -131,7 +131,7 @@ canon_joined (e ∷ es) h =
     subst (λ (ls : List (List ℕ)). Joined ls (texts (e ∷ es))) (sym (feed_split (entry_text e) (canon es) is.toks is.lexes))
     (inl (entry_text e, texts es, own_body (entry_text e) is.toks is.lexes, refl, canon_joined es h.1))
 
-canon_entries : (es : List Entry) → AllByRecursion IsEntry es → SpellsLines (texts es) es
+pub canon_entries : (es : List Entry) → AllByRecursion IsEntry es → SpellsLines (texts es) es
 unfolding texts
 canon_entries [] h = ([], [], ([], tt, refl), refl, refl)
 canon_entries (e ∷ es) h = let is = entry_read e h.0 in (e ∷ [], es, (is.toks, is.lexes, is.spells), refl, canon_entries es h.1)

@@ -29,3 +29,12 @@ pub mod NameLemmas
 pub mod CmndLemmas
 pub mod SpecLemmas
 pub mod TreeLemmas
+mod Inheriting
+pub mod AliasPlaces
+mod Deriving
+mod WorkedTexts
+mod RefusedTexts
+mod LinesAlike
+mod SignsTags
+mod JoiningParts
+mod Doubles

@@ -20,7 +20,7 @@ ends_with_last p [] x = refl
 ends_with_last p (y ∷ ys) x = ap p (last_of (y ∷ ys) x)
 
 -- a line with a last byte that passes
-last_split : (p : ℕ → Bool) (line : List ℕ) → ends_with p line ≡ true → (front : List ℕ) × (x : ℕ) × (line ≡ front ++ x ∷ []) × (p x ≡ true)
+pub last_split : (p : ℕ → Bool) (line : List ℕ) → ends_with p line ≡ true → (front : List ℕ) × (x : ℕ) × (line ≡ front ++ x ∷ []) × (p x ≡ true)
 last_split p [] h = absurd (false≢true h)
 last_split p (b ∷ bs) h =
     let back : length (b ∷ bs) - 1 ≡ length bs = omega arith in
@@ -28,7 +28,7 @@ last_split p (b ∷ bs) h =
     (take (length bs) (b ∷ bs), get_or (b ∷ bs) (length bs) 0, whole, ap (λ (i : ℕ). p (get_or (b ∷ bs) i 0)) (sym back) ∙ h)
 
 -- where one last byte is taken off, one front is left
-one_front : (xs ys : List ℕ) (x : ℕ) → xs ++ x ∷ [] ≡ ys ++ x ∷ [] → xs ≡ ys
+pub one_front : (xs ys : List ℕ) (x : ℕ) → xs ++ x ∷ [] ≡ ys ++ x ∷ [] → xs ≡ ys
 one_front xs ys x e = append_cancel_right xs ys (x ∷ []) e
 
 -- what is taken off from the end, where it is a backslash
@@ -42,7 +42,7 @@ backslash_off line (Some x) h = h
 pub no_hash_cut : (line : List ℕ) → Each is_no_hash line → IsCut is_no_hash line line []
 no_hash_cut line h = record { whole = sym (append-nil line); each = h; stops = tt }
 
-each_append : (p : ℕ → Bool) (xs ys : List ℕ) → Each p xs → Each p ys → Each p (xs ++ ys)
+pub each_append : (p : ℕ → Bool) (xs ys : List ℕ) → Each p xs → Each p ys → Each p (xs ++ ys)
 each_append p [] ys h k = k
 each_append p (x ∷ xs) ys h k = (h.0, each_append p xs ys h.1 k)
 

@@ -1,6 +1,7 @@
 pub mod Printing
 pub mod Alias
 pub mod Policy
+pub mod Aliased
 pub mod Measures
 pub mod Scope
 pub mod Span
@@ -11,7 +12,12 @@ pub mod Pieces
 pub mod Pending
 pub mod Grammar
 pub mod Inheritance
+pub mod Inherited
 pub mod Spelling
+pub mod Alike
+pub mod Apart
+pub mod Worked
+pub mod Doubling
 pub mod Reading
 pub mod Fronts
 pub mod Low
