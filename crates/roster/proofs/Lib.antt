@@ -1,0 +1,5 @@
+pub mod Loop
+pub mod Texts
+pub mod Uniqueness
+pub mod FaultLemmas
+pub mod DutyLemmas

@@ -1,0 +1,6 @@
+pub mod Fields
+pub mod Document
+pub mod Rules
+pub mod Faults
+pub mod Relations
+pub mod Stages
