@@ -1,5 +1,5 @@
 -- Who holds which duty, which duties conflict, and who is eligible.
-use Rattle.std.proofs.Common.{◌≡◌, ◌⊎◌, ℕ, ◌∙◌, Bool, true, false, not, ◌&&◌, ◌||◌, List, [], ◌∷◌, refl, sym, ap, ap₂, absurd, inl, inr}
+use Rattle.std.proofs.Common.{◌≡◌, ◌⊎◌, ℕ, ◌∙◌, Bool, true, false, not, ◌&&◌, ◌||◌, List, [], ◌∷◌, refl, sym, ap, ap₂, ⊎_elim}
 use Rattle.std.specs.List.{list_any}
 use Rattle.std.specs.Str.{bytes_eq}
 use Rattle.std.proofs.lemmas.Bool.{cases_Bool, or_cases, and_parts, false_from_ne_true, true≢false, not-true, not_from_false}
@@ -57,8 +57,8 @@ both_ends d p e =
 joins_itself : (d : List ℕ) (p : List ℕ × List ℕ) → joins d d p ≡ true → bytes_eq p.0 p.1 ≡ true
 joins_itself d p e = ⊎_elim (both_ends d p) (both_ends d p) (or_cases (bytes_eq p.0 d && bytes_eq p.1 d) (bytes_eq p.0 d && bytes_eq p.1 d) e)
 
-unfolding has_self_conflict
 pub between_two : (text : List ℕ) (f : RosterFields Cmnd) (duty : List ℕ) → IsRosterText text f → conflicting f duty duty ≡ false
+unfolding has_self_conflict
 between_two text f duty r =
     false_from_ne_true (conflicting f duty duty)
     (λ e. true≢false (sym (any_weaker (joins duty duty) (λ p. bytes_eq p.0 p.1) (joins_itself duty) f.conflicts e) ∙ r.apart))
@@ -76,12 +76,12 @@ approver f person asker c e =
     let is_asker = bytes_eq person asker in
     let has_it = holds f person c.approve in
     let against = holds_against f person c.approve in
-    let first = and_parts (not is_asker) (has_it && not against) e in
-    let rest = and_parts has_it (not against) first.1 in
+    let last = and_parts (not is_asker && has_it) (not against) e in
+    let front = and_parts (not is_asker) has_it last.0 in
     record {
-      someone_else = not-true is_asker first.0;
-      holds_it = rest.0;
-      none_against = not-true against rest.1;
+      someone_else = not-true is_asker front.0;
+      holds_it = front.1;
+      none_against = not-true against last.1;
     }
 
 may_approve : (f : RosterFields Cmnd) (person asker : List ℕ) (c : CeilingFields Cmnd) → Approves f person asker c → eligible f person asker c ≡ true

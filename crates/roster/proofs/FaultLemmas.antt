@@ -1,5 +1,5 @@
 -- A roster's text has no fault, and any other text at most one least fault.
-use Rattle.std.proofs.Common.{◌≡◌, ◌≢◌, ◌<◌, ◌⊎◌, ℕ, ◌∙◌, ◌==◌, cond, List, Some, None, true, false, refl, sym, ap, subst, arith, absurd, cases_lt, inl, inr}
+use Rattle.std.proofs.Common.{◌≡◌, ◌≢◌, ◌<◌, ℕ, ◌∙◌, ◌==◌, cond, List, Some, None, true, false, refl, sym, ap, subst, arith}
 use Rattle.std.proofs.lemmas.Bool.{true≢false}
 use Rattle.std.proofs.lemmas.Option.{same_Some, none-some}
 use Rattle.sudo_words.specs.declared.cmnd.Cmnd.{Cmnd}
@@ -40,7 +40,7 @@ no_fault text f NoMemory r h = h
 
 -- ---- faults by their numbers
 
-fault_at : ℕ → RosterFault
+abbrev fault_at : ℕ → RosterFault
 fault_at n =
     cond (n == 1) NotToml (cond (n == 2) UnknownKey (cond (n == 3) WrongType (cond (n == 4) BadName
     (cond (n == 5) UnknownName (cond (n == 6) SelfConflict (cond (n == 7) OutOfRange NoMemory))))))

@@ -3,3 +3,4 @@ pub mod Texts
 pub mod Uniqueness
 pub mod FaultLemmas
 pub mod DutyLemmas
+pub mod Order

@@ -23,21 +23,21 @@ named_in_texts c n = record {
   commands = commands_in_texts c.1.commands n.commands;
 }
 
-unfolding good_names
 pub good_in_texts : (f : RosterFields Cmnd) → GoodNames IsLawful f → GoodNames IsCmndText (in_texts f)
+unfolding good_names
 good_in_texts f n = record {
   names = n.names;
   ceilings = All-map (IsNamedCeiling IsCmndText) entry_in_texts f.ceilings (All-weaker (IsNamedCeiling IsLawful) (λ c. IsNamedCeiling IsCmndText (entry_in_texts c)) named_in_texts f.ceilings n.ceilings);
 }
 
-unfolding are_known
 pub known_in_texts : (f : RosterFields Cmnd) → are_known (in_texts f) ≡ are_known f
+unfolding are_known
 known_in_texts f =
     ap (λ b. list_all (is_known_pair f.duties) f.conflicts && list_all (λ p. list_all (is_among f.duties) p.1) f.people && b)
     (list_all-map (is_known_ceiling f.duties f.hosts) entry_in_texts f.ceilings)
 
-unfolding has_self_conflict
 pub apart_in_texts : (f : RosterFields Cmnd) → has_self_conflict (in_texts f) ≡ has_self_conflict f
+unfolding has_self_conflict
 apart_in_texts f = refl
 
 ranged_in_texts : (cs : List (List ℕ × CeilingFields Cmnd)) → list_all is_ranged (map entry_in_texts cs) ≡ list_all is_ranged cs
@@ -47,7 +47,7 @@ ranged_in_texts (c ∷ cs) =
         ap (λ n. is_within 1 3 c.1.needs && is_within 1 256 (length c.1.hosts) && is_within 1 256 (length c.1.runas) && is_within 1 256 n && is_within 1 2_592_000 c.1.longest) (length-map c.1.commands cmnd_text) in
     ap₂ (λ a b. a && b) one (ranged_in_texts cs)
 
-unfolding in_range
 pub range_in_texts : (text : List ℕ) (f : RosterFields Cmnd) → in_range text (in_texts f) ≡ in_range text f
+unfolding in_range
 range_in_texts text f =
     ap₂ (λ n b. nat_le (length text) 1_048_576 && has_counts f && (nat_le n 1024 && b)) (length-map f.ceilings entry_in_texts) (ranged_in_texts f.ceilings)

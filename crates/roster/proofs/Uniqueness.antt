@@ -34,7 +34,7 @@ one_ceiling c d a b e =
     let longest : c.longest ≡ d.longest = ap (λ (x : CeilingFields (List ℕ)). x.longest) e in
     λ i. record { ask = ask i; approve = approve i; needs = needs i; hosts = hosts i; runas = runas i; commands = commands i; longest = longest i }
 
-Entry : Type 0
+abbrev Entry : Type 0
 Entry = List ℕ × CeilingFields Cmnd
 
 one_entry : (c d : Entry) → IsNamedCeiling IsLawful c → IsNamedCeiling IsLawful d → entry_in_texts c ≡ entry_in_texts d → c ≡ d

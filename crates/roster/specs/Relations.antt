@@ -1,7 +1,7 @@
 -- Who holds which duty, which duties conflict, who may approve and who may revoke (NIST SP 800-53 AC-5).
 use Rattle.std.specs.Prelude.{◌≡◌, ℕ, List, [], ◌∷◌, Option, Some, None, if◌then◌else◌, Bool, true, not, ◌&&◌, ◌||◌, is_some}
 use Rattle.std.specs.List.{list_all, list_any}
-use Rattle.std.specs.Ordering.{nat_cmp, is_gt}
+use Rattle.std.specs.Ordering.{nat_cmp, is_lt}
 use Rattle.std.specs.Cmp.Lexicographic.{slice_cmp}
 use Rattle.std.specs.Str.{bytes_eq}
 use Rattle.roster.specs.Fields.{CeilingFields, RosterFields}
@@ -53,7 +53,11 @@ ceiling_at f label = entry_of f.ceilings label
 abbrev pub has_person : {C : Type 0} → RosterFields C → (person : List ℕ) → Bool
 has_person f person = is_some (entry_of f.people person)
 
--- one of the words, and none of them comes before it in byte order
+-- the text comes before the other in byte order
+abbrev pub is_before : List ℕ → List ℕ → Bool
+is_before low high = is_lt (slice_cmp nat_cmp low high)
+
+-- one of the words, and none of them comes before it
 pub record IsFirst (words : List (List ℕ)) (w : List ℕ) : Type 0 where
   pub among : is_among words w ≡ true
-  pub first : list_all (λ v. not (is_gt (slice_cmp nat_cmp w v))) words ≡ true
+  pub first : list_all (λ v. not (is_before v w)) words ≡ true

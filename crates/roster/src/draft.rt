@@ -4,7 +4,7 @@ use crate::text::Text;
 use std::marker::Model;
 use sudo_words::Items;
 
-#[derive(Debug, Drop)]
+#[derive(Drop)]
 pub(crate) struct DraftCeiling {
     pub(crate) ask: Text,
     pub(crate) approve: Text,
@@ -24,7 +24,7 @@ impl Model for DraftCeiling {
     ghost view = { λ d. record { ask = d.ask; approve = d.approve; needs = d.needs; hosts = d.hosts; runas = d.runas; commands = d.commands; longest = d.longest } };
 }
 
-#[derive(Debug, Drop)]
+#[derive(Drop)]
 pub(crate) struct Draft {
     pub(crate) relays: Items<Text>,
     pub(crate) hosts: Items<Text>,

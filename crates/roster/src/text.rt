@@ -6,7 +6,7 @@ use std::alloc::{AllocError, Global};
 use std::marker::Model;
 
 /// A text, which contracts see as its bytes.
-#[derive(Debug, Drop)]
+#[derive(Drop)]
 pub(crate) struct Text {
     text: String,
 }
