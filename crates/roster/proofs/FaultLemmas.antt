@@ -38,6 +38,17 @@ no_fault text f OutOfRange r h =
     true≢false (sym r.range ∙ sym (range_in_texts text f) ∙ ap (in_range text) (sym (says_in_texts text f h.0 r h.1)) ∙ h.2)
 no_fault text f NoMemory r h = h
 
+-- so it is only want of memory that refuses it
+pub only_memory : (text : List ℕ) (f : RosterFields Cmnd) (e : RosterFault) → IsRosterText text f → (e ≢ NoMemory → IsLeastFault text e) → e ≡ NoMemory
+only_memory text f NotToml r h = absurd (no_fault text f NotToml r (h (λ e. absurd cc)).0)
+only_memory text f UnknownKey r h = absurd (no_fault text f UnknownKey r (h (λ e. absurd cc)).0)
+only_memory text f WrongType r h = absurd (no_fault text f WrongType r (h (λ e. absurd cc)).0)
+only_memory text f BadName r h = absurd (no_fault text f BadName r (h (λ e. absurd cc)).0)
+only_memory text f UnknownName r h = absurd (no_fault text f UnknownName r (h (λ e. absurd cc)).0)
+only_memory text f SelfConflict r h = absurd (no_fault text f SelfConflict r (h (λ e. absurd cc)).0)
+only_memory text f OutOfRange r h = absurd (no_fault text f OutOfRange r (h (λ e. absurd cc)).0)
+only_memory text f NoMemory r h = refl
+
 -- ---- faults by their numbers
 
 abbrev fault_at : ℕ → RosterFault

@@ -1,10 +1,13 @@
 -- The first of some words in byte order.
 use Rattle.std.proofs.Common.{◌≡◌, ◌<◌, ◌+◌, ℕ, ◌∙◌, Bool, true, false, not, ◌&&◌, List, [], ◌∷◌, length, take, get_or, Ordering, Less, Equal, Greater, refl, sym, ap, ap₂}
 use Rattle.std.specs.List.{list_all}
+use Rattle.std.specs.Str.{bytes_eq}
+use Rattle.std.proofs.lemmas.Slice.Eq.{bytes_eq-Decides}
 use Rattle.std.specs.Cmp.Lexicographic.{slice_cmp, nat_list_cmp_total}
 use Rattle.std.specs.Ordering.{nat_cmp, is_lt, ordering_reverse}
 use Rattle.std.proofs.lemmas.Bool.{and_parts, false_from_ne_true, true≢false, not-true, not_from_false}
-use Rattle.std.proofs.lemmas.List.Folds.{list_all_more}
+use Rattle.std.proofs.lemmas.List.Folds.{list_all_more, list_any_at}
+use Rattle.roster.specs.Rules.{is_among}
 use Rattle.roster.specs.Relations.{is_before}
 
 less : (r : Ordering) → is_lt r ≡ true → r ≡ Less
@@ -28,6 +31,10 @@ all_weaker p q weaker [] e = refl
 all_weaker p q weaker (x ∷ xs) e =
     let parts = and_parts (p x) (list_all p xs) e in
     ap₂ (λ a b. a && b) (weaker x parts.0) (all_weaker p q weaker xs parts.1)
+
+-- the word at a place is among the words
+pub among_at : (words : List (List ℕ)) (i : ℕ) (w : List ℕ) → i < length words → w ≡ get_or words i w → is_among words w ≡ true
+among_at words i w l is = list_any_at (λ v. bytes_eq v w) words i w l ((bytes_eq-Decides (get_or words i w) w).1 (sym is))
 
 -- none of the words so far comes before one that comes before their first
 pub first_changes : (words : List (List ℕ)) (i : ℕ) (first w : List ℕ) → i < length words → w ≡ get_or words i w → is_before w first ≡ true

@@ -30,6 +30,7 @@ fn document(alloc: Global, text: &str) -> Result<Table, RosterFault>
 }
 
 /// What a text says that is a roster's, or the least of its faults.
+#[tactic(auto, using(crate::proofs::Texts::roster_text))]
 pub(crate) fn said_by(alloc: Global, text: &str) -> Result<Said, RosterFault>
     ensures found { IfOk result (λ s. IsRosterText text.now s) }
     ensures least { IfErr result (λ e. e ≢ NoMemory → IsLeastFault text.now e) }

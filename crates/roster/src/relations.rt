@@ -60,7 +60,6 @@ pub(crate) fn is_one_paired(pairs: &[(Label, Label)], duties: &[Label], duty: &L
 }
 
 /// The first of the words in byte order.
-#[tactic(auto, using(crate::proofs::Order::first_changes, crate::proofs::Order::first_stays))]
 pub(crate) fn first_of<F: Form>(words: &[Word<F>]) -> &Word<F>
     requires { 1 ≤ length words.now }
     ensures { relations.IsFirst words.now result.now }

@@ -41,6 +41,7 @@ impl Model for Roster {
 
 impl Roster {
     /// The roster that the text is, or the least of the text's faults.
+    #[tactic(auto, using(crate::proofs::FaultLemmas::only_memory, crate::proofs::Uniqueness::one_roster))]
     pub fn read(alloc: Global, text: &str) -> Result<Roster, RosterFault>
         // What is read is what the text says.
         ensures found { IfOk result (λ r. (r.text ≡ text.now) × IsRosterText text.now r.says) }
@@ -98,6 +99,7 @@ impl Roster {
     }
 
     /// The first of the relays in byte order. There is always one.
+    #[tactic(auto, using(crate::proofs::Texts::some_relay))]
     pub fn first_relay(&self) -> &Label
         ensures { relations.IsFirst self.now.says.relays result.now }
     {
