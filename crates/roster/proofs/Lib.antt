@@ -4,3 +4,4 @@ pub mod Uniqueness
 pub mod FaultLemmas
 pub mod DutyLemmas
 pub mod Order
+pub mod Rising

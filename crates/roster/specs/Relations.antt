@@ -1,6 +1,8 @@
 -- Who holds which duty, which duties conflict, who may approve and who may revoke (NIST SP 800-53 AC-5).
 use Rattle.std.specs.Prelude.{◌≡◌, ℕ, List, [], ◌∷◌, Option, Some, None, if◌then◌else◌, Bool, true, not, ◌&&◌, ◌||◌, is_some}
 use Rattle.std.specs.List.{list_all, list_any}
+use Rattle.std.specs.List.Sorted.{IsStrictlySortedBy}
+use Rattle.std.specs.Map.{keys_of}
 use Rattle.std.specs.Ordering.{nat_cmp, is_lt}
 use Rattle.std.specs.Cmp.Lexicographic.{slice_cmp}
 use Rattle.std.specs.Str.{bytes_eq}
@@ -53,6 +55,8 @@ ceiling_at f label = entry_of f.ceilings label
 abbrev pub has_person : {C : Type 0} → RosterFields C → (person : List ℕ) → Bool
 has_person f person = is_some (entry_of f.people person)
 
+-- ---- byte order
+
 -- the text comes before the other in byte order
 abbrev pub is_before : List ℕ → List ℕ → Bool
 is_before low high = is_lt (slice_cmp nat_cmp low high)
@@ -61,3 +65,12 @@ is_before low high = is_lt (slice_cmp nat_cmp low high)
 pub record IsFirst (words : List (List ℕ)) (w : List ℕ) : Type 0 where
   pub among : is_among words w ≡ true
   pub first : list_all (λ v. not (is_before v w)) words ≡ true
+
+-- each name comes before those behind it, so none comes twice
+abbrev pub AreRising : {X : Type 0} → List (List ℕ × X) → Type 0
+AreRising entries = IsStrictlySortedBy (slice_cmp nat_cmp) (keys_of entries)
+
+-- a roster's people and ceilings rise
+pub record IsOrdered {C : Type 0} (f : RosterFields C) : Type 0 where
+  pub people : AreRising f.people
+  pub ceilings : AreRising f.ceilings

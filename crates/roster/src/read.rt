@@ -4,6 +4,7 @@ ghost use Rattle.std.specs.Prelude.{◌≡◌, ◌≢◌, Some, None, IfOk, IfEr
 ghost use Rattle.toml.specs.Parse.{parse_document};
 ghost use Rattle.toml.specs.View.{table_view};
 ghost use Rattle.roster.specs.Faults.{IsLeastFault, IsRosterText};
+ghost use Rattle.roster.specs.Relations.{IsOrdered};
 ghost use Rattle.roster.specs.declared.fault.RosterFault.TheVariants.{NoMemory, NotToml};
 
 use crate::fault::RosterFault;
@@ -30,9 +31,10 @@ fn document(alloc: Global, text: &str) -> Result<Table, RosterFault>
 }
 
 /// What a text says that is a roster's, or the least of its faults.
-#[tactic(auto, using(crate::proofs::Texts::roster_text))]
+#[tactic(auto, using(crate::proofs::Texts::roster_text, crate::proofs::Rising::ordered_in_texts))]
 pub(crate) fn said_by(alloc: Global, text: &str) -> Result<Said, RosterFault>
     ensures found { IfOk result (λ s. IsRosterText text.now s) }
+    ensures ordered { IfOk result IsOrdered }
     ensures least { IfErr result (λ e. e ≢ NoMemory → IsLeastFault text.now e) }
 {
     let table = document(alloc, text)?;

@@ -14,23 +14,23 @@ pub(crate) fn is_among<F: Form>(words: &[Word<F>], text: &str) -> bool
     words.iter().any(|w| w.as_str() == text)
 }
 
-/// What stands at the name.
+/// What stands at the name, found by halving.
 pub(crate) fn entry_of<'e, F: Form, T>(
     entries: &'e [(Word<F>, T)],
     name: &Word<F>,
 ) -> Option<&'e T>
+    requires { relations.AreRising entries.now }
     ensures { option_map (λ x. x.now) result ≡ relations.entry_of entries.now name.now }
 {
-    for entry in entries {
-        if entry.0 == *name {
-            return Some(&entry.1);
-        }
+    match entries.binary_search_by(|e| e.0.cmp(name)) {
+        Ok(place) => Some(&entries[place].1),
+        Err(_) => None,
     }
-    None
 }
 
 /// The duties of the person, none where the person is not listed.
 pub(crate) fn duties_of<'p>(people: &'p [(Name, Items<Label>)], person: &Name) -> &'p [Label]
+    requires { relations.AreRising people.now }
     ensures { result.now ≡ relations.or_none (relations.entry_of people.now person.now) }
 {
     match entry_of(people, person) {

@@ -31,12 +31,13 @@ impl Model for Roster {
     ghost use Rattle.std.specs.Prelude.{string_bytes};
     ghost use Rattle.roster.specs.Fields.{Reading};
     ghost use Rattle.roster.specs.Faults.{IsRosterText};
+    ghost use Rattle.roster.specs.Relations.{IsOrdered};
 
     ghost Value = { Reading };
 
     ghost view = { λ r. record { text = string_bytes r.text; says = r.said } };
 
-    ghost invariant = { λ r. IsRosterText (string_bytes r.text) r.said };
+    ghost invariant = { λ r. IsRosterText (string_bytes r.text) r.said × IsOrdered r.said };
 }
 
 impl Roster {
@@ -65,7 +66,8 @@ impl Roster {
 
     /// The people, each with the duties that the text gives them, in the byte order of their names.
     pub fn people(&self) -> &[(Name, Items<Label>)]
-        ensures { result.now ≡ self.now.says.people }
+        ensures value { result.now ≡ self.now.says.people }
+        ensures rising { relations.AreRising result.now }
     {
         self.said.people.as_slice()
     }

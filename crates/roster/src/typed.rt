@@ -1,10 +1,11 @@
 //! The texts of a document, where each value has its type.
 
-ghost use Rattle.std.specs.Prelude.{◌≡◌, Some, None, MatchResult};
+ghost use Rattle.std.specs.Prelude.{◌≡◌, Some, None, IfOk, MatchResult};
 ghost use Rattle.toml.specs.Data.{as_str, get_member, table as data_table};
 ghost use Rattle.toml.specs.View.{view, items_view, members_view, table_view};
 ghost use Rattle.roster.specs.Document as document;
 ghost use Rattle.roster.specs.Document.{each_item, each_member, as_pair, texts_of, pair_of, pairs_of, people_of, number_of, ceiling_of, ceilings_of, fields_of};
+ghost use Rattle.roster.specs.Relations.{AreRising, IsOrdered};
 ghost use Rattle.roster.specs.Stages.{Reads};
 ghost use Rattle.roster.specs.declared.fault.RosterFault.TheVariants.{WrongType};
 
@@ -84,7 +85,8 @@ fn pairs(alloc: Global, value: &Value) -> Result<Items<(Text, Text)>, RosterFaul
 }
 
 fn each_person(alloc: Global, table: &Table) -> Result<Items<(Text, Items<Text>)>, RosterFault>
-    ensures { Reads WrongType (each_member texts_of (table_view table.now)) result }
+    ensures reads { Reads WrongType (each_member texts_of (table_view table.now)) result }
+    ensures rising { IfOk result AreRising }
 {
     let mut people = Vec::new(alloc);
     for (key, value) in table.iter() {
@@ -96,7 +98,8 @@ fn each_person(alloc: Global, table: &Table) -> Result<Items<(Text, Items<Text>)
 }
 
 fn people(alloc: Global, value: &Value) -> Result<Items<(Text, Items<Text>)>, RosterFault>
-    ensures { Reads WrongType (people_of (view value.now)) result }
+    ensures reads { Reads WrongType (people_of (view value.now)) result }
+    ensures rising { IfOk result AreRising }
 {
     match value {
         Value::Table(table) => each_person(alloc, table),
@@ -162,7 +165,8 @@ fn ceiling(alloc: Global, value: &Value) -> Result<DraftCeiling, RosterFault>
 }
 
 fn each_ceiling(alloc: Global, table: &Table) -> Result<Items<(Text, DraftCeiling)>, RosterFault>
-    ensures { Reads WrongType (each_member ceiling_of (table_view table.now)) result }
+    ensures reads { Reads WrongType (each_member ceiling_of (table_view table.now)) result }
+    ensures rising { IfOk result AreRising }
 {
     let mut ceilings = Vec::new(alloc);
     for (key, value) in table.iter() {
@@ -174,7 +178,8 @@ fn each_ceiling(alloc: Global, table: &Table) -> Result<Items<(Text, DraftCeilin
 }
 
 fn ceilings(alloc: Global, value: &Value) -> Result<Items<(Text, DraftCeiling)>, RosterFault>
-    ensures { Reads WrongType (ceilings_of (view value.now)) result }
+    ensures reads { Reads WrongType (ceilings_of (view value.now)) result }
+    ensures rising { IfOk result AreRising }
 {
     match value {
         Value::Table(table) => each_ceiling(alloc, table),
@@ -185,7 +190,8 @@ fn ceilings(alloc: Global, value: &Value) -> Result<Items<(Text, DraftCeiling)>,
 /// What the document says, where no key is missing and each value has its type.
 #[tactic(auto, unfolding(crate::specs::Document::fields_of))]
 pub(crate) fn draft_of(alloc: Global, table: &Table) -> Result<Draft, RosterFault>
-    ensures { Reads WrongType (fields_of (table_view table.now)) result }
+    ensures reads { Reads WrongType (fields_of (table_view table.now)) result }
+    ensures ordered { IfOk result IsOrdered }
 {
     let relays = texts(alloc, value_at(table, "relays")?)?;
     let hosts = texts(alloc, value_at(table, "hosts")?)?;
