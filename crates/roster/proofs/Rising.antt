@@ -1,12 +1,12 @@
--- Names that rise: where a search by halving ends, and that a table's keys rise.
-use Rattle.std.proofs.Common.{◌≡◌, ◌<◌, ◌≤◌, ◌⊎◌, ◌+◌, ℕ, zero, suc, ◌∙◌, Bool, true, false, List, [], ◌∷◌, length, get_or, map, Option, Some, None, Result, Ok, Err, MatchResult, String, Ordering, Less, Equal, Greater, string_bytes, refl, sym, ap, ap₂, subst, arith, ⊎_elim}
+-- Names that rise: where a search by halving ends; and a table's keys rise.
+use Rattle.std.proofs.Common.{◌≡◌, ◌<◌, ◌≤◌, ◌⊎◌, ◌+◌, ℕ, zero, suc, ◌∙◌, Bool, true, false, List, [], ◌∷◌, length, get_or, map, Option, Some, None, String, Ordering, Less, Equal, Greater, string_bytes, refl, sym, ap, ap₂, subst, arith, ⊎_elim}
 use Rattle.std.specs.Prelude.{if◌then◌else◌}
 use Rattle.std.specs.declared.alloc.Global.{Global}
 use Rattle.std.specs.Cmp.Lexicographic.{slice_cmp, nat_list_cmp_total, texts_ties}
 use Rattle.std.specs.List.{AllByRecursion}
-use Rattle.std.specs.List.Sorted.{IsStrictlySortedBy, IsSearchInRange, IsBinarySearchResult, IsNonDecreasingBy}
+use Rattle.std.specs.List.Sorted.{IsStrictlySortedBy}
 use Rattle.std.specs.Map.{keys_of}
-use Rattle.std.specs.Ordering.{nat_cmp, is_eq, ordering_index, ordering_reverse}
+use Rattle.std.specs.Ordering.{nat_cmp, is_eq, ordering_reverse}
 use Rattle.std.specs.Str.{bytes_eq}
 use Rattle.std.specs.String.{string_cmp}
 use Rattle.std.proofs.lemmas.Bool.{cases_lt}
@@ -31,18 +31,11 @@ turned a b e = nat_list_cmp_total.antisymm b a ∙ ap ordering_reverse e
 less_equal : (a b n : List ℕ) → order a b ≡ Less → order b n ≡ Equal → order a n ≡ Less
 less_equal a b n lt eq = nat_list_cmp_total.antisymm a n ∙ ap ordering_reverse (sym (nat_list_cmp_total.congr b n a eq) ∙ turned a b lt)
 
-at_most_two : (r : Ordering) → ordering_index r ≤ 2
-at_most_two Less = omega arith
-at_most_two Equal = omega arith
-at_most_two Greater = omega arith
-
-index_rises_by : (a b n : List ℕ) → order a b ≡ Less → (r : Ordering) → order b n ≡ r → ordering_index (order a n) ≤ ordering_index r
-index_rises_by a b n lt Less e = subst (λ r. ordering_index r ≤ 0) (sym (nat_list_cmp_total.trans a b n lt e)) (omega arith)
-index_rises_by a b n lt Equal e = subst (λ r. ordering_index r ≤ 1) (sym (less_equal a b n lt e)) (omega arith)
-index_rises_by a b n lt Greater e = at_most_two (order a n)
-
-index_rises : (a b n : List ℕ) → order a b ≡ Less → ordering_index (order a n) ≤ ordering_index (order b n)
-index_rises a b n lt = index_rises_by a b n lt (order b n) refl
+-- what is behind a text is before what that text is before
+greater_then : (a b n : List ℕ) → order a b ≡ Less → order a n ≡ Greater → order b n ≡ Greater
+greater_then a b n lt gt =
+    let before : order n a ≡ Less = nat_list_cmp_total.antisymm n a ∙ ap ordering_reverse gt in
+    nat_list_cmp_total.antisymm b n ∙ ap ordering_reverse (nat_list_cmp_total.trans n a b before lt)
 
 -- ---- names that rise
 
@@ -64,14 +57,6 @@ rise_between (e ∷ es) r i zero d below l = absurd (omega arith)
 rise_between (e ∷ es) r zero (suc j) d below l = first_before e es r j d (omega arith)
 rise_between (e ∷ es) r (suc i) (suc j) d below l = rise_between es (rest_rises e es r) i j d (omega arith) (omega arith)
 
--- so comparisons with a name rise
-comparisons_rise : {X : Type 0} (es : List (List ℕ × X)) → AreRising es → (name : List ℕ) → IsNonDecreasingBy (λ e. ordering_index (order e.0 name)) es
-comparisons_rise es r name i j d le l = ⊎_elim
-    (λ below. index_rises (get_or es i d).0 (get_or es j d).0 name (rise_between es r i j d below l))
-    (λ above. let same : i ≡ j = omega (arith, le, above) in
-        subst (λ k. ordering_index (order (get_or es i d).0 name) ≤ ordering_index (order (get_or es k d).0 name)) same (omega arith))
-    (cases_lt i j)
-
 -- ---- where a search ends
 
 unequal : (a n : List ℕ) → order a n ≡ Less → bytes_eq a n ≡ false
@@ -92,17 +77,48 @@ absent (x ∷ es) name none =
     ap (λ b. if b then Some x.1 else entry_of es name) (texts_ties x.0 name ∙ none 0 x (omega arith))
     ∙ absent es name (λ k d l. none (suc k) d (omega arith))
 
--- a search by halving ends at the name, or the name is absent
-pub searched : {X : Type 0} (es : List (List ℕ × X)) → AreRising es → (name : List ℕ) (r : Result ℕ ℕ) → IsSearchInRange r (length es)
-    → IsBinarySearchResult (λ e. order e.0 name) es r
-    → MatchResult r (λ i. (d : List ℕ × X) → entry_of es name ≡ Some (get_or es i d).1) (λ i. entry_of es name ≡ None)
-searched es rising name (Ok i) l at = λ d. found_at es rising i name d l (at d)
-searched es rising name (Err i) l parted =
-    let parts = parted (comparisons_rise es rising name) in
-    absent es name (λ k d in_range. ⊎_elim
-        (λ below. ap is_eq (parts.0 k d (omega arith) below))
-        (λ above. ap is_eq (parts.1 k d above in_range))
-        (cases_lt k i))
+same_place : {X : Type 0} (xs : List X) (i : ℕ) (d e : X) → i < length xs → get_or xs i d ≡ get_or xs i e
+same_place [] i d e l = absurd (omega arith)
+same_place (x ∷ xs) zero d e l = refl
+same_place (x ∷ xs) (suc i) d e l = same_place xs i d e (omega arith)
+
+-- the entries of a part compare so with the name
+abbrev pub Compare : {X : Type 0} → List (List ℕ × X) → List ℕ → Ordering → (from to : ℕ) → Type 0
+Compare {X} es name r from to = (k : ℕ) (d : List ℕ × X) → from ≤ k → k < to → k < length es → order (get_or es k d).0 name ≡ r
+
+-- one that is before the name has only such before it
+pub all_below : {X : Type 0} (es : List (List ℕ × X)) → AreRising es → (name : List ℕ) (m : ℕ) (x : List ℕ × X) → m < length es
+    → x ≡ get_or es m x → order x.0 name ≡ Less → Compare es name Less 0 (m + 1)
+all_below es rising name m x l is lt k d from to in_range =
+    let here : order (get_or es m d).0 name ≡ Less = ap (λ e. order e.0 name) (same_place es m d x l ∙ sym is) ∙ lt in
+    ⊎_elim
+    (λ below. nat_list_cmp_total.trans (get_or es k d).0 (get_or es m d).0 name (rise_between es rising k m d below l) here)
+    (λ above. let same : m ≡ k = omega (arith, above, to) in subst (λ q. order (get_or es q d).0 name ≡ Less) same here)
+    (cases_lt k m)
+
+-- one that is behind the name has only such behind it
+pub all_above : {X : Type 0} (es : List (List ℕ × X)) → AreRising es → (name : List ℕ) (m : ℕ) (x : List ℕ × X) → m < length es
+    → x ≡ get_or es m x → order x.0 name ≡ Greater → Compare es name Greater m (length es)
+all_above es rising name m x l is gt k d from to in_range =
+    let here : order (get_or es m d).0 name ≡ Greater = ap (λ e. order e.0 name) (same_place es m d x l ∙ sym is) ∙ gt in
+    ⊎_elim
+    (λ below. greater_then (get_or es m d).0 (get_or es k d).0 name (rise_between es rising m k d below in_range) here)
+    (λ above. let same : m ≡ k = omega (arith, above, from) in subst (λ q. order (get_or es q d).0 name ≡ Greater) same here)
+    (cases_lt m k)
+
+-- one that is the name is found
+pub found : {X : Type 0} (es : List (List ℕ × X)) → AreRising es → (name : List ℕ) (m : ℕ) (x : List ℕ × X) → m < length es
+    → x ≡ get_or es m x → order x.0 name ≡ Equal → entry_of es name ≡ Some x.1
+found es rising name m x l is eq =
+    found_at es rising m name x l (ap (λ e. order e.0 name) (sym is) ∙ eq) ∙ ap (λ e. Some e.1) (sym is)
+
+-- where the entries before a place are before the name, and those from there on behind it, it is absent
+pub not_found : {X : Type 0} (es : List (List ℕ × X)) (name : List ℕ) (m : ℕ) → Compare es name Less 0 m → Compare es name Greater m (length es)
+    → entry_of es name ≡ None
+not_found es name m below above = absent es name (λ k d in_range. ⊎_elim
+    (λ l. ap is_eq (below k d (omega arith) l in_range))
+    (λ g. ap is_eq (above k d g in_range in_range))
+    (cases_lt k m))
 
 -- ---- a table's keys rise
 

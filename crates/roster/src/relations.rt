@@ -5,6 +5,7 @@ ghost use Rattle.std.specs.List.{list_any};
 ghost use Rattle.roster.specs.Relations as relations;
 ghost use Rattle.roster.specs.Rules as rules;
 
+use std::cmp::Ordering;
 use sudo_words::{Form, Items, Label, Name, Word};
 
 /// Whether one of the words is this text.
@@ -15,6 +16,7 @@ pub(crate) fn is_among<F: Form>(words: &[Word<F>], text: &str) -> bool
 }
 
 /// What stands at the name, found by halving.
+#[tactic(auto, using(crate::proofs::Rising::all_below, crate::proofs::Rising::all_above, crate::proofs::Rising::found, crate::proofs::Rising::not_found))]
 pub(crate) fn entry_of<'e, F: Form, T>(
     entries: &'e [(Word<F>, T)],
     name: &Word<F>,
@@ -22,10 +24,18 @@ pub(crate) fn entry_of<'e, F: Form, T>(
     requires { relations.AreRising entries.now }
     ensures { option_map (λ x. x.now) result ≡ relations.entry_of entries.now name.now }
 {
-    match entries.binary_search_by(|e| e.0.cmp(name)) {
-        Ok(place) => Some(&entries[place].1),
-        Err(_) => None,
+    let mut low = 0;
+    let mut high = entries.len();
+    'halves: while low < high {
+        let middle = low + (high - low) / 2;
+        let entry = &entries[middle];
+        match entry.0.cmp(name) {
+            Ordering::Less => low = middle + 1,
+            Ordering::Equal => return Some(&entry.1),
+            Ordering::Greater => high = middle,
+        }
     }
+    None
 }
 
 /// The duties of the person, none where the person is not listed.
