@@ -1,11 +1,13 @@
 //! Laws of rosters, each the contract of a function that does nothing.
 
-ghost use Rattle.std.specs.Prelude.{◌≡◌, ℕ, List, true, false};
+ghost use Rattle.std.specs.Prelude.{◌≡◌, ℕ, List, true, false, codes};
 ghost use Rattle.sudo_words.specs.declared.cmnd.Cmnd.{Cmnd};
 ghost use Rattle.roster.specs.Faults.{Has, IsLeastFault, IsRosterText};
 ghost use Rattle.roster.specs.Fields.{CeilingFields, RosterFields};
 ghost use Rattle.roster.specs.Relations.{conflicting, eligible, holds, may_revoke};
+ghost use Rattle.roster.specs.Worked.{office, everything, smallest, smallest_text};
 ghost use Rattle.roster.specs.declared.fault.RosterFault.{RosterFault};
+ghost use Rattle.roster.specs.declared.fault.RosterFault.TheVariants.{NotToml, UnknownKey, WrongType};
 
 /// A text is at most one roster's.
 pub fn one_roster()
@@ -55,4 +57,27 @@ pub fn more_duties_no_more_eligible()
         ((d : List ℕ) → holds f person d ≡ true → holds g person d ≡ true) →
         holds f person c.approve ≡ true →
         eligible g person asker c ≡ true → eligible f person asker c ≡ true }
+{}
+
+/// Worked duties: bob may approve what ann asked for; ann may not, nor carol, who also audits, nor dan, whom the roster
+/// does not list. Ann and whoever approves may revoke it, and dan may not.
+pub fn worked_duties()
+    ensures bob { eligible office (codes "bob") (codes "ann") everything ≡ true }
+    ensures ann { eligible office (codes "ann") (codes "ann") everything ≡ false }
+    ensures carol { eligible office (codes "carol") (codes "ann") everything ≡ false }
+    ensures dan { eligible office (codes "dan") (codes "ann") everything ≡ false }
+    ensures either_way { conflicting office (codes "approve") (codes "audit") ≡ true }
+    ensures ann_revokes { may_revoke office (codes "ann") (codes "ann") everything ≡ true }
+    ensures carol_revokes { may_revoke office (codes "carol") (codes "ann") everything ≡ true }
+    ensures dan_revokes_not { may_revoke office (codes "dan") (codes "ann") everything ≡ false }
+{}
+
+/// Worked texts: one that is no TOML; one with an unknown key, in which the known ones are missing too; one with a value of
+/// the wrong type; and the smallest roster.
+pub fn worked_texts()
+    ensures not_toml { IsLeastFault (codes "relays") NotToml }
+    ensures unknown_key { IsLeastFault (codes "x = 1") UnknownKey }
+    ensures missing_too { Has (codes "x = 1") WrongType }
+    ensures wrong_type { IsLeastFault (codes "relays = 1") WrongType }
+    ensures smallest_roster { IsRosterText smallest_text smallest }
 {}

@@ -19,6 +19,7 @@ pub use ceiling::Ceiling;
 pub use fault::RosterFault;
 pub use laws::{
     conflict_is_between_two, duties_are_separate, more_conflicts_fewer_eligible,
-    more_duties_no_more_eligible, one_fault, one_roster, roster_has_no_fault,
+    more_duties_no_more_eligible, one_fault, one_roster, roster_has_no_fault, worked_duties,
+    worked_texts,
 };
 pub use roster::Roster;
