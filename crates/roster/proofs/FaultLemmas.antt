@@ -1,0 +1,74 @@
+-- A roster's text has no fault, and any other text at most one least fault.
+use Rattle.std.proofs.Common.{◌≡◌, ◌≢◌, ◌<◌, ℕ, ◌∙◌, ◌==◌, cond, List, Some, None, true, false, refl, sym, ap, subst, arith}
+use Rattle.std.proofs.lemmas.Bool.{true≢false}
+use Rattle.std.proofs.lemmas.Option.{same_Some, none-some}
+use Rattle.sudo_words.specs.declared.cmnd.Cmnd.{Cmnd}
+use Rattle.toml.specs.Data.{Members}
+use Rattle.toml.specs.Parse.{parse_document}
+use Rattle.roster.specs.Document.{has_known_keys, fields_of}
+use Rattle.roster.specs.Faults.{Has, IsLeastFault, IsRosterText, Says, number}
+use Rattle.roster.specs.Fields.{RosterFields, in_texts}
+use Rattle.roster.specs.Rules.{IsCmndText, GoodNames, are_known, has_self_conflict, in_range}
+use Rattle.roster.specs.declared.fault.RosterFault.{RosterFault}
+use Rattle.roster.specs.declared.fault.RosterFault.TheVariants.{NotToml, UnknownKey, WrongType, BadName, UnknownName, SelfConflict, OutOfRange, NoMemory}
+use Rattle.roster.proofs.Texts.{good_in_texts, known_in_texts, apart_in_texts, range_in_texts}
+
+-- a text has one document
+one_document : (text : List ℕ) (d e : Members) → parse_document text ≡ Some d → parse_document text ≡ Some e → d ≡ e
+one_document text d e a b = same_Some d e (sym a ∙ b)
+
+-- what a roster's text says is the roster in texts
+says_in_texts : (text : List ℕ) (f : RosterFields Cmnd) (t : RosterFields (List ℕ)) → IsRosterText text f → Says text t → t ≡ in_texts f
+says_in_texts text f t r s =
+    same_Some t (in_texts f) (sym s.2 ∙ ap fields_of (one_document text s.0 r.document s.1 r.toml) ∙ r.types)
+
+pub no_fault : (text : List ℕ) (f : RosterFields Cmnd) (fault : RosterFault) → IsRosterText text f → ¬ Has text fault
+no_fault text f NotToml r h = none-some r.document (sym h ∙ r.toml)
+no_fault text f UnknownKey r h =
+    true≢false (sym r.keys ∙ ap has_known_keys (one_document text r.document h.0 r.toml h.1) ∙ h.2)
+no_fault text f WrongType r h =
+    none-some (in_texts f) (sym h.2 ∙ ap fields_of (one_document text h.0 r.document h.1 r.toml) ∙ r.types)
+no_fault text f BadName r h =
+    h.2 (subst (GoodNames IsCmndText) (sym (says_in_texts text f h.0 r h.1)) (good_in_texts f r.names))
+no_fault text f UnknownName r h =
+    true≢false (sym r.known ∙ sym (known_in_texts f) ∙ ap are_known (sym (says_in_texts text f h.0 r h.1)) ∙ h.2)
+no_fault text f SelfConflict r h =
+    true≢false (sym h.2 ∙ ap has_self_conflict (says_in_texts text f h.0 r h.1) ∙ apart_in_texts f ∙ r.apart)
+no_fault text f OutOfRange r h =
+    true≢false (sym r.range ∙ sym (range_in_texts text f) ∙ ap (in_range text) (sym (says_in_texts text f h.0 r h.1)) ∙ h.2)
+no_fault text f NoMemory r h = h
+
+-- so it is only want of memory that refuses it
+pub only_memory : (text : List ℕ) (f : RosterFields Cmnd) (e : RosterFault) → IsRosterText text f → (e ≢ NoMemory → IsLeastFault text e) → e ≡ NoMemory
+only_memory text f NotToml r h = absurd (no_fault text f NotToml r (h (λ e. absurd cc)).0)
+only_memory text f UnknownKey r h = absurd (no_fault text f UnknownKey r (h (λ e. absurd cc)).0)
+only_memory text f WrongType r h = absurd (no_fault text f WrongType r (h (λ e. absurd cc)).0)
+only_memory text f BadName r h = absurd (no_fault text f BadName r (h (λ e. absurd cc)).0)
+only_memory text f UnknownName r h = absurd (no_fault text f UnknownName r (h (λ e. absurd cc)).0)
+only_memory text f SelfConflict r h = absurd (no_fault text f SelfConflict r (h (λ e. absurd cc)).0)
+only_memory text f OutOfRange r h = absurd (no_fault text f OutOfRange r (h (λ e. absurd cc)).0)
+only_memory text f NoMemory r h = refl
+
+-- ---- faults by their numbers
+
+abbrev fault_at : ℕ → RosterFault
+fault_at n =
+    cond (n == 1) NotToml (cond (n == 2) UnknownKey (cond (n == 3) WrongType (cond (n == 4) BadName
+    (cond (n == 5) UnknownName (cond (n == 6) SelfConflict (cond (n == 7) OutOfRange NoMemory))))))
+
+at_its_number : (fault : RosterFault) → fault_at (number fault) ≡ fault
+at_its_number NotToml = refl
+at_its_number UnknownKey = refl
+at_its_number WrongType = refl
+at_its_number BadName = refl
+at_its_number UnknownName = refl
+at_its_number SelfConflict = refl
+at_its_number OutOfRange = refl
+at_its_number NoMemory = refl
+
+pub one_fault : (text : List ℕ) (d e : RosterFault) → IsLeastFault text d → IsLeastFault text e → d ≡ e
+one_fault text d e a b =
+    let not_below : ¬ (number d < number e) = λ l. b.1 d l a.0 in
+    let not_above : ¬ (number e < number d) = λ l. a.1 e l b.0 in
+    let same : number d ≡ number e = omega (arith, not_below, not_above) in
+    sym (at_its_number d) ∙ ap fault_at same ∙ at_its_number e

@@ -1,0 +1,106 @@
+use Rattle.std.proofs.Common.{◌≡◌, ℕ, ◌<◌, ◌∙◌, List, Some, None, true, pos, refl, sym, ap, arith}
+use Rattle.std.specs.Prelude.{codes}
+use Rattle.std.proofs.lemmas.List.Elements.{All-nil}
+use Rattle.std.proofs.lemmas.Bool.{true≢false}
+use Rattle.std.proofs.lemmas.Option.{none-some, same_Some}
+use Rattle.sudo_words.specs.Command.{IsLawful}
+use Rattle.toml.proofs.OnLiterals.{toml_on_literals}
+use Rattle.toml.specs.Data.{Members, no_members, member, integer, array, table, string, no_items, item}
+use Rattle.toml.specs.Parse.{parse_document}
+use Rattle.roster.specs.Document.{has_known_keys, fields_of}
+use Rattle.roster.specs.Faults.{Has, IsLeastFault, number}
+use Rattle.roster.specs.Rules.{IsNamedCeiling, good_names, are_known, has_self_conflict, in_range}
+use Rattle.roster.specs.declared.fault.RosterFault.{RosterFault}
+use Rattle.roster.specs.declared.fault.RosterFault.TheVariants.{NotToml, UnknownKey, WrongType, BadName, UnknownName, SelfConflict, OutOfRange, NoMemory}
+use Rattle.roster.specs.Worked.{smallest, smallest_text}
+use Rattle.roster.proofs.laws.worked_texts.Goals as goal
+
+-- a text with a document is TOML, and has only greater faults than that
+read_at_all : (text : List ℕ) (d : Members) → parse_document text ≡ Some d → (lower : RosterFault) → number lower < 2 → ¬ Has text lower
+read_at_all text d p NotToml l h = none-some d (sym h ∙ p)
+read_at_all text d p UnknownKey l h = omega arith
+read_at_all text d p WrongType l h = omega arith
+read_at_all text d p BadName l h = omega arith
+read_at_all text d p UnknownName l h = omega arith
+read_at_all text d p SelfConflict l h = omega arith
+read_at_all text d p OutOfRange l h = omega arith
+read_at_all text d p NoMemory l h = h
+
+none_below_one : (text : List ℕ) (lower : RosterFault) → number lower < 1 → ¬ Has text lower
+none_below_one text NotToml l h = omega arith
+none_below_one text UnknownKey l h = omega arith
+none_below_one text WrongType l h = omega arith
+none_below_one text BadName l h = omega arith
+none_below_one text UnknownName l h = omega arith
+none_below_one text SelfConflict l h = omega arith
+none_below_one text OutOfRange l h = omega arith
+none_below_one text NoMemory l h = h
+
+pub returns-clause-not_toml : goal.returns-clause-not_toml
+unfolding toml_on_literals
+returns-clause-not_toml c = (refl, none_below_one (codes "relays"))
+
+x_is_one : parse_document (codes "x = 1") ≡ Some (member (codes "x") (integer (pos 1)) no_members)
+unfolding toml_on_literals
+x_is_one = refl
+
+pub returns-clause-unknown_key : goal.returns-clause-unknown_key
+unfolding has_known_keys
+returns-clause-unknown_key c = ((_, x_is_one, refl), read_at_all (codes "x = 1") _ x_is_one)
+
+pub returns-clause-missing_too : goal.returns-clause-missing_too
+unfolding fields_of
+returns-clause-missing_too c = (_, x_is_one, refl)
+
+relays_is_one : parse_document (codes "relays = 1") ≡ Some (member (codes "relays") (integer (pos 1)) no_members)
+unfolding toml_on_literals
+relays_is_one = refl
+
+abbrev relays_one : Members
+relays_one = member (codes "relays") (integer (pos 1)) no_members
+
+known : has_known_keys relays_one ≡ true
+unfolding has_known_keys
+known = refl
+
+typed_wrong : fields_of relays_one ≡ None
+unfolding fields_of
+typed_wrong = refl
+
+-- nor has it an unknown key
+known_at_all : (lower : RosterFault) → number lower < 3 → ¬ Has (codes "relays = 1") lower
+known_at_all NotToml l h = none-some relays_one (sym h ∙ relays_is_one)
+known_at_all UnknownKey l h =
+    true≢false (sym known ∙ ap has_known_keys (same_Some _ _ (sym relays_is_one ∙ h.1)) ∙ h.2)
+known_at_all WrongType l h = omega arith
+known_at_all BadName l h = omega arith
+known_at_all UnknownName l h = omega arith
+known_at_all SelfConflict l h = omega arith
+known_at_all OutOfRange l h = omega arith
+known_at_all NoMemory l h = h
+
+pub returns-clause-wrong_type : goal.returns-clause-wrong_type
+returns-clause-wrong_type c = ((relays_one, relays_is_one, typed_wrong), known_at_all)
+
+abbrev document : Members
+document =
+    member (codes "ceilings") (table no_members) (member (codes "conflicts") (array no_items) (member (codes "duties") (array no_items)
+    (member (codes "hosts") (array (item (string (codes "h")) no_items)) (member (codes "people") (table no_members)
+    (member (codes "relays") (array (item (string (codes "r")) no_items)) no_members)))))
+
+its_document : parse_document smallest_text ≡ Some document
+unfolding toml_on_literals
+its_document = refl
+
+pub returns-clause-smallest_roster : goal.returns-clause-smallest_roster
+unfolding has_known_keys fields_of good_names are_known has_self_conflict in_range
+returns-clause-smallest_roster c = record {
+  document = document;
+  toml = its_document;
+  keys = refl;
+  types = refl;
+  names = record { names = refl; ceilings = All-nil (IsNamedCeiling IsLawful) };
+  known = refl;
+  apart = refl;
+  range = refl;
+}

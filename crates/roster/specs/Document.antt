@@ -1,0 +1,132 @@
+-- Which TOML document is which roster: its keys, and the type of each value (TOML 1.1).
+use Rattle.std.specs.Prelude.{◌≡◌, ℕ, ℤ, pos, negsuc, List, [], ◌∷◌, Option, Some, None, Bool, true, codes, ◌&&◌, ◌||◌}
+use Rattle.std.specs.Str.{bytes_eq}
+use Rattle.toml.specs.Data.{Data, array, table, as_str, as_integer, Items, no_items, item, Members, no_members, member, get_member}
+use Rattle.roster.specs.Fields.{CeilingFields, RosterFields}
+
+-- the second step is taken on what the first gives, where it gives something
+infixl 10 ◌>>=◌
+abbrev pub ◌>>=◌ : {A B : Type 0} → Option A → (A → Option B) → Option B
+(Some x) >>= f = f x
+None >>= f = None
+
+-- ---- values by their types
+
+-- what each item is, where each is one
+abbrev pub each_item : {X : Type 0} → (Data → Option X) → Items → Option (List X)
+each_item f no_items = Some []
+each_item f (item d ds) = do
+  x ← f d
+  xs ← each_item f ds
+  Some (x ∷ xs)
+
+-- each key with what its value is, where each is one
+abbrev pub each_member : {X : Type 0} → (Data → Option X) → Members → Option (List (List ℕ × X))
+each_member f no_members = Some []
+each_member f (member k d ms) = do
+  x ← f d
+  xs ← each_member f ms
+  Some ((k, x) ∷ xs)
+
+-- a list of texts
+abbrev pub texts_of : Data → Option (List (List ℕ))
+texts_of (array ds) = each_item as_str ds
+texts_of _ = None
+
+-- exactly two texts
+abbrev pub as_pair : List (List ℕ) → Option (List ℕ × List ℕ)
+as_pair (a ∷ b ∷ []) = Some (a, b)
+as_pair _ = None
+
+abbrev pub pair_of : Data → Option (List ℕ × List ℕ)
+pair_of d = texts_of d >>= as_pair
+
+-- a list of pairs of texts
+abbrev pub pairs_of : Data → Option (List (List ℕ × List ℕ))
+pairs_of (array ds) = each_item pair_of ds
+pairs_of _ = None
+
+-- a table of lists of texts
+abbrev pub people_of : Data → Option (List (List ℕ × List (List ℕ)))
+people_of (table ms) = each_member texts_of ms
+people_of _ = None
+
+-- a whole number; each one below 0 stands as 0, which no range of a roster has
+abbrev pub at_least_zero : ℤ → ℕ
+at_least_zero (pos n) = n
+at_least_zero (negsuc n) = 0
+
+abbrev pub number_of : Data → Option ℕ
+number_of d = as_integer d >>= λ z. Some (at_least_zero z)
+
+-- ---- keys
+
+-- each key passes
+abbrev pub each_key : (List ℕ → Bool) → Members → Bool
+each_key test no_members = true
+each_key test (member k d ms) = test k && each_key test ms
+
+-- each value passes
+abbrev pub each_value : (Data → Bool) → Members → Bool
+each_value test no_members = true
+each_value test (member k d ms) = test d && each_value test ms
+
+-- the keys of a ceiling
+abbrev pub is_ceiling_key : List ℕ → Bool
+is_ceiling_key k =
+    bytes_eq k (codes "ask") || bytes_eq k (codes "approve") || bytes_eq k (codes "needs") || bytes_eq k (codes "hosts")
+    || bytes_eq k (codes "runas") || bytes_eq k (codes "commands") || bytes_eq k (codes "longest")
+
+-- a value that is no table has no keys
+abbrev pub has_ceiling_keys : Data → Bool
+has_ceiling_keys (table ms) = each_key is_ceiling_key ms
+has_ceiling_keys _ = true
+
+abbrev pub have_ceiling_keys : Option Data → Bool
+have_ceiling_keys (Some (table ms)) = each_value has_ceiling_keys ms
+have_ceiling_keys _ = true
+
+-- the keys of a roster
+abbrev pub is_roster_key : List ℕ → Bool
+is_roster_key k =
+    bytes_eq k (codes "relays") || bytes_eq k (codes "hosts") || bytes_eq k (codes "duties") || bytes_eq k (codes "conflicts")
+    || bytes_eq k (codes "people") || bytes_eq k (codes "ceilings")
+
+-- each key of the document is one of a roster, and each key of a ceiling one of a ceiling
+unfoldable pub has_known_keys : Members → Bool
+has_known_keys ms = each_key is_roster_key ms && have_ceiling_keys (get_member (codes "ceilings") ms)
+
+-- ---- what a document says
+
+-- what stands at a key
+abbrev pub member_of : {X : Type 0} → (Data → Option X) → List ℕ → Members → Option X
+member_of f key ms = get_member key ms >>= f
+
+-- what a ceiling says, where no key is missing and each value has its type
+unfoldable pub ceiling_of : Data → Option (CeilingFields (List ℕ))
+ceiling_of (table ms) = do
+  ask ← member_of as_str (codes "ask") ms
+  approve ← member_of as_str (codes "approve") ms
+  needs ← member_of number_of (codes "needs") ms
+  hosts ← member_of texts_of (codes "hosts") ms
+  runas ← member_of texts_of (codes "runas") ms
+  commands ← member_of texts_of (codes "commands") ms
+  longest ← member_of number_of (codes "longest") ms
+  Some (record { ask = ask; approve = approve; needs = needs; hosts = hosts; runas = runas; commands = commands; longest = longest })
+ceiling_of _ = None
+
+-- a table of ceilings
+abbrev pub ceilings_of : Data → Option (List (List ℕ × CeilingFields (List ℕ)))
+ceilings_of (table ms) = each_member ceiling_of ms
+ceilings_of _ = None
+
+-- what the document says, where no key is missing and each value has its type
+unfoldable pub fields_of : Members → Option (RosterFields (List ℕ))
+fields_of ms = do
+  relays ← member_of texts_of (codes "relays") ms
+  hosts ← member_of texts_of (codes "hosts") ms
+  duties ← member_of texts_of (codes "duties") ms
+  conflicts ← member_of pairs_of (codes "conflicts") ms
+  people ← member_of people_of (codes "people") ms
+  ceilings ← member_of ceilings_of (codes "ceilings") ms
+  Some (record { relays = relays; hosts = hosts; duties = duties; conflicts = conflicts; people = people; ceilings = ceilings })

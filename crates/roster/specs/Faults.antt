@@ -1,0 +1,63 @@
+-- The format of a roster's text, and the faults of a text that has not that format.
+use Rattle.std.specs.Prelude.{◌≡◌, ℕ, ◌<◌, List, Some, None, true, false, codes}
+use Rattle.toml.specs.Data.{Members}
+use Rattle.toml.specs.Parse.{parse_document}
+use Rattle.sudo_words.specs.Command.{IsLawful}
+use Rattle.sudo_words.specs.declared.cmnd.Cmnd.{Cmnd}
+use Rattle.roster.specs.Fields.{RosterFields, in_texts}
+use Rattle.roster.specs.Document.{has_known_keys, fields_of}
+use Rattle.roster.specs.Rules.{IsCmndText, GoodNames, are_known, has_self_conflict, in_range}
+use Rattle.roster.specs.declared.fault.RosterFault.{RosterFault}
+use Rattle.roster.specs.declared.fault.RosterFault.TheVariants.{NotToml, UnknownKey, WrongType, BadName, UnknownName, SelfConflict, OutOfRange, NoMemory}
+
+-- The text is a roster's, and says this.
+pub record IsRosterText (text : List ℕ) (f : RosterFields Cmnd) : Type 0 where
+  pub document : Members
+  pub toml : parse_document text ≡ Some document
+  pub keys : has_known_keys document ≡ true
+  pub types : fields_of document ≡ Some (in_texts f)
+  pub names : GoodNames IsLawful f
+  pub known : are_known f ≡ true
+  pub apart : has_self_conflict f ≡ false
+  pub range : in_range text f ≡ true
+
+-- Each value of the text has its type, and they say this.
+abbrev pub Says : List ℕ → RosterFields (List ℕ) → Type 0
+Says text t = (document : Members) × (parse_document text ≡ Some document) × (fields_of document ≡ Some t)
+
+-- The text has the fault. A fault of what a text says is one of a text whose values have their types.
+abbrev pub Has : List ℕ → RosterFault → Type 0
+Has text NotToml = parse_document text ≡ None
+Has text UnknownKey = (document : Members) × (parse_document text ≡ Some document) × (has_known_keys document ≡ false)
+Has text WrongType = (document : Members) × (parse_document text ≡ Some document) × (fields_of document ≡ None)
+Has text BadName = (t : RosterFields (List ℕ)) × Says text t × ¬ GoodNames IsCmndText t
+Has text UnknownName = (t : RosterFields (List ℕ)) × Says text t × (are_known t ≡ false)
+Has text SelfConflict = (t : RosterFields (List ℕ)) × Says text t × (has_self_conflict t ≡ true)
+Has text OutOfRange = (t : RosterFields (List ℕ)) × Says text t × (in_range text t ≡ false)
+Has text NoMemory = ⊥
+
+-- the number in a fault's code
+abbrev pub number : RosterFault → ℕ
+number NotToml = 1
+number UnknownKey = 2
+number WrongType = 3
+number BadName = 4
+number UnknownName = 5
+number SelfConflict = 6
+number OutOfRange = 7
+number NoMemory = 8
+
+-- the text has the fault, and none of a lower number
+abbrev pub IsLeastFault : List ℕ → RosterFault → Type 0
+IsLeastFault text fault = Has text fault × ((lower : RosterFault) → number lower < number fault → ¬ Has text lower)
+
+-- how a fault is printed
+abbrev pub fault_text : RosterFault → List ℕ
+fault_text NotToml = codes "O1 NotToml"
+fault_text UnknownKey = codes "O2 UnknownKey"
+fault_text WrongType = codes "O3 WrongType"
+fault_text BadName = codes "O4 BadName"
+fault_text UnknownName = codes "O5 UnknownName"
+fault_text SelfConflict = codes "O6 SelfConflict"
+fault_text OutOfRange = codes "O7 OutOfRange"
+fault_text NoMemory = codes "O8 NoMemory"

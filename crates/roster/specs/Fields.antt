@@ -1,0 +1,55 @@
+-- What a roster says. Names are seen as their bytes; people and ceilings stand in the byte order of their names.
+use Rattle.std.specs.Prelude.{ℕ, List, map}
+use Rattle.sudo_words.specs.Command.{cmnd_text}
+use Rattle.sudo_words.specs.declared.cmnd.Cmnd.{Cmnd}
+
+-- A ceiling: who may ask and who approves, how many approvals it takes, and the most that a grant under it gives (NIST SP 800-53 AC-6).
+-- `C` is what stands for a command: its text where the roster is still a draft, else the command.
+pub record CeilingFields (C : Type 0) : Type 0 where
+  pub ask : List ℕ
+  pub approve : List ℕ
+  pub needs : ℕ
+  pub hosts : List (List ℕ)
+  pub runas : List (List ℕ)
+  pub commands : List C
+  pub longest : ℕ
+
+-- A roster. A pair of conflicting duties means the same either way round (NIST SP 800-53 AC-5).
+pub record RosterFields (C : Type 0) : Type 0 where
+  pub relays : List (List ℕ)
+  pub hosts : List (List ℕ)
+  pub duties : List (List ℕ)
+  pub conflicts : List (List ℕ × List ℕ)
+  pub people : List (List ℕ × List (List ℕ))
+  pub ceilings : List (List ℕ × CeilingFields C)
+
+-- a text, and what it says
+pub record Reading : Type 0 where
+  pub text : List ℕ
+  pub says : RosterFields Cmnd
+
+-- ---- the same with each command's text in place of the command
+
+abbrev pub ceiling_in_texts : CeilingFields Cmnd → CeilingFields (List ℕ)
+ceiling_in_texts c = record {
+  ask = c.ask;
+  approve = c.approve;
+  needs = c.needs;
+  hosts = c.hosts;
+  runas = c.runas;
+  commands = map cmnd_text c.commands;
+  longest = c.longest;
+}
+
+abbrev pub entry_in_texts : List ℕ × CeilingFields Cmnd → List ℕ × CeilingFields (List ℕ)
+entry_in_texts c = (c.0, ceiling_in_texts c.1)
+
+abbrev pub in_texts : RosterFields Cmnd → RosterFields (List ℕ)
+in_texts f = record {
+  relays = f.relays;
+  hosts = f.hosts;
+  duties = f.duties;
+  conflicts = f.conflicts;
+  people = f.people;
+  ceilings = map entry_in_texts f.ceilings;
+}

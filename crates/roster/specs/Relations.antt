@@ -1,0 +1,76 @@
+-- Who holds which duty, which duties conflict, who may approve and who may revoke (NIST SP 800-53 AC-5).
+use Rattle.std.specs.Prelude.{◌≡◌, ℕ, List, [], ◌∷◌, Option, Some, None, if◌then◌else◌, Bool, true, not, ◌&&◌, ◌||◌, is_some}
+use Rattle.std.specs.List.{list_all, list_any}
+use Rattle.std.specs.List.Sorted.{IsStrictlySortedBy}
+use Rattle.std.specs.Map.{keys_of}
+use Rattle.std.specs.Ordering.{nat_cmp, is_lt}
+use Rattle.std.specs.Cmp.Lexicographic.{slice_cmp}
+use Rattle.std.specs.Str.{bytes_eq}
+use Rattle.roster.specs.Fields.{CeilingFields, RosterFields}
+use Rattle.roster.specs.Rules.{is_among}
+
+-- what stands at a name in a list of names with something each
+abbrev pub entry_of : {X : Type 0} → List (List ℕ × X) → List ℕ → Option X
+entry_of [] name = None
+entry_of (e ∷ es) name = if bytes_eq e.0 name then Some e.1 else entry_of es name
+
+-- the duties of a person; one whom the roster does not list has none
+abbrev pub or_none : Option (List (List ℕ)) → List (List ℕ)
+or_none None = []
+or_none (Some duties) = duties
+
+abbrev pub duties_of : {C : Type 0} → RosterFields C → (person : List ℕ) → List (List ℕ)
+duties_of f person = or_none (entry_of f.people person)
+
+-- the person holds the duty
+abbrev pub holds : {C : Type 0} → RosterFields C → (person duty : List ℕ) → Bool
+holds f person duty = is_among (duties_of f person) duty
+
+-- the pair is of these two, either way round
+abbrev pub joins : (first second : List ℕ) → List ℕ × List ℕ → Bool
+joins first second p = (bytes_eq p.0 first && bytes_eq p.1 second) || (bytes_eq p.0 second && bytes_eq p.1 first)
+
+-- the roster lists the two duties as a pair
+abbrev pub conflicting : {C : Type 0} → RosterFields C → (first second : List ℕ) → Bool
+conflicting f first second = list_any (joins first second) f.conflicts
+
+-- the person holds a duty that conflicts with this one
+abbrev pub holds_against : {C : Type 0} → RosterFields C → (person duty : List ℕ) → Bool
+holds_against f person duty = list_any (λ d. conflicting f d duty) (duties_of f person)
+
+-- Separation of duties: who approves is not who asks, holds the approving duty, and holds none that conflicts with it.
+abbrev pub eligible : {C D : Type 0} → RosterFields C → (person asker : List ℕ) → CeilingFields D → Bool
+eligible f person asker c =
+    not (bytes_eq person asker) && holds f person c.approve && not (holds_against f person c.approve)
+
+-- who asked may revoke, and who holds the approving duty
+abbrev pub may_revoke : {C D : Type 0} → RosterFields C → (person asker : List ℕ) → CeilingFields D → Bool
+may_revoke f person asker c = bytes_eq person asker || holds f person c.approve
+
+-- the ceiling of a label
+abbrev pub ceiling_at : {C : Type 0} → RosterFields C → (label : List ℕ) → Option (CeilingFields C)
+ceiling_at f label = entry_of f.ceilings label
+
+-- the roster lists the person
+abbrev pub has_person : {C : Type 0} → RosterFields C → (person : List ℕ) → Bool
+has_person f person = is_some (entry_of f.people person)
+
+-- ---- byte order
+
+-- the text comes before the other in byte order
+abbrev pub is_before : List ℕ → List ℕ → Bool
+is_before low high = is_lt (slice_cmp nat_cmp low high)
+
+-- one of the words, and none of them comes before it
+pub record IsFirst (words : List (List ℕ)) (w : List ℕ) : Type 0 where
+  pub among : is_among words w ≡ true
+  pub first : list_all (λ v. not (is_before v w)) words ≡ true
+
+-- each name comes before those behind it, so none comes twice
+abbrev pub AreRising : {X : Type 0} → List (List ℕ × X) → Type 0
+AreRising entries = IsStrictlySortedBy (slice_cmp nat_cmp) (keys_of entries)
+
+-- a roster's people and ceilings rise
+pub record IsOrdered {C : Type 0} (f : RosterFields C) : Type 0 where
+  pub people : AreRising f.people
+  pub ceilings : AreRising f.ceilings

@@ -1,0 +1,86 @@
+-- What holds of each roster, beyond the types of its values. A list stands for its set, and counts are of the list.
+use Rattle.std.specs.Prelude.{◌≡◌, ℕ, All, List, length, Bool, true, ◌&&◌, nat_le}
+use Rattle.std.specs.List.{list_all, list_any}
+use Rattle.std.specs.Str.{bytes_eq}
+use Rattle.sudo_words.specs.Word.{is_name, is_host_name, is_label}
+use Rattle.sudo_words.specs.Command.{IsLawful, cmnd_text}
+use Rattle.sudo_words.specs.declared.cmnd.Cmnd.{Cmnd}
+use Rattle.roster.specs.Fields.{CeilingFields, RosterFields}
+
+-- ---- names
+
+abbrev pub is_named_pair : List ℕ × List ℕ → Bool
+is_named_pair p = is_label p.0 && is_label p.1
+
+abbrev pub is_named_person : List ℕ × List (List ℕ) → Bool
+is_named_person p = is_name p.0 && list_all is_label p.1
+
+-- the text of a lawful command (sudoers(5), "Cmnd")
+abbrev pub IsCmndText : List ℕ → Type 0
+IsCmndText text = (c : Cmnd) × IsLawful c × (text ≡ cmnd_text c)
+
+-- what stands in a ceiling for a name is a name of its form, and what stands for a command is a command
+pub record IsNamedCeiling {C : Type 0} (IsCommand : C → Type 0) (c : List ℕ × CeilingFields C) : Type 0 where
+  pub label : is_label c.0 ≡ true
+  pub ask : is_label c.1.ask ≡ true
+  pub approve : is_label c.1.approve ≡ true
+  pub hosts : list_all is_host_name c.1.hosts ≡ true
+  pub runas : list_all is_name c.1.runas ≡ true
+  pub commands : All IsCommand c.1.commands
+
+-- each text in a name's place outside the ceilings is one
+unfoldable pub good_names : {C : Type 0} → RosterFields C → Bool
+good_names f =
+    list_all is_label f.relays && list_all is_host_name f.hosts && list_all is_label f.duties
+    && list_all is_named_pair f.conflicts && list_all is_named_person f.people
+
+-- what stands for a name is a name of its form, and what stands for a command is a command
+pub record GoodNames {C : Type 0} (IsCommand : C → Type 0) (f : RosterFields C) : Type 0 where
+  pub names : good_names f ≡ true
+  pub ceilings : All (IsNamedCeiling IsCommand) f.ceilings
+
+-- ---- duties and hosts
+
+abbrev pub is_among : List (List ℕ) → List ℕ → Bool
+is_among words w = list_any (λ v. bytes_eq v w) words
+
+abbrev pub is_known_pair : List (List ℕ) → List ℕ × List ℕ → Bool
+is_known_pair duties p = is_among duties p.0 && is_among duties p.1
+
+abbrev pub is_known_ceiling : {C : Type 0} → List (List ℕ) → List (List ℕ) → List ℕ × CeilingFields C → Bool
+is_known_ceiling duties hosts c = is_among duties c.1.ask && is_among duties c.1.approve && list_all (is_among hosts) c.1.hosts
+
+-- each duty that is named is one of the duties, and each host of a ceiling one of the hosts
+unfoldable pub are_known : {C : Type 0} → RosterFields C → Bool
+are_known f =
+    list_all (is_known_pair f.duties) f.conflicts && list_all (λ p. list_all (is_among f.duties) p.1) f.people
+    && list_all (is_known_ceiling f.duties f.hosts) f.ceilings
+
+-- a duty conflicts with itself
+unfoldable pub has_self_conflict : {C : Type 0} → RosterFields C → Bool
+has_self_conflict f = list_any (λ p. bytes_eq p.0 p.1) f.conflicts
+
+-- ---- numbers and counts
+
+abbrev pub is_within : (least most n : ℕ) → Bool
+is_within least most n = nat_le least n && nat_le n most
+
+-- 1 to 3 approvals; 1 to 256 hosts, targets and commands; a window of 1 second to 30 days
+abbrev pub is_ranged : {C : Type 0} → List ℕ × CeilingFields C → Bool
+is_ranged c =
+    is_within 1 3 c.1.needs && is_within 1 256 (length c.1.hosts) && is_within 1 256 (length c.1.runas)
+    && is_within 1 256 (length c.1.commands) && is_within 1 2_592_000 c.1.longest
+
+-- 1 to 64 relays, 1 to 1,024 hosts, up to 256 duties, 4,096 conflicts and 4,096 people, each with up to 256 duties
+abbrev pub has_counts : {C : Type 0} → RosterFields C → Bool
+has_counts f =
+    is_within 1 64 (length f.relays) && is_within 1 1024 (length f.hosts) && nat_le (length f.duties) 256
+    && nat_le (length f.conflicts) 4096 && nat_le (length f.people) 4096 && list_all (λ p. nat_le (length p.1) 256) f.people
+
+-- up to 1,024 ceilings
+abbrev pub has_ceiling_counts : {C : Type 0} → RosterFields C → Bool
+has_ceiling_counts f = nat_le (length f.ceilings) 1024 && list_all is_ranged f.ceilings
+
+-- and the text has up to 1 MiB
+unfoldable pub in_range : {C : Type 0} → List ℕ → RosterFields C → Bool
+in_range text f = nat_le (length text) 1_048_576 && has_counts f && has_ceiling_counts f

@@ -1,0 +1,69 @@
+//! Why a text is no roster.
+
+ghost use Rattle.std.specs.Prelude.{◌≡◌};
+ghost use Rattle.roster.specs.declared.fault.RosterFault.TheVariants as fault;
+
+use std::alloc::{AllocError, AllocFailed};
+use std::error::Error;
+use std::fmt;
+
+/// Why a text is no roster. It is shown as its code and name.
+///
+/// Where a text has several of them, the one with the least number is answered.
+#[derive(Clone, Copy, Debug, PartialEq, Eq)]
+pub enum RosterFault {
+    /// The text is no document of TOML.
+    NotToml,
+    /// A key is none of a roster's, or one in a ceiling is none of a ceiling's.
+    UnknownKey,
+    /// A value has another type than its key wants, or a key is missing.
+    WrongType,
+    /// A text in a name's place is no such name, or one in a command's place is no command's.
+    BadName,
+    /// A duty is not among the duties, or a ceiling's host is not among the hosts.
+    UnknownName,
+    /// A duty conflicts with itself.
+    SelfConflict,
+    /// A number, the length of a list or the length of the text is out of range.
+    OutOfRange,
+    /// Memory ran out.
+    NoMemory,
+}
+
+impl fmt::Display for RosterFault {
+    ghost use Rattle.std.specs.Prelude.{Some};
+    ghost use Rattle.roster.specs.Faults.{fault_text};
+
+    ghost output = { λ e. Some (fault_text e) };
+
+    fn fmt<W: fmt::Write>(&self, f: &mut fmt::Formatter<W>) -> fmt::Result {
+        f.write_str(match self {
+            RosterFault::NotToml => "O1 NotToml",
+            RosterFault::UnknownKey => "O2 UnknownKey",
+            RosterFault::WrongType => "O3 WrongType",
+            RosterFault::BadName => "O4 BadName",
+            RosterFault::UnknownName => "O5 UnknownName",
+            RosterFault::SelfConflict => "O6 SelfConflict",
+            RosterFault::OutOfRange => "O7 OutOfRange",
+            RosterFault::NoMemory => "O8 NoMemory",
+        })
+    }
+}
+
+impl Error for RosterFault {}
+
+impl From<AllocError> for RosterFault {
+    ghost from_gives = { λ _ e. e ≡ fault.NoMemory };
+
+    fn from(_e: AllocError) -> RosterFault {
+        RosterFault::NoMemory
+    }
+}
+
+impl<T: Drop> From<AllocFailed<T>> for RosterFault {
+    ghost from_gives = { λ _ e. e ≡ fault.NoMemory };
+
+    fn from(_e: AllocFailed<T>) -> RosterFault {
+        RosterFault::NoMemory
+    }
+}

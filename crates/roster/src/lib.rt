@@ -1,0 +1,25 @@
+//! The roster: who holds which duty, which duties conflict, and under which ceilings rights are granted.
+#![tactic(auto)]
+
+mod ceiling;
+mod draft;
+mod fault;
+mod keys;
+mod laws;
+mod named;
+mod read;
+mod relations;
+mod roster;
+mod rules;
+mod said;
+mod text;
+mod typed;
+
+pub use ceiling::Ceiling;
+pub use fault::RosterFault;
+pub use laws::{
+    conflict_is_between_two, duties_are_separate, more_conflicts_fewer_eligible,
+    more_duties_no_more_eligible, one_fault, one_roster, roster_has_no_fault, worked_duties,
+    worked_texts,
+};
+pub use roster::Roster;

@@ -1,0 +1,168 @@
+//! The names and commands that a draft's texts are.
+
+ghost use Rattle.std.specs.Prelude.{◌≡◌, All, map};
+ghost use Rattle.std.specs.List.{list_all};
+ghost use Rattle.sudo_words.specs.Command.{IsLawful, cmnd_text};
+ghost use Rattle.sudo_words.specs.Word.{is_label, is_name};
+ghost use Rattle.roster.specs.Fields.{entry_in_texts, in_texts};
+ghost use Rattle.roster.specs.Rules.{GoodNames, IsCmndText, IsNamedCeiling, is_named_pair, is_named_person};
+ghost use Rattle.roster.specs.Stages.{Checks, Meets};
+ghost use Rattle.roster.specs.declared.fault.RosterFault.TheVariants.{BadName};
+
+use crate::ceiling::Ceiling;
+use crate::draft::{Draft, DraftCeiling};
+use crate::fault::RosterFault;
+use crate::said::Said;
+use crate::text::Text;
+use std::alloc::Global;
+use sudo_words::{Cmnd, CmndFault, Form, Items, Label, Name, Word, WordFault, read_cmnd};
+
+fn word<F: Form>(alloc: Global, text: &Text) -> Result<Word<F>, RosterFault>
+    ensures { Checks BadName (F.has text.now) text.now result }
+{
+    match Word::read(alloc, text.as_str()) {
+        Ok(word) => Ok(word),
+        Err(WordFault::BadWord) => Err(RosterFault::BadName),
+        Err(WordFault::NoMemory) => Err(RosterFault::NoMemory),
+    }
+}
+
+#[tactic(auto, using(std::proofs::lemmas::List::Folds::list_all_at, std::proofs::lemmas::List::Folds::list_all_more))]
+fn words<F: Form>(alloc: Global, texts: &[Text]) -> Result<Items<Word<F>>, RosterFault>
+    ensures { Checks BadName (list_all F.has texts.now) texts.now result }
+{
+    let mut words = Vec::new(alloc);
+    for text in texts {
+        let word = word(alloc, text)?;
+        words.push(word)?;
+    }
+    Ok(Items::new(words))
+}
+
+fn pair(alloc: Global, pair: &(Text, Text)) -> Result<(Label, Label), RosterFault>
+    ensures { Checks BadName (is_named_pair pair.now) pair.now result }
+{
+    let first = word(alloc, &pair.0)?;
+    let second = word(alloc, &pair.1)?;
+    Ok((first, second))
+}
+
+#[tactic(auto, using(std::proofs::lemmas::List::Folds::list_all_at, std::proofs::lemmas::List::Folds::list_all_more))]
+fn pairs(alloc: Global, texts: &[(Text, Text)]) -> Result<Items<(Label, Label)>, RosterFault>
+    ensures { Checks BadName (list_all is_named_pair texts.now) texts.now result }
+{
+    let mut pairs = Vec::new(alloc);
+    for text in texts {
+        let pair = pair(alloc, text)?;
+        pairs.push(pair)?;
+    }
+    Ok(Items::new(pairs))
+}
+
+fn person(
+    alloc: Global,
+    person: &(Text, Items<Text>),
+) -> Result<(Name, Items<Label>), RosterFault>
+    ensures { Checks BadName (is_named_person person.now) person.now result }
+{
+    let name = word(alloc, &person.0)?;
+    let duties = words(alloc, person.1.as_slice())?;
+    Ok((name, duties))
+}
+
+#[tactic(auto, using(std::proofs::lemmas::List::Folds::list_all_at, std::proofs::lemmas::List::Folds::list_all_more))]
+fn people(
+    alloc: Global,
+    texts: &[(Text, Items<Text>)],
+) -> Result<Items<(Name, Items<Label>)>, RosterFault>
+    ensures { Checks BadName (list_all is_named_person texts.now) texts.now result }
+{
+    let mut people = Vec::new(alloc);
+    for text in texts {
+        let person = person(alloc, text)?;
+        people.push(person)?;
+    }
+    Ok(Items::new(people))
+}
+
+fn command(alloc: Global, text: &Text) -> Result<Cmnd, RosterFault>
+    ensures { Meets BadName (IsCmndText text.now) (λ c. IsLawful c × (text.now ≡ cmnd_text c)) result }
+{
+    match read_cmnd(alloc, text.as_str()) {
+        Ok(cmnd) => Ok(cmnd),
+        Err(CmndFault::BadCmnd) => Err(RosterFault::BadName),
+        Err(CmndFault::NoMemory) => Err(RosterFault::NoMemory),
+    }
+}
+
+fn commands(alloc: Global, texts: &[Text]) -> Result<Items<Cmnd>, RosterFault>
+    ensures { Meets BadName (All IsCmndText texts.now) (λ cs. All IsLawful cs × (map cmnd_text cs ≡ texts.now)) result }
+{
+    let mut commands = Vec::new(alloc);
+    for text in texts {
+        let command = command(alloc, text)?;
+        commands.push(command)?;
+    }
+    Ok(Items::new(commands))
+}
+
+fn ceiling(
+    alloc: Global,
+    draft: &(Text, DraftCeiling),
+) -> Result<(Label, Ceiling), RosterFault>
+    ensures { Meets BadName (IsNamedCeiling IsCmndText draft.now) (λ c. IsNamedCeiling IsLawful c × (entry_in_texts c ≡ draft.now)) result }
+{
+    let label = word(alloc, &draft.0)?;
+    let ask = word(alloc, &draft.1.ask)?;
+    let approve = word(alloc, &draft.1.approve)?;
+    let hosts = words(alloc, draft.1.hosts.as_slice())?;
+    let runas = words(alloc, draft.1.runas.as_slice())?;
+    let commands = commands(alloc, draft.1.commands.as_slice())?;
+    Ok((
+        label,
+        Ceiling {
+            ask,
+            approve,
+            needs: draft.1.needs,
+            hosts,
+            runas,
+            commands,
+            longest: draft.1.longest,
+        },
+    ))
+}
+
+fn ceilings(
+    alloc: Global,
+    texts: &[(Text, DraftCeiling)],
+) -> Result<Items<(Label, Ceiling)>, RosterFault>
+    ensures { Meets BadName (All (IsNamedCeiling IsCmndText) texts.now) (λ cs. All (IsNamedCeiling IsLawful) cs × (map entry_in_texts cs ≡ texts.now)) result }
+{
+    let mut ceilings = Vec::new(alloc);
+    for text in texts {
+        let ceiling = ceiling(alloc, text)?;
+        ceilings.push(ceiling)?;
+    }
+    Ok(Items::new(ceilings))
+}
+
+/// What the draft says, where each text in a name's place is such a name and each in a command's place a command's.
+#[tactic(auto, unfolding(crate::specs::Rules::good_names))]
+pub(crate) fn said_of(alloc: Global, draft: &Draft) -> Result<Said, RosterFault>
+    ensures { Meets BadName (GoodNames IsCmndText draft.now) (λ s. GoodNames IsLawful s × (in_texts s ≡ draft.now)) result }
+{
+    let relays = words(alloc, draft.relays.as_slice())?;
+    let hosts = words(alloc, draft.hosts.as_slice())?;
+    let duties = words(alloc, draft.duties.as_slice())?;
+    let conflicts = pairs(alloc, draft.conflicts.as_slice())?;
+    let people = people(alloc, draft.people.as_slice())?;
+    let ceilings = ceilings(alloc, draft.ceilings.as_slice())?;
+    Ok(Said {
+        relays,
+        hosts,
+        duties,
+        conflicts,
+        people,
+        ceilings,
+    })
+}

@@ -1,0 +1,56 @@
+//! A roster's text, read.
+
+ghost use Rattle.std.specs.Prelude.{◌≡◌, ◌≢◌, Some, None, IfOk, IfErr, MatchResult};
+ghost use Rattle.toml.specs.Parse.{parse_document};
+ghost use Rattle.toml.specs.View.{table_view};
+ghost use Rattle.roster.specs.Faults.{IsLeastFault, IsRosterText};
+ghost use Rattle.roster.specs.Relations.{IsOrdered};
+ghost use Rattle.roster.specs.declared.fault.RosterFault.TheVariants.{NoMemory, NotToml};
+
+use crate::fault::RosterFault;
+use crate::keys::has_known_keys;
+use crate::named::said_of;
+use crate::rules::{has_self_conflict, is_in_range, knows_names};
+use crate::said::Said;
+use crate::typed::draft_of;
+use std::alloc::Global;
+use toml::Table;
+
+/// The document of TOML that the text is.
+fn document(alloc: Global, text: &str) -> Result<Table, RosterFault>
+    ensures { MatchResult result (λ t. parse_document text.now ≡ Some (table_view t)) (λ e. e ≢ NoMemory → (e ≡ NotToml) × (parse_document text.now ≡ None)) }
+{
+    match toml::table_from_str(alloc, text) {
+        Ok(table) => Ok(table),
+        Err(e) => Err(if e.is_memory() {
+            RosterFault::NoMemory
+        } else {
+            RosterFault::NotToml
+        }),
+    }
+}
+
+/// What a text says that is a roster's, or the least of its faults.
+#[tactic(auto, using(crate::proofs::Texts::roster_text, crate::proofs::Rising::ordered_in_texts))]
+pub(crate) fn said_by(alloc: Global, text: &str) -> Result<Said, RosterFault>
+    ensures found { IfOk result (λ s. IsRosterText text.now s) }
+    ensures ordered { IfOk result IsOrdered }
+    ensures least { IfErr result (λ e. e ≢ NoMemory → IsLeastFault text.now e) }
+{
+    let table = document(alloc, text)?;
+    if !has_known_keys(&table) {
+        return Err(RosterFault::UnknownKey);
+    }
+    let draft = draft_of(alloc, &table)?;
+    let said = said_of(alloc, &draft)?;
+    if !knows_names(&draft) {
+        return Err(RosterFault::UnknownName);
+    }
+    if has_self_conflict(&draft) {
+        return Err(RosterFault::SelfConflict);
+    }
+    if !is_in_range(text, &draft) {
+        return Err(RosterFault::OutOfRange);
+    }
+    Ok(said)
+}

@@ -1,0 +1,84 @@
+//! Look-ups in what a roster says. They take no memory.
+
+ghost use Rattle.std.specs.Prelude.{◌≡◌, ◌≤◌, length, option_map};
+ghost use Rattle.std.specs.List.{list_any};
+ghost use Rattle.roster.specs.Relations as relations;
+ghost use Rattle.roster.specs.Rules as rules;
+
+use std::cmp::Ordering;
+use sudo_words::{Form, Items, Label, Name, Word};
+
+/// Whether one of the words is this text.
+pub(crate) fn is_among<F: Form>(words: &[Word<F>], text: &str) -> bool
+    ensures { result ≡ rules.is_among words.now text.now }
+{
+    words.iter().any(|w| w.as_str() == text)
+}
+
+/// What stands at the name, found by halving.
+#[tactic(auto, using(crate::proofs::Rising::all_below, crate::proofs::Rising::all_above, crate::proofs::Rising::found, crate::proofs::Rising::not_found))]
+pub(crate) fn entry_of<'e, F: Form, T>(
+    entries: &'e [(Word<F>, T)],
+    name: &Word<F>,
+) -> Option<&'e T>
+    requires { relations.AreRising entries.now }
+    ensures { option_map (λ x. x.now) result ≡ relations.entry_of entries.now name.now }
+{
+    let mut low = 0;
+    let mut high = entries.len();
+    'halves: while low < high {
+        let middle = low + (high - low) / 2;
+        let entry = &entries[middle];
+        match entry.0.cmp(name) {
+            Ordering::Less => low = middle + 1,
+            Ordering::Equal => return Some(&entry.1),
+            Ordering::Greater => high = middle,
+        }
+    }
+    None
+}
+
+/// The duties of the person, none where the person is not listed.
+pub(crate) fn duties_of<'p>(people: &'p [(Name, Items<Label>)], person: &Name) -> &'p [Label]
+    requires { relations.AreRising people.now }
+    ensures { result.now ≡ relations.or_none (relations.entry_of people.now person.now) }
+{
+    match entry_of(people, person) {
+        Some(duties) => duties.as_slice(),
+        None => &[],
+    }
+}
+
+fn joins(pair: &(Label, Label), first: &Label, second: &Label) -> bool
+    ensures { result ≡ relations.joins first.now second.now pair.now }
+{
+    (pair.0 == *first && pair.1 == *second) || (pair.0 == *second && pair.1 == *first)
+}
+
+/// Whether one of the pairs is of the two duties, either way round.
+pub(crate) fn are_paired(pairs: &[(Label, Label)], first: &Label, second: &Label) -> bool
+    ensures { result ≡ list_any (relations.joins first.now second.now) pairs.now }
+{
+    pairs.iter().any(|p| joins(p, first, second))
+}
+
+/// Whether one of the duties is paired with this one.
+pub(crate) fn is_one_paired(pairs: &[(Label, Label)], duties: &[Label], duty: &Label) -> bool
+    ensures { result ≡ list_any (λ d. list_any (relations.joins d duty.now) pairs.now) duties.now }
+{
+    duties.iter().any(|d| are_paired(pairs, d, duty))
+}
+
+/// The first of the words in byte order.
+pub(crate) fn first_of<F: Form>(words: &[Word<F>]) -> &Word<F>
+    requires { 1 ≤ length words.now }
+    ensures { relations.IsFirst words.now result.now }
+{
+    let mut first = &words[0];
+    for word in words {
+        if *word < *first {
+            first = word;
+        }
+    }
+    first
+}

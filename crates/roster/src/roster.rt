@@ -1,0 +1,156 @@
+//! Rosters.
+
+ghost use Rattle.std.specs.Prelude.{◌≡◌, ◌≢◌, IfOk, IfErr, MatchResult, option_map};
+ghost use Rattle.sudo_words.specs.declared.cmnd.Cmnd.{Cmnd};
+ghost use Rattle.roster.specs.Faults.{IsLeastFault, IsRosterText};
+ghost use Rattle.roster.specs.Fields.{RosterFields};
+ghost use Rattle.roster.specs.Relations as relations;
+ghost use Rattle.roster.specs.Rules as rules;
+ghost use Rattle.roster.specs.declared.fault.RosterFault.TheVariants.{NoMemory};
+
+use crate::ceiling::Ceiling;
+use crate::fault::RosterFault;
+use crate::read::said_by;
+use crate::relations::{are_paired, duties_of, entry_of, first_of, is_among, is_one_paired};
+use crate::said::Said;
+use std::alloc::Global;
+use std::marker::Model;
+use sudo_words::{HostName, Items, Label, Name};
+
+/// Who holds which duty, which duties conflict, and under which ceilings rights are granted.
+///
+/// It is what a text of TOML says, and keeps that text. Its look-ups take no memory, and are answered of any names: a
+/// person whom it does not list holds no duty.
+#[derive(Debug, Drop)]
+pub struct Roster {
+    text: String,
+    said: Said,
+}
+
+impl Model for Roster {
+    ghost use Rattle.std.specs.Prelude.{string_bytes};
+    ghost use Rattle.roster.specs.Fields.{Reading};
+    ghost use Rattle.roster.specs.Faults.{IsRosterText};
+    ghost use Rattle.roster.specs.Relations.{IsOrdered};
+
+    ghost Value = { Reading };
+
+    ghost view = { λ r. record { text = string_bytes r.text; says = r.said } };
+
+    ghost invariant = { λ r. IsRosterText (string_bytes r.text) r.said × IsOrdered r.said };
+}
+
+impl Roster {
+    /// The roster that the text is, or the least of the text's faults.
+    #[tactic(auto, using(crate::proofs::FaultLemmas::only_memory, crate::proofs::Uniqueness::one_roster))]
+    pub fn read(alloc: Global, text: &str) -> Result<Roster, RosterFault>
+        // What is read is what the text says.
+        ensures found { IfOk result (λ r. (r.text ≡ text.now) × IsRosterText text.now r.says) }
+        // A roster's text is read as that roster, unless memory runs out: so no other fault comes where there is one.
+        ensures only { (f : RosterFields Cmnd) → IsRosterText text.now f → MatchResult result (λ r. r.says ≡ f) (λ e. e ≡ NoMemory) }
+        // Any other fault is one that the text has, and the text has none of a lower number.
+        ensures least { IfErr result (λ e. e ≢ NoMemory → IsLeastFault text.now e) }
+    {
+        let said = said_by(alloc, text)?;
+        let text = String::from_str(alloc, text)?;
+        Ok(Roster { text, said })
+    }
+
+    /// The text that was read.
+    pub fn text(&self) -> &str
+        ensures value { result.now ≡ self.now.text }
+        ensures roster { IsRosterText result.now self.now.says }
+    {
+        self.text.as_str()
+    }
+
+    /// The people, each with the duties that the text gives them, in the byte order of their names.
+    pub fn people(&self) -> &[(Name, Items<Label>)]
+        ensures value { result.now ≡ self.now.says.people }
+        ensures rising { relations.AreRising result.now }
+    {
+        self.said.people.as_slice()
+    }
+
+    /// The pairs of duties that conflict, as the text lists them.
+    pub fn conflicts(&self) -> &[(Label, Label)]
+        ensures { result.now ≡ self.now.says.conflicts }
+    {
+        self.said.conflicts.as_slice()
+    }
+
+    /// Whether the roster lists the person.
+    pub fn has_person(&self, person: &Name) -> bool
+        ensures { result ≡ relations.has_person self.now.says person.now }
+    {
+        entry_of(self.people(), person).is_some()
+    }
+
+    /// Whether the roster lists the host.
+    pub fn has_host(&self, host: &HostName) -> bool
+        ensures { result ≡ rules.is_among self.now.says.hosts host.now }
+    {
+        is_among(self.said.hosts.as_slice(), host.as_str())
+    }
+
+    /// Whether the text is one of the roster's relays.
+    pub fn has_relay(&self, relay: &str) -> bool
+        ensures { result ≡ rules.is_among self.now.says.relays relay.now }
+    {
+        is_among(self.said.relays.as_slice(), relay)
+    }
+
+    /// The first of the relays in byte order. There is always one.
+    #[tactic(auto, using(crate::proofs::Texts::some_relay))]
+    pub fn first_relay(&self) -> &Label
+        ensures { relations.IsFirst self.now.says.relays result.now }
+    {
+        first_of(self.said.relays.as_slice())
+    }
+
+    /// The ceiling of the label.
+    pub fn ceiling(&self, label: &Label) -> Option<&Ceiling>
+        ensures { option_map (λ c. c.now) result ≡ relations.ceiling_at self.now.says label.now }
+    {
+        entry_of(self.said.ceilings.as_slice(), label)
+    }
+
+    /// Whether the person holds the duty.
+    pub fn holds(&self, person: &Name, duty: &Label) -> bool
+        ensures { result ≡ relations.holds self.now.says person.now duty.now }
+    {
+        is_among(duties_of(self.people(), person), duty.as_str())
+    }
+
+    /// Whether the roster lists the two duties as a pair, either way round.
+    pub fn conflicting(&self, first: &Label, second: &Label) -> bool
+        ensures { result ≡ relations.conflicting self.now.says first.now second.now }
+    {
+        are_paired(self.conflicts(), first, second)
+    }
+
+    /// Whether the person may approve or refuse what the asker asked for under the ceiling: the person is someone else,
+    /// holds the approving duty, and holds none that conflicts with it (NIST SP 800-53 AC-5).
+    pub fn eligible(&self, person: &Name, asker: &Name, ceiling: &Ceiling) -> bool
+        ensures { result ≡ relations.eligible self.now.says person.now asker.now ceiling.now }
+    {
+        *person != *asker
+            && self.holds(person, &ceiling.approve)
+            && !self.holds_against(person, &ceiling.approve)
+    }
+
+    /// Whether the person may revoke what the asker asked for under the ceiling: it is the asker, or someone who holds
+    /// the approving duty.
+    pub fn may_revoke(&self, person: &Name, asker: &Name, ceiling: &Ceiling) -> bool
+        ensures { result ≡ relations.may_revoke self.now.says person.now asker.now ceiling.now }
+    {
+        *person == *asker || self.holds(person, &ceiling.approve)
+    }
+
+    /// Whether the person holds a duty that conflicts with this one.
+    fn holds_against(&self, person: &Name, duty: &Label) -> bool
+        ensures { result ≡ relations.holds_against self.now.says person.now duty.now }
+    {
+        is_one_paired(self.conflicts(), duties_of(self.people(), person), duty)
+    }
+}

@@ -1,0 +1,24 @@
+//! What a roster says, by names and commands.
+
+use crate::ceiling::Ceiling;
+use std::marker::Model;
+use sudo_words::{HostName, Items, Label, Name};
+
+#[derive(Debug, Drop)]
+pub(crate) struct Said {
+    pub(crate) relays: Items<Label>,
+    pub(crate) hosts: Items<HostName>,
+    pub(crate) duties: Items<Label>,
+    pub(crate) conflicts: Items<(Label, Label)>,
+    pub(crate) people: Items<(Name, Items<Label>)>,
+    pub(crate) ceilings: Items<(Label, Ceiling)>,
+}
+
+impl Model for Said {
+    ghost use Rattle.sudo_words.specs.declared.cmnd.Cmnd.{Cmnd};
+    ghost use Rattle.roster.specs.Fields.{RosterFields};
+
+    ghost Value = { RosterFields Cmnd };
+
+    ghost view = { λ d. record { relays = d.relays; hosts = d.hosts; duties = d.duties; conflicts = d.conflicts; people = d.people; ceilings = d.ceilings } };
+}

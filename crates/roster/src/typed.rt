@@ -1,0 +1,210 @@
+//! The texts of a document, where each value has its type.
+
+ghost use Rattle.std.specs.Prelude.{◌≡◌, Some, None, IfOk, MatchResult};
+ghost use Rattle.toml.specs.Data.{as_str, get_member, table as data_table};
+ghost use Rattle.toml.specs.View.{view, items_view, members_view, table_view};
+ghost use Rattle.roster.specs.Document as document;
+ghost use Rattle.roster.specs.Document.{each_item, each_member, as_pair, texts_of, pair_of, pairs_of, people_of, number_of, ceiling_of, ceilings_of, fields_of};
+ghost use Rattle.roster.specs.Relations.{AreRising, IsOrdered};
+ghost use Rattle.roster.specs.Stages.{Reads};
+ghost use Rattle.roster.specs.declared.fault.RosterFault.TheVariants.{WrongType};
+
+use crate::draft::{Draft, DraftCeiling};
+use crate::fault::RosterFault;
+use crate::text::Text;
+use std::alloc::Global;
+use sudo_words::Items;
+use toml::{Table, Value};
+
+fn text(alloc: Global, value: &Value) -> Result<Text, RosterFault>
+    ensures { Reads WrongType (as_str (view value.now)) result }
+{
+    match value.as_str() {
+        Some(text) => Ok(Text::of(alloc, text)?),
+        None => Err(RosterFault::WrongType),
+    }
+}
+
+fn each_text(alloc: Global, values: &[Value]) -> Result<Items<Text>, RosterFault>
+    ensures { Reads WrongType (each_item as_str (items_view values.now)) result }
+{
+    let mut texts = Vec::new(alloc);
+    for value in values {
+        let text = text(alloc, value)?;
+        texts.push(text)?;
+    }
+    Ok(Items::new(texts))
+}
+
+fn texts(alloc: Global, value: &Value) -> Result<Items<Text>, RosterFault>
+    ensures { Reads WrongType (texts_of (view value.now)) result }
+{
+    match value {
+        Value::Array(values) => each_text(alloc, values),
+        _ => Err(RosterFault::WrongType),
+    }
+}
+
+/// The two texts of a list of two.
+fn as_pair_of(texts: Items<Text>) -> Result<(Text, Text), RosterFault>
+    ensures { Reads WrongType (as_pair texts) result }
+{
+    let mut texts = texts.into_vec();
+    if texts.len() != 2 {
+        return Err(RosterFault::WrongType);
+    }
+    let second = texts.remove(1);
+    let first = texts.remove(0);
+    Ok((first, second))
+}
+
+fn pair(alloc: Global, value: &Value) -> Result<(Text, Text), RosterFault>
+    ensures { Reads WrongType (pair_of (view value.now)) result }
+{
+    as_pair_of(texts(alloc, value)?)
+}
+
+fn each_pair(alloc: Global, values: &[Value]) -> Result<Items<(Text, Text)>, RosterFault>
+    ensures { Reads WrongType (each_item pair_of (items_view values.now)) result }
+{
+    let mut pairs = Vec::new(alloc);
+    for value in values {
+        let pair = pair(alloc, value)?;
+        pairs.push(pair)?;
+    }
+    Ok(Items::new(pairs))
+}
+
+fn pairs(alloc: Global, value: &Value) -> Result<Items<(Text, Text)>, RosterFault>
+    ensures { Reads WrongType (pairs_of (view value.now)) result }
+{
+    match value {
+        Value::Array(values) => each_pair(alloc, values),
+        _ => Err(RosterFault::WrongType),
+    }
+}
+
+fn each_person(alloc: Global, table: &Table) -> Result<Items<(Text, Items<Text>)>, RosterFault>
+    ensures reads { Reads WrongType (each_member texts_of (table_view table.now)) result }
+    ensures rising { IfOk result AreRising }
+{
+    let mut people = Vec::new(alloc);
+    for (key, value) in table.iter() {
+        let duties = texts(alloc, value)?;
+        let name = Text::of(alloc, key.as_str())?;
+        people.push((name, duties))?;
+    }
+    Ok(Items::new(people))
+}
+
+fn people(alloc: Global, value: &Value) -> Result<Items<(Text, Items<Text>)>, RosterFault>
+    ensures reads { Reads WrongType (people_of (view value.now)) result }
+    ensures rising { IfOk result AreRising }
+{
+    match value {
+        Value::Table(table) => each_person(alloc, table),
+        _ => Err(RosterFault::WrongType),
+    }
+}
+
+pub(crate) fn value_at<'t>(table: &'t Table, key: &str) -> Result<&'t Value, RosterFault>
+    ensures { MatchResult result (λ v. get_member key.now (table_view table.now) ≡ Some (view v.now)) (λ e. (e ≡ WrongType) × (get_member key.now (table_view table.now) ≡ None)) }
+{
+    match table.get(key) {
+        Some(value) => Ok(value),
+        None => Err(RosterFault::WrongType),
+    }
+}
+
+/// The number, or 0 where it is below 0.
+fn at_least_zero(n: i64) -> u64
+    ensures { result ≡ document.at_least_zero n }
+{
+    if n < 0 { 0 } else { n as u64 }
+}
+
+fn number(value: &Value) -> Result<u64, RosterFault>
+    ensures { Reads WrongType (number_of (view value.now)) result }
+{
+    match value.as_integer() {
+        Some(n) => Ok(at_least_zero(n)),
+        None => Err(RosterFault::WrongType),
+    }
+}
+
+#[tactic(auto, unfolding(crate::specs::Document::ceiling_of))]
+fn ceiling_in(alloc: Global, table: &Table) -> Result<DraftCeiling, RosterFault>
+    ensures { Reads WrongType (ceiling_of (data_table (table_view table.now))) result }
+{
+    let ask = text(alloc, value_at(table, "ask")?)?;
+    let approve = text(alloc, value_at(table, "approve")?)?;
+    let needs = number(value_at(table, "needs")?)?;
+    let hosts = texts(alloc, value_at(table, "hosts")?)?;
+    let runas = texts(alloc, value_at(table, "runas")?)?;
+    let commands = texts(alloc, value_at(table, "commands")?)?;
+    let longest = number(value_at(table, "longest")?)?;
+    Ok(DraftCeiling {
+        ask,
+        approve,
+        needs,
+        hosts,
+        runas,
+        commands,
+        longest,
+    })
+}
+
+#[tactic(auto, unfolding(crate::specs::Document::ceiling_of))]
+fn ceiling(alloc: Global, value: &Value) -> Result<DraftCeiling, RosterFault>
+    ensures { Reads WrongType (ceiling_of (view value.now)) result }
+{
+    match value {
+        Value::Table(table) => ceiling_in(alloc, table),
+        _ => Err(RosterFault::WrongType),
+    }
+}
+
+fn each_ceiling(alloc: Global, table: &Table) -> Result<Items<(Text, DraftCeiling)>, RosterFault>
+    ensures reads { Reads WrongType (each_member ceiling_of (table_view table.now)) result }
+    ensures rising { IfOk result AreRising }
+{
+    let mut ceilings = Vec::new(alloc);
+    for (key, value) in table.iter() {
+        let ceiling = ceiling(alloc, value)?;
+        let name = Text::of(alloc, key.as_str())?;
+        ceilings.push((name, ceiling))?;
+    }
+    Ok(Items::new(ceilings))
+}
+
+fn ceilings(alloc: Global, value: &Value) -> Result<Items<(Text, DraftCeiling)>, RosterFault>
+    ensures reads { Reads WrongType (ceilings_of (view value.now)) result }
+    ensures rising { IfOk result AreRising }
+{
+    match value {
+        Value::Table(table) => each_ceiling(alloc, table),
+        _ => Err(RosterFault::WrongType),
+    }
+}
+
+/// What the document says, where no key is missing and each value has its type.
+#[tactic(auto, unfolding(crate::specs::Document::fields_of))]
+pub(crate) fn draft_of(alloc: Global, table: &Table) -> Result<Draft, RosterFault>
+    ensures reads { Reads WrongType (fields_of (table_view table.now)) result }
+    ensures ordered { IfOk result IsOrdered }
+{
+    let relays = texts(alloc, value_at(table, "relays")?)?;
+    let hosts = texts(alloc, value_at(table, "hosts")?)?;
+    let duties = texts(alloc, value_at(table, "duties")?)?;
+    let conflicts = pairs(alloc, value_at(table, "conflicts")?)?;
+    let people = people(alloc, value_at(table, "people")?)?;
+    let ceilings = ceilings(alloc, value_at(table, "ceilings")?)?;
+    Ok(Draft {
+        relays,
+        hosts,
+        duties,
+        conflicts,
+        people,
+        ceilings,
+    })
+}
