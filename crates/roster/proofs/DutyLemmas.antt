@@ -1,8 +1,8 @@
 -- Who holds which duty, which duties conflict, and who is eligible.
-use Rattle.std.proofs.Common.{◌≡◌, ◌⊎◌, ℕ, ◌∙◌, Bool, true, false, not, ◌&&◌, ◌||◌, List, [], ◌∷◌, refl, sym, ap, ap₂, ⊎_elim}
+use Rattle.std.proofs.Common.{◌≡◌, ℕ, ◌∙◌, Bool, true, false, not, ◌&&◌, ◌||◌, List, [], ◌∷◌, refl, sym, ap, ap₂, ⊎_elim}
 use Rattle.std.specs.List.{list_any}
 use Rattle.std.specs.Str.{bytes_eq}
-use Rattle.std.proofs.lemmas.Bool.{cases_Bool, or_cases, and_parts, false_from_ne_true, true≢false, not-true, not_from_false}
+use Rattle.std.proofs.lemmas.Bool.{or_cases, and_parts, false_from_ne_true, true≢false, not-true}
 use Rattle.std.proofs.lemmas.Slice.Eq.{bytes_eq-Decides}
 use Rattle.sudo_words.specs.declared.cmnd.Cmnd.{Cmnd}
 use Rattle.roster.specs.Faults.{IsRosterText}
@@ -116,10 +116,10 @@ more_conflicts f g person asker c people more e =
       someone_else = a.someone_else;
       holds_it = ap (λ ds. list_any (λ v. bytes_eq v c.approve) ds) (sym duties) ∙ a.holds_it;
       none_against = false_from_ne_true (holds_against f person c.approve) (λ t.
-        let same_in_g : list_any (λ d. conflicting f d c.approve) (duties_of g person) ≡ true =
-            ap (λ ds. list_any (λ d. conflicting f d c.approve) ds) duties ∙ t in
-        true≢false (sym (any_weaker (λ d. conflicting f d c.approve) (λ d. conflicting g d c.approve) (λ d. more d c.approve) (duties_of g person) same_in_g)
-        ∙ a.none_against));
+          let same_in_g : list_any (λ d. conflicting f d c.approve) (duties_of g person) ≡ true =
+          ap (λ ds. list_any (λ d. conflicting f d c.approve) ds) duties ∙ t in
+          true≢false (sym (any_weaker (λ d. conflicting f d c.approve) (λ d. conflicting g d c.approve) (λ d. more d c.approve) (duties_of g person) same_in_g)
+          ∙ a.none_against));
     })
 
 -- a duty of a list that passes a test is held
@@ -129,7 +129,7 @@ any_held : (p : List ℕ → Bool) (ds es : List (List ℕ))
 any_held p [] es more e = absurd (true≢false (sym e))
 any_held p (d ∷ ds) es more e = ⊎_elim
     (λ a. any_weaker (λ v. bytes_eq v d) p (λ v t. ap p (same v d t) ∙ a) es
-        (more d (either (bytes_eq d d) (list_any (λ v. bytes_eq v d) ds) (itself d))))
+    (more d (either (bytes_eq d d) (list_any (λ v. bytes_eq v d) ds) (itself d))))
     (λ a. any_held p ds es (λ x t. more x (other (bytes_eq d x) (list_any (λ v. bytes_eq v x) ds) t)) a)
     (or_cases (p d) (list_any p ds) e)
 
@@ -142,9 +142,9 @@ more_duties f g person asker c conflicts more held e =
       someone_else = a.someone_else;
       holds_it = held;
       none_against = false_from_ne_true (holds_against f person c.approve) (λ t.
-        let in_g : list_any (λ d. conflicting f d c.approve) (duties_of g person) ≡ true =
-            any_held (λ d. conflicting f d c.approve) (duties_of f person) (duties_of g person) more t in
-        let of_g : holds_against g person c.approve ≡ true =
-            ap (λ ps. list_any (λ d. list_any (joins d c.approve) ps) (duties_of g person)) conflicts ∙ in_g in
-        true≢false (sym of_g ∙ a.none_against));
+          let in_g : list_any (λ d. conflicting f d c.approve) (duties_of g person) ≡ true =
+          any_held (λ d. conflicting f d c.approve) (duties_of f person) (duties_of g person) more t in
+          let of_g : holds_against g person c.approve ≡ true =
+          ap (λ ps. list_any (λ d. list_any (joins d c.approve) ps) (duties_of g person)) conflicts ∙ in_g in
+          true≢false (sym of_g ∙ a.none_against));
     })

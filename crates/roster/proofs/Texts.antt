@@ -49,7 +49,7 @@ ranged_in_texts : (cs : List (List ℕ × CeilingFields Cmnd)) → list_all is_r
 ranged_in_texts [] = refl
 ranged_in_texts (c ∷ cs) =
     let one : is_ranged (entry_in_texts c) ≡ is_ranged c =
-        ap (λ n. is_within 1 3 c.1.needs && is_within 1 256 (length c.1.hosts) && is_within 1 256 (length c.1.runas) && is_within 1 256 n && is_within 1 2_592_000 c.1.longest) (length-map c.1.commands cmnd_text) in
+    ap (λ n. is_within 1 3 c.1.needs && is_within 1 256 (length c.1.hosts) && is_within 1 256 (length c.1.runas) && is_within 1 256 n && is_within 1 2_592_000 c.1.longest) (length-map c.1.commands cmnd_text) in
     ap₂ (λ a b. a && b) one (ranged_in_texts cs)
 
 pub range_in_texts : (text : List ℕ) (f : RosterFields Cmnd) → in_range text (in_texts f) ≡ in_range text f

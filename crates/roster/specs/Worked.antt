@@ -12,10 +12,10 @@ office = record {
   duties = codes "approve" ∷ codes "audit" ∷ codes "operate" ∷ [];
   conflicts = (codes "audit", codes "approve") ∷ [];
   people =
-    (codes "ann", codes "approve" ∷ codes "operate" ∷ [])
-    ∷ (codes "bob", codes "approve" ∷ [])
-    ∷ (codes "carol", codes "approve" ∷ codes "audit" ∷ [])
-    ∷ [];
+      (codes "ann", codes "approve" ∷ codes "operate" ∷ [])
+      ∷ (codes "bob", codes "approve" ∷ [])
+      ∷ (codes "carol", codes "approve" ∷ codes "audit" ∷ [])
+      ∷ [];
   ceilings = [];
 }
 

@@ -10,7 +10,12 @@ use toml::{Table, Value};
 fn is_roster_key(key: &str) -> bool
     ensures { result ≡ is_key key.now }
 {
-    key == "relays" || key == "hosts" || key == "duties" || key == "conflicts" || key == "people" || key == "ceilings"
+    key == "relays"
+        || key == "hosts"
+        || key == "duties"
+        || key == "conflicts"
+        || key == "people"
+        || key == "ceilings"
 }
 
 fn has_roster_keys(table: &Table) -> bool

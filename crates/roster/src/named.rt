@@ -59,10 +59,7 @@ fn pairs(alloc: Global, texts: &[(Text, Text)]) -> Result<Items<(Label, Label)>,
     Ok(Items::new(pairs))
 }
 
-fn person(
-    alloc: Global,
-    person: &(Text, Items<Text>),
-) -> Result<(Name, Items<Label>), RosterFault>
+fn person(alloc: Global, person: &(Text, Items<Text>)) -> Result<(Name, Items<Label>), RosterFault>
     ensures { Checks BadName (is_named_person person.now) person.now result }
 {
     let name = word(alloc, &person.0)?;
@@ -106,10 +103,7 @@ fn commands(alloc: Global, texts: &[Text]) -> Result<Items<Cmnd>, RosterFault>
     Ok(Items::new(commands))
 }
 
-fn ceiling(
-    alloc: Global,
-    draft: &(Text, DraftCeiling),
-) -> Result<(Label, Ceiling), RosterFault>
+fn ceiling(alloc: Global, draft: &(Text, DraftCeiling)) -> Result<(Label, Ceiling), RosterFault>
     ensures { Meets BadName (IsNamedCeiling IsCmndText draft.now) (λ c. IsNamedCeiling IsLawful c × (entry_in_texts c ≡ draft.now)) result }
 {
     let label = word(alloc, &draft.0)?;

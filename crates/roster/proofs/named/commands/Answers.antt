@@ -1,4 +1,4 @@
-use Rattle.std.proofs.Common.{◌≡◌, ◌+◌, ◌++◌, [], ◌∷◌, map, ◌∙◌, ap, get_or, take, take_all, sym, arith, subst}
+use Rattle.std.proofs.Common.{◌≡◌, ◌+◌, ◌++◌, [], ◌∷◌, map, ◌∙◌, ap, take, take_all, sym, arith, subst}
 use Rattle.std.specs.Prelude.{All}
 use Rattle.std.proofs.lemmas.List.{take_more, map_push}
 use Rattle.std.proofs.lemmas.List.Elements.{All-get_or, All-same, All-push}
@@ -11,8 +11,8 @@ pub returns-in_err-command : goal.returns-in_err-command
 returns-in_err-command c =
     let p = err_from_is_err_and c.from_residual.result c.from_residual.ensures.1 in
     rw (p.1, p.2) (λ n.
-        let h = c.in_err-command.ensures n in
-        (h.0, λ all. h.1 (rw c.text-item.is (All-get_or IsCmndText c.args.texts.now c.loop-text.text-index c.text-item.result (omega arith) all))))
+    let h = c.in_err-command.ensures n in
+    (h.0, λ all. h.1 (rw c.text-item.is (All-get_or IsCmndText c.args.texts.now c.loop-text.text-index c.text-item.result (omega arith) all))))
 
 pub loop-text-preserved : goal.loop-text-preserved
 loop-text-preserved c =
