@@ -1,13 +1,11 @@
 -- No text is that of two rosters.
-use Rattle.std.proofs.Common.{◌≡◌, ℕ, ◌∙◌, List, [], ◌∷◌, Some, map, refl, sym, ap, ap₂}
+use Rattle.std.proofs.Common.{◌≡◌, ℕ, ◌∙◌, List, [], ◌∷◌, map, refl, sym, ap, ap₂}
 use Rattle.std.specs.Prelude.{All}
 use Rattle.std.proofs.lemmas.List.Elements.{All-head, All-tail}
 use Rattle.std.proofs.lemmas.Option.{same_Some}
 use Rattle.sudo_words.specs.Command.{IsLawful, cmnd_text}
 use Rattle.sudo_words.specs.declared.cmnd.Cmnd.{Cmnd}
 use Rattle.sudo_words.proofs.CommandLemmas.{one_command}
-use Rattle.toml.specs.Data.{Members}
-use Rattle.toml.specs.Parse.{parse_document}
 use Rattle.roster.specs.Document.{fields_of}
 use Rattle.roster.specs.Faults.{IsRosterText}
 use Rattle.roster.specs.Fields.{CeilingFields, RosterFields, ceiling_in_texts, entry_in_texts, in_texts}

@@ -1,5 +1,5 @@
 -- Which TOML document is which roster: its keys, and the type of each value (TOML 1.1).
-use Rattle.std.specs.Prelude.{◌≡◌, ℕ, ℤ, pos, negsuc, List, [], ◌∷◌, Option, Some, None, Bool, true, codes, ◌&&◌, ◌||◌}
+use Rattle.std.specs.Prelude.{ℕ, ℤ, pos, negsuc, List, [], ◌∷◌, Option, Some, None, Bool, true, codes, ◌&&◌, ◌||◌}
 use Rattle.std.specs.Str.{bytes_eq}
 use Rattle.toml.specs.Data.{Data, array, table, as_str, as_integer, Items, no_items, item, Members, no_members, member, get_member}
 use Rattle.roster.specs.Fields.{CeilingFields, RosterFields}

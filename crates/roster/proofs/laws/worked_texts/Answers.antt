@@ -8,11 +8,11 @@ use Rattle.toml.proofs.OnLiterals.{toml_on_literals}
 use Rattle.toml.specs.Data.{Members, no_members, member, integer, array, table, string, no_items, item}
 use Rattle.toml.specs.Parse.{parse_document}
 use Rattle.roster.specs.Document.{has_known_keys, fields_of}
-use Rattle.roster.specs.Faults.{Has, IsLeastFault, number}
+use Rattle.roster.specs.Faults.{Has, number}
 use Rattle.roster.specs.Rules.{IsNamedCeiling, good_names, are_known, has_self_conflict, in_range}
 use Rattle.roster.specs.declared.fault.RosterFault.{RosterFault}
 use Rattle.roster.specs.declared.fault.RosterFault.TheVariants.{NotToml, UnknownKey, WrongType, BadName, UnknownName, SelfConflict, OutOfRange, NoMemory}
-use Rattle.roster.specs.Worked.{smallest, smallest_text}
+use Rattle.roster.specs.Worked.{smallest_text}
 use Rattle.roster.proofs.laws.worked_texts.Goals as goal
 
 -- a text with a document is TOML, and has only greater faults than that

@@ -2,7 +2,6 @@ use Rattle.std.proofs.Common.{◌≡◌, Some, arith}
 use Rattle.std.proofs.lemmas.Grind.{common_steps}
 use Rattle.toml.specs.View.{members_view}
 use Rattle.roster.specs.Document.{each_member, texts_of}
-use Rattle.roster.specs.Relations.{AreRising}
 use Rattle.roster.proofs.Rising.{members_rise}
 use Rattle.roster.proofs.typed.each_person.Goals as goal
 
