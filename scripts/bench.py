@@ -3,12 +3,14 @@
 
 The policies: 1,601 and 16,001 rules with dates; 8,000 aliases of the four kinds, each of which uses another, with 8,000 rules that use
 them; and one whose weight is just below the limit, by aliases that double. Then times `desk print` on 1,000, 8,000 and 10,000 requests, each with an approval, in shuffled order and all for one host.
-Prints the best wall time of a few runs and the peak memory of each, and the ratios that the desk promises. A peak below that of
+Prints of each the instructions that it executes (counted by valgrind's callgrind, so that the machine's load does not matter; none where
+valgrind is missing), the best wall time of a few runs and the peak memory, and then the ratios that the desk promises. A peak below that of
 this script's own process, some 14 MiB, is not seen.
 """
 
 import os
 import random
+import re
 import shutil
 import subprocess
 import sys
@@ -90,6 +92,27 @@ def run(words, given=None):
     return best, peak
 
 
+def instructions(words, given=None):
+    """How many instructions one run executes, or None without valgrind."""
+    if not shutil.which("valgrind"):
+        return None
+    counted = ["valgrind", "--tool=callgrind", "--callgrind-out-file=/dev/null", *words]
+    with open(given or os.devnull, "rb") as source:
+        done = subprocess.run(counted, stdin=source, stdout=subprocess.DEVNULL, stderr=subprocess.PIPE, text=True)
+    found = re.search(r"Collected : (\d+)", done.stderr)
+    return int(found[1]) if found else None
+
+
+def shown(figure):
+    """The figures of a run as a line."""
+    counted, seconds, memory, size = figure
+    millions = f"{counted / 1e6:8.1f} million instructions, " if counted else ""
+    return (
+        f"{size:9,} bytes: {millions}{seconds * 1000:8.1f} ms, "
+        f"{memory / 1024:8,.0f} KiB ({memory / size:5.1f} times the text)"
+    )
+
+
 def main():
     visudo = shutil.which("visudo") or "/usr/sbin/visudo"
     if not os.path.exists(visudo):
@@ -115,12 +138,8 @@ def main():
                 "visudo": [visudo, "-c", "-f", path],
             }
             for name, words in commands.items():
-                seconds, memory = run(words)
-                figures[name, what] = (seconds, memory, size)
-                print(
-                    f"{name:7} {what:12}, {size:9,} bytes: {seconds * 1000:8.1f} ms, "
-                    f"{memory / 1024:8,.0f} KiB ({memory / size:5.1f} times the text)"
-                )
+                figures[name, what] = (instructions(words), *run(words), size)
+                print(f"{name:7} {what:12}, {shown(figures[name, what])}")
         base = os.path.join(folder, "base.sudo")
         with open(base, "w") as file:
             file.write("bob db1 = ALL\n")
@@ -129,30 +148,31 @@ def main():
             with open(path, "w") as file:
                 file.write(messages(requests))
             size = os.path.getsize(path)
-            seconds, memory = run([DESK, "print", "-", base, "-", "db1"], path)
-            figures["print", requests] = (seconds, memory, size)
-            print(
-                f"print   {requests:6} requests, {size:9,} bytes: {seconds * 1000:8.1f} ms, "
-                f"{memory / 1024:8,.0f} KiB ({memory / size:5.1f} times the text)"
-            )
+            words = [DESK, "print", "-", base, "-", "db1"]
+            figures["print", requests] = (instructions(words, path), *run(words, path), size)
+            print(f"print   {requests:6} requests, {shown(figures['print', requests])}")
     wrong = 0
-    ratio = figures["print", 10_000][0] / figures["print", 1_000][0]
+    ratio = figures["print", 10_000][1] / figures["print", 1_000][1]
     wrong += ratio > 15
     print(f"print: ten times the messages: {ratio:.2f}, at most 15: {'holds' if ratio <= 15 else 'FAILS'}")
     for name in ("check", "decide"):
         large, small = figures[name, "16001 rules"], figures[name, "1601 rules"]
         checks = [
-            (f"{name}: {what} against visudo", figures[name, what][0] / figures["visudo", what][0], 1.0)
+            (f"{name}: {what} against visudo", figures[name, what][1] / figures["visudo", what][1], 1.0)
             for what in ("16001 rules", "8000 aliases", "most weight")
         ]
         checks += [
-            (f"{name}: ten times the rules", large[0] / small[0], 12.0),
-            (f"{name}: memory against the text", large[1] / large[2], 16.0),
+            (f"{name}: ten times the rules", large[1] / small[1], 12.0),
+            (f"{name}: memory against the text", large[2] / large[3], 16.0),
         ]
         for what, ratio, most in checks:
             holds = ratio <= most
             wrong += not holds
             print(f"{what}: {ratio:.2f}, at most {most:g}: {'holds' if holds else 'FAILS'}")
+        for what in ("16001 rules", "8000 aliases", "most weight"):
+            counted, other = figures[name, what][0], figures["visudo", what][0]
+            if counted and other:
+                print(f"{name}: {what}, instructions against visudo's: {counted / other:.2f}")
     sys.exit(1 if wrong else 0)
 
 
