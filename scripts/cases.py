@@ -5,6 +5,7 @@ Each file says at its top what its rows mean, and the function of its name here 
 last line has the counts.
 """
 
+import json
 import os
 import subprocess
 import sys
@@ -13,6 +14,7 @@ import tomllib
 
 ROOT = os.path.dirname(os.path.dirname(os.path.abspath(__file__)))
 DESK = os.path.join(ROOT, "build", "desk")
+SOME = "(some text)"
 
 
 def doubled(count):
@@ -106,14 +108,63 @@ def messages(table):
             yield f"{group['name']}: {line}", base, ["print", "-", "BASE", "-", "db1"], line + b"\n", wanted
 
 
+def words(table):
+    base = table["base"].encode()
+    for group in table["group"]:
+        kinds = {"usage": ("", SOME), "help": (SOME, "")}
+        printed = kinds[group["kind"]] if "kind" in group else ("", group["err"])
+        for line in group["lines"]:
+            # the input, or a device that takes the output
+            given = group.get("out", b"")
+            yield f"{group['name']}: {line}", base, line.split(), given, (*printed, group["status"])
+
+
+def rule_lines(first, count, each):
+    """So many requests from this number on, each approved, and the lines of the host's file that grant them: by number, and then by command."""
+    given, granted = [], []
+    for no in range(first, first + count):
+        commands = [f"/bin/c{n:02}" for n in range(each)]
+        request = {
+            "at": "20260105060000Z", "by": "ann", "ceiling": "db-root", "cmnds": commands, "from": "20260105090000Z",
+            "hosts": ["db1"], "kind": "request", "no": no, "runas": "root", "until": "20260105110000Z",
+        }
+        approval = {"at": "20260105083000Z", "by": "bob", "kind": "approve", "no": no, "of": "ann"}
+        given += [json.dumps(approval, separators=(",", ":")), json.dumps(request, separators=(",", ":"))]
+        granted += [f"ann db1 = (root) NOTBEFORE=20260105090000Z NOTAFTER=20260105110000Z {name}" for name in commands]
+    return given, granted
+
+
+def many(table):
+    for row in table["many"]:
+        given, granted = [], []
+        for made in row["requests"]:
+            lines, rules = rule_lines(*made)
+            given, granted = given + lines, granted + rules
+        out = "" if "err" in row else "\n".join([table["bare"], *granted]) + "\n"
+        wanted = (out, row.get("err", ""), row.get("status", 0))
+        yield row["name"], table["base"].encode(), ["print", "-", "BASE", "-", "db1"], ("\n".join(given) + "\n").encode(), wanted
+
+
 def run(folder, base, words, given):
-    """What the program prints, with BASE the name of a file that has the base."""
+    """What the program prints, with BASE the name of a file that has the base. What is given is the input's bytes, or the name of a device
+    that takes the output."""
     path = os.path.join(folder, "base.sudo")
     with open(path, "wb") as file:
         file.write(base)
-    line = [DESK, *(path if word == "BASE" else word for word in words)]
-    done = subprocess.run(line, input=given, capture_output=True, timeout=60)
-    return done.stdout.decode("latin-1"), done.stderr.decode("latin-1"), done.returncode
+    names = {"BASE": path, "NONE": os.path.join(folder, "none.sudo"), "FOLDER": folder}
+    line = [DESK, *(names.get(word, word) for word in words)]
+    if isinstance(given, str):
+        with open(given, "wb") as out:
+            done = subprocess.run(line, stdin=subprocess.DEVNULL, stdout=out, stderr=subprocess.PIPE, timeout=60)
+    else:
+        done = subprocess.run(line, input=given, capture_output=True, timeout=60)
+    return (done.stdout or b"").decode("latin-1"), done.stderr.decode("latin-1"), done.returncode
+
+
+def is_wanted(got, wanted):
+    """Whether the program answered so. `SOME` stands for any text but none, and None for any text."""
+    texts = zip(got[:2], wanted[:2])
+    return got[2] == wanted[2] and all(want is None or (text if want is SOME else text == want) for text, want in texts)
 
 
 def short(value):
@@ -122,18 +173,16 @@ def short(value):
 
 
 def main():
-    kinds = [checked, decided, limits, messages, printed, refused]
+    kinds = [checked, decided, limits, many, messages, printed, refused, words]
     count = wrong = 0
     with tempfile.TemporaryDirectory() as folder:
         for kind in kinds:
             with open(os.path.join(ROOT, "cases", kind.__name__ + ".toml"), "rb") as file:
                 table = tomllib.load(file)
-            for title, base, words, given, wanted in kind(table):
+            for title, base, line, given, wanted in kind(table):
                 count += 1
-                got = run(folder, base, words, given)
-                if wanted[0] is None:
-                    got = (None, *got[1:])
-                if got != wanted:
+                got = run(folder, base, line, given)
+                if not is_wanted(got, wanted):
                     wrong += 1
                     print(f"{kind.__name__}, {title}: {short(base)} gives {short(got)} and not {short(wanted)}")
     print(f"{count} cases, {wrong} wrong")
