@@ -1,27 +1,25 @@
 #!/usr/bin/env python3
 """Asks sudo itself what the desk decides.
 
-Each policy under examples/ that the desk accepts and its canonical text, and each text that the tests of the subset accept and its
-canonical text there, must pass `visudo -cf`; each
-invocation of examples/peers/invocations must be answered by `sudo -l` as `desk decide` answers it. sudo compares files by inode, so
+Each policy under examples/ that the desk accepts and its canonical text, and each text of cases/checked.toml and its canonical text
+there, must pass `visudo -cf`; each invocation of examples/peers/invocations must be answered by `sudo -l` as `desk decide` answers it. sudo compares files by inode, so
 the commands are small files of this script's own under /srv, and its clock stands still at the moment that is asked about
 (`faketime -f`). All runs in a mount namespace of its own, with its own /etc/sudoers and /etc/passwd bound over the machine's, so
 nothing of the machine changes. `sudo -l` says nothing of NOPASSWD: only allow and deny are compared.
 """
 
-import ast
 import os
-import re
 import shutil
 import subprocess
 import sys
 import tempfile
+import tomllib
 
 ROOT = os.path.dirname(os.path.dirname(os.path.abspath(__file__)))
 DESK = os.path.join(ROOT, "build", "desk")
 EXAMPLES = os.path.join(ROOT, "examples")
 PEERS = os.path.join(EXAMPLES, "peers")
-ROWS = os.path.join(ROOT, "crates", "desk_cli", "src", "tests", "subset.rt")
+ROWS = os.path.join(ROOT, "cases", "checked.toml")
 USERS = ("ann", "bob", "eve", "op", "dba")
 # where sudo really differs, by choice of the desk (docs/DECISIONS.md, "Beside sudo"): it refuses these, and the desk reads them
 DIFFERS = ("ann db1 = ALL \\\n",)
@@ -91,12 +89,11 @@ def check_text(visudo, what, text, folder):
 
 
 def accepted_rows():
-    """The pairs of a text and its canonical text in the tests of the subset."""
-    literal = r'"(?:[^"\\]|\\.)*"'
-    with open(ROWS) as file:
-        source = file.read()
-    pairs = re.findall(rf"\(\s*({literal}),\s*({literal}),?\s*\)", source)
-    return [tuple(ast.literal_eval(each) for each in pair) for pair in pairs]
+    """The pairs of a text and its canonical text among the cases; those that scripts/cases.py makes of pieces are left out."""
+    with open(ROWS, "rb") as file:
+        groups = tomllib.load(file)["group"]
+    rows = [row for group in groups for row in group["rows"]]
+    return [(row["text"], row["prints"]) for row in rows if isinstance(row["text"], str)]
 
 
 def check_policies(visudo, folder):
