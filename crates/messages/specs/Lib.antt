@@ -4,3 +4,4 @@ pub mod Shown
 pub mod Wire
 pub mod Canonical
 pub mod Members
+pub mod Faults

@@ -21,6 +21,11 @@ pub enum MessageFault {
 }
 
 impl fmt::Display for MessageFault {
+    ghost use Rattle.std.specs.Prelude.{Some};
+    ghost use Rattle.messages.specs.Faults.{fault_text};
+
+    ghost output = { λ f. Some (fault_text f) };
+
     fn fmt<W: fmt::Write>(&self, f: &mut fmt::Formatter<W>) -> fmt::Result {
         f.write_str(match self {
             MessageFault::TooLong => "M1 TooLong",

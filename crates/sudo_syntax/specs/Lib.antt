@@ -19,5 +19,6 @@ pub mod Apart
 pub mod Worked
 pub mod Doubling
 pub mod Reading
+pub mod Faults
 pub mod Fronts
 pub mod Low

@@ -1,0 +1,11 @@
+-- How faults are shown.
+use Rattle.std.specs.Prelude.{ℕ, List, codes}
+use Rattle.messages.specs.declared.fault.MessageFault.{MessageFault}
+use Rattle.messages.specs.declared.fault.MessageFault.TheVariants.{TooLong, NotCanonical, BadField, NoMemory}
+
+-- its code and name
+abbrev pub fault_text : MessageFault → List ℕ
+fault_text TooLong = codes "M1 TooLong"
+fault_text NotCanonical = codes "M2 NotCanonical"
+fault_text BadField = codes "M3 BadField"
+fault_text NoMemory = codes "M4 NoMemory"
