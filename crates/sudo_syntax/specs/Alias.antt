@@ -1,6 +1,6 @@
 -- Aliases: what an alias is by its definition, and the weight and depth of a list (sudoers(5), "Aliases").
 -- Definitions are listed from the nearest to the farthest above.
-use Rattle.std.specs.Prelude.{◌≡◌, ℕ, ◌+◌, max, Bool, true, false, List, [], ◌∷◌, ◌++◌, length, sum_by, Option, Some, None, IfSome, if◌then◌else◌}
+use Rattle.std.specs.Prelude.{◌≡◌, ℕ, ◌+◌, max, Bool, true, List, [], ◌∷◌, ◌++◌, length, sum_by, Option, Some, None, IfSome, if◌then◌else◌}
 use Rattle.std.specs.List.{AllByRecursion, flat_map, list_any}
 use Rattle.std.specs.Str.{bytes_eq}
 use Rattle.sudo_syntax.specs.declared.entry.Signed.{Signed}

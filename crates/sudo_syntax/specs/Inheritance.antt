@@ -1,6 +1,6 @@
 -- The entries that a line stands for: one for each definition, and one rule for each command. What a command of a list leaves out
 -- is taken from those before it in the same list (sudoers(5), "Cmnd_Spec_List").
-use Rattle.std.specs.Prelude.{ℕ, Bool, false, List, [], ◌∷◌, map, Option, None, unwrap_or, codes}
+use Rattle.std.specs.Prelude.{ℕ, false, List, [], ◌∷◌, map, None, unwrap_or, codes}
 use Rattle.std.specs.List.{flat_map}
 use Rattle.std.specs.Option.{option_or}
 use Rattle.sudo_syntax.specs.declared.entry.Signed.{Signed}

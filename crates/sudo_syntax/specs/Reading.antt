@@ -1,5 +1,5 @@
 -- What the reader answers: the entries of a line, and where a fault is.
-use Rattle.std.specs.Prelude.{◌≡◌, ◌≢◌, ℕ, ◌+◌, ◌≤◌, ◌==◌, false, List, [], ◌∷◌, ◌++◌, count_by, map}
+use Rattle.std.specs.Prelude.{◌≡◌, ◌≢◌, ℕ, ◌+◌, ◌≤◌, ◌==◌, false, List, ◌∷◌, ◌++◌, count_by, map}
 use Rattle.sudo_syntax.specs.Lex.{is_text_byte}
 use Rattle.sudo_syntax.specs.Lines.{Joined}
 use Rattle.sudo_syntax.specs.Spelling.{SpellsLines}

@@ -1,5 +1,5 @@
 -- Texts that spell policies (sudoers(5), "SUDOERS FILE FORMAT").
-use Rattle.std.specs.Prelude.{◌≡◌, ℕ, ◌≤◌, ◌⊎◌, List, [], ◌∷◌, ◌++◌, length}
+use Rattle.std.specs.Prelude.{◌≡◌, ℕ, ◌≤◌, List, [], ◌∷◌, ◌++◌, length}
 use Rattle.sudo_syntax.specs.declared.entry.Entry.{Entry}
 use Rattle.sudo_syntax.specs.declared.tree.Line.{Line}
 use Rattle.sudo_syntax.specs.Span.{Each}

@@ -1,4 +1,4 @@
-use Rattle.std.proofs.Common.{◌≡◌, ◌∷◌, [], ◌++◌, arith}
+use Rattle.std.proofs.Common.{◌≡◌, arith}
 use Rattle.std.proofs.lemmas.Result.{err_from_is_err_and}
 use Rattle.sudo_syntax.specs.declared.fault.LineFault.TheVariants as fault
 use Rattle.sudo_syntax.proofs.PolicyFronts.{next_placed}

@@ -1,5 +1,4 @@
 use Rattle.std.proofs.Common.{List, ℕ, subst, sym}
-use Rattle.std.specs.Prelude.{string_bytes}
 use Rattle.std.proofs.lemmas.Result.{IfOk-weaker}
 use Rattle.sudo_syntax.specs.Spelling.{Spells}
 use Rattle.sudo_syntax.proofs.Canon.{canon_spells}

@@ -1,7 +1,6 @@
-use Rattle.std.proofs.Common.{◌≡◌, ◌+◌, List, ℕ, Some, Option, ap, sym, ◌∙◌, refl, arith}
+use Rattle.std.proofs.Common.{◌≡◌, ◌+◌, List, ℕ, Some, ap, ◌∙◌, refl, arith}
 use Rattle.std.specs.Prelude.{string_bytes}
 use Rattle.std.specs.Map.{update}
-use Rattle.std.specs.Option.{is_some}
 use Rattle.std.specs.Str.{bytes_eq}
 use Rattle.std.proofs.lemmas.Map.Text.{btree_map_updates_text}
 use Rattle.sudo_syntax.specs.declared.aliases.Alias.{Alias}
