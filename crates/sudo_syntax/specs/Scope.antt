@@ -1,5 +1,5 @@
 -- What is kept of a policy's aliases, weight and text, beside its entries. For private clauses.
-use Rattle.std.specs.Prelude.{◌≡◌, ℕ, ◌+◌, List, [], ◌∷◌, length, reverse, Option, IfSome}
+use Rattle.std.specs.Prelude.{◌≡◌, ℕ, ◌+◌, List, [], ◌∷◌, ◌++◌, length, reverse, Option, IfSome}
 use Rattle.std.specs.List.{flat_map}
 use Rattle.sudo_syntax.specs.declared.entry.Signed.{Signed}
 use Rattle.sudo_syntax.specs.declared.entry.Rule.{Rule}
@@ -7,6 +7,7 @@ use Rattle.sudo_syntax.specs.declared.entry.Entry.{Entry}
 use Rattle.sudo_syntax.specs.declared.tree.Definition.{Definition}
 use Rattle.sudo_syntax.specs.declared.aliases.Aliases.{Aliases}
 use Rattle.sudo_syntax.specs.declared.scope.Scope.{Scope}
+use Rattle.sudo_syntax.specs.declared.draft.Draft.{Draft}
 use Rattle.sudo_syntax.specs.Alias.{DefinedAt, is_defined, item_alias, cmnd_alias, list_weight, alias_weight, alias_depth, user_def, runas_def, host_def, cmnd_def}
 use Rattle.sudo_syntax.specs.Measures.{alias_at, has, weight_in, depth_in, stopped, KnowsAll}
 use Rattle.sudo_syntax.specs.Policy.{IsPolicy, weight}
@@ -54,3 +55,11 @@ pub record IsWhole (es : List Entry) (s : Scope) (weighs : ℕ) (text_len : ℕ)
   pub scope : IsScope es s
   pub weight_is : weighs ≡ weight es
   pub text_is : text_len ≡ length (canon es)
+
+abbrev pub IsDraft : Draft → Type 0
+IsDraft d = IsWhole d.entries.items d.scope d.weight d.text_len
+
+-- the draft has these entries more, behind its own
+pub record Adds (old new : Draft) (es : List Entry) : Type 0 where
+  pub draft : IsDraft new
+  pub entries : new.entries.items ≡ old.entries.items ++ es

@@ -1,41 +1,44 @@
 //! Policies with further rules behind them.
 
-ghost use Rattle.std.specs.Prelude.{◌≡◌, ◌⊎◌, IfOk, IfErr, MatchResult, reverse};
+ghost use Rattle.std.specs.Prelude.{◌≡◌, ◌⊎◌, [], ◌++◌, IfOk, IfErr, OnOk, MatchResult, map, reverse};
 ghost use Rattle.std.specs.List.{AllByRecursion};
+ghost use Rattle.sudo_syntax.specs.declared.entry.Entry.TheVariants as entries;
 ghost use Rattle.sudo_syntax.specs.declared.fault.FaultKind.TheVariants.{TooLarge, UnknownAlias, NoMemory};
 ghost use Rattle.sudo_syntax.specs.Policy.{IsPolicy, IsRule, KnowsRule};
 ghost use Rattle.sudo_syntax.specs.Reading as reading;
+ghost use Rattle.sudo_syntax.specs.Scope.{Adds, IsDraft};
 ghost use Rattle.sudo_syntax.specs.declared.fault.LineFault.TheVariants as fault;
 
+use crate::draft::Draft;
 use crate::entry::{Entry, Rule};
 use crate::fault::{FaultKind, LineFault, ReadFault};
 use crate::policy::Policy;
 use std::alloc::Global;
 
-/// A copy of the policy.
-fn copied(alloc: Global, base: &Policy) -> Result<Policy, LineFault>
-    ensures found { IfOk result (λ p. p ≡ base.now) }
+/// Adds the policy's entries to a draft that has none.
+fn add_base(alloc: Global, draft: &mut Draft, base: &Policy) -> Result<(), LineFault>
+    requires draft { IsDraft draft.old }
+    requires none { draft.old.entries.items ≡ [] }
+    ensures found { OnOk result (IsDraft draft.new × (draft.new.entries.items ≡ base.now)) }
     ensures only { IfErr result (λ e. e ≡ fault.NoMemory) }
 {
-    let entries = base.entries();
-    let mut policy = Policy::empty(alloc);
-    for entry in entries {
-        policy = policy.add(alloc, entry.clone()?)?;
+    for entry in base.entries() {
+        draft.add(alloc, entry.clone()?)?;
     }
-    Ok(policy)
+    Ok(())
 }
 
-/// The policy with these rules behind its entries.
-fn with_rules(alloc: Global, base: Policy, rules: Vec<Rule>) -> Result<Policy, LineFault>
-    requires { AllByRecursion IsRule rules.items }
-    ensures found { IfOk result (λ p. p ≡ reading.with_rules base rules.items) }
-    ensures only { IsPolicy (reading.with_rules base rules.items) → IfErr result (λ e. e ≡ fault.NoMemory) }
+/// Adds these rules.
+fn add_rules(alloc: Global, draft: &mut Draft, rules: Vec<Rule>) -> Result<(), LineFault>
+    requires draft { IsDraft draft.old }
+    requires rules { AllByRecursion IsRule rules.items }
+    ensures found { OnOk result (Adds draft.old draft.new (map entries.Rule rules.items)) }
+    ensures only { IsPolicy (draft.old.entries.items ++ map entries.Rule rules.items) → IfErr result (λ e. e ≡ fault.NoMemory) }
 {
-    let mut policy = base;
     for rule in rules {
-        policy = policy.add(alloc, Entry::Rule(rule))?;
+        draft.add(alloc, Entry::Rule(rule))?;
     }
-    Ok(policy)
+    Ok(())
 }
 
 /// Why rules whose aliases are all known were not added.
@@ -49,13 +52,21 @@ fn limit_kind(line_fault: LineFault) -> FaultKind
     }
 }
 
-/// A copy of the base, with these rules behind its entries.
-fn extended(alloc: Global, base: &Policy, rules: Vec<Rule>) -> Result<Policy, LineFault>
-    requires { AllByRecursion IsRule rules.items }
-    ensures found { IfOk result (λ p. p ≡ reading.with_rules base.now rules.items) }
+/// Adds the policy's entries and these rules to a draft that has none.
+fn add_both(
+    alloc: Global,
+    draft: &mut Draft,
+    base: &Policy,
+    rules: Vec<Rule>,
+) -> Result<(), LineFault>
+    requires draft { IsDraft draft.old }
+    requires none { draft.old.entries.items ≡ [] }
+    requires rules { AllByRecursion IsRule rules.items }
+    ensures found { OnOk result (IsDraft draft.new × (draft.new.entries.items ≡ reading.with_rules base.now rules.items)) }
     ensures only { IsPolicy (reading.with_rules base.now rules.items) → IfErr result (λ e. e ≡ fault.NoMemory) }
 {
-    with_rules(alloc, copied(alloc, base)?, rules)
+    add_base(alloc, draft, base)?;
+    add_rules(alloc, draft, rules)
 }
 
 /// The policy with these rules behind its entries.
@@ -76,8 +87,9 @@ pub fn extend(alloc: Global, base: &Policy, rules: Vec<Rule>) -> Result<Policy, 
             kind: FaultKind::UnknownAlias,
         });
     }
-    match extended(alloc, base, rules) {
-        Ok(policy) => Ok(policy),
+    let mut draft = Draft::new(alloc);
+    match add_both(alloc, &mut draft, base, rules) {
+        Ok(()) => Ok(Policy::of(draft)),
         Err(fault) => Err(ReadFault {
             line: 0,
             kind: limit_kind(fault),

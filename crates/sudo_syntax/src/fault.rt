@@ -80,7 +80,7 @@ impl fmt::Display for ReadFault {
 }
 
 /// What is wrong with a line.
-#[derive(Clone, Copy, Debug, PartialEq, Eq)]
+#[derive(Clone, Copy)]
 pub(crate) enum LineFault {
     BadWord,
     Unexpected,

@@ -6,6 +6,7 @@ mod aliases;
 mod commands;
 mod copying;
 mod definitions;
+mod draft;
 mod entry;
 mod extending;
 mod fault;

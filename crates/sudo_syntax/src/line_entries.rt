@@ -1,16 +1,17 @@
-//! The entries of a line, added to a policy.
+//! The entries of a line, added to a draft.
 
-ghost use Rattle.std.specs.Prelude.{◌≡◌, ◌++◌, IfOk, IfErr, map};
+ghost use Rattle.std.specs.Prelude.{◌≡◌, ◌++◌, IfOk, IfErr, OnOk, map};
 ghost use Rattle.std.specs.List.{AllByRecursion, flat_map};
 ghost use Rattle.sudo_syntax.specs.declared.entry.Entry.TheVariants as entries;
 ghost use Rattle.sudo_syntax.specs.declared.fault.LineFault.TheVariants as fault;
 ghost use Rattle.sudo_syntax.specs.Inheritance as inheritance;
 ghost use Rattle.sudo_syntax.specs.Policy.{IsEntry, IsPolicy};
+ghost use Rattle.sudo_syntax.specs.Scope.{Adds, IsDraft};
 
 use crate::copying::{copied_hosts, copied_names};
+use crate::draft::Draft;
 use crate::entry::{CmndItem, Entry, Item, Rule, Signed};
 use crate::fault::LineFault;
-use crate::policy::Policy;
 use crate::tree::{Definition, Line, Part, Settings, Spec};
 use std::alloc::{AllocError, Global};
 use sudo_words::{HostName, Items, Name};
@@ -79,112 +80,128 @@ fn rule_with(
     })
 }
 
-/// The policy with one rule for each command behind its entries. Each is added before the next is made, so that
-/// the limits of a policy bound what is copied.
+/// Adds one rule for each command. Each is added before the next is made, so that the limits of a policy bound what is copied.
 fn add_specs(
     alloc: Global,
-    policy: Policy,
+    draft: &mut Draft,
     users: &Items<Signed<Item<Name>>>,
     hosts: &Items<Signed<Item<HostName>>>,
     specs: Vec<Spec>,
-) -> Result<Policy, LineFault>
-    requires { AllByRecursion IsEntry (inheritance.rules_of users.now hosts.now inheritance.first_settings specs.items) }
-    ensures found { IfOk result (λ p. p ≡ policy ++ inheritance.rules_of users.now hosts.now inheritance.first_settings specs.items) }
-    ensures only { IsPolicy (policy ++ inheritance.rules_of users.now hosts.now inheritance.first_settings specs.items) → IfErr result (λ e. e ≡ fault.NoMemory) }
+) -> Result<(), LineFault>
+    requires draft { IsDraft draft.old }
+    requires entries { AllByRecursion IsEntry (inheritance.rules_of users.now hosts.now inheritance.first_settings specs.items) }
+    ensures found { OnOk result (Adds draft.old draft.new (inheritance.rules_of users.now hosts.now inheritance.first_settings specs.items)) }
+    ensures only { IsPolicy (draft.old.entries.items ++ inheritance.rules_of users.now hosts.now inheritance.first_settings specs.items) → IfErr result (λ e. e ≡ fault.NoMemory) }
 {
-    let mut policy = policy;
     let mut held = first_settings(alloc)?;
     for spec in specs {
         let (settings, cmnd) = with_spec(held, spec);
-        let rule = rule_with(users, hosts, &settings, cmnd)?;
-        policy = policy.add(alloc, Entry::Rule(rule))?;
         held = settings;
+        let rule = rule_with(users, hosts, &held, cmnd)?;
+        draft.add(alloc, Entry::Rule(rule))?;
     }
-    Ok(policy)
+    Ok(())
 }
 
-/// The policy with the rules of each part behind its entries.
+/// Adds the rules of each part.
 fn add_parts(
     alloc: Global,
-    policy: Policy,
+    draft: &mut Draft,
     users: &Items<Signed<Item<Name>>>,
     parts: Vec<Part>,
-) -> Result<Policy, LineFault>
-    requires { AllByRecursion IsEntry (flat_map (inheritance.part_rules users.now) parts.items) }
-    ensures found { IfOk result (λ p. p ≡ policy ++ flat_map (inheritance.part_rules users.now) parts.items) }
-    ensures only { IsPolicy (policy ++ flat_map (inheritance.part_rules users.now) parts.items) → IfErr result (λ e. e ≡ fault.NoMemory) }
+) -> Result<(), LineFault>
+    requires draft { IsDraft draft.old }
+    requires entries { AllByRecursion IsEntry (flat_map (inheritance.part_rules users.now) parts.items) }
+    ensures found { OnOk result (Adds draft.old draft.new (flat_map (inheritance.part_rules users.now) parts.items)) }
+    ensures only { IsPolicy (draft.old.entries.items ++ flat_map (inheritance.part_rules users.now) parts.items) → IfErr result (λ e. e ≡ fault.NoMemory) }
 {
-    let mut policy = policy;
     for part in parts {
         let Part { hosts, specs } = part;
-        policy = add_specs(alloc, policy, users, &hosts, specs.into_vec())?;
+        add_specs(alloc, draft, users, &hosts, specs.into_vec())?;
     }
-    Ok(policy)
+    Ok(())
 }
 
-/// The policy with these entries behind its own.
-fn add_entries(alloc: Global, policy: Policy, entries: Vec<Entry>) -> Result<Policy, LineFault>
-    requires { AllByRecursion IsEntry entries.items }
-    ensures found { IfOk result (λ p. p ≡ policy ++ entries.items) }
-    ensures only { IsPolicy (policy ++ entries.items) → IfErr result (λ e. e ≡ fault.NoMemory) }
-{
-    let mut policy = policy;
-    for entry in entries {
-        policy = policy.add(alloc, entry)?;
-    }
-    Ok(policy)
-}
-
-/// The definitions of users' aliases as entries.
-fn user_entries(alloc: Global, defs: Vec<Definition<Item<Name>>>) -> Result<Vec<Entry>, AllocError>
-    ensures { IfOk result (λ v. v.items ≡ map (λ d. entries.UserAlias d.name d.list) defs.items) }
-{
-    defs.into_iter()
-        .map(|d| Entry::UserAlias(d.name, d.list))
-        .collect(alloc)
-}
-
-/// The definitions of targets' aliases as entries.
-fn runas_entries(alloc: Global, defs: Vec<Definition<Item<Name>>>) -> Result<Vec<Entry>, AllocError>
-    ensures { IfOk result (λ v. v.items ≡ map (λ d. entries.RunasAlias d.name d.list) defs.items) }
-{
-    defs.into_iter()
-        .map(|d| Entry::RunasAlias(d.name, d.list))
-        .collect(alloc)
-}
-
-/// The definitions of hosts' aliases as entries.
-fn host_entries(
+/// Adds the definitions of users' aliases.
+fn add_users(
     alloc: Global,
+    draft: &mut Draft,
+    defs: Vec<Definition<Item<Name>>>,
+) -> Result<(), LineFault>
+    requires draft { IsDraft draft.old }
+    requires entries { AllByRecursion IsEntry (map (λ d. entries.UserAlias d.name d.list) defs.items) }
+    ensures found { OnOk result (Adds draft.old draft.new (map (λ d. entries.UserAlias d.name d.list) defs.items)) }
+    ensures only { IsPolicy (draft.old.entries.items ++ map (λ d. entries.UserAlias d.name d.list) defs.items) → IfErr result (λ e. e ≡ fault.NoMemory) }
+{
+    for def in defs {
+        draft.add(alloc, Entry::UserAlias(def.name, def.list))?;
+    }
+    Ok(())
+}
+
+/// Adds the definitions of targets' aliases.
+fn add_runas(
+    alloc: Global,
+    draft: &mut Draft,
+    defs: Vec<Definition<Item<Name>>>,
+) -> Result<(), LineFault>
+    requires draft { IsDraft draft.old }
+    requires entries { AllByRecursion IsEntry (map (λ d. entries.RunasAlias d.name d.list) defs.items) }
+    ensures found { OnOk result (Adds draft.old draft.new (map (λ d. entries.RunasAlias d.name d.list) defs.items)) }
+    ensures only { IsPolicy (draft.old.entries.items ++ map (λ d. entries.RunasAlias d.name d.list) defs.items) → IfErr result (λ e. e ≡ fault.NoMemory) }
+{
+    for def in defs {
+        draft.add(alloc, Entry::RunasAlias(def.name, def.list))?;
+    }
+    Ok(())
+}
+
+/// Adds the definitions of hosts' aliases.
+fn add_hosts(
+    alloc: Global,
+    draft: &mut Draft,
     defs: Vec<Definition<Item<HostName>>>,
-) -> Result<Vec<Entry>, AllocError>
-    ensures { IfOk result (λ v. v.items ≡ map (λ d. entries.HostAlias d.name d.list) defs.items) }
+) -> Result<(), LineFault>
+    requires draft { IsDraft draft.old }
+    requires entries { AllByRecursion IsEntry (map (λ d. entries.HostAlias d.name d.list) defs.items) }
+    ensures found { OnOk result (Adds draft.old draft.new (map (λ d. entries.HostAlias d.name d.list) defs.items)) }
+    ensures only { IsPolicy (draft.old.entries.items ++ map (λ d. entries.HostAlias d.name d.list) defs.items) → IfErr result (λ e. e ≡ fault.NoMemory) }
 {
-    defs.into_iter()
-        .map(|d| Entry::HostAlias(d.name, d.list))
-        .collect(alloc)
+    for def in defs {
+        draft.add(alloc, Entry::HostAlias(def.name, def.list))?;
+    }
+    Ok(())
 }
 
-/// The definitions of commands' aliases as entries.
-fn cmnd_entries(alloc: Global, defs: Vec<Definition<CmndItem>>) -> Result<Vec<Entry>, AllocError>
-    ensures { IfOk result (λ v. v.items ≡ map (λ d. entries.CmndAlias d.name d.list) defs.items) }
+/// Adds the definitions of commands' aliases.
+fn add_cmnds(
+    alloc: Global,
+    draft: &mut Draft,
+    defs: Vec<Definition<CmndItem>>,
+) -> Result<(), LineFault>
+    requires draft { IsDraft draft.old }
+    requires entries { AllByRecursion IsEntry (map (λ d. entries.CmndAlias d.name d.list) defs.items) }
+    ensures found { OnOk result (Adds draft.old draft.new (map (λ d. entries.CmndAlias d.name d.list) defs.items)) }
+    ensures only { IsPolicy (draft.old.entries.items ++ map (λ d. entries.CmndAlias d.name d.list) defs.items) → IfErr result (λ e. e ≡ fault.NoMemory) }
 {
-    defs.into_iter()
-        .map(|d| Entry::CmndAlias(d.name, d.list))
-        .collect(alloc)
+    for def in defs {
+        draft.add(alloc, Entry::CmndAlias(def.name, def.list))?;
+    }
+    Ok(())
 }
 
-/// The policy with a line's entries behind its own.
-pub(crate) fn add_line(alloc: Global, policy: Policy, line: Line) -> Result<Policy, LineFault>
-    requires { AllByRecursion IsEntry (inheritance.entries_of line) }
-    ensures found { IfOk result (λ p. p ≡ policy ++ inheritance.entries_of line) }
-    ensures only { IsPolicy (policy ++ inheritance.entries_of line) → IfErr result (λ e. e ≡ fault.NoMemory) }
+/// Adds a line's entries.
+pub(crate) fn add_line(alloc: Global, draft: &mut Draft, line: Line) -> Result<(), LineFault>
+    requires draft { IsDraft draft.old }
+    requires entries { AllByRecursion IsEntry (inheritance.entries_of line) }
+    ensures found { OnOk result (Adds draft.old draft.new (inheritance.entries_of line)) }
+    ensures only { IsPolicy (draft.old.entries.items ++ inheritance.entries_of line) → IfErr result (λ e. e ≡ fault.NoMemory) }
 {
     match line {
-        Line::Users(defs) => add_entries(alloc, policy, user_entries(alloc, defs.into_vec())?),
-        Line::Runas(defs) => add_entries(alloc, policy, runas_entries(alloc, defs.into_vec())?),
-        Line::Hosts(defs) => add_entries(alloc, policy, host_entries(alloc, defs.into_vec())?),
-        Line::Cmnds(defs) => add_entries(alloc, policy, cmnd_entries(alloc, defs.into_vec())?),
-        Line::Rights(users, parts) => add_parts(alloc, policy, &users, parts.into_vec()),
+        Line::Users(defs) => add_users(alloc, draft, defs.into_vec()),
+        Line::Runas(defs) => add_runas(alloc, draft, defs.into_vec()),
+        Line::Hosts(defs) => add_hosts(alloc, draft, defs.into_vec()),
+        Line::Cmnds(defs) => add_cmnds(alloc, draft, defs.into_vec()),
+        Line::Rights(users, parts) => add_parts(alloc, draft, &users, parts.into_vec()),
     }
 }

@@ -1,6 +1,6 @@
 //! Policies read from text.
 
-ghost use Rattle.std.specs.Prelude.{◌≡◌, ◌+◌, ◌<◌, ◌≤◌, ◌==◌, ◌⊎◌, List, ℕ, IfOk, IfErr, IsErrAnd, MatchResult, OnOk, map, length, count_by, ◌++◌, ◌∷◌};
+ghost use Rattle.std.specs.Prelude.{◌≡◌, ◌+◌, ◌<◌, ◌≤◌, ◌==◌, ◌⊎◌, List, ℕ, IfOk, IfErr, IsErrAnd, MatchResult, OnOk, map, length, count_by, ◌++◌, [], ◌∷◌};
 ghost use Rattle.sudo_syntax.specs.declared.entry.Entry.{Entry as Entered};
 ghost use Rattle.sudo_syntax.specs.declared.fault.FaultKind.TheVariants.{TooLong, BadByte, TooLarge, NoMemory};
 ghost use Rattle.sudo_syntax.specs.declared.fault.LineFault.TheVariants.{NoMemory as OutOfMemory};
@@ -9,9 +9,11 @@ ghost use Rattle.sudo_syntax.specs.Pending.{Leads, SpellsBehind};
 ghost use Rattle.sudo_syntax.specs.Lex as lex;
 ghost use Rattle.sudo_syntax.specs.Reading.{HasOtherByte, IsInLine, IsLineOf, SpellsBy};
 ghost use Rattle.sudo_syntax.specs.Policy.{IsPolicy};
+ghost use Rattle.sudo_syntax.specs.Scope.{Adds, IsDraft};
 ghost use Rattle.sudo_syntax.specs.Span.{Each};
 ghost use Rattle.sudo_syntax.specs.Lines.{lines_of};
 
+use crate::draft::Draft;
 use crate::fault::{FaultKind, LineFault, ReadFault};
 use crate::line_entries::add_line;
 use crate::pieces::{Piece, piece_of};
@@ -84,45 +86,47 @@ fn lines(alloc: Global, text: &[u8]) -> Result<Vec<&[u8]>, AllocError>
     text.split(|b| *b == b'\n').collect(alloc)
 }
 
-/// The policy with what a line stands for behind its entries, where the line is joined with those that continue it.
-fn add_joined(alloc: Global, policy: Policy, line: &[u8]) -> Result<Policy, LineFault>
-    ensures found { IfOk result (λ p. (here : List Entered) × SpellsLine line.now here × ((es : List Entered) → SpellsLine line.now es → es ≡ here) × (p ≡ policy ++ here)) }
-    ensures only { IfErr result (λ e. (es : List Entered) → SpellsLine line.now es → IsPolicy (policy ++ es) → e ≡ OutOfMemory) }
+/// Adds what a line stands for, where the line is joined with those that continue it.
+fn add_joined(alloc: Global, draft: &mut Draft, line: &[u8]) -> Result<(), LineFault>
+    requires { IsDraft draft.old }
+    ensures found { OnOk result ((here : List Entered) × SpellsLine line.now here × ((es : List Entered) → SpellsLine line.now es → es ≡ here) × Adds draft.old draft.new here) }
+    ensures only { IfErr result (λ e. (es : List Entered) → SpellsLine line.now es → IsPolicy (draft.old.entries.items ++ es) → e ≡ OutOfMemory) }
 {
     let tokens = tokens(alloc, line)?;
     if tokens.is_empty() {
-        return Ok(policy);
+        return Ok(());
     }
     let line = tree_of(alloc, &tokens)?;
-    add_line(alloc, policy, line)
+    add_line(alloc, draft, line)
 }
 
-/// The policy with what a line of the text stands for behind its entries. Before the line stands the front that the lines
-/// before it left; where the line goes on, it adds to that front, and else the front is empty afterwards.
+/// Adds what a line of the text stands for. Before the line stands the front that the lines before it left; where the line goes
+/// on, it adds to that front, and else the front is empty afterwards.
 fn add_piece(
     alloc: Global,
-    policy: Policy,
+    draft: &mut Draft,
     pending: &mut Vec<u8>,
     line: &[u8],
-) -> Result<Policy, LineFault>
-    ensures found { IfOk result (λ p. (here : List Entered) × (p ≡ policy ++ here) × ((rest : List (List ℕ)) → Leads pending.old.items (line.now ∷ rest) here pending.new.items rest)) }
-    ensures only { IfErr result (λ e. (rest : List (List ℕ)) (es : List Entered) → SpellsBehind pending.old.items (line.now ∷ rest) es → IsPolicy (policy ++ es) → e ≡ OutOfMemory) }
+) -> Result<(), LineFault>
+    requires { IsDraft draft.old }
+    ensures found { OnOk result ((here : List Entered) × Adds draft.old draft.new here × ((rest : List (List ℕ)) → Leads pending.old.items (line.now ∷ rest) here pending.new.items rest)) }
+    ensures only { IfErr result (λ e. (rest : List (List ℕ)) (es : List Entered) → SpellsBehind pending.old.items (line.now ∷ rest) es → IsPolicy (draft.old.entries.items ++ es) → e ≡ OutOfMemory) }
 {
     match piece_of(line)? {
         Piece::GoesOn(front) => {
             pending.extend_from_slice(front)?;
             pending.push(b' ')?;
-            Ok(policy)
+            Ok(())
         }
         Piece::Ends(body) => {
             if pending.is_empty() {
                 // A line that is not continued is read where it stands.
-                return add_joined(alloc, policy, body);
+                return add_joined(alloc, draft, body);
             }
             pending.extend_from_slice(body)?;
-            let policy = add_joined(alloc, policy, pending)?;
+            add_joined(alloc, draft, pending)?;
             pending.clear();
-            Ok(policy)
+            Ok(())
         }
     }
 }
@@ -139,29 +143,27 @@ fn fault_line(line: &[u8], begins: usize, here: usize) -> usize
     }
 }
 
-/// The policy of the lines.
-fn policy_of(alloc: Global, lines: &[&[u8]]) -> Result<Policy, ReadFault>
-    ensures found { IfOk result (λ p. SpellsBy (map (λ l. l.now) lines.now) p) }
+/// Adds what the lines stand for.
+fn add_lines(alloc: Global, draft: &mut Draft, lines: &[&[u8]]) -> Result<(), ReadFault>
+    requires draft { IsDraft draft.old }
+    requires none { draft.old.entries.items ≡ [] }
+    ensures found { OnOk result (IsDraft draft.new × SpellsBy (map (λ l. l.now) lines.now) draft.new.entries.items) }
     ensures only { (es : List Entered) → SpellsBy (map (λ l. l.now) lines.now) es → IsPolicy es
-        → MatchResult result (λ p. p ≡ es) (λ f. f.kind ≡ NoMemory) }
+        → MatchResult result (λ _. draft.new.entries.items ≡ es) (λ f. f.kind ≡ NoMemory) }
     ensures line { IfErr result (λ f. (1 ≤ f.line) × (f.line ≤ length lines.now)) }
     ensures kind { IfErr result (λ f. IsInLine f.kind) }
 {
-    let mut policy = Policy::empty(alloc);
     let mut pending = Vec::new(alloc);
     let mut begins = 0;
     for (index, line) in lines.iter().enumerate() {
         if pending.is_empty() {
             begins = index + 1;
         }
-        match add_piece(alloc, policy, &mut pending, line) {
-            Ok(added) => policy = added,
-            Err(fault) => {
-                return Err(ReadFault {
-                    line: fault_line(line, begins, index + 1),
-                    kind: kind_of(fault),
-                });
-            }
+        if let Err(fault) = add_piece(alloc, draft, &mut pending, line) {
+            return Err(ReadFault {
+                line: fault_line(line, begins, index + 1),
+                kind: kind_of(fault),
+            });
         }
     }
     if !pending.is_empty() {
@@ -171,7 +173,20 @@ fn policy_of(alloc: Global, lines: &[&[u8]]) -> Result<Policy, ReadFault>
             kind: FaultKind::Unexpected,
         });
     }
-    Ok(policy)
+    Ok(())
+}
+
+/// The policy of the lines.
+fn policy_of(alloc: Global, lines: &[&[u8]]) -> Result<Policy, ReadFault>
+    ensures found { IfOk result (λ p. SpellsBy (map (λ l. l.now) lines.now) p) }
+    ensures only { (es : List Entered) → SpellsBy (map (λ l. l.now) lines.now) es → IsPolicy es
+        → MatchResult result (λ p. p ≡ es) (λ f. f.kind ≡ NoMemory) }
+    ensures line { IfErr result (λ f. (1 ≤ f.line) × (f.line ≤ length lines.now)) }
+    ensures kind { IfErr result (λ f. IsInLine f.kind) }
+{
+    let mut draft = Draft::new(alloc);
+    add_lines(alloc, &mut draft, lines)?;
+    Ok(Policy::of(draft))
 }
 
 /// The policy that a text spells (sudoers(5), "SUDOERS FILE FORMAT"), as far as the desk reads it.

@@ -3,11 +3,13 @@ use Rattle.std.specs.List.{AllByRecursion, flat_map}
 use Rattle.std.specs.Vec.Iter.{into_iter_items, into_iter_len}
 use Rattle.sudo_syntax.specs.Inheritance.{part_rules}
 use Rattle.sudo_syntax.specs.Policy.{IsEntry}
+use Rattle.sudo_syntax.specs.Scope.{IsDraft}
 use Rattle.sudo_syntax.proofs.line_entries.add_parts.Given as goal
 
 abbrev pub invariant-loop-part : goal.invariant-loop-part
 invariant-loop-part l = record {
-  whole : l.policy ++ flat_map (part_rules l.users) (into_iter_items l.part-iterator) ≡ l.fn.policy ++ flat_map (part_rules l.users) l.fn.parts.items;
+  draft : IsDraft l.draft;
+  whole : l.draft.entries.items ++ flat_map (part_rules l.users) (into_iter_items l.part-iterator) ≡ l.fn.draft.entries.items ++ flat_map (part_rules l.users) l.fn.parts.items;
   are : AllByRecursion IsEntry (flat_map (part_rules l.users) (into_iter_items l.part-iterator));
   rest : into_iter_len l.part-iterator ≡ length (into_iter_items l.part-iterator);
 }

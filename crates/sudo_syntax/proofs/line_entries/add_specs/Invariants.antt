@@ -3,11 +3,13 @@ use Rattle.std.specs.List.{AllByRecursion}
 use Rattle.std.specs.Vec.Iter.{into_iter_items, into_iter_len}
 use Rattle.sudo_syntax.specs.Inheritance.{rules_of, first_settings}
 use Rattle.sudo_syntax.specs.Policy.{IsEntry}
+use Rattle.sudo_syntax.specs.Scope.{IsDraft}
 use Rattle.sudo_syntax.proofs.line_entries.add_specs.Given as goal
 
 abbrev pub invariant-loop-spec : goal.invariant-loop-spec
 invariant-loop-spec l = record {
-  whole : l.policy ++ rules_of l.users l.hosts l.held (into_iter_items l.spec-iterator) ≡ l.fn.policy ++ rules_of l.users l.hosts first_settings l.fn.specs.items;
+  draft : IsDraft l.draft;
+  whole : l.draft.entries.items ++ rules_of l.users l.hosts l.held (into_iter_items l.spec-iterator) ≡ l.fn.draft.entries.items ++ rules_of l.users l.hosts first_settings l.fn.specs.items;
   are : AllByRecursion IsEntry (rules_of l.users l.hosts l.held (into_iter_items l.spec-iterator));
   rest : into_iter_len l.spec-iterator ≡ length (into_iter_items l.spec-iterator);
 }

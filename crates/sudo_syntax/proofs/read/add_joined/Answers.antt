@@ -14,7 +14,7 @@ returns-then-is_empty-clause-found c =
       [],
       ([], subst (Lexes c.args.line.now) bare c.in_ok-tokens.ensures.found, refl),
       (λ es s. subst (λ (ts : List Tok). SpellsEntries ts es) (sym (c.in_ok-tokens.ensures.only s.0 s.1) ∙ bare) s.2),
-      sym (append-nil c.args.policy),
+      record { draft = c.requires; entries = sym (append-nil c.args.draft.now.entries.items) },
     )
 
 pub returns-in_err-line-clause-only : goal.returns-in_err-line-clause-only
@@ -26,5 +26,5 @@ returns-in_err-line-clause-only c =
     let tree = tree_from c.in_ok-tokens.tokens.items es some (subst (λ (ts : List Tok). SpellsEntries ts es) same s.2) in
     c.in_err-line.ensures.only tree.0 (rw c.deref.ensures.value tree.1))
 
-pub add_line-requires : goal.add_line-requires
-add_line-requires c = tree_entries _ c.in_ok-line.line c.in_ok-line.ensures.found
+pub add_line-requires-clause-entries : goal.add_line-requires-clause-entries
+add_line-requires-clause-entries c = tree_entries _ c.in_ok-line.line c.in_ok-line.ensures.found

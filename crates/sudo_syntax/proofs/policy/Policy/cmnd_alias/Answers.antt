@@ -6,8 +6,8 @@ use Rattle.sudo_syntax.proofs.policy.Policy.cmnd_alias.Goals as goal
 
 pub returns-in_err-alias : goal.returns-in_err-alias
 returns-in_err-alias c =
-    let es = c.self.inside.entries.items in
+    let es = c.self.inside.draft.entries.items in
     let name = c.args.name.now in
     let none : is_defined (cmnd_defs es) name ≡ false =
-    lacks cmnd_alias cmnd_def es c.self.inside.scope.cmnds name c.self.invariant.scope.cmnds (sym c.get.ensures ∙ c.in_err-alias.was) in
+    lacks cmnd_alias cmnd_def es c.self.inside.draft.scope.cmnds name c.self.invariant.scope.cmnds (sym c.get.ensures ∙ c.in_err-alias.was) in
     rw c.from_residual.ensures (subst (λ (xs : List Entry). is_defined (cmnd_defs xs) name ≡ false) c.self.view_is none)

@@ -14,8 +14,8 @@ each_weaker P Q h (r ∷ rules) all = (h r all.0, each_weaker P Q h rules all.1)
 
 pub returns : goal.returns
 returns c =
-    let es = c.self.inside.entries.items in
-    let s = c.self.inside.scope in
+    let es = c.self.inside.draft.entries.items in
+    let s = c.self.inside.draft.scope in
     let rules = c.args.rules.now in
     let Kept : Rule → Type 0 = RuleIsKnown s in
     let Known : Rule → Type 0 = KnowsRule (reverse es) in

@@ -6,8 +6,8 @@ use Rattle.sudo_syntax.proofs.policy.Policy.user_alias.Goals as goal
 
 pub returns-in_err-alias : goal.returns-in_err-alias
 returns-in_err-alias c =
-    let es = c.self.inside.entries.items in
+    let es = c.self.inside.draft.entries.items in
     let name = c.args.name.now in
     let none : is_defined (user_defs es) name ≡ false =
-    lacks item_alias user_def es c.self.inside.scope.users name c.self.invariant.scope.users (sym c.get.ensures ∙ c.in_err-alias.was) in
+    lacks item_alias user_def es c.self.inside.draft.scope.users name c.self.invariant.scope.users (sym c.get.ensures ∙ c.in_err-alias.was) in
     rw c.from_residual.ensures (subst (λ (xs : List Entry). is_defined (user_defs xs) name ≡ false) c.self.view_is none)

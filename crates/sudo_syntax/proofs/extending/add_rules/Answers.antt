@@ -11,7 +11,7 @@ use Rattle.sudo_syntax.specs.declared.fault.LineFault.TheVariants as fault
 use Rattle.sudo_syntax.specs.Policy.{IsPolicy}
 use Rattle.sudo_syntax.specs.Reading as reading
 use Rattle.sudo_syntax.proofs.PolicyFronts.{policy_front}
-use Rattle.sudo_syntax.proofs.extending.with_rules.Goals as goal
+use Rattle.sudo_syntax.proofs.extending.add_rules.Goals as goal
 
 -- what a loop over a vector has taken, and what is left
 taken : {X Z : Type 0} (s : IntoIter X Z) (xs : List X) (t : IntoIter X Z) → Yields (into_iter_steps {X = X} {Z = Z}) s xs t → into_iter_items s ≡ xs ++ into_iter_items t
@@ -26,9 +26,9 @@ rules_split base seen rest rule =
     ∙ sym (append_assoc base (map entries.Rule seen) (entries.Rule rule ∷ map entries.Rule rest))
     ∙ sym (append_assoc (reading.with_rules base seen) (entries.Rule rule ∷ []) (map entries.Rule rest))
 
-pub returns-in_err-policy-clause-only : goal.returns-in_err-policy-clause-only
-returns-in_err-policy-clause-only c = λ whole.
-    let base = c.args.base in
+pub returns-in_err-add-clause-only : goal.returns-in_err-add-clause-only
+returns-in_err-add-clause-only c = λ whole.
+    let base = c.args.draft.now.entries.items in
     let rule = c.in-Some.rule in
     let seen = c.loop-rule.yielded in
     let rest = into_iter_items c.next.new.self in
@@ -37,7 +37,7 @@ returns-in_err-policy-clause-only c = λ whole.
     ∙ ap (λ (rs : List Rule). seen ++ rs) c.in-Some.ensures.steps.0 in
     let split = subst IsPolicy (rules_split base seen rest rule) (subst (λ (rs : List Rule). IsPolicy (reading.with_rules base rs)) all whole) in
     let front = policy_front (reading.with_rules base seen ++ entries.Rule rule ∷ []) (map entries.Rule rest) split in
-    let here = subst (λ (xs : List Entry). IsPolicy (xs ++ entries.Rule rule ∷ [])) (sym c.loop-rule.invariant) front in
+    let here = subst (λ (xs : List Entry). IsPolicy (xs ++ entries.Rule rule ∷ [])) (sym c.loop-rule.invariant.entries) front in
     let p = err_from_is_err_and c.from_residual.result c.from_residual.ensures.1 in
-    let memory : c.in_err-policy.field-0.0 ≡ fault.NoMemory = c.in_err-policy.ensures.only here in
+    let memory : c.in_err-add.field-0.0 ≡ fault.NoMemory = c.in_err-add.ensures.only here in
     rw (p.1, p.2) memory
