@@ -1,5 +1,5 @@
 -- A roster, and the same in texts.
-use Rattle.std.proofs.Common.{◌≡◌, ◌≤◌, ℕ, ◌∙◌, ◌&&◌, true, false, List, [], ◌∷◌, Some, map, length, nat_le, refl, sym, ap, ap₂}
+use Rattle.std.proofs.Common.{◌≡◌, ◌≤◌, ℕ, ◌∙◌, ◌&&◌, true, List, [], ◌∷◌, Some, map, length, nat_le, refl, sym, ap, ap₂}
 use Rattle.std.specs.Prelude.{All}
 use Rattle.std.specs.List.{list_all}
 use Rattle.std.proofs.lemmas.List.{length-map}
@@ -8,12 +8,10 @@ use Rattle.std.proofs.lemmas.List.Folds.{list_all-map}
 use Rattle.std.proofs.lemmas.Bool.{and_parts, leb-true}
 use Rattle.sudo_words.specs.Command.{IsLawful, cmnd_text}
 use Rattle.sudo_words.specs.declared.cmnd.Cmnd.{Cmnd}
-use Rattle.toml.specs.Data.{Members}
-use Rattle.toml.specs.Parse.{parse_document}
-use Rattle.roster.specs.Document.{has_known_keys, fields_of}
 use Rattle.roster.specs.Faults.{IsRosterText}
 use Rattle.roster.specs.Fields.{CeilingFields, RosterFields, entry_in_texts, in_texts}
 use Rattle.roster.specs.Rules.{IsCmndText, IsNamedCeiling, GoodNames, good_names, are_known, has_self_conflict, in_range, is_ranged, is_within, is_known_ceiling, is_known_pair, is_among, has_counts, has_ceiling_counts}
+use Rattle.roster.specs.Stages.{IsDraftOf, KeepsRules}
 
 commands_in_texts : (cs : List Cmnd) → All IsLawful cs → All IsCmndText (map cmnd_text cs)
 commands_in_texts cs a = All-map IsCmndText cmnd_text cs (All-weaker IsLawful (λ c. IsCmndText (cmnd_text c)) (λ c l. (c, l, refl)) cs a)
@@ -58,18 +56,17 @@ range_in_texts text f =
     ap₂ (λ n b. nat_le (length text) 1_048_576 && has_counts f && (nat_le n 1024 && b)) (length-map f.ceilings entry_in_texts) (ranged_in_texts f.ceilings)
 
 -- a roster is what its text says in texts
-pub roster_text : (text : List ℕ) (document : Members) (t : RosterFields (List ℕ)) (f : RosterFields Cmnd)
-    → parse_document text ≡ Some document → has_known_keys document ≡ true → fields_of document ≡ Some t
-    → GoodNames IsLawful f → in_texts f ≡ t → are_known t ≡ true → has_self_conflict t ≡ false → in_range text t ≡ true → IsRosterText text f
-roster_text text document t f toml keys types names same known apart range = record {
-  document = document;
-  toml = toml;
-  keys = keys;
-  types = types ∙ ap Some (sym same);
+pub roster_text : (text : List ℕ) (t : RosterFields (List ℕ)) (f : RosterFields Cmnd)
+    → IsDraftOf text t → GoodNames IsLawful f → in_texts f ≡ t → KeepsRules text t → IsRosterText text f
+roster_text text t f draft names same rules = record {
+  document = draft.document;
+  toml = draft.toml;
+  keys = draft.keys;
+  types = draft.types ∙ ap Some (sym same);
   names = names;
-  known = sym (known_in_texts f) ∙ ap are_known same ∙ known;
-  apart = sym (apart_in_texts f) ∙ ap has_self_conflict same ∙ apart;
-  range = sym (range_in_texts text f) ∙ ap (in_range text) same ∙ range;
+  known = sym (known_in_texts f) ∙ ap are_known same ∙ rules.known;
+  apart = sym (apart_in_texts f) ∙ ap has_self_conflict same ∙ rules.apart;
+  range = sym (range_in_texts text f) ∙ ap (in_range text) same ∙ rules.range;
 }
 
 -- a roster has a relay

@@ -27,7 +27,6 @@ fn word<F: Form>(alloc: Global, text: &Text) -> Result<Word<F>, RosterFault>
     }
 }
 
-#[tactic(auto, using(std::proofs::lemmas::List::Folds::list_all_at, std::proofs::lemmas::List::Folds::list_all_more))]
 fn words<F: Form>(alloc: Global, texts: &[Text]) -> Result<Items<Word<F>>, RosterFault>
     ensures { Checks BadName (list_all F.has texts.now) texts.now result }
 {
@@ -47,7 +46,6 @@ fn pair(alloc: Global, pair: &(Text, Text)) -> Result<(Label, Label), RosterFaul
     Ok((first, second))
 }
 
-#[tactic(auto, using(std::proofs::lemmas::List::Folds::list_all_at, std::proofs::lemmas::List::Folds::list_all_more))]
 fn pairs(alloc: Global, texts: &[(Text, Text)]) -> Result<Items<(Label, Label)>, RosterFault>
     ensures { Checks BadName (list_all is_named_pair texts.now) texts.now result }
 {
@@ -67,7 +65,6 @@ fn person(alloc: Global, person: &(Text, Items<Text>)) -> Result<(Name, Items<La
     Ok((name, duties))
 }
 
-#[tactic(auto, using(std::proofs::lemmas::List::Folds::list_all_at, std::proofs::lemmas::List::Folds::list_all_more))]
 fn people(
     alloc: Global,
     texts: &[(Text, Items<Text>)],

@@ -5,8 +5,11 @@ ghost use Rattle.toml.specs.Parse.{parse_document};
 ghost use Rattle.toml.specs.View.{table_view};
 ghost use Rattle.roster.specs.Faults.{IsLeastFault, IsRosterText};
 ghost use Rattle.roster.specs.Relations.{IsOrdered};
+ghost use Rattle.roster.specs.Rules.{GoodNames, IsCmndText};
+ghost use Rattle.roster.specs.Stages.{IsDraftOf, KeepsRules};
 ghost use Rattle.roster.specs.declared.fault.RosterFault.TheVariants.{NoMemory, NotToml};
 
+use crate::draft::Draft;
 use crate::fault::RosterFault;
 use crate::keys::has_known_keys;
 use crate::named::said_of;
@@ -30,27 +33,58 @@ fn document(alloc: Global, text: &str) -> Result<Table, RosterFault>
     }
 }
 
+/// The least fault of what the draft says, where each of its texts in a name's place is such a name.
+fn tested(text: &str, draft: &Draft) -> Result<(), RosterFault>
+    requires draft { IsDraftOf text.now draft.now }
+    requires named { GoodNames IsCmndText draft.now }
+    ensures kept { IfOk result (λ _. KeepsRules text.now draft.now) }
+    ensures least { IfErr result (IsLeastFault text.now) }
+{
+    if !knows_names(draft) {
+        return Err(RosterFault::UnknownName);
+    }
+    if has_self_conflict(draft) {
+        return Err(RosterFault::SelfConflict);
+    }
+    if !is_in_range(text, draft) {
+        return Err(RosterFault::OutOfRange);
+    }
+    Ok(())
+}
+
+/// What the draft of a text says by names and commands, or the least of the text's faults.
+fn said_by_draft(alloc: Global, text: &str, draft: &Draft) -> Result<Said, RosterFault>
+    requires draft { IsDraftOf text.now draft.now }
+    requires ordered { IsOrdered draft.now }
+    ensures found { IfOk result (λ s. IsRosterText text.now s) }
+    ensures ordered { IfOk result IsOrdered }
+    ensures least { IfErr result (λ e. e ≢ NoMemory → IsLeastFault text.now e) }
+{
+    let said = said_of(alloc, draft)?;
+    tested(text, draft)?;
+    Ok(said)
+}
+
+/// What the document of a text says that is a roster's, or the least of the text's faults.
+fn said_by_document(alloc: Global, text: &str, table: &Table) -> Result<Said, RosterFault>
+    requires { parse_document text.now ≡ Some (table_view table.now) }
+    ensures found { IfOk result (λ s. IsRosterText text.now s) }
+    ensures ordered { IfOk result IsOrdered }
+    ensures least { IfErr result (λ e. e ≢ NoMemory → IsLeastFault text.now e) }
+{
+    if !has_known_keys(table) {
+        return Err(RosterFault::UnknownKey);
+    }
+    let draft = draft_of(alloc, table)?;
+    said_by_draft(alloc, text, &draft)
+}
+
 /// What a text says that is a roster's, or the least of its faults.
-#[tactic(auto, using(crate::proofs::Texts::roster_text, crate::proofs::Rising::ordered_in_texts))]
 pub(crate) fn said_by(alloc: Global, text: &str) -> Result<Said, RosterFault>
     ensures found { IfOk result (λ s. IsRosterText text.now s) }
     ensures ordered { IfOk result IsOrdered }
     ensures least { IfErr result (λ e. e ≢ NoMemory → IsLeastFault text.now e) }
 {
     let table = document(alloc, text)?;
-    if !has_known_keys(&table) {
-        return Err(RosterFault::UnknownKey);
-    }
-    let draft = draft_of(alloc, &table)?;
-    let said = said_of(alloc, &draft)?;
-    if !knows_names(&draft) {
-        return Err(RosterFault::UnknownName);
-    }
-    if has_self_conflict(&draft) {
-        return Err(RosterFault::SelfConflict);
-    }
-    if !is_in_range(text, &draft) {
-        return Err(RosterFault::OutOfRange);
-    }
-    Ok(said)
+    said_by_document(alloc, text, &table)
 }

@@ -4,7 +4,7 @@ ghost use Rattle.std.specs.Prelude.{◌≡◌, Some, None, IfOk, MatchResult};
 ghost use Rattle.toml.specs.Data.{as_str, get_member, table as data_table};
 ghost use Rattle.toml.specs.View.{view, items_view, members_view, table_view};
 ghost use Rattle.roster.specs.Document as document;
-ghost use Rattle.roster.specs.Document.{each_item, each_member, as_pair, texts_of, pair_of, pairs_of, people_of, number_of, ceiling_of, ceilings_of, fields_of};
+ghost use Rattle.roster.specs.Document.{each_item, each_member, as_pair, texts_of, pair_of, pairs_of, people_of, number_of, ceiling_of, ceilings_of, member_of, fields_of};
 ghost use Rattle.roster.specs.Relations.{AreRising, IsOrdered};
 ghost use Rattle.roster.specs.Stages.{Reads};
 ghost use Rattle.roster.specs.declared.fault.RosterFault.TheVariants.{WrongType};
@@ -132,17 +132,35 @@ fn number(value: &Value) -> Result<u64, RosterFault>
     }
 }
 
+fn text_at(alloc: Global, table: &Table, key: &str) -> Result<Text, RosterFault>
+    ensures { Reads WrongType (member_of as_str key.now (table_view table.now)) result }
+{
+    text(alloc, value_at(table, key)?)
+}
+
+fn texts_at(alloc: Global, table: &Table, key: &str) -> Result<Items<Text>, RosterFault>
+    ensures { Reads WrongType (member_of texts_of key.now (table_view table.now)) result }
+{
+    texts(alloc, value_at(table, key)?)
+}
+
+fn number_at(table: &Table, key: &str) -> Result<u64, RosterFault>
+    ensures { Reads WrongType (member_of number_of key.now (table_view table.now)) result }
+{
+    number(value_at(table, key)?)
+}
+
 #[tactic(auto, unfolding(crate::specs::Document::ceiling_of))]
 fn ceiling_in(alloc: Global, table: &Table) -> Result<DraftCeiling, RosterFault>
     ensures { Reads WrongType (ceiling_of (data_table (table_view table.now))) result }
 {
-    let ask = text(alloc, value_at(table, "ask")?)?;
-    let approve = text(alloc, value_at(table, "approve")?)?;
-    let needs = number(value_at(table, "needs")?)?;
-    let hosts = texts(alloc, value_at(table, "hosts")?)?;
-    let runas = texts(alloc, value_at(table, "runas")?)?;
-    let commands = texts(alloc, value_at(table, "commands")?)?;
-    let longest = number(value_at(table, "longest")?)?;
+    let ask = text_at(alloc, table, "ask")?;
+    let approve = text_at(alloc, table, "approve")?;
+    let needs = number_at(table, "needs")?;
+    let hosts = texts_at(alloc, table, "hosts")?;
+    let runas = texts_at(alloc, table, "runas")?;
+    let commands = texts_at(alloc, table, "commands")?;
+    let longest = number_at(table, "longest")?;
     Ok(DraftCeiling {
         ask,
         approve,
@@ -187,18 +205,46 @@ fn ceilings(alloc: Global, value: &Value) -> Result<Items<(Text, DraftCeiling)>,
     }
 }
 
+fn pairs_at(alloc: Global, table: &Table, key: &str) -> Result<Items<(Text, Text)>, RosterFault>
+    ensures { Reads WrongType (member_of pairs_of key.now (table_view table.now)) result }
+{
+    pairs(alloc, value_at(table, key)?)
+}
+
+fn people_at(
+    alloc: Global,
+    table: &Table,
+    key: &str,
+) -> Result<Items<(Text, Items<Text>)>, RosterFault>
+    ensures reads { Reads WrongType (member_of people_of key.now (table_view table.now)) result }
+    ensures rising { IfOk result AreRising }
+{
+    people(alloc, value_at(table, key)?)
+}
+
+fn ceilings_at(
+    alloc: Global,
+    table: &Table,
+    key: &str,
+) -> Result<Items<(Text, DraftCeiling)>, RosterFault>
+    ensures reads { Reads WrongType (member_of ceilings_of key.now (table_view table.now)) result }
+    ensures rising { IfOk result AreRising }
+{
+    ceilings(alloc, value_at(table, key)?)
+}
+
 /// What the document says, where no key is missing and each value has its type.
 #[tactic(auto, unfolding(crate::specs::Document::fields_of))]
 pub(crate) fn draft_of(alloc: Global, table: &Table) -> Result<Draft, RosterFault>
     ensures reads { Reads WrongType (fields_of (table_view table.now)) result }
     ensures ordered { IfOk result IsOrdered }
 {
-    let relays = texts(alloc, value_at(table, "relays")?)?;
-    let hosts = texts(alloc, value_at(table, "hosts")?)?;
-    let duties = texts(alloc, value_at(table, "duties")?)?;
-    let conflicts = pairs(alloc, value_at(table, "conflicts")?)?;
-    let people = people(alloc, value_at(table, "people")?)?;
-    let ceilings = ceilings(alloc, value_at(table, "ceilings")?)?;
+    let relays = texts_at(alloc, table, "relays")?;
+    let hosts = texts_at(alloc, table, "hosts")?;
+    let duties = texts_at(alloc, table, "duties")?;
+    let conflicts = pairs_at(alloc, table, "conflicts")?;
+    let people = people_at(alloc, table, "people")?;
+    let ceilings = ceilings_at(alloc, table, "ceilings")?;
     Ok(Draft {
         relays,
         hosts,
