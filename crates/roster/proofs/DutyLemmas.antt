@@ -33,7 +33,7 @@ any_weaker p q weaker (x ∷ xs) e = ⊎_elim
     (λ a. other (q x) (list_any q xs) (any_weaker p q weaker xs a))
     (or_cases (p x) (list_any p xs) e)
 
-any_same : {X : Type 0} (p q : X → Bool) → ((x : X) → p x ≡ q x) → (xs : List X) → list_any p xs ≡ list_any q xs
+pub any_same : {X : Type 0} (p q : X → Bool) → ((x : X) → p x ≡ q x) → (xs : List X) → list_any p xs ≡ list_any q xs
 any_same p q alike [] = refl
 any_same p q alike (x ∷ xs) = ap₂ (λ a b. a || b) (alike x) (any_same p q alike xs)
 

@@ -5,3 +5,4 @@ pub mod FaultLemmas
 pub mod DutyLemmas
 pub mod Order
 pub mod Rising
+pub mod PairLemmas

@@ -77,7 +77,7 @@ absent (x ∷ es) name none =
     ap (λ b. if b then Some x.1 else entry_of es name) (texts_ties x.0 name ∙ none 0 x (omega arith))
     ∙ absent es name (λ k d l. none (suc k) d (omega arith))
 
-same_place : {X : Type 0} (xs : List X) (i : ℕ) (d e : X) → i < length xs → get_or xs i d ≡ get_or xs i e
+pub same_place : {X : Type 0} (xs : List X) (i : ℕ) (d e : X) → i < length xs → get_or xs i d ≡ get_or xs i e
 same_place [] i d e l = absurd (omega arith)
 same_place (x ∷ xs) zero d e l = refl
 same_place (x ∷ xs) (suc i) d e l = same_place xs i d e (omega arith)

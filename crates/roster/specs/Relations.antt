@@ -1,9 +1,10 @@
 -- Who holds which duty, which duties conflict, who may approve and who may revoke (NIST SP 800-53 AC-5).
 use Rattle.std.specs.Prelude.{◌≡◌, ℕ, List, [], ◌∷◌, Option, Some, None, if◌then◌else◌, Bool, true, not, ◌&&◌, ◌||◌, is_some}
 use Rattle.std.specs.List.{list_all, list_any}
-use Rattle.std.specs.List.Sorted.{IsStrictlySortedBy}
+use Rattle.std.specs.List.Sorted.{IsPermutation, IsSorted, IsStrictlySortedBy}
 use Rattle.std.specs.Map.{keys_of}
-use Rattle.std.specs.Ordering.{nat_cmp, is_lt}
+use Rattle.std.specs.declared.cmp.Ordering.{Ordering}
+use Rattle.std.specs.Ordering.{nat_cmp, is_lt, ordering_then}
 use Rattle.std.specs.Cmp.Lexicographic.{slice_cmp}
 use Rattle.std.specs.Str.{bytes_eq}
 use Rattle.roster.specs.Fields.{CeilingFields, RosterFields}
@@ -26,9 +27,13 @@ duties_of f person = or_none (entry_of f.people person)
 abbrev pub holds : {C : Type 0} → RosterFields C → (person duty : List ℕ) → Bool
 holds f person duty = is_among (duties_of f person) duty
 
+-- the pair is of these two, this way round
+abbrev pub is_pair : (first second : List ℕ) → List ℕ × List ℕ → Bool
+is_pair first second p = bytes_eq p.0 first && bytes_eq p.1 second
+
 -- the pair is of these two, either way round
 abbrev pub joins : (first second : List ℕ) → List ℕ × List ℕ → Bool
-joins first second p = (bytes_eq p.0 first && bytes_eq p.1 second) || (bytes_eq p.0 second && bytes_eq p.1 first)
+joins first second p = is_pair first second p || is_pair second first p
 
 -- the roster lists the two duties as a pair
 abbrev pub conflicting : {C : Type 0} → RosterFields C → (first second : List ℕ) → Bool
@@ -74,3 +79,15 @@ AreRising entries = IsStrictlySortedBy (slice_cmp nat_cmp) (keys_of entries)
 pub record IsOrdered {C : Type 0} (f : RosterFields C) : Type 0 where
   pub people : AreRising f.people
   pub ceilings : AreRising f.ceilings
+
+-- pairs in byte order: by the first of the two, then by the second
+abbrev pub pair_order : (p q : List ℕ × List ℕ) → Ordering
+pair_order p q = ordering_then (slice_cmp nat_cmp p.0 q.0) (slice_cmp nat_cmp p.1 q.1)
+
+abbrev pub AreInOrder : List (List ℕ × List ℕ) → Type 0
+AreInOrder pairs = IsSorted pair_order pairs
+
+-- the same pairs, in that order
+pub record IsInOrder (pairs ordered : List (List ℕ × List ℕ)) : Type 0 where
+  pub same : IsPermutation pairs ordered
+  pub rising : AreInOrder ordered

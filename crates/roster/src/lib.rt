@@ -7,6 +7,7 @@ mod fault;
 mod keys;
 mod laws;
 mod named;
+mod pairs;
 mod read;
 mod relations;
 mod roster;

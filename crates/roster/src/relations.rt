@@ -1,7 +1,6 @@
 //! Look-ups in what a roster says. They take no memory.
 
 ghost use Rattle.std.specs.Prelude.{◌≡◌, ◌≤◌, length, option_map};
-ghost use Rattle.std.specs.List.{list_any};
 ghost use Rattle.roster.specs.Relations as relations;
 ghost use Rattle.roster.specs.Rules as rules;
 
@@ -44,26 +43,6 @@ pub(crate) fn duties_of<'p>(people: &'p [(Name, Items<Label>)], person: &Name) -
         Some(duties) => duties.as_slice(),
         None => &[],
     }
-}
-
-fn joins(pair: &(Label, Label), first: &Label, second: &Label) -> bool
-    ensures { result ≡ relations.joins first.now second.now pair.now }
-{
-    (pair.0 == *first && pair.1 == *second) || (pair.0 == *second && pair.1 == *first)
-}
-
-/// Whether one of the pairs is of the two duties, either way round.
-pub(crate) fn are_paired(pairs: &[(Label, Label)], first: &Label, second: &Label) -> bool
-    ensures { result ≡ list_any (relations.joins first.now second.now) pairs.now }
-{
-    pairs.iter().any(|p| joins(p, first, second))
-}
-
-/// Whether one of the duties is paired with this one.
-pub(crate) fn is_one_paired(pairs: &[(Label, Label)], duties: &[Label], duty: &Label) -> bool
-    ensures { result ≡ list_any (λ d. list_any (relations.joins d duty.now) pairs.now) duties.now }
-{
-    duties.iter().any(|d| are_paired(pairs, d, duty))
 }
 
 /// The first of the words in byte order.

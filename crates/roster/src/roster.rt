@@ -10,8 +10,9 @@ ghost use Rattle.roster.specs.declared.fault.RosterFault.TheVariants.{NoMemory};
 
 use crate::ceiling::Ceiling;
 use crate::fault::RosterFault;
+use crate::pairs::{are_paired, in_order, is_one_paired};
 use crate::read::said_by;
-use crate::relations::{are_paired, duties_of, entry_of, first_of, is_among, is_one_paired};
+use crate::relations::{duties_of, entry_of, first_of, is_among};
 use crate::said::Said;
 use std::alloc::Global;
 use std::marker::Model;
@@ -25,19 +26,21 @@ use sudo_words::{HostName, Items, Label, Name};
 pub struct Roster {
     text: String,
     said: Said,
+    /// The conflicts once more, in the order in which they are looked up.
+    pairs: Items<(Label, Label)>,
 }
 
 impl Model for Roster {
     ghost use Rattle.std.specs.Prelude.{string_bytes};
     ghost use Rattle.roster.specs.Fields.{Reading};
     ghost use Rattle.roster.specs.Faults.{IsRosterText};
-    ghost use Rattle.roster.specs.Relations.{IsOrdered};
+    ghost use Rattle.roster.specs.Relations.{IsInOrder, IsOrdered};
 
     ghost Value = { Reading };
 
     ghost view = { λ r. record { text = string_bytes r.text; says = r.said } };
 
-    ghost invariant = { λ r. IsRosterText (string_bytes r.text) r.said × IsOrdered r.said };
+    ghost invariant = { λ r. IsRosterText (string_bytes r.text) r.said × IsOrdered r.said × IsInOrder r.said.conflicts r.pairs };
 }
 
 impl Roster {
@@ -52,8 +55,9 @@ impl Roster {
         ensures least { IfErr result (λ e. e ≢ NoMemory → IsLeastFault text.now e) }
     {
         let said = said_by(alloc, text)?;
+        let pairs = in_order(&said.conflicts)?;
         let text = String::from_str(alloc, text)?;
-        Ok(Roster { text, said })
+        Ok(Roster { text, said, pairs })
     }
 
     /// The text that was read.
@@ -126,7 +130,7 @@ impl Roster {
     pub fn conflicting(&self, first: &Label, second: &Label) -> bool
         ensures { result ≡ relations.conflicting self.now.says first.now second.now }
     {
-        are_paired(self.conflicts(), first, second)
+        are_paired(self.pairs.as_slice(), first, second)
     }
 
     /// Whether the person may approve or refuse what the asker asked for under the ceiling: the person is someone else,
@@ -151,6 +155,10 @@ impl Roster {
     fn holds_against(&self, person: &Name, duty: &Label) -> bool
         ensures { result ≡ relations.holds_against self.now.says person.now duty.now }
     {
-        is_one_paired(self.conflicts(), duties_of(self.people(), person), duty)
+        is_one_paired(
+            self.pairs.as_slice(),
+            duties_of(self.people(), person),
+            duty,
+        )
     }
 }

@@ -1,0 +1,59 @@
+//! Pairs of duties, looked up by halving in their order.
+
+ghost use Rattle.std.specs.Prelude.{◌≡◌, IfOk};
+ghost use Rattle.std.specs.List.{list_any};
+ghost use Rattle.roster.specs.Relations as relations;
+
+use std::alloc::AllocError;
+use std::cmp::Ordering;
+use sudo_words::{Items, Label};
+
+/// The same pairs in their order; an error where memory runs out.
+pub(crate) fn in_order(pairs: &Items<(Label, Label)>) -> Result<Items<(Label, Label)>, AllocError>
+    ensures { IfOk result (relations.IsInOrder pairs.now) }
+{
+    let mut ordered = pairs.clone()?.into_vec();
+    ordered.sort_unstable();
+    Ok(Items::new(ordered))
+}
+
+fn compare(pair: &(Label, Label), first: &Label, second: &Label) -> Ordering
+    ensures { result ≡ relations.pair_order pair.now (first.now, second.now) }
+{
+    pair.0.cmp(first).then(pair.1.cmp(second))
+}
+
+/// Whether one of the pairs is of the two duties, this way round.
+fn has_pair(ordered: &[(Label, Label)], first: &Label, second: &Label) -> bool
+    requires { relations.AreInOrder ordered.now }
+    ensures { result ≡ list_any (relations.is_pair first.now second.now) ordered.now }
+{
+    let mut low = 0;
+    let mut high = ordered.len();
+    'halves: while low < high {
+        let middle = low + (high - low) / 2;
+        let pair = &ordered[middle];
+        match compare(pair, first, second) {
+            Ordering::Less => low = middle + 1,
+            Ordering::Equal => return true,
+            Ordering::Greater => high = middle,
+        }
+    }
+    false
+}
+
+/// Whether one of the pairs is of the two duties, either way round.
+pub(crate) fn are_paired(ordered: &[(Label, Label)], first: &Label, second: &Label) -> bool
+    requires { relations.AreInOrder ordered.now }
+    ensures { result ≡ list_any (relations.joins first.now second.now) ordered.now }
+{
+    has_pair(ordered, first, second) || has_pair(ordered, second, first)
+}
+
+/// Whether one of the duties is paired with this one.
+pub(crate) fn is_one_paired(ordered: &[(Label, Label)], duties: &[Label], duty: &Label) -> bool
+    requires { relations.AreInOrder ordered.now }
+    ensures { result ≡ list_any (λ d. list_any (relations.joins d duty.now) ordered.now) duties.now }
+{
+    duties.iter().any(|d| are_paired(ordered, d, duty))
+}
