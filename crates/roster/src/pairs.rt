@@ -43,6 +43,7 @@ fn has_pair(ordered: &[(Label, Label)], first: &Label, second: &Label) -> bool
 }
 
 /// Whether one of the pairs is of the two duties, either way round.
+#[tactic(auto, using(crate::proofs::PairLemmas::either_way_round))]
 pub(crate) fn are_paired(ordered: &[(Label, Label)], first: &Label, second: &Label) -> bool
     requires { relations.AreInOrder ordered.now }
     ensures { result ≡ list_any (relations.joins first.now second.now) ordered.now }
