@@ -1,7 +1,7 @@
 #!/usr/bin/env python3
 """Prints a roster of just under 1 MiB (docs/ROSTER.md): 64 relays, 1,024 hosts, 256 duties, 4,096 conflicts, 4,096 people with two duties each, and 1,024 ceilings.
 
-What is left of the text goes to the ceilings, to the first of them as far as it fits: with `commands` 256 commands each, with `hosts` 256 hosts
+What is left of the text goes to the ceilings, to the last of them as far as it fits: with `commands` 256 commands each, with `hosts` 256 hosts
 each. With `duties` it goes to the people, up to 256 duties each.
 """
 
@@ -46,7 +46,7 @@ def roster(what):
     ceilings = [ceiling(n, [n % 1_024], [f"/bin/t{n}"]) for n in range(1_024)]
     left = MOST - sum(map(len, head + people + ceilings))
     rows = people if what == "duties" else ceilings
-    for n in range(len(rows)):
+    for n in reversed(range(len(rows))):
         if what == "duties":
             more = person(n, spread(256, 256, n))
         elif what == "hosts":
