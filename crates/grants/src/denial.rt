@@ -1,0 +1,49 @@
+//! Why a message is not admitted.
+
+use std::error::Error;
+use std::fmt;
+
+/// Why the roster does not admit a message. It is shown as its code and name.
+///
+/// Where several apply, the one with the least number is answered.
+#[derive(Clone, Copy, Debug, PartialEq, Eq)]
+pub enum Denial {
+    /// Who sends it is no person of the roster; or of a verdict, who asked is none.
+    UnknownPerson,
+    /// The roster has no ceiling of the label.
+    UnknownCeiling,
+    /// Who asks does not hold the duty that the ceiling wants of whoever asks.
+    NotAsker,
+    /// A host is not among the ceiling's.
+    HostOutside,
+    /// The target is not among the ceiling's.
+    RunasOutside,
+    /// A command lies inside no command of the ceiling.
+    CommandOutside,
+    /// The window is longer than the ceiling's longest.
+    WindowTooLong,
+    /// The window begins before the request was made, or ends before it begins.
+    WindowBackwards,
+}
+
+impl fmt::Display for Denial {
+    ghost use Rattle.std.specs.Prelude.{Some};
+    ghost use Rattle.grants.specs.Denials.{denial_text};
+
+    ghost output = { λ d. Some (denial_text d) };
+
+    fn fmt<W: fmt::Write>(&self, f: &mut fmt::Formatter<W>) -> fmt::Result {
+        f.write_str(match self {
+            Denial::UnknownPerson => "A1 UnknownPerson",
+            Denial::UnknownCeiling => "A2 UnknownCeiling",
+            Denial::NotAsker => "A3 NotAsker",
+            Denial::HostOutside => "A4 HostOutside",
+            Denial::RunasOutside => "A5 RunasOutside",
+            Denial::CommandOutside => "A6 CommandOutside",
+            Denial::WindowTooLong => "A7 WindowTooLong",
+            Denial::WindowBackwards => "A8 WindowBackwards",
+        })
+    }
+}
+
+impl Error for Denial {}
