@@ -3,7 +3,18 @@ use Rattle.std.specs.Prelude.{ℕ, List, codes}
 use Rattle.grants.specs.declared.denial.Denial.{Denial}
 use Rattle.grants.specs.declared.denial.Denial.TheVariants.{UnknownPerson, UnknownCeiling, NotAsker, HostOutside, RunasOutside, CommandOutside, WindowTooLong, WindowBackwards}
 
--- what a denial is shown as
+-- the number in a denial's code
+abbrev pub number : Denial → ℕ
+number UnknownPerson = 1
+number UnknownCeiling = 2
+number NotAsker = 3
+number HostOutside = 4
+number RunasOutside = 5
+number CommandOutside = 6
+number WindowTooLong = 7
+number WindowBackwards = 8
+
+-- how a denial is printed
 abbrev pub denial_text : Denial → List ℕ
 denial_text UnknownPerson = codes "A1 UnknownPerson"
 denial_text UnknownCeiling = codes "A2 UnknownCeiling"

@@ -1,1 +1,5 @@
+pub mod Reach
 pub mod Denials
+pub mod Admission
+pub mod Privilege
+pub mod Forms

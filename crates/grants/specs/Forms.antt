@@ -1,0 +1,23 @@
+-- Which commands reach no further than another, by cases on their forms. For private clauses: `is_inside` is proved equal to inclusion.
+use Rattle.std.specs.Prelude.{Bool, true, false, ◌&&◌}
+use Rattle.std.specs.Str.{bytes_eq}
+use Rattle.std.specs.Cmp.Lexicographic.{pointwise}
+use Rattle.sudo_words.specs.Command.{is_directly_in}
+use Rattle.sudo_words.specs.declared.cmnd.Cmnd.{Cmnd}
+use Rattle.sudo_words.specs.declared.cmnd.Cmnd.TheVariants.{All, Path, Dir}
+use Rattle.sudo_words.specs.declared.cmnd.ArgRule.{ArgRule}
+use Rattle.sudo_words.specs.declared.cmnd.ArgRule.TheVariants.{Any, Empty, Exactly}
+
+-- the one allows no arguments that the other does not
+abbrev pub rule_inside : (inner outer : ArgRule) → Bool
+rule_inside r Any = true
+rule_inside Empty Empty = true
+rule_inside (Exactly a) (Exactly b) = pointwise bytes_eq a b
+rule_inside r s = false
+
+abbrev pub is_inside : (inner outer : Cmnd) → Bool
+is_inside k All = true
+is_inside (Path f r) (Path g s) = bytes_eq f g && rule_inside r s
+is_inside (Path f r) (Dir d) = is_directly_in d f
+is_inside (Dir d) (Dir e) = bytes_eq d e
+is_inside k c = false

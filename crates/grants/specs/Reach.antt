@@ -1,0 +1,27 @@
+-- What a command reaches, and which commands reach no further than another.
+use Rattle.std.specs.Prelude.{◌≡◌, ℕ, ◌≤◌, true, false, List, length}
+use Rattle.std.specs.List.{AllByRecursion}
+use Rattle.sudo_words.specs.Word.{is_file_path, is_arg}
+use Rattle.sudo_words.specs.Command.{matches}
+use Rattle.sudo_words.specs.declared.cmnd.Cmnd.{Cmnd}
+
+-- the arguments of an invocation
+abbrev pub AreArgs : List (List ℕ) → Type 0
+AreArgs args = AllByRecursion (λ arg. is_arg arg ≡ true) args × (length args ≤ 64)
+
+-- The command reaches a path with arguments: somebody may run them, and the command matches them (sudoers(5), "Command arguments").
+pub record Reaches (cmnd : Cmnd) (path : List ℕ) (args : List (List ℕ)) : Type 0 where
+  pub path_is : is_file_path path ≡ true
+  pub args_are : AreArgs args
+  pub matches_it : matches cmnd path args ≡ true
+
+-- The one lies inside the other: whatever the one reaches, the other reaches too.
+abbrev pub LiesInside : (inner outer : Cmnd) → Type 0
+LiesInside inner outer = (path : List ℕ) (args : List (List ℕ)) → Reaches inner path args → Reaches outer path args
+
+-- something that the one reaches, and the other does not match
+pub record ReachesBeyond (inner outer : Cmnd) : Type 0 where
+  pub path : List ℕ
+  pub args : List (List ℕ)
+  pub reached : Reaches inner path args
+  pub not_matched : matches outer path args ≡ false

@@ -1,0 +1,132 @@
+//! Admission: what the roster lets a message ask for.
+
+ghost use Rattle.std.specs.Prelude.{◌≡◌, ◌↔◌, ◌+◌, ◌<◌, ◌⊎◌, IsOk, IsTrue, MatchResult, All};
+ghost use Rattle.std.specs.List.{list_all, list_any};
+ghost use Rattle.sudo_words.specs.Command.{IsLawful};
+ghost use Rattle.messages.specs.Fields.{IsRequest};
+ghost use Rattle.messages.specs.declared.message.Message.TheVariants as message_of;
+ghost use Rattle.roster.specs.Rules.{is_among};
+ghost use Rattle.grants.specs.Admission.{Admits, AdmitsRequest, AdmitsVerdict, IsDenial, MayAskUnder};
+ghost use Rattle.grants.specs.Forms as forms;
+ghost use Rattle.grants.specs.declared.denial.Denial.{Denial as AnyDenial};
+
+use crate::denial::Denial;
+use crate::within::form_inside;
+use messages::{Message, Request, Verdict};
+use roster::{Ceiling, Roster};
+use sudo_words::Cmnd;
+
+/// The ceiling that the request names, where who asks is listed and may ask under it.
+fn ceiling_for<'r>(roster: &'r Roster, request: &Request) -> Result<&'r Ceiling, Denial>
+    ensures { MatchResult result (λ c. MayAskUnder roster.now.says request.now c.now) (λ d. IsDenial roster.now.says (message_of.Request request.now) d) }
+{
+    if !roster.has_person(request.by()) {
+        return Err(Denial::UnknownPerson);
+    }
+    let Some(ceiling) = roster.ceiling(request.ceiling()) else {
+        return Err(Denial::UnknownCeiling);
+    };
+    if !roster.holds(request.by(), ceiling.ask()) {
+        return Err(Denial::NotAsker);
+    }
+    Ok(ceiling)
+}
+
+/// Whether each host is among the ceiling's.
+fn hosts_inside(request: &Request, ceiling: &Ceiling) -> bool
+    ensures { result ≡ list_all (is_among ceiling.now.hosts) request.now.hosts }
+{
+    request
+        .hosts()
+        .iter()
+        .all(|host| ceiling.hosts().contains(host))
+}
+
+/// Whether the target is among the ceiling's.
+fn target_inside(request: &Request, ceiling: &Ceiling) -> bool
+    ensures value { result ≡ is_among ceiling.now.runas request.now.runas }
+    ensures request { IsRequest request.now }
+{
+    ceiling.runas().contains(request.runas())
+}
+
+/// Whether the command lies inside one of these.
+fn lies_inside_one(cmnd: &Cmnd, commands: &[Cmnd]) -> bool
+    ensures { result ≡ list_any (forms.is_inside cmnd.now) commands.now }
+{
+    commands.iter().any(|c| form_inside(cmnd, c))
+}
+
+/// Whether each command lies inside one of the ceiling's.
+fn commands_inside(request: &Request, ceiling: &Ceiling) -> bool
+    ensures value { result ≡ list_all (λ k. list_any (forms.is_inside k) ceiling.now.commands) request.now.cmnds }
+    ensures lawful { All IsLawful ceiling.now.commands }
+{
+    let commands = ceiling.commands();
+    request
+        .cmnds()
+        .iter()
+        .all(|cmnd| lies_inside_one(cmnd, commands))
+}
+
+/// Whether the window is longer than the ceiling's longest.
+fn is_too_long(request: &Request, ceiling: &Ceiling) -> bool
+    ensures { IsTrue result ↔ (request.now.from + ceiling.now.longest < request.now.until) }
+{
+    let length = request.until().secs().saturating_sub(request.from().secs());
+    length > ceiling.longest()
+}
+
+/// Whether the window begins before the request was made, or ends before it begins.
+fn is_backwards(request: &Request) -> bool
+    ensures { IsTrue result ↔ ((request.now.from < request.now.at) ⊎ (request.now.until < request.now.from)) }
+{
+    request.from() < request.at() || request.until() < request.from()
+}
+
+/// Admits the request, or says the first denial that applies to it. It takes no memory.
+pub(crate) fn admit_request(roster: &Roster, request: &Request) -> Result<(), Denial>
+    ensures { MatchResult result (λ _. AdmitsRequest roster.now.says request.now) (λ d. IsDenial roster.now.says (message_of.Request request.now) d) }
+{
+    let ceiling = ceiling_for(roster, request)?;
+    if !hosts_inside(request, ceiling) {
+        return Err(Denial::HostOutside);
+    }
+    if !target_inside(request, ceiling) {
+        return Err(Denial::RunasOutside);
+    }
+    if !commands_inside(request, ceiling) {
+        return Err(Denial::CommandOutside);
+    }
+    if is_too_long(request, ceiling) {
+        return Err(Denial::WindowTooLong);
+    }
+    if is_backwards(request) {
+        return Err(Denial::WindowBackwards);
+    }
+    Ok(())
+}
+
+/// Admits the verdict, where the roster lists who gives it and who asked.
+fn admit_verdict(roster: &Roster, verdict: &Verdict) -> Result<(), Denial>
+    ensures { MatchResult result (λ _. AdmitsVerdict roster.now.says verdict.now) (λ d. IsDenial roster.now.says (message_of.Verdict verdict.now) d) }
+{
+    if roster.has_person(verdict.by()) && roster.has_person(verdict.of()) {
+        Ok(())
+    } else {
+        Err(Denial::UnknownPerson)
+    }
+}
+
+/// Admits the message, or says the first denial that applies to it. It takes no memory.
+pub fn admit(roster: &Roster, message: &Message) -> Result<(), Denial>
+    // It is admitted exactly where the roster admits it.
+    ensures admitted { IsOk result ↔ Admits roster.now.says message.now }
+    // A denial is answered exactly where it is the first that applies.
+    ensures denied { (d : AnyDenial) → (result ≡ Err d) ↔ IsDenial roster.now.says message.now d }
+{
+    match message {
+        Message::Request(request) => admit_request(roster, request),
+        Message::Verdict(verdict) => admit_verdict(roster, verdict),
+    }
+}

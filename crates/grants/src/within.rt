@@ -1,0 +1,55 @@
+//! Which commands reach no further than another.
+
+ghost use Rattle.std.specs.Prelude.{◌≡◌, ◌↔◌, IsTrue, IsFalse, false};
+ghost use Rattle.std.specs.Str.{bytes_eq};
+ghost use Rattle.std.specs.Cmp.Lexicographic.{pointwise};
+ghost use Rattle.sudo_words.specs.Command.{IsLawful};
+ghost use Rattle.grants.specs.Forms as forms;
+ghost use Rattle.grants.specs.Reach.{LiesInside, ReachesBeyond};
+
+use sudo_words::{Arg, ArgRule, Cmnd};
+
+fn same_args(args: &[Arg], wanted: &[Arg]) -> bool
+    ensures { result ≡ pointwise bytes_eq args.now wanted.now }
+{
+    args == wanted
+}
+
+fn rule_inside(inner: &ArgRule, outer: &ArgRule) -> bool
+    ensures { result ≡ forms.rule_inside inner.now outer.now }
+{
+    match (inner, outer) {
+        (_, ArgRule::Any) => true,
+        (ArgRule::Empty, ArgRule::Empty) => true,
+        (ArgRule::Exactly(args), ArgRule::Exactly(wanted)) => {
+            same_args(args.as_slice(), wanted.as_slice())
+        }
+        _ => false,
+    }
+}
+
+/// Whether the one lies inside the other, by cases on their forms.
+pub(crate) fn form_inside(inner: &Cmnd, outer: &Cmnd) -> bool
+    ensures { result ≡ forms.is_inside inner.now outer.now }
+{
+    match (inner, outer) {
+        (_, Cmnd::All) => true,
+        (Cmnd::Path(file, rule), Cmnd::Path(other, wanted)) => {
+            file == other && rule_inside(rule, wanted)
+        }
+        (Cmnd::Path(file, _), Cmnd::Dir(_)) => outer.matches(file, &[]),
+        (Cmnd::Dir(dir), Cmnd::Dir(other)) => dir == other,
+        _ => false,
+    }
+}
+
+/// Whether all that the one command reaches is reached by the other. It takes no memory.
+#[tactic(auto, using(crate::proofs::Inclusion::exact, crate::proofs::Inclusion::beyond))]
+pub fn is_inside(inner: &Cmnd, outer: &Cmnd) -> bool
+    // For the commands that policies hold it is inclusion of what they reach.
+    ensures exact { IsLawful inner.now → IsLawful outer.now → IsTrue result ↔ LiesInside inner.now outer.now }
+    // Where it is not inside, there is something that the one reaches and the other does not match.
+    ensures beyond { IsLawful inner.now → IsLawful outer.now → result ≡ false → ReachesBeyond inner.now outer.now }
+{
+    form_inside(inner, outer)
+}
