@@ -7,7 +7,7 @@ use Rattle.std.proofs.lemmas.List.Elements.{All-contains}
 use Rattle.std.proofs.lemmas.Option.{same_Some, none-some}
 use Rattle.sudo_words.specs.Command.{IsLawful}
 use Rattle.sudo_words.specs.declared.cmnd.Cmnd.{Cmnd}
-use Rattle.messages.specs.Fields.{RequestFields, IsRequest}
+use Rattle.messages.specs.Fields.{RequestFields}
 use Rattle.messages.specs.declared.message.Message.TheVariants.{Request}
 use Rattle.roster.specs.Fields.{CeilingFields, RosterFields}
 use Rattle.roster.specs.Relations.{ceiling_at, has_person, holds}
@@ -18,6 +18,7 @@ use Rattle.grants.specs.Admission.{LiesInsideOne, IsWithin, MayAskUnder, AdmitsR
 use Rattle.grants.specs.declared.denial.Denial.{Denial}
 use Rattle.grants.specs.declared.denial.Denial.TheVariants.{UnknownPerson, UnknownCeiling, NotAsker, HostOutside, RunasOutside, CommandOutside, WindowTooLong, WindowBackwards}
 use Rattle.grants.proofs.Inclusion.{exact}
+use Rattle.grants.proofs.Witnesses.{inside}
 use Rattle.grants.proofs.Members.{each_passes, one_fails, one_passes, passes, member, no_member}
 
 -- ---- denials by their numbers
@@ -40,7 +41,7 @@ at_its_number WindowBackwards = refl
 pub same_denial : (d e : Denial) → number d ≡ number e → d ≡ e
 same_denial d e same = sym (at_its_number d) ∙ ap denial_at same ∙ at_its_number e
 
-none_below_one : (d : Denial) → number d < 1 → ⊥
+pub none_below_one : (d : Denial) → number d < 1 → ⊥
 none_below_one UnknownPerson l = omega arith
 none_below_one UnknownCeiling l = omega arith
 none_below_one NotAsker l = omega arith
@@ -113,32 +114,28 @@ module _ (f : RosterFields Cmnd) (r : RequestFields) where
     as_target m inside target = below_next (λ d. ¬ DeniesRequest f r d) RunasOutside (on_hosts m inside)
         (not_under c (λ k. ¬ Contains k.runas r.runas) m.ceiling_is (λ h. h target))
 
-    lies_inside : All IsLawful c.commands → (k : Cmnd) → IsLawful k → list_any (is_inside k) c.commands ≡ true → LiesInsideOne c.commands k
-    lies_inside lawful k hk e =
-        let one = one_passes (is_inside k) c.commands e in
-        (one.0, one.1, (exact k one.0 hk (All-contains IsLawful c.commands one.0 lawful one.1)).0 one.2)
+    lies_inside : (k : Cmnd) → list_any (is_inside k) c.commands ≡ true → LiesInsideOne c.commands k
+    lies_inside k e = let one = one_passes (is_inside k) c.commands e in (one.0, one.1, inside k one.0 one.2)
 
     lies_in_none : All IsLawful c.commands → (k : Cmnd) → IsLawful k → list_any (is_inside k) c.commands ≡ false → ¬ LiesInsideOne c.commands k
     lies_in_none lawful k hk e h =
         both_ways (list_any (is_inside k) c.commands) e
         (passes (is_inside k) c.commands h.0 h.1 ((exact k h.0 hk (All-contains IsLawful c.commands h.0 lawful h.1)).1 h.2))
 
-    pub command_outside : MayAskUnder f r c → list_all (is_among c.hosts) r.hosts ≡ true → is_among c.runas r.runas ≡ true → IsRequest r → All IsLawful c.commands
+    pub command_outside : MayAskUnder f r c → list_all (is_among c.hosts) r.hosts ≡ true → is_among c.runas r.runas ≡ true → All IsLawful r.cmnds → All IsLawful c.commands
         → list_all (λ k. list_any (is_inside k) c.commands) r.cmnds ≡ false → IsDenial f (Request r) CommandOutside
-    command_outside m e t request lawful outside =
+    command_outside m e t lawful lawful_ones outside =
         let one = one_fails (λ k. list_any (is_inside k) c.commands) r.cmnds outside in
-        let lawful_one = All-contains IsLawful r.cmnds one.0 request.cmnds.1 one.1 in
         record {
-          applies = (c, m.ceiling_is, (one.0, one.1, lies_in_none lawful one.0 lawful_one one.2));
+          applies = (c, m.ceiling_is, (one.0, one.1, lies_in_none lawful_ones one.0 (All-contains IsLawful r.cmnds one.0 lawful one.1) one.2));
           first = as_target m (hosts_inside e) (member c.runas r.runas t);
         }
 
-    pub within : list_all (is_among c.hosts) r.hosts ≡ true → is_among c.runas r.runas ≡ true → IsRequest r → All IsLawful c.commands
-        → list_all (λ k. list_any (is_inside k) c.commands) r.cmnds ≡ true → IsWithin r c
-    within e t request lawful inside = record {
+    pub within : list_all (is_among c.hosts) r.hosts ≡ true → is_among c.runas r.runas ≡ true → list_all (λ k. list_any (is_inside k) c.commands) r.cmnds ≡ true → IsWithin r c
+    within e t commands = record {
       hosts = hosts_inside e;
       target = member c.runas r.runas t;
-      commands = λ k m. lies_inside lawful k (All-contains IsLawful r.cmnds k request.cmnds.1 m) (each_passes (λ x. list_any (is_inside x) c.commands) r.cmnds inside k m);
+      commands = λ k m. lies_inside k (each_passes (λ x. list_any (is_inside x) c.commands) r.cmnds commands k m);
     }
 
     by_command : MayAskUnder f r c → IsWithin r c → Clear 7

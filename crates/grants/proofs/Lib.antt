@@ -5,3 +5,7 @@ pub mod Inclusion
 pub mod Members
 pub mod AdmissionLemmas
 pub mod Answering
+pub mod FormLaws
+pub mod Privileges
+pub mod SomeAnswer
+pub mod WorkedSite

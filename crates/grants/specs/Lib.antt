@@ -3,3 +3,4 @@ pub mod Denials
 pub mod Admission
 pub mod Privilege
 pub mod Forms
+pub mod WorkedAdmission

@@ -15,15 +15,15 @@ pub record AsksFor (r : RequestFields) (host target path : List ℕ) (args : Lis
   pub of_request : Contains r.cmnds cmnd
   pub reaches_it : Reaches cmnd path args
 
--- So much lies inside the ceiling.
-pub record Holds (c : CeilingFields Cmnd) (host target path : List ℕ) (args : List (List ℕ)) : Type 0 where
+-- So much the ceiling allows.
+pub record CeilingAllows (c : CeilingFields Cmnd) (host target path : List ℕ) (args : List (List ℕ)) : Type 0 where
   pub host_is : Contains c.hosts host
   pub target_is : Contains c.runas target
   pub cmnd : Cmnd
   pub of_ceiling : Contains c.commands cmnd
   pub reaches_it : Reaches cmnd path args
 
--- The second ceiling holds all of the first, for those who may ask under the first.
+-- The second ceiling allows all that the first allows, for those who may ask under the first.
 pub record IsWider (c d : CeilingFields Cmnd) : Type 0 where
   pub ask : d.ask ≡ c.ask
   pub hosts : (host : List ℕ) → Contains c.hosts host → Contains d.hosts host

@@ -3,7 +3,6 @@
 ghost use Rattle.std.specs.Prelude.{◌≡◌, ◌↔◌, ◌+◌, ◌<◌, ◌⊎◌, IsOk, IsTrue, MatchResult, All};
 ghost use Rattle.std.specs.List.{list_all, list_any};
 ghost use Rattle.sudo_words.specs.Command.{IsLawful};
-ghost use Rattle.messages.specs.Fields.{IsRequest};
 ghost use Rattle.messages.specs.declared.message.Message.TheVariants as message_of;
 ghost use Rattle.roster.specs.Rules.{is_among};
 ghost use Rattle.grants.specs.Admission.{Admits, AdmitsRequest, AdmitsVerdict, IsDenial, MayAskUnder};
@@ -44,8 +43,7 @@ fn hosts_inside(request: &Request, ceiling: &Ceiling) -> bool
 
 /// Whether the target is among the ceiling's.
 fn target_inside(request: &Request, ceiling: &Ceiling) -> bool
-    ensures value { result ≡ is_among ceiling.now.runas request.now.runas }
-    ensures request { IsRequest request.now }
+    ensures { result ≡ is_among ceiling.now.runas request.now.runas }
 {
     ceiling.runas().contains(request.runas())
 }
@@ -60,7 +58,8 @@ fn lies_inside_one(cmnd: &Cmnd, commands: &[Cmnd]) -> bool
 /// Whether each command lies inside one of the ceiling's.
 fn commands_inside(request: &Request, ceiling: &Ceiling) -> bool
     ensures value { result ≡ list_all (λ k. list_any (forms.is_inside k) ceiling.now.commands) request.now.cmnds }
-    ensures lawful { All IsLawful ceiling.now.commands }
+    ensures lawful { All IsLawful request.now.cmnds }
+    ensures lawful_ones { All IsLawful ceiling.now.commands }
 {
     let commands = ceiling.commands();
     request

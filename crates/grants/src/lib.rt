@@ -2,9 +2,15 @@
 #![tactic(auto)]
 
 mod admission;
+mod admission_laws;
 mod denial;
 mod within;
+mod within_laws;
 
 pub use admission::admit;
+pub use admission_laws::{
+    least_privilege, more_admits_more, one_answer, worked_requests, worked_windows,
+};
 pub use denial::Denial;
 pub use within::is_inside;
+pub use within_laws::{forms_of_inclusion, worked_inclusions};

@@ -1,0 +1,8 @@
+use Rattle.grants.proofs.Privileges.{wider, more}
+use Rattle.grants.proofs.admission_laws.more_admits_more.Goals as goal
+
+pub returns-clause-ceiling : goal.returns-clause-ceiling
+returns-clause-ceiling c = wider
+
+pub returns-clause-roster : goal.returns-clause-roster
+returns-clause-roster c = more
