@@ -38,7 +38,7 @@ within d w h =
     (ap is_component (drop_front d w) ∙ h)
 
 reached : (d w : List ℕ) → IsLawful (Dir d) → are_components w ≡ true → is_component w ≡ true → length w ≡ 1 → Reaches (Dir d) (d ++ w) []
-reached d w hd comps comp one = record { path_is = file_in d w hd comps one; args_are = (tt, omega arith); matches_it = within d w comp }
+reached d w hd comps comp one = record { path_is = file_in d w hd comps one; args_are = tt; matches_it = within d w comp }
 
 pub dir_beyond_file : (d g : List ℕ) (s : ArgRule) → IsLawful (Dir d) → ReachesBeyond (Dir d) (Path g s)
 dir_beyond_file d g s hd =
@@ -52,12 +52,14 @@ dir_beyond_file d g s hd =
           record {
             path = d ++ 98 ∷ [];
             args = [];
+            few = omega arith;
             reached = reached d (98 ∷ []) hd refl refl refl;
             not_matched = and_left (bytes_eq (d ++ 98 ∷ []) g) _ other;
           }
       | inr differ ↦ record {
         path = d ++ 97 ∷ [];
         args = [];
+        few = omega arith;
         reached = reached d (97 ∷ []) hd refl refl refl;
         not_matched = and_left (bytes_eq (d ++ 97 ∷ []) g) _ differ;
       }
@@ -106,6 +108,7 @@ pub dir_beyond_dir : (d e : List ℕ) → IsLawful (Dir d) → IsLawful (Dir e) 
 dir_beyond_dir d e hd he differ = record {
   path = d ++ 97 ∷ [];
   args = [];
+  few = omega arith;
   reached = reached d (97 ∷ []) hd refl refl refl;
   not_matched = false_from_ne_true _ (λ h. both_ways _ differ ((bytes_eq-Decides d e).1 (one_dir d e hd.head.0 he.head.0 h)));
 }

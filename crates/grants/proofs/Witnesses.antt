@@ -52,9 +52,13 @@ inside k c e path args r = record { path_is = r.path_is; args_are = r.args_are; 
 
 -- ---- witnesses
 
+-- the arguments of a witness
+abbrev AreFewArgs : List (List ℕ) → Type 0
+AreFewArgs args = AreArgs args × (length args ≤ 64)
+
 record RuleBeyond (r s : ArgRule) : Type 0 where
   args : List (List ℕ)
-  are : AreArgs args
+  are : AreFewArgs args
   allowed : allows r args ≡ true
   not_allowed : allows s args ≡ false
 
@@ -62,7 +66,7 @@ none_wanted : (b : List (List ℕ)) → 1 ≤ length b → pointwise bytes_eq []
 none_wanted [] h = absurd (omega (arith, h))
 none_wanted (x ∷ b) h = refl
 
-listed : (a : List (List ℕ)) → IsArgRule (Exactly a) → AreArgs a
+listed : (a : List (List ℕ)) → IsArgRule (Exactly a) → AreFewArgs a
 listed a h = (h.0, omega (arith, h.2))
 
 rule_beyond : (r s : ArgRule) → IsArgRule r → IsArgRule s → rule_inside r s ≡ false → RuleBeyond r s
@@ -74,7 +78,7 @@ rule_beyond Any (Exactly b) hr hs e = record { args = []; are = (tt, omega arith
 rule_beyond Empty (Exactly b) hr hs e = record { args = []; are = (tt, omega arith); allowed = refl; not_allowed = none_wanted b hs.1 }
 rule_beyond (Exactly a) (Exactly b) hr hs e = record { args = a; are = listed a hr; allowed = args_same a; not_allowed = e }
 
-some_args : (r : ArgRule) → IsArgRule r → (args : List (List ℕ)) × AreArgs args × (allows r args ≡ true)
+some_args : (r : ArgRule) → IsArgRule r → (args : List (List ℕ)) × AreFewArgs args × (allows r args ≡ true)
 some_args Any h = ([], (tt, omega arith), refl)
 some_args Empty h = ([], (tt, omega arith), refl)
 some_args (Exactly a) h = (a, listed a h, args_same a)
@@ -90,7 +94,8 @@ beyond_file f g r s hf hg e =
           record {
             path = f;
             args = some.0;
-            reached = record { path_is = hf.head.0; args_are = some.1; matches_it = and_from (bytes_eq f f) _ (bytes_same f) some.2 };
+            few = some.1.1;
+            reached = record { path_is = hf.head.0; args_are = some.1.0; matches_it = and_from (bytes_eq f f) _ (bytes_same f) some.2 };
             not_matched = and_left (bytes_eq f g) _ differ;
           }
       | inr few ↦
@@ -98,7 +103,8 @@ beyond_file f g r s hf hg e =
           record {
             path = f;
             args = beyond.args;
-            reached = record { path_is = hf.head.0; args_are = beyond.are; matches_it = and_from (bytes_eq f f) _ (bytes_same f) beyond.allowed };
+            few = beyond.are.1;
+            reached = record { path_is = hf.head.0; args_are = beyond.are.0; matches_it = and_from (bytes_eq f f) _ (bytes_same f) beyond.allowed };
             not_matched = and_right (bytes_eq f g) _ beyond.not_allowed;
           }
     ]
@@ -110,7 +116,8 @@ beyond_dir f d r hf e =
     record {
       path = f;
       args = some.0;
-      reached = record { path_is = hf.head.0; args_are = some.1; matches_it = and_from (bytes_eq f f) _ (bytes_same f) some.2 };
+      few = some.1.1;
+      reached = record { path_is = hf.head.0; args_are = some.1.0; matches_it = and_from (bytes_eq f f) _ (bytes_same f) some.2 };
       not_matched = e;
     }
 
@@ -123,13 +130,15 @@ all_beyond_file g s =
           record {
             path = 47 ∷ 98 ∷ [];
             args = [];
-            reached = record { path_is = refl; args_are = (tt, omega arith); matches_it = refl };
+            few = omega arith;
+            reached = record { path_is = refl; args_are = tt; matches_it = refl };
             not_matched = and_left _ _ other;
           }
       | inr differ ↦ record {
         path = 47 ∷ 97 ∷ [];
         args = [];
-        reached = record { path_is = refl; args_are = (tt, omega arith); matches_it = refl };
+        few = omega arith;
+        reached = record { path_is = refl; args_are = tt; matches_it = refl };
         not_matched = and_left _ _ differ;
       }
     ]
@@ -152,6 +161,7 @@ all_beyond_dir d hd =
     record {
       path = 47 ∷ 97 ∷ [];
       args = [];
-      reached = record { path_is = refl; args_are = (tt, omega arith); matches_it = refl };
+      few = omega arith;
+      reached = record { path_is = refl; args_are = tt; matches_it = refl };
       not_matched = and_left _ _ apart;
     }

@@ -7,7 +7,7 @@ use Rattle.sudo_words.specs.declared.cmnd.Cmnd.{Cmnd}
 
 -- the arguments of an invocation
 abbrev pub AreArgs : List (List ℕ) → Type 0
-AreArgs args = AllByRecursion (λ arg. is_arg arg ≡ true) args × (length args ≤ 64)
+AreArgs args = AllByRecursion (λ arg. is_arg arg ≡ true) args
 
 -- The command reaches a path with arguments: somebody may run them, and the command matches them (sudoers(5), "Command arguments").
 pub record Reaches (cmnd : Cmnd) (path : List ℕ) (args : List (List ℕ)) : Type 0 where
@@ -19,9 +19,10 @@ pub record Reaches (cmnd : Cmnd) (path : List ℕ) (args : List (List ℕ)) : Ty
 abbrev pub LiesInside : (inner outer : Cmnd) → Type 0
 LiesInside inner outer = (path : List ℕ) (args : List (List ℕ)) → Reaches inner path args → Reaches outer path args
 
--- something that the one reaches, and the other does not match
+-- something that the one reaches with at most 64 arguments, as many as `desk decide` takes, and the other does not match
 pub record ReachesBeyond (inner outer : Cmnd) : Type 0 where
   pub path : List ℕ
   pub args : List (List ℕ)
+  pub few : length args ≤ 64
   pub reached : Reaches inner path args
   pub not_matched : matches outer path args ≡ false

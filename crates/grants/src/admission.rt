@@ -122,7 +122,7 @@ pub fn admit(roster: &Roster, message: &Message) -> Result<(), Denial>
     // It is admitted exactly where the roster admits it.
     ensures admitted { IsOk result ↔ Admits roster.now.says message.now }
     // A denial is answered exactly where it is the first that applies.
-    ensures denied { (d : AnyDenial) → (result ≡ Err d) ↔ IsDenial roster.now.says message.now d }
+    ensures denied { (d : AnyDenial) → ((result ≡ Err d) ↔ IsDenial roster.now.says message.now d) }
 {
     match message {
         Message::Request(request) => admit_request(roster, request),

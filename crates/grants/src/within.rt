@@ -47,7 +47,7 @@ pub(crate) fn form_inside(inner: &Cmnd, outer: &Cmnd) -> bool
 #[tactic(auto, using(crate::proofs::Inclusion::exact, crate::proofs::Inclusion::beyond))]
 pub fn is_inside(inner: &Cmnd, outer: &Cmnd) -> bool
     // For the commands that policies hold it is inclusion of what they reach.
-    ensures exact { IsLawful inner.now → IsLawful outer.now → IsTrue result ↔ LiesInside inner.now outer.now }
+    ensures exact { IsLawful inner.now → IsLawful outer.now → (IsTrue result ↔ LiesInside inner.now outer.now) }
     // Where it is not inside, there is something that the one reaches and the other does not match.
     ensures beyond { IsLawful inner.now → IsLawful outer.now → result ≡ false → ReachesBeyond inner.now outer.now }
 {

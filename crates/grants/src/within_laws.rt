@@ -15,7 +15,7 @@ pub fn forms_of_inclusion()
     ensures only_all { (c : AnyCmnd) → IsLawful c → LiesInside All c → c ≡ All }
     ensures directories { (d e : List ℕ) → IsLawful (Dir d) → IsLawful (Dir e) → LiesInside (Dir d) (Dir e) → d ≡ e }
     ensures not_in_file { (d f : List ℕ) (r : AnyRule) → IsLawful (Dir d) → IsLawful (Path f r) → ¬ LiesInside (Dir d) (Path f r) }
-    ensures file { (f d : List ℕ) (r : AnyRule) → IsLawful (Path f r) → IsLawful (Dir d) → LiesInside (Path f r) (Dir d) ↔ (is_directly_in d f ≡ true) }
+    ensures file { (f d : List ℕ) (r : AnyRule) → IsLawful (Path f r) → IsLawful (Dir d) → (LiesInside (Path f r) (Dir d) ↔ (is_directly_in d f ≡ true)) }
     ensures same_file { (f g : List ℕ) (r s : AnyRule) → IsLawful (Path f r) → IsLawful (Path g s) → LiesInside (Path f r) (Path g s) → f ≡ g }
 {}
 
