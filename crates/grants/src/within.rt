@@ -9,10 +9,14 @@ ghost use Rattle.grants.specs.Reach.{LiesInside, ReachesBeyond};
 
 use sudo_words::{Arg, ArgRule, Cmnd};
 
+/// Whether these are the arguments that are wanted. The last are looked at first: commands of one file mostly differ there.
 fn same_args(args: &[Arg], wanted: &[Arg]) -> bool
     ensures { result ≡ pointwise bytes_eq args.now wanted.now }
 {
-    args == wanted
+    match (args, wanted) {
+        ([.., last], [.., other]) if last != other => false,
+        _ => args == wanted,
+    }
 }
 
 fn rule_inside(inner: &ArgRule, outer: &ArgRule) -> bool
