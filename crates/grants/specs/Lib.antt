@@ -2,5 +2,5 @@ pub mod Reach
 pub mod Denials
 pub mod Admission
 pub mod Privilege
-pub mod Forms
 pub mod WorkedAdmission
+pub mod Forms

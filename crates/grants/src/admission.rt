@@ -17,7 +17,9 @@ use sudo_words::Cmnd;
 
 /// The ceiling that the request names, where who asks is listed and may ask under it.
 fn ceiling_for<'r>(roster: &'r Roster, request: &Request) -> Result<&'r Ceiling, Denial>
-    ensures { MatchResult result (λ c. MayAskUnder roster.now.says request.now c.now) (λ d. IsDenial roster.now.says (message_of.Request request.now) d) }
+    ensures { MatchResult result
+        (λ c. MayAskUnder roster.now.says request.now c.now)
+        (IsDenial roster.now.says (message_of.Request request.now)) }
 {
     if !roster.has_person(request.by()) {
         return Err(Denial::UnknownPerson);
@@ -59,7 +61,7 @@ fn lies_inside_one(cmnd: &Cmnd, commands: &[Cmnd]) -> bool
 fn commands_inside(request: &Request, ceiling: &Ceiling) -> bool
     ensures value { result ≡ list_all (λ k. list_any (forms.is_inside k) ceiling.now.commands) request.now.cmnds }
     ensures lawful { All IsLawful request.now.cmnds }
-    ensures lawful_ones { All IsLawful ceiling.now.commands }
+    ensures lawful_ceiling { All IsLawful ceiling.now.commands }
 {
     let commands = ceiling.commands();
     request
@@ -85,7 +87,9 @@ fn is_backwards(request: &Request) -> bool
 
 /// Admits the request, or says the first denial that applies to it. It takes no memory.
 pub(crate) fn admit_request(roster: &Roster, request: &Request) -> Result<(), Denial>
-    ensures { MatchResult result (λ _. AdmitsRequest roster.now.says request.now) (λ d. IsDenial roster.now.says (message_of.Request request.now) d) }
+    ensures { MatchResult result
+        (λ _. AdmitsRequest roster.now.says request.now)
+        (IsDenial roster.now.says (message_of.Request request.now)) }
 {
     let ceiling = ceiling_for(roster, request)?;
     if !hosts_inside(request, ceiling) {
@@ -108,7 +112,9 @@ pub(crate) fn admit_request(roster: &Roster, request: &Request) -> Result<(), De
 
 /// Admits the verdict, where the roster lists who gives it and who asked.
 fn admit_verdict(roster: &Roster, verdict: &Verdict) -> Result<(), Denial>
-    ensures { MatchResult result (λ _. AdmitsVerdict roster.now.says verdict.now) (λ d. IsDenial roster.now.says (message_of.Verdict verdict.now) d) }
+    ensures { MatchResult result
+        (λ _. AdmitsVerdict roster.now.says verdict.now)
+        (IsDenial roster.now.says (message_of.Verdict verdict.now)) }
 {
     if roster.has_person(verdict.by()) && roster.has_person(verdict.of()) {
         Ok(())

@@ -16,7 +16,7 @@ returns-then-not-target_inside c =
 pub returns-then-not-commands_inside : goal.returns-then-not-commands_inside
 returns-then-not-commands_inside c =
     command_outside c.args.roster.now.says c.args.request.now c.in_ok-ceiling.ceiling.now c.in_ok-ceiling.ensures (sym c.if-not-hosts_inside.ensures)
-    (sym c.if-not-target_inside.ensures) c.commands_inside.ensures.lawful c.commands_inside.ensures.lawful_ones (sym c.if-not-commands_inside.ensures.value)
+    (sym c.if-not-target_inside.ensures) c.commands_inside.ensures.lawful c.commands_inside.ensures.lawful_ceiling (sym c.if-not-commands_inside.ensures.value)
 
 pub returns-then-is_too_long : goal.returns-then-is_too_long
 returns-then-is_too_long c =
