@@ -55,6 +55,16 @@ wider r c d w within t = (
   record { short = omega (arith, t.short, w.longest); ahead = t.ahead; forward = t.forward },
 )
 
+pub listed : (c d : CeilingFields Cmnd) → d.ask ≡ c.ask → c.longest ≤ d.longest → ((host : List ℕ) → Contains c.hosts host → Contains d.hosts host)
+    → ((target : List ℕ) → Contains c.runas target → Contains d.runas target) → ((cmnd : Cmnd) → Contains c.commands cmnd → Contains d.commands cmnd) → IsWider c d
+listed c d ask longest hosts runas commands = record {
+  ask = ask;
+  hosts = hosts;
+  runas = runas;
+  commands = λ k m. (k, commands k m, λ path args reached. reached);
+  longest = longest;
+}
+
 pub more : (f g : RosterFields Cmnd) (m : Message) → GivesMore f g → Admits f m → Admits g m
 more f g (Request r) gives a =
     let next = gives.ceilings r.ceiling a.ceiling a.may_ask.ceiling_is in

@@ -1,6 +1,6 @@
 //! Laws of admission, each the contract of a function that does nothing.
 
-ghost use Rattle.std.specs.Prelude.{◌≡◌, ◌+◌, ◌≤◌, ◌⊎◌, ℕ, List, [], ◌∷◌, Some, codes};
+ghost use Rattle.std.specs.Prelude.{◌≡◌, ◌+◌, ◌≤◌, ◌⊎◌, ℕ, Contains, List, Some, codes};
 ghost use Rattle.sudo_words.specs.declared.cmnd.Cmnd.{Cmnd as AnyCmnd};
 ghost use Rattle.sudo_words.specs.declared.cmnd.Cmnd.TheVariants.{All, Dir};
 ghost use Rattle.messages.specs.Fields.{RequestFields, VerdictFields};
@@ -41,6 +41,13 @@ pub fn more_admits_more()
     ensures ceiling { (r : RequestFields) (c d : CeilingFields AnyCmnd) →
         IsWider c d → IsWithin r c → IsInTime r c → IsWithin r d × IsInTime r d }
     ensures roster { (f g : RosterFields AnyCmnd) (m : AnyMessage) → GivesMore f g → Admits f m → Admits g m }
+    // A ceiling is wider that lists more and has a longer window.
+    ensures listed { (c d : CeilingFields AnyCmnd) →
+        d.ask ≡ c.ask → c.longest ≤ d.longest →
+        ((host : List ℕ) → Contains c.hosts host → Contains d.hosts host) →
+        ((target : List ℕ) → Contains c.runas target → Contains d.runas target) →
+        ((cmnd : AnyCmnd) → Contains c.commands cmnd → Contains d.commands cmnd) →
+        IsWider c d }
 {}
 
 /// Worked windows: as long as the ceiling allows, and a second longer; of one moment; begun before it was asked for; ended
