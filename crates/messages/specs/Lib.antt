@@ -1,5 +1,6 @@
 pub mod Order
 pub mod Fields
+pub mod Names
 pub mod Shown
 pub mod Wire
 pub mod Canonical

@@ -11,6 +11,7 @@ mod message;
 mod order;
 mod read;
 mod request;
+mod same;
 mod text_laws;
 mod verdict;
 mod write;

@@ -1,8 +1,9 @@
 //! Requests.
 
-ghost use Rattle.std.specs.Prelude.{◌≡◌};
+ghost use Rattle.std.specs.Prelude.{◌≡◌, IfOk};
 ghost use Rattle.messages.specs.Fields.{IsRequest};
 
+use std::alloc::AllocError;
 use std::marker::Model;
 use sudo_words::{Cmnd, HostName, Label, Moment, Name};
 
@@ -106,5 +107,35 @@ impl Request {
         ensures request { IsRequest self.now }
     {
         self.until
+    }
+}
+
+fn copied_cmnds(cmnds: &Vec<Cmnd>) -> Result<Vec<Cmnd>, AllocError>
+    ensures { IfOk result (λ copy. copy.items ≡ cmnds.now.items) }
+{
+    cmnds.clone()
+}
+
+fn copied_hosts(hosts: &Vec<HostName>) -> Result<Vec<HostName>, AllocError>
+    ensures { IfOk result (λ copy. copy.items ≡ hosts.now.items) }
+{
+    hosts.clone()
+}
+
+impl Clone for Request {
+    ghost is_clone = { λ request copy. copy ≡ request };
+
+    fn clone(&self) -> Result<Request, AllocError> {
+        Ok(Request {
+            at: self.at,
+            by: self.by.clone()?,
+            ceiling: self.ceiling.clone()?,
+            cmnds: copied_cmnds(&self.cmnds)?,
+            from: self.from,
+            hosts: copied_hosts(&self.hosts)?,
+            no: self.no,
+            runas: self.runas.clone()?,
+            until: self.until,
+        })
     }
 }
