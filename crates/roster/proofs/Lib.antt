@@ -6,3 +6,4 @@ pub mod DutyLemmas
 pub mod Order
 pub mod Rising
 pub mod PairLemmas
+pub mod Ranges

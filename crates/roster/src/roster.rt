@@ -1,6 +1,6 @@
 //! Rosters.
 
-ghost use Rattle.std.specs.Prelude.{◌≡◌, ◌≢◌, IfOk, IfErr, MatchResult, option_map};
+ghost use Rattle.std.specs.Prelude.{◌≡◌, ◌≢◌, ◌≤◌, IfOk, IfErr, IfSome, MatchResult, option_map};
 ghost use Rattle.sudo_words.specs.declared.cmnd.Cmnd.{Cmnd};
 ghost use Rattle.roster.specs.Faults.{IsLeastFault, IsRosterText};
 ghost use Rattle.roster.specs.Fields.{RosterFields};
@@ -112,9 +112,10 @@ impl Roster {
         first_of(self.said.relays.as_slice())
     }
 
-    /// The ceiling of the label.
+    /// The ceiling of the label. One to three people must approve under it.
     pub fn ceiling(&self, label: &Label) -> Option<&Ceiling>
-        ensures { option_map (λ c. c.now) result ≡ relations.ceiling_at self.now.says label.now }
+        ensures value { option_map (λ c. c.now) result ≡ relations.ceiling_at self.now.says label.now }
+        ensures needs { IfSome result (λ c. (1 ≤ c.now.needs) × (c.now.needs ≤ 3)) }
     {
         entry_of(self.said.ceilings.as_slice(), label)
     }
