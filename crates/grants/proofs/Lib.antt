@@ -9,3 +9,9 @@ pub mod FormLaws
 pub mod Privileges
 pub mod SomeAnswer
 pub mod WorkedSite
+pub mod NthSteps
+pub mod MarkLemmas
+pub mod StandLemmas
+pub mod CountLemmas
+pub mod NthLemmas
+pub mod StatusLemmas

@@ -4,3 +4,10 @@ pub mod Admission
 pub mod Privilege
 pub mod WorkedAdmission
 pub mod Forms
+pub mod Verdicts
+pub mod Statuses
+pub mod Marks
+pub mod Summaries
+pub mod Ranks
+pub mod Voters
+pub mod Reached

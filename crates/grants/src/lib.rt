@@ -4,6 +4,12 @@
 mod admission;
 mod admission_laws;
 mod denial;
+mod marks;
+mod outcome;
+mod ranks;
+mod reached;
+mod summary;
+mod voters;
 mod within;
 mod within_laws;
 
@@ -12,5 +18,9 @@ pub use admission_laws::{
     least_privilege, more_admits_more, one_answer, worked_requests, worked_windows,
 };
 pub use denial::Denial;
+pub use marks::Mark;
+pub use outcome::{Status, Window};
+pub use reached::status;
+pub use summary::{Summary, apply, ask, ask_again};
 pub use within::is_inside;
 pub use within_laws::{forms_of_inclusion, worked_inclusions};

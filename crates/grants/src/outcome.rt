@@ -1,0 +1,29 @@
+//! What a request can come to.
+
+use sudo_words::Moment;
+
+/// An unbroken run of moments, by its first and its last.
+#[derive(Clone, Copy, Debug, PartialEq, Eq)]
+pub struct Window {
+    /// The first moment.
+    pub start: Moment,
+    /// The last moment, which is not before the first.
+    pub end: Moment,
+}
+
+/// What a request has come to: the first of these that applies.
+#[derive(Clone, Copy, Debug, PartialEq, Eq)]
+pub enum Status {
+    /// There are two different requests of its name.
+    Disputed,
+    /// The roster does not admit it.
+    Lapsed,
+    /// An eligible person refused it, not after it was complete.
+    Refused,
+    /// It is not complete.
+    Waiting,
+    /// It is complete, and is in force at no moment.
+    Void,
+    /// It is in force within this window.
+    Granted(Window),
+}

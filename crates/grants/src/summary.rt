@@ -1,0 +1,70 @@
+//! What a set of messages says of one request.
+
+ghost use Rattle.std.specs.Prelude.{◌≡◌, List, [], ◌∷◌, ◌++◌, IfOk, OnOk, OnErr};
+ghost use Rattle.messages.specs.Names.{SameName, IsAbout};
+ghost use Rattle.messages.specs.declared.message.Message.{Message as AnyMessage};
+ghost use Rattle.messages.specs.declared.message.Message.TheVariants as message_of;
+ghost use Rattle.grants.specs.Summaries.{StandsFor};
+
+use crate::marks::{Mark, note};
+use messages::{Request, Verdict, VerdictKind};
+use std::alloc::{AllocError, Global};
+use std::marker::Model;
+
+/// What the messages about one request say: a request of its name, whether there is another of that name, and of each
+/// person the earliest verdict of each kind.
+#[derive(Debug, Drop)]
+pub struct Summary {
+    pub(crate) request: Request,
+    pub(crate) is_disputed: bool,
+    pub(crate) approvals: Vec<Mark>,
+    pub(crate) refusals: Vec<Mark>,
+    pub(crate) revocations: Vec<Mark>,
+}
+
+impl Model for Summary {
+    ghost use Rattle.grants.specs.Summaries.{Kept};
+
+    ghost Value = { Kept };
+
+    ghost view = { λ s. record { request = s.request; is_disputed = s.is_disputed; approvals = s.approvals.items; refusals = s.refusals.items; revocations = s.revocations.items } };
+}
+
+/// The summary of the request alone.
+pub fn ask(alloc: Global, request: &Request) -> Result<Summary, AllocError>
+    ensures { IfOk result (λ s. StandsFor (message_of.Request request.now ∷ []) s) }
+{
+    Ok(Summary {
+        request: request.clone()?,
+        is_disputed: false,
+        approvals: Vec::new(alloc),
+        refusals: Vec::new(alloc),
+        revocations: Vec::new(alloc),
+    })
+}
+
+/// Adds a request of the same name: another one disputes it. It takes no memory.
+pub fn ask_again(s: &mut Summary, request: &Request)
+    requires { SameName request.now s.old.request }
+    // Where it stood for a set, it stands for the set with the request.
+    ensures { (set : List AnyMessage) → StandsFor set s.old → StandsFor (set ++ message_of.Request request.now ∷ []) s.new }
+{
+    if !s.request.is_same(request) {
+        s.is_disputed = true;
+    }
+}
+
+/// Adds a verdict about the request.
+pub fn apply(s: &mut Summary, verdict: &Verdict) -> Result<(), AllocError>
+    requires { IsAbout s.old.request verdict.now }
+    // Where it stood for a set, it stands for the set with the verdict.
+    ensures ok { (set : List AnyMessage) → StandsFor set s.old → OnOk result (StandsFor (set ++ message_of.Verdict verdict.now ∷ []) s.new) }
+    // A refusal of memory changes nothing.
+    ensures err { OnErr result (s.new ≡ s.old) }
+{
+    match verdict.kind() {
+        VerdictKind::Approve => note(&mut s.approvals, verdict.by(), verdict.at()),
+        VerdictKind::Refuse => note(&mut s.refusals, verdict.by(), verdict.at()),
+        VerdictKind::Revoke => note(&mut s.revocations, verdict.by(), verdict.at()),
+    }
+}

@@ -1,0 +1,35 @@
+//! Whose verdicts of a kind count.
+
+ghost use Rattle.std.specs.Prelude.{◌≡◌};
+ghost use Rattle.grants.specs.Voters.{counting};
+
+use crate::marks::Mark;
+use messages::VerdictKind;
+use roster::{Ceiling, Roster};
+use sudo_words::Name;
+
+/// Those whose verdicts of one kind count on what someone asked for under a ceiling.
+#[derive(Clone, Copy)]
+pub(crate) struct Voters<'a> {
+    pub(crate) roster: &'a Roster,
+    pub(crate) ceiling: &'a Ceiling,
+    pub(crate) kind: VerdictKind,
+    pub(crate) asker: &'a Name,
+}
+
+impl<'a> Voters<'a> {
+    /// Whether the verdict that the mark keeps counts (NIST SP 800-53 AC-5).
+    pub(crate) fn count(&self, mark: &Mark) -> bool
+        ensures { result ≡ counting self.now mark.now }
+    {
+        match self.kind {
+            VerdictKind::Approve | VerdictKind::Refuse => {
+                self.roster.eligible(&mark.person, self.asker, self.ceiling)
+            }
+            VerdictKind::Revoke => {
+                self.roster
+                    .may_revoke(&mark.person, self.asker, self.ceiling)
+            }
+        }
+    }
+}
