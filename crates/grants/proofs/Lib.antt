@@ -15,3 +15,5 @@ pub mod StandLemmas
 pub mod CountLemmas
 pub mod NthLemmas
 pub mod StatusLemmas
+pub mod StatusLaws
+pub mod CountingLaws

@@ -11,3 +11,4 @@ pub mod Summaries
 pub mod Ranks
 pub mod Voters
 pub mod Reached
+pub mod Counting

@@ -1,0 +1,44 @@
+//! Laws of what the messages about a request come to, each the contract of a function that does nothing.
+
+ghost use Rattle.std.specs.Prelude.{◌≡◌, ◌≢◌, ◌↔◌, [], ◌∷◌, ◌++◌, ℕ, List, true, false};
+ghost use Rattle.sudo_words.specs.declared.cmnd.Cmnd.{Cmnd};
+ghost use Rattle.messages.specs.Fields.{VerdictFields};
+ghost use Rattle.messages.specs.Names.{RequestName, SameMessages};
+ghost use Rattle.messages.specs.declared.message.Message.{Message};
+ghost use Rattle.messages.specs.declared.message.Message.TheVariants as message_of;
+ghost use Rattle.messages.specs.declared.kind.VerdictKind.TheVariants as kinds;
+ghost use Rattle.roster.specs.Fields.{CeilingFields, RosterFields};
+ghost use Rattle.roster.specs.Relations.{conflicting, holds};
+ghost use Rattle.grants.specs.Counting.{NeverCounts};
+ghost use Rattle.grants.specs.Statuses.{IsStatus};
+ghost use Rattle.grants.specs.Verdicts.{counts};
+ghost use Rattle.grants.specs.declared.outcome.Status.{Status};
+
+/// A set of messages gives a name at most one status. `status` gives it.
+pub fn one_status()
+    ensures { (f : RosterFields Cmnd) (set : List Message) (name : RequestName) (a b : Status) →
+        IsStatus f set name a → IsStatus f set name b → a ≡ b }
+{}
+
+/// Two lists of the same messages give a name the same status: neither order nor repeats mean anything.
+pub fn order_is_free()
+    ensures { (f : RosterFields Cmnd) (s t : List Message) (name : RequestName) (status : Status) →
+        SameMessages s t → IsStatus f s name status → IsStatus f t name status }
+{}
+
+/// A verdict that never counts may be added or taken away: no name's status changes.
+pub fn uncounted_changes_nothing()
+    ensures { (f : RosterFields Cmnd) (set : List Message) (v : VerdictFields) (name : RequestName) (status : Status) →
+        NeverCounts f set v → IsStatus f set name status ↔ IsStatus f (set ++ message_of.Verdict v ∷ []) name status }
+{}
+
+/// Separation of duties (NIST SP 800-53 AC-5): the asker's own approval or refusal never counts, nor that of somebody who
+/// holds a duty that conflicts with the approving duty; and without the approving duty nobody but the asker is heard at all.
+pub fn who_does_not_count()
+    ensures asker { (f : RosterFields Cmnd) (c : CeilingFields Cmnd) (v : VerdictFields) →
+        v.kind ≢ kinds.Revoke → v.by ≡ v.of → counts f c v ≡ false }
+    ensures conflict { (f : RosterFields Cmnd) (c : CeilingFields Cmnd) (v : VerdictFields) (duty : List ℕ) →
+        v.kind ≢ kinds.Revoke → holds f v.by duty ≡ true → conflicting f duty c.approve ≡ true → counts f c v ≡ false }
+    ensures without_duty { (f : RosterFields Cmnd) (c : CeilingFields Cmnd) (v : VerdictFields) →
+        v.by ≢ v.of → holds f v.by c.approve ≡ false → counts f c v ≡ false }
+{}
