@@ -17,3 +17,4 @@ pub mod NthLemmas
 pub mod StatusLemmas
 pub mod StatusLaws
 pub mod CountingLaws
+pub mod ApprovalLemmas

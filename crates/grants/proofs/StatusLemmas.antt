@@ -261,7 +261,7 @@ open_status f c set k (Some complete) at free is s =
     between f set k.request complete (end_of k.request.until (revocation f c k)) free is
     (ends f set k.request (revocation f c k) (revokes f c set k.request k.revocations at s.revocations (revocation f c k) refl))
 
-stands_alone : (set : List Message) (k : Kept) → k.is_disputed ≡ false → StandsFor set k → StandsAlone set k.request
+pub stands_alone : (set : List Message) (k : Kept) → k.is_disputed ≡ false → StandsFor set k → StandsAlone set k.request
 stands_alone set k single s = record { asked = s.asked; alone = s.alone single }
 
 pub admitted_is : (f : RosterFields Cmnd) (c : CeilingFields Cmnd) (set : List Message) (k : Kept) → IsUnder f k.request c → 1 ≤ c.needs → AdmitsRequest f k.request → k.is_disputed ≡ false → StandsFor set k → IsStatus f set (name_of k.request) (admitted_status f c k)

@@ -41,3 +41,8 @@ lowered person moment mark =
 abbrev pub noted : List ℕ → ℕ → List Mark → List Mark
 noted person moment marks =
     if is_among person marks then map (lowered person moment) marks else marks ++ record { person = person; at = moment } ∷ []
+
+-- ---- what a mark is shown as, for private clauses
+
+abbrev pub shown : Mark → List ℕ × ℕ
+shown mark = (mark.person, mark.at)

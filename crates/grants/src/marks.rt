@@ -1,9 +1,10 @@
 //! The earliest moment of each person's verdicts of one kind.
 
-ghost use Rattle.std.specs.Prelude.{◌≡◌, map, OnOk, OnErr};
+ghost use Rattle.std.specs.Prelude.{◌≡◌, map, IfOk, IsPermutation, IsSorted, OnOk, OnErr};
 ghost use Rattle.grants.specs.Marks as spec;
+ghost use Rattle.grants.specs.Summaries.{approval_cmp};
 
-use std::alloc::AllocError;
+use std::alloc::{AllocError, Global};
 use sudo_words::{Moment, Name};
 
 /// A person, and when the person's first verdict was given.
@@ -50,4 +51,24 @@ pub(crate) fn note(marks: &mut Vec<Mark>, person: &Name, at: Moment) -> Result<(
         marks.push(mark)?;
     }
     Ok(())
+}
+
+/// Each person with the moment, in the order of the marks.
+fn shown(alloc: Global, marks: &[Mark]) -> Result<Vec<(Name, Moment)>, AllocError>
+    ensures { IfOk result (λ list. list.items ≡ map spec.shown marks.now) }
+{
+    let mut list = Vec::new(alloc);
+    for mark in marks {
+        list.push((mark.person.clone()?, mark.at))?;
+    }
+    Ok(list)
+}
+
+/// Each person with the moment, by person and then by moment.
+pub(crate) fn in_order(alloc: Global, marks: &[Mark]) -> Result<Vec<(Name, Moment)>, AllocError>
+    ensures { IfOk result (λ list. IsPermutation (map spec.shown marks.now) list.items × IsSorted approval_cmp list.items) }
+{
+    let mut list = shown(alloc, marks)?;
+    list.sort_unstable();
+    Ok(list)
 }

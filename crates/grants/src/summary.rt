@@ -1,15 +1,17 @@
 //! What a set of messages says of one request.
 
-ghost use Rattle.std.specs.Prelude.{◌≡◌, List, [], ◌∷◌, ◌++◌, IfOk, OnOk, OnErr};
-ghost use Rattle.messages.specs.Names.{SameName, IsAbout};
+ghost use Rattle.std.specs.Prelude.{◌≡◌, List, [], ◌∷◌, ◌++◌, IfOk, IfSome, IfNone, OnOk, OnErr};
+ghost use Rattle.messages.specs.Names.{SameName, IsAbout, name_of};
 ghost use Rattle.messages.specs.declared.message.Message.{Message as AnyMessage};
 ghost use Rattle.messages.specs.declared.message.Message.TheVariants as message_of;
-ghost use Rattle.grants.specs.Summaries.{StandsFor};
+ghost use Rattle.grants.specs.Summaries.{AreApprovals, StandsFor};
+ghost use Rattle.grants.specs.Verdicts.{IsDisputed, StandsAlone};
 
-use crate::marks::{Mark, note};
+use crate::marks::{Mark, in_order, note};
 use messages::{Request, Verdict, VerdictKind};
 use std::alloc::{AllocError, Global};
 use std::marker::Model;
+use sudo_words::{Moment, Name};
 
 /// What the messages about one request say: a request of its name, whether there is another of that name, and of each
 /// person the earliest verdict of each kind.
@@ -28,6 +30,29 @@ impl Model for Summary {
     ghost Value = { Kept };
 
     ghost view = { λ s. record { request = s.request; is_disputed = s.is_disputed; approvals = s.approvals.items; refusals = s.refusals.items; revocations = s.revocations.items } };
+}
+
+impl Summary {
+    /// The request, where it is the only one of its name.
+    pub fn request(&self) -> Option<&Request>
+        ensures value { IfSome result (λ request. request.now ≡ self.now.request) }
+        // It is lent exactly where the set that the summary stands for has no other of its name.
+        ensures alone { (set : List AnyMessage) → StandsFor set self.now → IfSome result (λ request. StandsAlone set request.now) }
+        ensures disputed { (set : List AnyMessage) → StandsFor set self.now → IfNone result (IsDisputed set (name_of self.now.request)) }
+    {
+        if self.is_disputed {
+            None
+        } else {
+            Some(&self.request)
+        }
+    }
+
+    /// Who has approved and when first, whether it counts or not, by person and then by moment.
+    pub fn approvals(&self) -> Result<Vec<(Name, Moment)>, AllocError>
+        ensures { (set : List AnyMessage) → StandsFor set self.now → IfOk result (λ list. AreApprovals set self.now.request list.items) }
+    {
+        in_order(*self.approvals.allocator(), &self.approvals)
+    }
 }
 
 /// The summary of the request alone.
