@@ -3,7 +3,6 @@ use Rattle.std.proofs.Common.{◌≡◌, ◌≢◌, ℕ, ◌≤◌, ◌<◌, ◌
 use Rattle.std.specs.List.{Contains, AllByRecursion}
 use Rattle.std.specs.Str.{bytes_eq}
 use Rattle.std.proofs.lemmas.Bool.{and_parts, leb-true}
-use Rattle.std.proofs.lemmas.List.Elements.{Contains-append_cases, Contains-push_cases}
 use Rattle.std.proofs.lemmas.List.Sorted.{Contains-permutation, IsPermutation-sym}
 use Rattle.std.proofs.lemmas.Slice.Eq.{bytes_eq-Decides}
 use Rattle.messages.specs.Fields.{RequestFields, VerdictFields}
@@ -15,6 +14,7 @@ use Rattle.grants.specs.Marks.{AreOfDifferent, Keep, shown, verdict_of}
 use Rattle.grants.specs.Summaries.{AreApprovals, IsEarliest, approval_cmp}
 use Rattle.grants.specs.declared.marks.Mark.{Mark}
 use Rattle.grants.proofs.CountLemmas.{Has, has_weaker, has_from_any}
+use Rattle.grants.proofs.MemberCases.{nothing_there, cases_behind}
 use Rattle.grants.proofs.Members.{Contains-head, Contains-behind}
 
 -- ---- marks of a list, and what they are shown as
@@ -22,20 +22,10 @@ use Rattle.grants.proofs.Members.{Contains-head, Contains-behind}
 abbrev IsShown : List ℕ → ℕ → Mark → Type 0
 IsShown person moment r = (r.person ≡ person) × (r.at ≡ moment)
 
-nothing_there : (x : List ℕ × ℕ) → Contains [] x → ⊥
-nothing_there x m = omega (arith, m.1)
-
-cases_behind : (y x : List ℕ × ℕ) (ys : List (List ℕ × ℕ)) → Contains (y ∷ ys) x → (y ≡ x) ⊎ Contains ys x
-cases_behind y x ys m =
-    elim (Contains-append_cases (y ∷ []) ys x m) as (λ _. (y ≡ x) ⊎ Contains ys x) [
-      | inl here ↦ elim (Contains-push_cases [] y x here) as (λ _. (y ≡ x) ⊎ Contains ys x) [ inl none ↦ absurd (nothing_there x none) | inr same ↦ inl same ]
-      | inr there ↦ inr there
-    ]
-
 has_of_shown : (marks : List Mark) (person : List ℕ) (moment : ℕ) → Contains (map shown marks) (person, moment) → Has (IsShown person moment) marks
 has_of_shown [] person moment m = nothing_there (person, moment) m
 has_of_shown (r ∷ rs) person moment m =
-    elim (cases_behind (shown r) (person, moment) (map shown rs) m) as (λ _. Has (IsShown person moment) (r ∷ rs)) [
+    elim (cases_behind (shown r) (map shown rs) (person, moment) m) as (λ _. Has (IsShown person moment) (r ∷ rs)) [
       | inl same ↦ inl (ap (λ (x : List ℕ × ℕ). x.0) same, ap (λ (x : List ℕ × ℕ). x.1) same)
       | inr more ↦ inr (has_of_shown rs person moment more)
     ]

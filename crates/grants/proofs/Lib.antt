@@ -18,3 +18,5 @@ pub mod StatusLemmas
 pub mod StatusLaws
 pub mod CountingLaws
 pub mod ApprovalLemmas
+pub mod MemberCases
+pub mod NthSmallest

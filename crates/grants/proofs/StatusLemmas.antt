@@ -42,7 +42,7 @@ has_each P Q (r ∷ rs) (inr h) all = has_each P Q rs h all.1
 
 -- ---- the ceiling of a request
 
-abbrev IsUnder : RosterFields Cmnd → RequestFields → CeilingFields Cmnd → Type 0
+abbrev pub IsUnder : RosterFields Cmnd → RequestFields → CeilingFields Cmnd → Type 0
 IsUnder f q c = ceiling_at f q.ceiling ≡ Some c
 
 one_ceiling : (f : RosterFields Cmnd) (q : RequestFields) (c d : CeilingFields Cmnd) → IsUnder f q c → IsUnder f q d → d ≡ c
@@ -56,7 +56,7 @@ one_ceiling f q c d at other = one_some d c (sym other ∙ at)
 counts_as : (f : RosterFields Cmnd) (c : CeilingFields Cmnd) (q : RequestFields) (kind : VerdictKind) (v : VerdictFields) (r : Mark) → IsAbout q v → v.kind ≡ kind → r.person ≡ v.by → counts f c v ≡ true → has_counting f c kind q.by r ≡ true
 counts_as f c q kind v r about is same h = rw (← is, ← about.0, same) h
 
-given_counts : (f : RosterFields Cmnd) (c : CeilingFields Cmnd) (set : List Message) (q : RequestFields) (kind : VerdictKind) (v : VerdictFields) → IsUnder f q c → IsGiven f set q kind v → counts f c v ≡ true
+pub given_counts : (f : RosterFields Cmnd) (c : CeilingFields Cmnd) (set : List Message) (q : RequestFields) (kind : VerdictKind) (v : VerdictFields) → IsUnder f q c → IsGiven f set q kind v → counts f c v ≡ true
 given_counts f c set q kind v at g =
     subst (λ (d : CeilingFields Cmnd). counts f d v ≡ true) (one_ceiling f q c g.ceiling at g.ceiling_is) g.counts_is
 
@@ -108,7 +108,7 @@ nth_given f c set q kind marks n at some k (Some moment) e =
 abbrev Completes : RosterFields Cmnd → List Message → RequestFields → Option ℕ → Type 0
 Completes f set q o = MatchOption o (NeverComplete f set q) (IsComplete f set q)
 
-approved_people : (f : RosterFields Cmnd) (c : CeilingFields Cmnd) (set : List Message) (q : RequestFields) (moment : ℕ) → IsUnder f q c → ApprovedBy f set q moment → AtLeast c.needs (HasGiven f set q kinds.Approve moment)
+pub approved_people : (f : RosterFields Cmnd) (c : CeilingFields Cmnd) (set : List Message) (q : RequestFields) (moment : ℕ) → IsUnder f q c → ApprovedBy f set q moment → AtLeast c.needs (HasGiven f set q kinds.Approve moment)
 approved_people f c set q moment at a =
     subst (λ (d : CeilingFields Cmnd). AtLeast d.needs (HasGiven f set q kinds.Approve moment)) (one_ceiling f q c a.ceiling at a.ceiling_is) a.people
 

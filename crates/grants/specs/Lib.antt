@@ -12,3 +12,4 @@ pub mod Ranks
 pub mod Voters
 pub mod Reached
 pub mod Counting
+pub mod Completion

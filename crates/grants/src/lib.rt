@@ -22,7 +22,10 @@ pub use denial::Denial;
 pub use marks::Mark;
 pub use outcome::{Status, Window};
 pub use reached::status;
-pub use status_laws::{one_status, order_is_free, uncounted_changes_nothing, who_does_not_count};
+pub use status_laws::{
+    completion_is_nth_smallest, one_status, order_is_free, uncounted_changes_nothing,
+    who_does_not_count,
+};
 pub use summary::{Summary, apply, ask, ask_again};
 pub use within::is_inside;
 pub use within_laws::{forms_of_inclusion, worked_inclusions};

@@ -1,17 +1,18 @@
 //! Laws of what the messages about a request come to, each the contract of a function that does nothing.
 
-ghost use Rattle.std.specs.Prelude.{◌≡◌, ◌≢◌, ◌↔◌, [], ◌∷◌, ◌++◌, ℕ, List, true, false};
+ghost use Rattle.std.specs.Prelude.{◌≡◌, ◌≢◌, ◌↔◌, ◌≤◌, Some, [], ◌∷◌, ◌++◌, ℕ, List, true, false};
 ghost use Rattle.sudo_words.specs.declared.cmnd.Cmnd.{Cmnd};
-ghost use Rattle.messages.specs.Fields.{VerdictFields};
+ghost use Rattle.messages.specs.Fields.{RequestFields, VerdictFields};
 ghost use Rattle.messages.specs.Names.{RequestName, SameMessages};
 ghost use Rattle.messages.specs.declared.message.Message.{Message};
 ghost use Rattle.messages.specs.declared.message.Message.TheVariants as message_of;
 ghost use Rattle.messages.specs.declared.kind.VerdictKind.TheVariants as kinds;
 ghost use Rattle.roster.specs.Fields.{CeilingFields, RosterFields};
-ghost use Rattle.roster.specs.Relations.{conflicting, holds};
+ghost use Rattle.roster.specs.Relations.{ceiling_at, conflicting, holds};
+ghost use Rattle.grants.specs.Completion.{IsFirstApproval, IsNthSmallest};
 ghost use Rattle.grants.specs.Counting.{NeverCounts};
 ghost use Rattle.grants.specs.Statuses.{IsStatus};
-ghost use Rattle.grants.specs.Verdicts.{counts};
+ghost use Rattle.grants.specs.Verdicts.{counts, IsComplete};
 ghost use Rattle.grants.specs.declared.outcome.Status.{Status};
 
 /// A set of messages gives a name at most one status. `status` gives it.
@@ -24,6 +25,14 @@ pub fn one_status()
 pub fn order_is_free()
     ensures { (f : RosterFields Cmnd) (s t : List Message) (name : RequestName) (status : Status) →
         SameMessages s t → IsStatus f s name status → IsStatus f t name status }
+{}
+
+/// A request is complete at the n-th smallest of the moments at which people first gave an approval that counts, n being
+/// as many as its ceiling needs.
+pub fn completion_is_nth_smallest()
+    ensures { (f : RosterFields Cmnd) (set : List Message) (q : RequestFields) (c : CeilingFields Cmnd) (moment : ℕ) →
+        ceiling_at f q.ceiling ≡ Some c → 1 ≤ c.needs →
+        IsComplete f set q moment ↔ IsNthSmallest c.needs (IsFirstApproval f set q) moment }
 {}
 
 /// A verdict that never counts may be added or taken away: no name's status changes.
