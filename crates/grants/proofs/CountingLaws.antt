@@ -1,8 +1,7 @@
 -- Verdicts that do not count change nothing, and whose do not.
-use Rattle.std.proofs.Common.{◌≡◌, ◌≢◌, ℕ, ◌⊎◌, Bool, true, false, not, ◌&&◌, ◌||◌, List, [], ◌∷◌, ◌++◌, Some, refl, sym, ap, ◌∙◌, subst, inl, inr}
-use Rattle.std.specs.List.{Contains, list_any}
-use Rattle.std.specs.Str.{bytes_eq}
-use Rattle.std.proofs.lemmas.Bool.{and_left, and_right, both_ways, not_from_true, or_parts, false_from_ne_true}
+use Rattle.std.proofs.Common.{◌≡◌, ◌≢◌, ℕ, Bool, true, false, ◌||◌, List, [], ◌∷◌, ◌++◌, refl, sym, subst, inl, inr}
+use Rattle.std.specs.List.{Contains}
+use Rattle.std.proofs.lemmas.Bool.{and_left, and_right, both_ways, not_from_true, false_from_ne_true}
 use Rattle.std.proofs.lemmas.List.Elements.{Contains-append_left, Contains-push_cases}
 use Rattle.std.proofs.lemmas.Slice.Eq.{bytes_eq-Decides}
 use Rattle.sudo_words.specs.declared.cmnd.Cmnd.{Cmnd}
@@ -13,7 +12,7 @@ use Rattle.messages.specs.declared.message.Message.TheVariants.{Request, Verdict
 use Rattle.messages.specs.declared.kind.VerdictKind.{VerdictKind}
 use Rattle.messages.specs.declared.kind.VerdictKind.TheVariants.{Approve, Refuse, Revoke}
 use Rattle.roster.specs.Fields.{CeilingFields, RosterFields}
-use Rattle.roster.specs.Relations.{ceiling_at, conflicting, duties_of, eligible, holds, holds_against}
+use Rattle.roster.specs.Relations.{conflicting, duties_of, eligible, holds, holds_against}
 use Rattle.grants.specs.Verdicts.{may_give, counts, IsGiven}
 use Rattle.grants.specs.Statuses.{IsStatus}
 use Rattle.grants.specs.Counting.{NeverCounts}

@@ -1,4 +1,4 @@
-use Rattle.std.proofs.Common.{List, ℕ, map, IsPermutation, sym, subst}
+use Rattle.std.proofs.Common.{List, map, IsPermutation, sym, subst}
 use Rattle.std.proofs.lemmas.Result.{IfOk-weaker}
 use Rattle.grants.specs.Marks.{shown}
 use Rattle.grants.specs.Summaries.{AreApprovals, Kept, StandsFor}

@@ -1,5 +1,4 @@
 use Rattle.std.proofs.Common.{sym, ap, subst, ◌∙◌}
-use Rattle.messages.specs.Fields.{RequestFields}
 use Rattle.grants.specs.Summaries.{Kept}
 use Rattle.grants.specs.Verdicts.{StandsAlone}
 use Rattle.grants.proofs.StatusLemmas.{stands_alone}
