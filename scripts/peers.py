@@ -93,7 +93,7 @@ def accepted_rows():
     with open(ROWS, "rb") as file:
         groups = tomllib.load(file)["group"]
     rows = [row for group in groups for row in group["rows"]]
-    return [(row["text"], row["prints"]) for row in rows if isinstance(row["text"], str)]
+    return [(row["text"], row.get("prints", row["text"])) for row in rows if isinstance(row["text"], str)]
 
 
 def check_policies(visudo, folder):

@@ -1,212 +1,144 @@
-//! Command lines, and what the program makes of them. What it does over files stands in the cases that `make cases` runs.
+//! What only a call shows. What the program answers stands in the cases that `make cases` runs.
 
-use super::*;
-use std::alloc::{AllocError, Global};
-use std::process::Abort;
+use messages::{Message, MessageFault, VerdictKind, read_message};
+use std::alloc::Global;
+use std::fmt::Write as _;
 use std::test::Fail;
+use sudo_words::{AliasName, ArgRule, Items, Moment, command_of, read_cmnd};
 
-mod bodies;
-mod commands;
-mod desks;
-mod moments;
 mod streams;
 
-/// A line whose every word is good.
-const LINE: [&str; 8] = [
-    "desk",
-    "decide",
-    "base.sudo",
-    "ann",
-    "db1",
-    "root",
-    "20260105093000Z",
-    "/bin/ls",
-];
+/// Texts of moments, with a space between.
+const MOMENTS: &str =
+    "19700101000000Z 1970010100Z 19700101000001Z 20000229000000Z 2015120108Z 20240229235959Z 20260105090000Z 202601050900Z 2026010509Z 202602281234Z 20381231235959Z 20991231235959Z";
 
-fn line(alloc: Global, words: &[&str]) -> Result<Vec<String>, Fail> {
-    let mut line = Vec::new(alloc);
-    for word in words {
-        line.push(String::from_str(alloc, word)?)?;
+/// Their seconds, as another program gives them.
+const SECONDS: &str =
+    "0 0 1 951782400 1448956800 1709251199 1767603600 1767603600 1767603600 1772282040 2177452799 4102444799 ";
+
+/// Texts that are no moments, with a bar between.
+const NO_MOMENTS: &str = "| 2026010509Z|2026010509Z |2026-01-05T09:00:00Z|２０２６０１０５０９Z";
+
+/// Texts that are no commands, with a bar between.
+const NO_COMMANDS: &str =
+    "| |/|//|/bin//|bin/ls|all|ALL x|ALL \"\"|ALL | ALL|/usr/bin/ x|/usr/bin/ \"\"|/bin/ls |/bin/ls  a|/bin/ls a  b|/bin/ls a \"\"|/bin/ls \"\" a|/bin/ls \"|/bin/echo a:b|/bin/echo a,b|/bin/echo \\a|/bin/echo a\\|/bin/../ls";
+
+const REQUEST: &str =
+    "{\"at\":\"20260105060000Z\",\"by\":\"ann\",\"ceiling\":\"db-root\",\"cmnds\":[\"/bin/ls\"],\"from\":\"20260105090000Z\",\"hosts\":[\"db1\"],\"kind\":\"request\",\"no\":7,\"runas\":\"root\",\"until\":\"20260105110000Z\"}";
+
+const APPROVAL: &str =
+    "{\"at\":\"20260105083000Z\",\"by\":\"bob\",\"kind\":\"approve\",\"no\":7,\"of\":\"ann\"}";
+
+#[test]
+fn seconds_of_moments(rt: HostRuntime) -> Result<(), Fail> {
+    let mut seconds = String::new(rt.alloc());
+    for text in MOMENTS.split(' ') {
+        let moment = Moment::read(text).ok_or("a moment")?;
+        write!(seconds, "{} ", moment.secs())?;
     }
-    Ok(line)
+    assert_eq!(rt; seconds.as_str(), SECONDS);
+    Ok(())
 }
 
-fn fault_text(alloc: Global, fault: &JobFault) -> Result<String, AllocError> {
-    match fault {
-        JobFault::BadWord => String::from_str(alloc, "bad word"),
-        JobFault::NoMemory => String::from_str(alloc, "no memory"),
-        JobFault::Usage(error) => {
-            let kind = error.kind();
-            format!(in alloc; "{kind:?}")
-        }
+#[test]
+fn moments_from_seconds(rt: HostRuntime) -> Result<(), Fail> {
+    let mut stamps = String::new(rt.alloc());
+    for secs in [0, 86_399, 951_782_400, 4_102_444_799] {
+        let moment = Moment::from_secs(secs).ok_or("a moment")?;
+        write!(stamps, "{moment} ")?;
+    }
+    assert_eq!(rt;
+        stamps.as_str(),
+        "19700101000000Z 19700101235959Z 20000229000000Z 20991231235959Z "
+    );
+    for secs in [4_102_444_800, u64::MAX] {
+        assert!(rt; Moment::from_secs(secs).is_none(), "{secs}");
+    }
+    Ok(())
+}
+
+#[test]
+fn order_of_moments(rt: HostRuntime) -> Result<(), Fail> {
+    let early = Moment::read("19991231235959Z").ok_or("a moment")?;
+    let late = Moment::read("2000010100Z").ok_or("a moment")?;
+    assert!(rt; early < late);
+    assert!(rt; late > early);
+    assert!(rt; early != late);
+    assert!(rt; early.max(late) == late);
+    Ok(())
+}
+
+#[test]
+fn refused_moments(rt: HostRuntime) {
+    for text in NO_MOMENTS.split('|') {
+        assert!(rt; Moment::read(text).is_none(), "{text}");
     }
 }
 
-/// `ok`, or the kind of fault.
-fn said(alloc: Global, words: &[&str]) -> Result<String, Fail> {
-    let text = match job(alloc, line(alloc, words)?) {
-        Ok(_) => String::from_str(alloc, "ok")?,
-        Err(fault) => fault_text(alloc, &fault)?,
+#[test]
+fn refused_commands(rt: HostRuntime) {
+    for text in NO_COMMANDS.split('|') {
+        assert!(rt; read_cmnd(rt.alloc(), text).is_err(), "{text}");
+    }
+    let listed = ArgRule::Exactly(Items::new(Vec::new(rt.alloc())));
+    assert!(rt; command_of(rt.alloc(), "/bin/ls", listed).is_err());
+}
+
+#[test]
+fn order_of_words(rt: HostRuntime) -> Result<(), Fail> {
+    let first = AliasName::read(rt.alloc(), "ADMIN").ok().ok_or("a name")?;
+    let second = AliasName::read(rt.alloc(), "ADMINS").ok().ok_or("a name")?;
+    assert!(rt; first < second);
+    Ok(())
+}
+
+#[test]
+fn members_of_request(rt: HostRuntime) -> Result<(), Fail> {
+    let Ok(Message::Request(r)) = read_message(rt.alloc(), REQUEST.as_bytes()) else {
+        return Err(Fail::from("no request"));
     };
-    Ok(text)
-}
-
-/// The same of the good line with another word in one place.
-fn said_with(alloc: Global, place: usize, word: &str) -> Result<String, Fail> {
-    let mut words = Vec::new(alloc);
-    for (at, good) in LINE.iter().enumerate() {
-        words.push(if at == place { word } else { *good })?;
-    }
-    said(alloc, words.as_slice())
-}
-
-/// The same of the good line with more words behind it.
-fn said_behind(alloc: Global, more: &[&str]) -> Result<String, Fail> {
-    let mut words = Vec::new(alloc);
-    for good in LINE.iter() {
-        words.push(*good)?;
-    }
-    for word in more {
-        words.push(*word)?;
-    }
-    said(alloc, words.as_slice())
-}
-
-/// That much was said of the word.
-fn expect(rt: &impl Abort, said: &str, wanted: &str, word: &str) {
-    assert_eq!(rt; said, wanted, "at {word}");
-}
-
-/// A slash and so many letters.
-fn path_of(alloc: Global, letters: usize) -> Result<String, Fail> {
-    let mut path = String::from_str(alloc, "/")?;
-    for _ in 0..letters {
-        path.push('a')?;
-    }
-    Ok(path)
-}
-
-/// Places of the good line, words for them, and what is said of each.
-const WORDS: [(usize, &str, &str); 18] = [
-    (3, "_ann.b-2", "ok"),
-    (3, "a2345678901234567890123456789012", "ok"),
-    (3, "a23456789012345678901234567890123", "bad word"),
-    (3, "Ann", "bad word"),
-    (4, "db-1", "ok"),
-    (4, "db_1", "bad word"),
-    (5, "op", "ok"),
-    (5, "", "bad word"),
-    (6, "19700101000000Z", "ok"),
-    (6, "20991231235959Z", "ok"),
-    (6, "2026010509Z", "bad word"),
-    (6, "20260230090000Z", "bad word"),
-    (7, "bin/ls", "bad word"),
-    (7, "/", "bad word"),
-    (7, "/bin/", "bad word"),
-    (7, "/bin//ls", "bad word"),
-    (7, "/bin/./ls", "bad word"),
-    (7, "/bin/../ls", "bad word"),
-];
-
-#[test]
-fn words_of_decide(rt: HostRuntime) -> Result<(), Fail> {
-    for (place, word, wanted) in WORDS {
-        let said = said_with(rt.alloc(), place, word)?;
-        expect(&rt, said.as_str(), wanted, word);
-    }
+    let (at, from, until) = (r.at().secs(), r.from().secs(), r.until().secs());
+    let (by, ceiling, runas) = (r.by().as_str(), r.ceiling().as_str(), r.runas().as_str());
+    let (cmnds, hosts, no) = (r.cmnds().len(), r.hosts().len(), r.no());
+    let members = format!(in rt.alloc();
+        "{at} {by} {ceiling} {cmnds} {from} {hosts} {no} {runas} {until}"
+    )?;
+    assert_eq!(rt;
+        members.as_str(),
+        "1767592800 ann db-root 1 1767603600 1 7 root 1767610800"
+    );
     Ok(())
 }
 
 #[test]
-fn longest_words(rt: HostRuntime) -> Result<(), Fail> {
-    let alloc = rt.alloc();
-    for (letters, path, argument) in [
-        (63, "ok", "ok"),
-        (64, "ok", "bad word"),
-        (4095, "ok", "bad word"),
-        (4096, "bad word", "bad word"),
-    ] {
-        let word = path_of(alloc, letters)?;
-        let of_path = said_with(alloc, 7, word.as_str())?;
-        expect(&rt, of_path.as_str(), path, "the path");
-        let of_argument = said_behind(alloc, &[word.as_str()])?;
-        expect(&rt, of_argument.as_str(), argument, "an argument");
-    }
-    Ok(())
-}
-
-#[test]
-fn arguments(rt: HostRuntime) -> Result<(), Fail> {
-    let alloc = rt.alloc();
-    let many = vec![in alloc; "x"; 65]?;
-    for (more, wanted) in [
-        (&many.as_slice()[1..], "ok"),
-        (many.as_slice(), "bad word"),
-        (["x", ""].as_slice(), "bad word"),
-        (["x", "a b"].as_slice(), "bad word"),
-        (["--", "-l", "--", "x"].as_slice(), "ok"),
-        (["-l"].as_slice(), "UnknownArgument"),
-    ] {
-        let said = said_behind(alloc, more)?;
-        expect(&rt, said.as_str(), wanted, "the arguments");
-    }
-    Ok(())
-}
-
-#[test]
-fn arguments_in_order(rt: HostRuntime) -> Result<(), Fail> {
-    let alloc = rt.alloc();
-    let mut words = line(alloc, &LINE)?;
-    for word in ["x", "--", "-l", "y"] {
-        words.push(String::from_str(alloc, word)?)?;
-    }
-    let Ok(Job::Decide { file, invocation }) = job(alloc, words) else {
-        return Err(Fail::from("no decision"));
+fn members_of_verdict(rt: HostRuntime) -> Result<(), Fail> {
+    let Ok(Message::Verdict(v)) = read_message(rt.alloc(), APPROVAL.as_bytes()) else {
+        return Err(Fail::from("no verdict"));
     };
-    assert_eq!(rt; file.as_str(), "base.sudo");
-    assert_eq!(rt; invocation.user.as_str(), "ann");
-    assert_eq!(rt; invocation.host.as_str(), "db1");
-    assert_eq!(rt; invocation.runas.as_str(), "root");
-    assert_eq!(rt; invocation.path.as_str(), "/bin/ls");
-    assert_eq!(rt; invocation.at.secs(), 1_767_605_400);
-    let mut args = String::new(alloc);
-    for arg in invocation.args.as_slice() {
-        args.push_str(arg.as_str())?;
-        args.push(' ')?;
-    }
-    assert_eq!(rt; args.as_str(), "x -l y ");
+    let (at, by, no, of) = (v.at().secs(), v.by().as_str(), v.no(), v.of().as_str());
+    let members = format!(in rt.alloc(); "{at} {by} {no} {of}")?;
+    assert_eq!(rt; members.as_str(), "1767601800 bob 7 ann");
+    assert_eq!(rt; v.kind(), VerdictKind::Approve);
     Ok(())
 }
 
-/// Whole lines, and what is said of each.
-const LINES: [(&[&str], &str); 14] = [
-    (&["desk"], "MissingSubcommand"),
-    (&["desk", "frob"], "InvalidSubcommand"),
-    (&["desk", "decide", "f", "ann"], "MissingRequiredArgument"),
-    (&["desk", "check"], "MissingRequiredArgument"),
-    (&["desk", "check", "a", "b"], "UnknownArgument"),
-    (&["desk", "--help"], "DisplayHelp"),
-    (&["desk", "print", "-", "base.sudo", "-", "db1"], "ok"),
-    (&["desk", "print", "-", "-", "-", "db-1"], "ok"),
-    (&["desk", "print", "r", "base.sudo", "-", "db1"], "bad word"),
-    (&["desk", "print", "", "base.sudo", "-", "db1"], "bad word"),
-    (&["desk", "print", "-", "base.sudo", "s", "db1"], "bad word"),
-    (
-        &["desk", "print", "-", "base.sudo", "-", "db_1"],
-        "bad word",
-    ),
-    (&["desk", "print", "-", "base.sudo", "-", "-"], "bad word"),
-    (
-        &["desk", "print", "--", "base.sudo", "-", "db1"],
-        "MissingRequiredArgument",
-    ),
-];
+#[test]
+fn newline_behind_message(rt: HostRuntime) -> Result<(), Fail> {
+    let body = format!(in rt.alloc(); "{REQUEST}\n")?;
+    let fault = read_message(rt.alloc(), body.as_bytes()).err();
+    assert_eq!(rt; fault, Some(MessageFault::NotCanonical));
+    Ok(())
+}
 
 #[test]
-fn whole_lines(rt: HostRuntime) -> Result<(), Fail> {
-    for (words, wanted) in LINES {
-        let said = said(rt.alloc(), words)?;
-        expect(&rt, said.as_str(), wanted, "a line");
-    }
+fn shown_faults(rt: HostRuntime) -> Result<(), Fail> {
+    let (a, b) = (MessageFault::TooLong, MessageFault::NotCanonical);
+    let (c, d) = (MessageFault::BadField, MessageFault::NoMemory);
+    let e = desk::Refusal::NoMemory;
+    let text = format!(in rt.alloc(); "{a}, {b}, {c}, {d}, {e}")?;
+    assert_eq!(rt;
+        text.as_str(),
+        "M1 TooLong, M2 NotCanonical, M3 BadField, M4 NoMemory, K5 NoMemory"
+    );
     Ok(())
 }

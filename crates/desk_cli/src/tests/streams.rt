@@ -1,127 +1,175 @@
-//! Files that are missing, and inputs and outputs that fail.
+//! Files that are missing, and inputs and outputs that fail in the middle or at their end.
 
-use super::line;
-use crate::command_line::job;
 use crate::running::run;
 use crate::status::code;
+use crate::task::Job;
+use crate::text::Text;
 use std::alloc::Global;
-use std::io;
 use std::io::{Read, Write};
-use std::process::Abort;
 use std::test::Fail;
+use std::{io, str};
+use sudo_words::HostName;
 
-const BASE: &str = "bob db1 = ALL\n";
-
-const CHECK: [&str; 3] = ["desk", "check", "base.sudo"];
-
-const PRINT: [&str; 6] = ["desk", "print", "-", "base.sudo", "-", "db1"];
-
-/// A writer with room for so many bytes more, which then fails.
+/// A reader with so many bytes, which then fails, or ends where there are no more.
 #[derive(Drop)]
-struct Narrow {
-    room: usize,
-}
-
-impl Write for Narrow {
-    fn write(&mut self, buf: &[u8]) -> io::Result<usize> {
-        let n = self.room.min(buf.len());
-        if n == 0 && !buf.is_empty() {
-            return Err(io::Error::from(io::ErrorKind::BrokenPipe));
-        }
-        self.room -= n;
-        Ok(n)
-    }
-
-    fn flush(&mut self) -> io::Result<()> {
-        Ok(())
-    }
-}
-
-/// A reader that fails behind some bytes.
-#[derive(Drop)]
-struct Broken<'a> {
+struct Input<'a> {
     bytes: &'a [u8],
+    fails: bool,
 }
 
-impl<'a> Read for Broken<'a> {
+impl<'a> Read for Input<'a> {
     fn read(&mut self, buf: &mut [u8]) -> io::Result<usize> {
-        if self.bytes.is_empty() {
+        if self.fails && self.bytes.is_empty() {
             return Err(io::Error::from(io::ErrorKind::BrokenPipe));
         }
         self.bytes.read(buf)
     }
 }
 
-/// Does the line's job over the base, where there is one, and tests that it ends with status 2.
-fn expect_failed<R: Read, W: Write, E: Write>(
-    rt: &impl Abort,
-    alloc: Global,
-    words: &[&str],
-    bases: usize,
-    streams: (&mut R, &mut W, &mut E),
-) -> Result<(), Fail> {
-    let Ok(job) = job(alloc, line(alloc, words)?) else {
-        return Err(Fail::from("no job"));
-    };
+/// A writer with room for so many bytes, whose flush may fail.
+#[derive(Drop)]
+struct Output {
+    bytes: Vec<u8>,
+    room: usize,
+    flushes: bool,
+}
+
+impl Write for Output {
+    fn write(&mut self, buf: &[u8]) -> io::Result<usize> {
+        let n = self.room.min(buf.len());
+        if n == 0 && !buf.is_empty() {
+            return Err(io::Error::from(io::ErrorKind::BrokenPipe));
+        }
+        self.room -= n;
+        self.bytes.write(&buf[..n])
+    }
+
+    fn flush(&mut self) -> io::Result<()> {
+        if self.flushes {
+            Ok(())
+        } else {
+            Err(io::Error::from(io::ErrorKind::BrokenPipe))
+        }
+    }
+}
+
+/// What goes wrong.
+#[derive(Clone, Copy)]
+enum Wrong {
+    Nothing,
+    NoFile,
+    InputBehind(usize),
+    OutputBehind(usize),
+    OutputsFlush,
+    ErrorBehind(usize),
+    ErrorsFlush,
+}
+
+const BASE: &str = "bob db1 = ALL\n";
+
+/// A line, and the beginning of another.
+const GIVEN: &str = "{}\n{\"at\"";
+
+fn input_of(wrong: Wrong) -> Input<'static> {
+    match wrong {
+        Wrong::InputBehind(room) => Input {
+            bytes: &GIVEN.as_bytes()[..room.min(GIVEN.len())],
+            fails: true,
+        },
+        _ => Input {
+            bytes: GIVEN.as_bytes(),
+            fails: false,
+        },
+    }
+}
+
+fn output_of(alloc: Global, wrong: Wrong) -> Output {
+    Output {
+        bytes: Vec::new(alloc),
+        room: match wrong {
+            Wrong::OutputBehind(room) => room,
+            _ => usize::MAX,
+        },
+        flushes: !matches!(wrong, Wrong::OutputsFlush),
+    }
+}
+
+fn error_of(alloc: Global, wrong: Wrong) -> Output {
+    Output {
+        bytes: Vec::new(alloc),
+        room: match wrong {
+            Wrong::ErrorBehind(room) => room,
+            _ => usize::MAX,
+        },
+        flushes: !matches!(wrong, Wrong::ErrorsFlush),
+    }
+}
+
+fn files_of(alloc: Global, wrong: Wrong) -> Result<Vec<Vec<u8>>, Fail> {
     let mut files = Vec::new(alloc);
-    for _ in 0..bases {
+    if !matches!(wrong, Wrong::NoFile) {
         files.push(Vec::from_slice(alloc, BASE.as_bytes())?)?;
     }
-    let (input, out, err) = streams;
-    let status = run(alloc, &job, files.as_slice(), input, out, err);
-    assert_eq!(rt; code(status), 2);
-    Ok(())
+    Ok(files)
 }
 
-#[test]
-fn missing_files(rt: HostRuntime) -> Result<(), Fail> {
-    let alloc = rt.alloc();
-    let mut out = Vec::new(alloc);
-    let mut err = Vec::new(alloc);
-    let streams = (&mut b"".as_slice(), &mut out, &mut err);
-    expect_failed(&rt, alloc, &CHECK, 0, streams)?;
-    assert!(rt; out.is_empty());
-    assert_eq!(rt; err.as_slice(), b"F1 FileFailed\n".as_slice());
-    Ok(())
+/// The exit status, what stands on the output, and what on the standard error.
+fn ended(alloc: Global, job: &Job, wrong: Wrong) -> Result<String, Fail> {
+    let files = files_of(alloc, wrong)?;
+    let mut input = input_of(wrong);
+    let (mut out, mut err) = (output_of(alloc, wrong), error_of(alloc, wrong));
+    let status = code(run(alloc, job, files.as_slice(), &mut input, &mut out, &mut err));
+    let written = str::from_utf8(out.bytes.as_slice())?;
+    let said = str::from_utf8(err.bytes.as_slice())?;
+    Ok(format!(in alloc; "{status}|{written}|{said}.")?)
 }
 
-#[test]
-fn inputs_that_fail(rt: HostRuntime) -> Result<(), Fail> {
-    let alloc = rt.alloc();
-    // after a line, and in the middle of one
-    for bytes in ["{}\n", "{}\n{\"at\""] {
-        let mut input = Broken {
-            bytes: bytes.as_bytes(),
-        };
-        let mut out = Vec::new(alloc);
-        let mut err = Vec::new(alloc);
-        expect_failed(&rt, alloc, &PRINT, 1, (&mut input, &mut out, &mut err))?;
-        assert!(rt; out.is_empty());
-        assert_eq!(rt; err.as_slice(), b"F1 FileFailed\n".as_slice());
+/// The same of each thing that goes wrong, one after the other.
+fn all_ended(alloc: Global, job: &Job, wrongs: &[Wrong]) -> Result<String, Fail> {
+    let mut said = String::new(alloc);
+    for wrong in wrongs {
+        said.push_str(ended(alloc, job, *wrong)?.as_str())?;
     }
+    Ok(said)
+}
+
+#[test]
+fn checks_that_fail(rt: HostRuntime) -> Result<(), Fail> {
+    let check = Job::Check {
+        file: Text::copied(rt.alloc(), "base.sudo")?,
+    };
+    let wrongs = [
+        Wrong::Nothing,
+        Wrong::NoFile,
+        Wrong::OutputBehind(0),
+        Wrong::OutputBehind(3),
+        Wrong::OutputsFlush,
+    ];
+    let said = all_ended(rt.alloc(), &check, &wrongs)?;
+    assert_eq!(rt;
+        said.as_str(),
+        "0|bob db1 = (root) ALL\n|.2||F1 FileFailed\n.2||F1 FileFailed\n.2|bob|F1 FileFailed\n.2|bob db1 = (root) ALL\n|F1 FileFailed\n."
+    );
     Ok(())
 }
 
 #[test]
-fn outputs_that_fail(rt: HostRuntime) -> Result<(), Fail> {
-    let alloc = rt.alloc();
-    for room in [0, 3] {
-        let mut out = Narrow { room };
-        let mut err = Vec::new(alloc);
-        let streams = (&mut b"".as_slice(), &mut out, &mut err);
-        expect_failed(&rt, alloc, &CHECK, 1, streams)?;
-        assert_eq!(rt; err.as_slice(), b"F1 FileFailed\n".as_slice());
-    }
-    Ok(())
-}
-
-#[test]
-fn errors_that_fail(rt: HostRuntime) -> Result<(), Fail> {
-    let alloc = rt.alloc();
-    let mut out = Vec::new(alloc);
-    let mut err = Narrow { room: 3 };
-    let streams = (&mut b"{}".as_slice(), &mut out, &mut err);
-    expect_failed(&rt, alloc, &PRINT, 1, streams)?;
-    assert!(rt; out.is_empty());
+fn prints_that_fail(rt: HostRuntime) -> Result<(), Fail> {
+    let print = Job::Print {
+        base: Text::copied(rt.alloc(), "base.sudo")?,
+        host: HostName::read(rt.alloc(), "db1")?,
+    };
+    // the input after its line, and in the middle of the next
+    let wrongs = [
+        Wrong::InputBehind(3),
+        Wrong::InputBehind(8),
+        Wrong::ErrorBehind(3),
+        Wrong::ErrorsFlush,
+    ];
+    let said = all_ended(rt.alloc(), &print, &wrongs)?;
+    assert_eq!(rt;
+        said.as_str(),
+        "2||F1 FileFailed\n.2||F1 FileFailed\n.2||lin.2||line 1: M3 BadField\nline 2: M2 NotCanonical\nF1 FileFailed\n."
+    );
     Ok(())
 }
