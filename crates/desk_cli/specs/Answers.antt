@@ -45,3 +45,7 @@ IsAnswer job [] input status text said = ⊥
 IsAnswer (Check name) (file ∷ more) input status text said = ChecksFile file status text × (said ≡ [])
 IsAnswer (Decide name invocation) (file ∷ more) input status text said = DecidesByFile file invocation status text × (said ≡ [])
 IsAnswer (Print name host) (file ∷ more) input status text said = PrintsHost file host input status text said
+
+-- The job over these files and this input has an answer.
+abbrev pub HasAnswer : Job → List (List ℕ) → Option (List ℕ) → Type 0
+HasAnswer job files input = (status : Status) × (text said : List ℕ) × IsAnswer job files input status text said

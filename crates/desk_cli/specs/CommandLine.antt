@@ -19,29 +19,24 @@ wanted id = record (new_rule id) { action = Some Set; required = true }
 abbrev pub several : Text → Rule
 several id = record (new_rule id) { action = Some Append }
 
+-- the command with these arguments as well, each wanted
+abbrev pub with_wanted : App → List Text → App
+with_wanted command [] = command
+with_wanted command (id ∷ ids) = with_wanted (with_rule command (wanted id)) ids
+
 -- `check FILE`
 abbrev pub check : App
-check = with_rule (new_app (codes "check")) (wanted (codes "FILE"))
-
--- `.. USER HOST RUNAS`
-abbrev pub with_place : App → App
-with_place command = with_rule (with_rule (with_rule command (wanted (codes "USER"))) (wanted (codes "HOST"))) (wanted (codes "RUNAS"))
-
--- `.. AT PATH [ARGS..]`
-abbrev pub with_run : App → App
-with_run command = with_rule (with_rule (with_rule command (wanted (codes "AT"))) (wanted (codes "PATH"))) (several (codes "ARGS"))
+check = with_wanted (new_app (codes "check")) (codes "FILE" ∷ [])
 
 -- `decide FILE USER HOST RUNAS AT PATH [ARGS..]`
 abbrev pub decide : App
-decide = with_run (with_place (with_rule (new_app (codes "decide")) (wanted (codes "FILE"))))
-
--- `.. ROSTER BASE STORE`
-abbrev pub with_desk : App → App
-with_desk command = with_rule (with_rule (with_rule command (wanted (codes "ROSTER"))) (wanted (codes "BASE"))) (wanted (codes "STORE"))
+decide =
+    let run = codes "FILE" ∷ codes "USER" ∷ codes "HOST" ∷ codes "RUNAS" ∷ codes "AT" ∷ codes "PATH" ∷ [] in
+    with_rule (with_wanted (new_app (codes "decide")) run) (several (codes "ARGS"))
 
 -- `print ROSTER BASE STORE HOST`
 abbrev pub print : App
-print = with_rule (with_desk (new_app (codes "print"))) (wanted (codes "HOST"))
+print = with_wanted (new_app (codes "print")) (codes "ROSTER" ∷ codes "BASE" ∷ codes "STORE" ∷ codes "HOST" ∷ [])
 
 -- the commands on one policy
 abbrev pub on_policies : App

@@ -30,64 +30,50 @@ fn several<'a>(alloc: Global, id: &'a str, help: &'a str) -> Arg<'a>
     Arg::new(alloc, id).action(ArgAction::Append).help(help)
 }
 
+/// Adds arguments that have one value each and may not be left out, by their names and helps.
+fn with_wanted<'a>(
+    alloc: Global,
+    command: Command<'a>,
+    args: &[(&'a str, &'a str)],
+) -> Result<Command<'a>, AllocError>
+    requires { (fields_of command).has_globals ≡ false }
+    ensures app { IfOk result (λ c. app_of c ≡ line.with_wanted (app_of command.entry) (map (λ a. a.0.now) args.now)) }
+    ensures globals { IfOk result (λ c. (fields_of c).has_globals ≡ false) }
+{
+    let mut command = command;
+    for (id, help) in args {
+        command = command.arg(wanted(alloc, id, help))?;
+    }
+    Ok(command)
+}
+
 fn check<'a>(alloc: Global) -> Result<Command<'a>, AllocError>
     ensures app { IfOk result (λ c. app_of c ≡ line.check) }
     ensures globals { IfOk result (λ c. (fields_of c).has_globals ≡ false) }
 {
-    Command::new(alloc, "check")
-        .about("Print the canonical text of a policy")
-        .arg(wanted(alloc, "FILE", "The policy"))
-}
-
-fn with_place<'a>(alloc: Global, command: Command<'a>) -> Result<Command<'a>, AllocError>
-    requires { (fields_of command).has_globals ≡ false }
-    ensures app { IfOk result (λ c. app_of c ≡ line.with_place (app_of command.entry)) }
-    ensures globals { IfOk result (λ c. (fields_of c).has_globals ≡ false) }
-{
-    command
-        .arg(wanted(alloc, "USER", "Who runs the command"))?
-        .arg(wanted(alloc, "HOST", "The host that it runs on"))?
-        .arg(wanted(alloc, "RUNAS", "The user that it runs as"))
-}
-
-fn with_run<'a>(alloc: Global, command: Command<'a>) -> Result<Command<'a>, AllocError>
-    requires { (fields_of command).has_globals ≡ false }
-    ensures app { IfOk result (λ c. app_of c ≡ line.with_run (app_of command.entry)) }
-    ensures globals { IfOk result (λ c. (fields_of c).has_globals ≡ false) }
-{
-    command
-        .arg(wanted(alloc, "AT", "When it runs, as yyyymmddHHMMSSZ"))?
-        .arg(wanted(alloc, "PATH", "The command's path"))?
-        .arg(several(
-            alloc,
-            "ARGS",
-            "The command's arguments, behind `--` where one begins with `-`",
-        ))
+    let command = Command::new(alloc, "check").about("Print the canonical text of a policy");
+    with_wanted(alloc, command, &[("FILE", "The policy")])
 }
 
 fn decide<'a>(alloc: Global) -> Result<Command<'a>, AllocError>
     ensures app { IfOk result (λ c. app_of c ≡ line.decide) }
     ensures globals { IfOk result (λ c. (fields_of c).has_globals ≡ false) }
 {
-    let command = Command::new(alloc, "decide")
-        .about("Decide one run of a command by a policy")
-        .arg(wanted(alloc, "FILE", "The policy"))?;
-    with_run(alloc, with_place(alloc, command)?)
-}
-
-fn with_desk<'a>(alloc: Global, command: Command<'a>) -> Result<Command<'a>, AllocError>
-    requires { (fields_of command).has_globals ≡ false }
-    ensures app { IfOk result (λ c. app_of c ≡ line.with_desk (app_of command.entry)) }
-    ensures globals { IfOk result (λ c. (fields_of c).has_globals ≡ false) }
-{
-    command
-        .arg(wanted(alloc, "ROSTER", "`-`: there is no roster"))?
-        .arg(wanted(alloc, "BASE", "The base policy"))?
-        .arg(wanted(
-            alloc,
-            "STORE",
-            "`-`: the messages are the lines of standard input",
-        ))
+    let command = Command::new(alloc, "decide").about("Decide one run of a command by a policy");
+    let args = several(
+        alloc,
+        "ARGS",
+        "The command's arguments, behind `--` where one begins with `-`",
+    );
+    let wanted = [
+        ("FILE", "The policy"),
+        ("USER", "Who runs the command"),
+        ("HOST", "The host that it runs on"),
+        ("RUNAS", "The user that it runs as"),
+        ("AT", "When it runs, as yyyymmddHHMMSSZ"),
+        ("PATH", "The command's path"),
+    ];
+    with_wanted(alloc, command, &wanted)?.arg(args)
 }
 
 fn print<'a>(alloc: Global) -> Result<Command<'a>, AllocError>
@@ -97,7 +83,13 @@ fn print<'a>(alloc: Global) -> Result<Command<'a>, AllocError>
     let command = Command::new(alloc, "print").about(
         "Print a host's sudoers file, from a base policy and the messages on standard input",
     );
-    with_desk(alloc, command)?.arg(wanted(alloc, "HOST", "The host"))
+    let wanted = [
+        ("ROSTER", "`-`: there is no roster"),
+        ("BASE", "The base policy"),
+        ("STORE", "`-`: the messages are the lines of standard input"),
+        ("HOST", "The host"),
+    ];
+    with_wanted(alloc, command, &wanted)
 }
 
 fn on_policies<'a>(alloc: Global) -> Result<Command<'a>, AllocError>

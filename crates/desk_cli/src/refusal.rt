@@ -25,6 +25,11 @@ pub enum Refusal {
 }
 
 impl fmt::Display for Refusal {
+    ghost use Rattle.std.specs.Prelude.{Some};
+    ghost use Rattle.desk_cli.specs.Refusals.{reason_text};
+
+    ghost output = { λ r. Some (reason_text r) };
+
     fn fmt<W: fmt::Write>(&self, f: &mut fmt::Formatter<W>) -> fmt::Result {
         match self {
             Refusal::FileFailed => f.write_str("F1 FileFailed"),

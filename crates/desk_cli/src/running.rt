@@ -3,7 +3,7 @@
 ghost use Rattle.std.specs.Prelude.{◌≡◌, ◌≢◌, ◌⊎◌, ℕ, List, IfOk, map, string_bytes};
 ghost use Rattle.std.specs.Io.KnownBytes.{Appends};
 ghost use Rattle.desk_cli.specs.Printing.{PrintsHost};
-ghost use Rattle.desk_cli.specs.Answers.{ChecksFile, DecidesByFile, IsAnswer, IsDecided, status_of};
+ghost use Rattle.desk_cli.specs.Answers.{ChecksFile, DecidesByFile, HasAnswer, IsAnswer, IsDecided, status_of};
 
 use crate::printing::print_host;
 use crate::refusal::Refusal;
@@ -132,10 +132,13 @@ pub fn run<R: Read, W: Write, E: Write>(
     out: &mut W,
     err: &mut E,
 ) -> Status
-    ensures { result ≢ Status.Refused → (text : List ℕ) × (said : List ℕ)
+    ensures answered { result ≢ Status.Refused → (text : List ℕ) × (said : List ℕ)
         × IsAnswer job.now (map (λ f. f.items) files.now) (R.remaining input.old) result text said
         × Appends (W.contents out.old) (W.contents out.new) text
         × Appends (E.contents err.old) (E.contents err.new) said }
+    // A job that is refused leaves what stood on `out`, or it has an answer, which could not be written.
+    ensures refused { result ≡ Status.Refused → (W.contents out.new ≡ W.contents out.old)
+        ⊎ HasAnswer job.now (map (λ f. f.items) files.now) (R.remaining input.old) }
 {
     match answered(alloc, job, files, input, err) {
         Ok(answer) => deliver(&answer, out, err),
