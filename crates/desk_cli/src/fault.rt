@@ -1,7 +1,10 @@
 //! Why the command line says nothing to do.
 
-ghost use Rattle.std.specs.Prelude.{◌≡◌};
+ghost use Rattle.std.specs.Prelude.{◌≡◌, ◌≢◌};
+ghost use Rattle.clap.specs.Words.{kind_of};
 
+use crate::status::Status;
+use clap::error::ErrorKind;
 use std::alloc::{AllocError, AllocFailed};
 use sudo_words::WordFault;
 
@@ -14,6 +17,17 @@ pub enum JobFault {
     NoMemory,
     /// The line is no command of the program, or asks for help. The fault has the text for the user.
     Usage(clap::Error),
+}
+
+/// Prints clap's text, help on the standard output and a mistake on the standard error, and says how the program ends after it.
+pub fn show(rt: &HostRuntime, error: &clap::Error) -> Status
+    ensures mistake { kind_of error.now ≢ ErrorKind.DisplayHelp → kind_of error.now ≢ ErrorKind.DisplayVersion → result ≡ Status.Refused }
+{
+    if error.print(rt).is_err() || error.use_stderr() {
+        Status::Refused
+    } else {
+        Status::Done
+    }
 }
 
 impl From<AllocError> for JobFault {

@@ -16,9 +16,9 @@ mod text;
 mod values;
 
 use crate::command_line::job;
-use crate::fault::JobFault;
+use crate::fault::{JobFault, show};
 use crate::refusal::Refusal;
-use crate::running::{refuse, run};
+use crate::running::{finish, refuse, run};
 use crate::status::{Status, code};
 use crate::task::Job;
 use std::io::{BufReader, BufWriter};
@@ -60,16 +60,8 @@ fn work(rt: &HostRuntime, job: &Job) -> Result<Status, Refusal> {
         return Err(Refusal::NoMemory);
     };
     let mut err = rt.stderr();
-    Ok(run(alloc, job, files.as_slice(), &mut input, &mut out, &mut err))
-}
-
-/// Prints clap's text: help on the standard output, and a mistake on the standard error.
-fn show(rt: &HostRuntime, error: &clap::Error) -> Status {
-    if error.print(rt).is_err() || error.use_stderr() {
-        Status::Refused
-    } else {
-        Status::Done
-    }
+    let status = run(alloc, job, files.as_slice(), &mut input, &mut out, &mut err);
+    Ok(finish(status, &mut out, &mut err))
 }
 
 fn outcome(rt: &HostRuntime) -> Result<Status, Refusal> {

@@ -1,7 +1,8 @@
 //! Doing a job. Its answer is made whole before any of it is written.
 
-ghost use Rattle.std.specs.Prelude.{◌≡◌, ◌≢◌, ◌⊎◌, ℕ, List, IfOk, map, string_bytes};
-ghost use Rattle.std.specs.Io.KnownBytes.{Appends};
+ghost use Rattle.std.specs.Prelude.{◌≡◌, ◌≢◌, ◌⊎◌, ℕ, List, [], IfOk, map, string_bytes};
+ghost use Rattle.std.specs.Io.Buffered.{writer_buffer, writer_contents};
+ghost use Rattle.std.specs.Io.KnownBytes.{Appends, Keeps};
 ghost use Rattle.desk_cli.specs.Printing.{PrintsHost};
 ghost use Rattle.desk_cli.specs.Answers.{ChecksFile, DecidesByFile, HasAnswer, IsAnswer, IsDecided, status_of};
 
@@ -10,7 +11,7 @@ use crate::refusal::Refusal;
 use crate::status::Status;
 use crate::task::Job;
 use std::alloc::{AllocError, Global};
-use std::io::{Read, Write};
+use std::io::{BufWriter, Read, Write};
 use sudo_decide::{Decision, Invocation, decide};
 use sudo_syntax::{print_policy, read_policy};
 use sudo_words::HostName;
@@ -113,9 +114,6 @@ fn deliver<W: Write, E: Write>(answer: &Answer, out: &mut W, err: &mut E) -> Sta
     if out.write_all(answer.text.as_bytes()).is_err() {
         return refuse(Refusal::FileFailed, err);
     }
-    if out.flush().is_err() {
-        return refuse(Refusal::FileFailed, err);
-    }
     answer.status
 }
 
@@ -144,4 +142,27 @@ pub fn run<R: Read, W: Write, E: Write>(
         Ok(answer) => deliver(&answer, out, err),
         Err(refusal) => refuse(refusal, err),
     }
+}
+
+/// The last step of a job, after `run`: writes out what the buffer of its output still holds.
+///
+/// A job whose output cannot be written out is refused, and `err` says so.
+pub fn finish<W: Write + Drop, E: Write>(
+    status: Status,
+    out: &mut BufWriter<W>,
+    err: &mut E,
+) -> Status
+    ensures status { result ≢ Status.Refused → result ≡ status }
+    // Nothing of an answer is left in the buffer.
+    ensures written_out { result ≢ Status.Refused → writer_buffer out.new ≡ [] }
+    ensures kept { Keeps (writer_contents W.contents out.old) (writer_contents W.contents out.new) }
+    ensures quiet { result ≢ Status.Refused → E.contents err.new ≡ E.contents err.old }
+{
+    if status == Status::Refused {
+        return status;
+    }
+    if out.flush().is_err() {
+        return refuse(Refusal::FileFailed, err);
+    }
+    status
 }

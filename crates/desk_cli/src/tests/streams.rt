@@ -1,11 +1,11 @@
 //! Files that are missing, and inputs and outputs that fail in the middle or at their end.
 
-use crate::running::run;
+use crate::running::{finish, run};
 use crate::status::code;
 use crate::task::Job;
 use crate::text::Text;
 use std::alloc::Global;
-use std::io::{Read, Write};
+use std::io::{BufWriter, Read, Write};
 use std::test::Fail;
 use std::{io, str};
 use sudo_words::HostName;
@@ -117,9 +117,11 @@ fn files_of(alloc: Global, wrong: Wrong) -> Result<Vec<Vec<u8>>, Fail> {
 fn ended(alloc: Global, job: &Job, wrong: Wrong) -> Result<String, Fail> {
     let files = files_of(alloc, wrong)?;
     let mut input = input_of(wrong);
-    let (mut out, mut err) = (output_of(alloc, wrong), error_of(alloc, wrong));
-    let status = code(run(alloc, job, files.as_slice(), &mut input, &mut out, &mut err));
-    let written = str::from_utf8(out.bytes.as_slice())?;
+    let mut out = BufWriter::new(alloc, output_of(alloc, wrong))?;
+    let mut err = error_of(alloc, wrong);
+    let status = run(alloc, job, files.as_slice(), &mut input, &mut out, &mut err);
+    let status = code(finish(status, &mut out, &mut err));
+    let written = str::from_utf8(out.get_ref().bytes.as_slice())?;
     let said = str::from_utf8(err.bytes.as_slice())?;
     Ok(format!(in alloc; "{status}|{written}|{said}.")?)
 }
