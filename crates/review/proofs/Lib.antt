@@ -1,0 +1,17 @@
+pub mod OneCase
+pub mod AlikeLemmas
+pub mod Fresh
+pub mod NameCases
+pub mod MomentCases
+pub mod CmndCases
+pub mod Counting
+pub mod Everywhere
+pub mod PolicyForms
+pub mod Lists
+pub mod Others
+pub mod DecisionLemmas
+pub mod RunLemmas
+pub mod Products
+pub mod Gaps
+pub mod Listed
+pub mod Theorem

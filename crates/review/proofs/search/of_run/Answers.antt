@@ -1,0 +1,40 @@
+use Rattle.std.proofs.Common.{◌≡◌, ℕ, ◌+◌, List, [], ◌∷◌, map, take, sym, ap, ◌∙◌, subst}
+use Rattle.std.specs.List.{flat_map}
+use Rattle.std.proofs.lemmas.Bool.{false≢true}
+use Rattle.std.proofs.lemmas.List.Concat.{flat_map_single}
+use Rattle.sudo_decide.specs.declared.invocation.Invocation.{Invocation}
+use Rattle.review.specs.Beyond.{IsGap}
+use Rattle.review.specs.Cases.{invocation_of}
+use Rattle.review.specs.Answer.{IsFirst}
+use Rattle.review.proofs.Gaps.{NoGap, gaps_more, gap_here}
+use Rattle.review.proofs.search.of_run.Goals as goal
+
+pub returns-then-is_gap : goal.returns-then-is_gap
+returns-then-is_gap c =
+    let a = c.args.a.now in
+    let b = c.args.b.now in
+    let at : ℕ → Invocation = invocation_of c.args.user.now c.args.host.now c.args.runas.now c.args.run.now in
+    let one : ℕ → List Invocation = λ t. at t ∷ [] in
+    let moments : List ℕ = c.as_slice-at-items.result.now in
+    subst (λ (is : List Invocation). IsFirst (IsGap a b) is c.in_ok-i.i) (flat_map_single at moments ∙ ap (λ (ts : List ℕ). map at ts) c.as_slice-at-items.ensures)
+    (gap_here a b one moments c.loop-at.at-index c.at-item.result c.in_ok-i.i c.loop-at-test.true c.at-item.is
+    (subst (λ (ts : List ℕ). NoGap a b (flat_map one (take c.loop-at.at-index ts))) (sym c.as_slice-at-items.ensures) c.loop-at.invariant)
+    (record {
+      before = [];
+      after = [];
+      list_is = ap (λ (i : Invocation). i ∷ []) (sym c.in_ok-i.ensures);
+      here = c.is_gap.ensures.0 c.if-is_gap.true;
+      none_before = tt;
+    }))
+
+pub loop-at-preserved : goal.loop-at-preserved
+loop-at-preserved c =
+    let a = c.args.a.now in
+    let b = c.args.b.now in
+    let at : ℕ → Invocation = invocation_of c.args.user.now c.args.host.now c.args.runas.now c.args.run.now in
+    let one : ℕ → List Invocation = λ t. at t ∷ [] in
+    let moments : List ℕ = c.as_slice-at-items.result.now in
+    subst (λ (ts : List ℕ). NoGap a b (flat_map one (take (c.loop-at.at-index + 1) ts))) c.as_slice-at-items.ensures
+    (gaps_more a b one moments c.loop-at.at-index c.at-item.result c.loop-at-test.true c.at-item.is
+    (subst (λ (ts : List ℕ). NoGap a b (flat_map one (take c.loop-at.at-index ts))) (sym c.as_slice-at-items.ensures) c.loop-at.invariant)
+    (λ gap. false≢true (sym c.if-is_gap.false ∙ c.is_gap.ensures.1 (subst (λ (i : Invocation). IsGap a b i) (sym c.in_ok-i.ensures) gap)), tt))

@@ -1,0 +1,7 @@
+pub mod Beyond
+pub mod Standing
+pub mod Cases
+pub mod Answer
+pub mod Alike
+pub mod Faults
+pub mod Gathering

@@ -1,0 +1,33 @@
+//! Words that do not stand: `other0`, `other1` and so on.
+
+ghost use Rattle.std.specs.Prelude.{◌≡◌, ℕ, ◌<◌, ◌^◌, true, IfOk};
+ghost use Rattle.review.specs.Cases.{other as word_of, IsFirstOther, has};
+ghost use Rattle.review.specs.Gathering.{IsFormOfOthers};
+
+use std::alloc::Global;
+use sudo_words::{Form, NoMemory, Word};
+
+/// The word `other` and this number.
+pub(crate) fn other<F: Form>(alloc: Global, number: usize) -> Result<Word<F>, NoMemory>
+    requires { F.has (word_of number) ≡ true }
+    ensures { IfOk result (λ w. w ≡ word_of number) }
+{
+    match Word::from_string(format!(in alloc; "other{number}")?) {
+        Ok(word) => Ok(word),
+        Err(_) => Err(NoMemory),
+    }
+}
+
+/// The first other word that does not stand: one of as many as stand, and one more.
+pub(crate) fn first_other<F: Form>(alloc: Global, standing: &[Word<F>]) -> Result<Word<F>, NoMemory>
+    requires { IsFormOfOthers F.has }
+    ensures { IfOk result (λ w. IsFirstOther (has standing.now) w) }
+{
+    for number in 0..standing.len() {
+        let word = other(alloc, number)?;
+        if !standing.contains(&word) {
+            return Ok(word);
+        }
+    }
+    other(alloc, standing.len())
+}
