@@ -15,3 +15,6 @@ pub mod Products
 pub mod Gaps
 pub mod Listed
 pub mod Theorem
+pub mod OneList
+pub mod PolicyLaws
+pub mod HasCase

@@ -6,6 +6,7 @@ mod commands;
 mod compare;
 mod decided;
 mod fault;
+mod laws;
 mod moments;
 mod names;
 mod order;
@@ -19,5 +20,11 @@ mod standing;
 pub use cases::Cases;
 pub use compare::beyond;
 pub use fault::BeyondFault;
+pub use laws::{
+    alike_commands, alike_decide, alike_names, beyond_is_decided, cases_are_invocations,
+    cases_suffice, each_command_has_a_case, each_host_has_a_case, each_moment_has_a_case,
+    each_target_has_a_case, each_user_has_a_case, nothing_beyond_a_third, nothing_beyond_itself,
+    one_list_of_each, wider_scope,
+};
 pub use run::{Args, Run};
 pub use scope::Scope;
