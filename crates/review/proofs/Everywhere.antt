@@ -1,5 +1,5 @@
 -- What lies beyond a policy anywhere does so at a case.
-use Rattle.std.proofs.Common.{◌≡◌, ℕ, List, [], ◌∷◌, ◌++◌, inl, inr}
+use Rattle.std.proofs.Common.{◌≡◌, ℕ, List, ◌++◌, inl, inr}
 use Rattle.std.specs.Str.{bytes_eq}
 use Rattle.sudo_words.specs.Word.{is_name, is_host_name}
 use Rattle.sudo_words.specs.Command.{matches}

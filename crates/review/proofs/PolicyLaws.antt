@@ -1,5 +1,5 @@
 -- What lies beyond of two policies and three.
-use Rattle.std.proofs.Common.{◌≡◌, ℕ, ◌*◌, ◌+◌, List, [], ◌∷◌, ◌++◌, length, map, reverse, refl, sym, ap, ◌∙◌, subst, inl, inr, length-append, arith}
+use Rattle.std.proofs.Common.{◌≡◌, ℕ, ◌*◌, List, [], ◌∷◌, length, reverse, sym, ◌∙◌, subst, inl, inr, length-append, arith}
 use Rattle.std.specs.List.{flat_map}
 use Rattle.std.proofs.Math.Nat.{mul_assoc, suc-mul}
 use Rattle.std.proofs.lemmas.List.{length-map}
@@ -10,9 +10,8 @@ use Rattle.sudo_decide.specs.declared.invocation.Invocation.{Invocation}
 use Rattle.sudo_decide.specs.Decision.{Decides}
 use Rattle.sudo_decide.proofs.Speakers.{one_decision, some_decision}
 use Rattle.review.specs.declared.cases.Cases.{Cases}
-use Rattle.review.specs.declared.run.Run.{Run}
 use Rattle.review.specs.declared.scope.Scope.{Scope}
-use Rattle.review.specs.Beyond.{Allows, IsInScope, LiesBeyond, SomethingBeyond}
+use Rattle.review.specs.Beyond.{IsInScope, LiesBeyond, SomethingBeyond}
 use Rattle.review.specs.Cases.{product, invocation_of, of_run, of_target, of_host, of_user, invocations}
 use Rattle.review.proofs.DecisionLemmas.{not_both}
 

@@ -1,6 +1,6 @@
 use Rattle.std.proofs.Common.{sym, ◌∙◌}
 use Rattle.std.proofs.lemmas.Bool.{false≢true, not-true, cases_Bool}
-use Rattle.std.proofs.Common.{◌≡◌, Bool, true, false, not, refl, ap, inl, inr}
+use Rattle.std.proofs.Common.{not, ap, inl, inr}
 use Rattle.review.proofs.DecisionLemmas.{not_both}
 use Rattle.review.proofs.decided.is_gap.Goals as goal
 

@@ -1,6 +1,6 @@
-use Rattle.std.proofs.Common.{◌≡◌, List, ℕ, [], ◌∷◌, ◌++◌, OnOk, map, ap, ◌∙◌, sym, subst}
+use Rattle.std.proofs.Common.{◌≡◌, List, ℕ, [], ◌∷◌, ◌++◌, ap, ◌∙◌, sym, subst}
 use Rattle.review.specs.declared.run.Run.{Run}
-use Rattle.review.specs.Cases.{args_with, args_order, run_of, IsEachOnce, ArePathCases}
+use Rattle.review.specs.Cases.{args_order, run_of, IsEachOnce, ArePathCases}
 use Rattle.review.specs.Gathering.{IsFreeArgs, Adds}
 use Rattle.review.proofs.CmndCases.{args_decides}
 use Rattle.review.proofs.Lists.{on_ok}

@@ -1,8 +1,8 @@
-use Rattle.std.proofs.Common.{◌≡◌, List, ℕ, [], ◌∷◌, ◌++◌, sym, ap, ◌∙◌, subst}
+use Rattle.std.proofs.Common.{List, ℕ, sym, subst}
 use Rattle.std.specs.Prelude.{codes}
 use Rattle.std.specs.List.{All}
 use Rattle.review.specs.declared.run.Run.{Run}
-use Rattle.review.specs.Cases.{text_order, paths, dirs, IsEachOnce, ArePathCases, IsFreshFile, AreParts, AreCommandCases}
+use Rattle.review.specs.Cases.{text_order, dirs, IsEachOnce, ArePathCases, IsFreshFile, AreParts, AreCommandCases}
 use Rattle.review.specs.Gathering.{IsLawfulDir, Adds}
 use Rattle.review.proofs.CmndCases.{files_in_root}
 use Rattle.review.proofs.RunLemmas.{command_cases, all_listed}
