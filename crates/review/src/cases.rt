@@ -1,6 +1,6 @@
 //! The cases that are tried.
 
-ghost use Rattle.std.specs.Prelude.{◌≡◌, ◌++◌, ◌-◌, ◌^◌, min, true, IfOk, IfSome, OnOk};
+ghost use Rattle.std.specs.Prelude.{◌≡◌, ◌++◌, ◌*◌, ◌-◌, ◌^◌, min, true, IfOk, IfSome, OnOk};
 ghost use Rattle.sudo_words.specs.Word.{is_name, is_host_name};
 ghost use Rattle.sudo_syntax.specs.Policy.{IsPolicy};
 ghost use Rattle.review.specs.Beyond.{IsScope};
@@ -19,18 +19,18 @@ use sudo_syntax::Policy;
 use sudo_words::{HostName, Items, Moment, Name, NoMemory};
 
 /// A list of each part of an invocation; the cases are all combinations.
-#[derive(Debug, Drop)]
-pub struct Cases {
+#[derive(Drop)]
+pub(crate) struct Cases {
     /// The users.
-    pub users: Items<Name>,
+    pub(crate) users: Items<Name>,
     /// The hosts.
-    pub hosts: Items<HostName>,
+    pub(crate) hosts: Items<HostName>,
     /// The targets.
-    pub targets: Items<Name>,
+    pub(crate) targets: Items<Name>,
     /// The paths with their arguments.
-    pub runs: Items<Run>,
+    pub(crate) runs: Items<Run>,
     /// The moments.
-    pub moments: Items<Moment>,
+    pub(crate) moments: Items<Moment>,
 }
 
 fn user_cases(
@@ -88,6 +88,13 @@ fn command_cases(alloc: Global, a: &Policy, b: &Policy) -> Result<Items<Run>, No
     run_cases(alloc, &cmnds)
 }
 
+/// The product, or the greatest number where it is past that.
+fn times(count: usize, more: usize) -> usize
+    ensures { result ≡ min (count * more) (2 ^ 64 - 1) }
+{
+    count.saturating_mul(more)
+}
+
 impl Cases {
     /// The cases of two policies.
     pub(crate) fn of(
@@ -119,9 +126,9 @@ impl Cases {
         ensures { result ≡ min (specs.product self.now) (2 ^ 64 - 1) }
     {
         let users = self.users.as_slice().len();
-        let hosts = users.saturating_mul(self.hosts.as_slice().len());
-        let targets = hosts.saturating_mul(self.targets.as_slice().len());
-        let runs = targets.saturating_mul(self.runs.as_slice().len());
-        runs.saturating_mul(self.moments.as_slice().len())
+        let hosts = times(users, self.hosts.as_slice().len());
+        let targets = times(hosts, self.targets.as_slice().len());
+        let runs = times(targets, self.runs.as_slice().len());
+        times(runs, self.moments.as_slice().len())
     }
 }

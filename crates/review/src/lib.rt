@@ -17,7 +17,6 @@ mod scope;
 mod search;
 mod standing;
 
-pub use cases::Cases;
 pub use compare::beyond;
 pub use fault::BeyondFault;
 pub use laws::{
@@ -26,5 +25,4 @@ pub use laws::{
     each_target_has_a_case, each_user_has_a_case, nothing_beyond_a_third, nothing_beyond_itself,
     one_list_of_each, wider_scope,
 };
-pub use run::{Args, Run};
 pub use scope::Scope;

@@ -7,8 +7,8 @@ use sudo_words::{Arg, FilePath};
 /// The arguments of a command, in order.
 ///
 /// Two lists of them are compared as lists of texts: the first that differs decides, and else the length.
-#[derive(Clone, Debug, Drop)]
-pub struct Args {
+#[derive(Clone, Drop)]
+pub(crate) struct Args {
     items: Vec<Arg>,
 }
 
@@ -102,10 +102,10 @@ impl Ord for Args {
 }
 
 /// A path that is run with arguments.
-#[derive(Clone, Debug, Drop)]
-pub struct Run {
+#[derive(Drop)]
+pub(crate) struct Run {
     /// The path.
-    pub path: FilePath,
+    pub(crate) path: FilePath,
     /// The arguments, in order.
-    pub args: Args,
+    pub(crate) args: Args,
 }

@@ -11,21 +11,21 @@ returns c =
     let targets : ℕ = length c.args.self.now.targets in
     let runs : ℕ = length c.args.self.now.runs in
     let moments : ℕ = length c.args.self.now.moments in
-    let with_hosts : c.saturating_mul-hosts.result ≡ min (users * hosts) most =
-    c.saturating_mul-hosts.ensures
+    let with_hosts : c.times-hosts.result ≡ min (users * hosts) most =
+    c.times-hosts.ensures
     ∙ ap (λ (xs : List (List ℕ)). min (length xs * length c.as_slice.result.now) most) c.as_slice-users.ensures
     ∙ ap (λ (xs : List (List ℕ)). min (users * length xs) most) c.as_slice.ensures in
-    let with_targets : c.saturating_mul-targets.result ≡ min (users * hosts * targets) most =
-    c.saturating_mul-targets.ensures
-    ∙ ap (λ (xs : List (List ℕ)). min (c.saturating_mul-hosts.result * length xs) most) c.as_slice-2.ensures
+    let with_targets : c.times-targets.result ≡ min (users * hosts * targets) most =
+    c.times-targets.ensures
+    ∙ ap (λ (xs : List (List ℕ)). min (c.times-hosts.result * length xs) most) c.as_slice-2.ensures
     ∙ ap (λ (n : ℕ). min (n * targets) most) with_hosts
     ∙ saturated (users * hosts) targets most in
-    let with_runs : c.saturating_mul-runs.result ≡ min (users * hosts * targets * runs) most =
-    c.saturating_mul-runs.ensures
-    ∙ ap (λ (xs : List Run). min (c.saturating_mul-targets.result * length xs) most) c.as_slice-3.ensures
+    let with_runs : c.times-runs.result ≡ min (users * hosts * targets * runs) most =
+    c.times-runs.ensures
+    ∙ ap (λ (xs : List Run). min (c.times-targets.result * length xs) most) c.as_slice-3.ensures
     ∙ ap (λ (n : ℕ). min (n * runs) most) with_targets
     ∙ saturated (users * hosts * targets) runs most in
-    c.saturating_mul.ensures
-    ∙ ap (λ (xs : List ℕ). min (c.saturating_mul-runs.result * length xs) most) c.as_slice-4.ensures
+    c.times.ensures
+    ∙ ap (λ (xs : List ℕ). min (c.times-runs.result * length xs) most) c.as_slice-4.ensures
     ∙ ap (λ (n : ℕ). min (n * moments) most) with_runs
     ∙ saturated (users * hosts * targets * runs) moments most
