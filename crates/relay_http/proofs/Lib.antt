@@ -1,0 +1,4 @@
+pub mod Stamps
+pub mod RouteLemmas
+pub mod WantedLemmas
+pub mod SettleLemmas

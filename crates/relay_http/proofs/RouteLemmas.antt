@@ -1,0 +1,99 @@
+-- Each route of the desk is known by its value.
+use Rattle.std.proofs.Common.{zero, suc, ◌-◌, ◌&&◌, IsTrue, unwrap_or, take, drop, length, arith, nat_lt, leb, ◌≡◌, ◌≤◌, ◌<◌, ℕ, List, [], ◌∷◌, Option, Some, None, Result, Ok, Err, refl, sym, ap, ◌∙◌, subst, codes, OnOk, Bool, true, false, cond}
+use Rattle.matchit.specs.Rows.{RowsOf}
+use Rattle.matchit.specs.Route.{Scan, scan}
+use Rattle.matchit.specs.Seek.{first}
+use Rattle.matchit.specs.Router.{RouteOf, rename, map_key, InsertsRead}
+use Rattle.matchit.specs.declared.error.InsertError.{InsertError}
+use Rattle.matchit.proofs.RenameLemmas.{first-rename}
+use Rattle.relay_http.specs.declared.place.Place.{Place}
+use Rattle.relay_http.specs.declared.place.Place.TheVariants.{Messages, Grants, Parked, HostFile}
+use Rattle.relay_http.specs.Routes.{routes, added}
+use Rattle.relay_http.specs.Target.{is_plain, is_plain_byte}
+use Rattle.matchit.specs.Route.{parse_route}
+use Rattle.matchit.specs.Router.{route_from}
+use Rattle.matchit.specs.Params.{walk, part_of, AllText}
+use Rattle.std.specs.List.{list_all}
+use Rattle.std.specs.Str.{IsAscii, IsUtf8}
+use Rattle.std.proofs.lemmas.Str.{IsAscii-take, IsAscii-drop, IsUtf8-from_ascii, IsUtf8-nil}
+use Rattle.std.proofs.lemmas.Str.Ascii.{IsAscii-nil}
+use Rattle.std.proofs.lemmas.Bool.{and_from}
+use Rattle.std.proofs.lemmas.Bool.Decides.{nat_tests}
+
+pub inserted : (x : Result Scan InsertError) (place : Place) (old new : RowsOf (RouteOf Place)) (r : Result (Unit {0}) InsertError)
+    → InsertsRead x place old new r → OnOk r (new ≡ added x place old)
+inserted (Ok s) place old new (Ok u) h = h.1
+inserted (Ok s) place old new (Err e) h = tt
+inserted (Err e) place old new (Ok u) h = h.0
+inserted (Err e) place old new (Err f) h = tt
+
+and_true_left : (a b : Bool) → (a && b) ≡ true → a ≡ true
+and_true_left true b h = refl
+and_true_left false b h = h
+
+and_true_right : (a b : Bool) → (a && b) ≡ true → b ≡ true
+and_true_right true b h = h
+and_true_right false b h = absurd (grind (arith, h))
+
+below_ascii : (bs : List ℕ) → list_all (λ b. nat_lt b 128) bs ≡ true → IsAscii bs
+below_ascii [] h i = IsAscii-nil i
+below_ascii (b ∷ bs) h zero = grind (arith, nat_tests)
+below_ascii (b ∷ bs) h (suc i) = below_ascii bs (and_true_right _ _ h) i
+
+plain_below : (bs : List ℕ) → list_all is_plain_byte bs ≡ true → list_all (λ b. nat_lt b 128) bs ≡ true
+plain_below [] h = refl
+plain_below (b ∷ bs) h = and_from _ _ (and_true_left _ _ (and_true_left _ _ h)) (plain_below bs (and_true_right _ _ h))
+
+plain_ascii : (target : List ℕ) → IsTrue (is_plain target) → IsAscii target
+plain_ascii target h = below_ascii target (plain_below target (and_true_right _ _ h))
+
+-- the route of a place, by its text
+abbrev pub text_for : Place → List ℕ
+text_for Messages = codes "/v1/relays/{relay}/messages"
+text_for Grants = codes "/v1/grants/{at}"
+text_for Parked = codes "/v1/parked"
+text_for HostFile = codes "/v1/hosts/{host}/sudoers"
+
+abbrev pub from_scan : Result Scan InsertError → Place → RouteOf Place
+from_scan (Ok s) place = route_from s place
+from_scan (Err e) place = record { pattern = []; text = []; names = []; value = place }
+
+abbrev pub route_for : Place → RouteOf Place
+route_for place = from_scan (parse_route (text_for place)) place
+
+abbrev pub remade : RouteOf Place → RouteOf Place
+remade e = route_for e.value
+
+pub all_remade : rename remade routes ≡ routes
+unfolding routes scan
+all_remade = refl
+
+-- a route that is found is the route of its value
+pub known : (target : List ℕ) (e : RouteOf Place) → first routes target ≡ Some e → e ≡ route_for e.value
+known target e found =
+    let twice : Some e ≡ Some (remade e) = sym found ∙ sym (ap (λ (r : RowsOf (RouteOf Place)). first r target) all_remade) ∙ first-rename remade routes target ∙ ap (map_key remade) found in
+    ap (λ (o : Option (RouteOf Place)). unwrap_or o e) twice
+
+part_utf8 : (bytes : List ℕ) (start end : ℕ) → IsAscii bytes → IsUtf8 (part_of bytes start end)
+part_utf8 bytes start end ascii = by (leb start end && leb end (length bytes))
+  where
+    by : (b : Bool) → IsUtf8 (cond b (take (end - start) (drop start bytes)) [])
+    by true = IsUtf8-from_ascii _ (IsAscii-take (drop start bytes) (end - start) (IsAscii-drop bytes start ascii))
+    by false = IsUtf8-nil
+
+all_text : (pattern text path : List ℕ) (names : List (ℕ × ℕ)) (token at : ℕ) → IsAscii text → IsAscii path
+    → AllText (walk pattern text path names token at)
+all_text pattern text path [] token at t p = tt
+all_text pattern text path (name ∷ names) token at t p = (part_utf8 text _ _ t, part_utf8 path _ _ p, all_text pattern text path names _ _ t p)
+
+text_ascii : (place : Place) → IsAscii (route_for place).text
+unfolding scan
+text_ascii Messages = below_ascii (route_for Messages).text refl
+text_ascii Grants = below_ascii (route_for Grants).text refl
+text_ascii Parked = below_ascii (route_for Parked).text refl
+text_ascii HostFile = below_ascii (route_for HostFile).text refl
+
+pub texts : (target : List ℕ) (e : RouteOf Place) → first routes target ≡ Some e → IsTrue (is_plain target)
+    → AllText (walk e.pattern e.text target e.names 0 0)
+texts target e found plain =
+    subst (λ (r : RouteOf Place). AllText (walk r.pattern r.text target r.names 0 0)) (sym (known target e found)) (all_text _ _ target _ 0 0 (text_ascii e.value) (plain_ascii target plain))

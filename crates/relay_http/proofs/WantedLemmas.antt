@@ -1,0 +1,82 @@
+-- From the parser's answer to what is asked.
+use Rattle.std.proofs.Common.{◌≡◌, ◌≤◌, ◌<◌, Bool, ℕ, List, [], ◌∷◌, Result, Ok, Err, refl, sym, ap, ◌∙◌, subst, inl, inr, take, drop, min, length, map, arith, length-take, length-drop, ◌-◌}
+use Rattle.std.proofs.lemmas.List.{length-map, take_min, take_all}
+use Rattle.httparse.specs.declared.Error.{Error}
+use Rattle.httparse.specs.declared.Status.{Status}
+use Rattle.httparse.specs.declared.Status.TheVariants.{Complete, Partial}
+use Rattle.httparse.specs.declared.spans.HeaderSpan.{HeaderSpan}
+use Rattle.httparse.specs.declared.spans.RequestSpans.{RequestSpans}
+use Rattle.httparse.specs.Outcome.{IfComplete, IsCompleteAnd}
+use Rattle.httparse.specs.Spans.{header_bytes, span_bytes, name_and_value, IsRequestAt, FindsRequest}
+use Rattle.httparse.specs.Grammar.{RequestHead, ReadsRequest, print_request, Field}
+use Rattle.httparse.proofs.GrammarLemmas.{request_unique}
+use Rattle.sudo_words.proofs.MomentLemmas.{stamp_spells}
+use Rattle.sudo_words.proofs.MomentTexts.{one_spelled}
+use Rattle.relay_http.specs.Asked.{Asked, Request, deliver, grants, parked, host_file, refused}
+use Rattle.relay_http.specs.Wanted.{Asks, AsksByHead, Dates, DatesRequest, HasHead, front, request_by, asks_by}
+
+take_at_most : (xs : List ℕ) (n k : ℕ) → n ≡ min (length xs) k → take n xs ≡ take k xs
+take_at_most xs n k e =
+    let swapped : n ≡ min k (length xs) = omega (arith, e) in
+    ap (λ (i : ℕ). take i xs) swapped ∙ take_min k xs
+
+pub take_front : (xs : List ℕ) (n : ℕ) → n ≡ min (length xs) 8192 → take n xs ≡ front xs
+unfolding front
+take_front xs n e = take_at_most xs n 8192 e
+
+pub take_rest : (xs : List ℕ) (n : ℕ) → take (length xs - n) (drop n xs) ≡ drop n xs
+take_rest xs n = take_all (length xs - n) (drop n xs) (omega (arith, length-drop n xs))
+
+pub incomplete : {A : Type 0} (P : A → Type 0) (s : Status A) → s ≡ Partial → IsCompleteAnd {E = Error} (Ok s) P → ⊥
+incomplete {A} P s e h = subst (λ (t : Status A). IsCompleteAnd {E = Error} (Ok t) P) e h
+
+pub complete_at : {A : Type 0} (P : A → Type 0) (s : Status A) (a : A) → s ≡ Complete a → IfComplete {E = Error} (Ok s) P → P a
+complete_at {A} P s a e h = subst (λ (t : Status A). IfComplete {E = Error} (Ok t) P) e h
+
+fields_fit : (buf : List ℕ) (headers : List HeaderSpan) (count : ℕ) (fields : List Field)
+    → map (header_bytes buf) (take count headers) ≡ map name_and_value fields → length headers ≡ 32 → length fields ≤ 32
+fields_fit buf headers count fields e len =
+    let lengths : length (take count headers) ≡ length fields = sym (length-map (take count headers) (header_bytes buf)) ∙ ap length e ∙ length-map fields name_and_value in
+    omega (arith, length-take count headers, len, lengths)
+
+-- the parts that the spans cover are those of a head, so what they ask for is asked
+pub asks_at : (buf found : List ℕ) (headers : List HeaderSpan) (spans : RequestSpans) (h : RequestHead) (result : Request ℕ)
+    → found ≡ front buf → length headers ≡ 32 → IsRequestAt found headers spans h
+    → DatesRequest (request_by (span_bytes found spans.method) (span_bytes found spans.path) spans.version (map (header_bytes found) (take spans.headers headers)) (drop spans.len buf)) result
+    → AsksByHead buf result
+asks_at buf found headers spans h result is_front len at is = (
+  h,
+  ((drop spans.len found, subst (λ (f : List ℕ). ReadsRequest f h (drop spans.len found)) is_front at.reads), fields_fit found headers spans.headers h.fields at.fields len),
+  subst (λ (r : Request (List ℕ)). DatesRequest r result)
+      (ap (λ (m : List ℕ). request_by m (span_bytes found spans.path) spans.version (map (header_bytes found) (take spans.headers headers)) (drop spans.len buf)) at.method
+      ∙ ap (λ (t : List ℕ). request_by h.method t spans.version (map (header_bytes found) (take spans.headers headers)) (drop spans.len buf)) at.path
+      ∙ ap (λ (v : ℕ). request_by h.method h.target v (map (header_bytes found) (take spans.headers headers)) (drop spans.len buf)) at.version
+      ∙ ap (λ (fs : List (List ℕ × List ℕ)). request_by h.method h.target h.minor fs (drop spans.len buf)) at.fields
+      ∙ ap (λ (n : ℕ). request_by h.method h.target h.minor (map name_and_value h.fields) (drop n buf)) at.len)
+      is,
+)
+
+-- a text is of one moment, so one thing is asked
+one_dated : (r : Asked (List ℕ)) (a b : Asked ℕ) → Dates r a → Dates r b → a ≡ b
+one_dated (deliver relay body) a b x y = x ∙ sym y
+one_dated (grants at) a b (inl x) (inl y) = x.2 ∙ ap grants (one_spelled at x.0 y.0 (stamp_spells at x.0 x.1) (stamp_spells at y.0 y.1)) ∙ sym y.2
+one_dated (grants at) a b (inl x) (inr y) = absurd (y.0 x.0 x.1)
+one_dated (grants at) a b (inr x) (inl y) = absurd (x.0 y.0 y.1)
+one_dated (grants at) a b (inr x) (inr y) = x.1 ∙ sym y.1
+one_dated parked a b x y = x ∙ sym y
+one_dated (host_file host) a b x y = x ∙ sym y
+one_dated (refused fault) a b x y = x ∙ sym y
+
+pub one_dated_request : (r : Request (List ℕ)) (a b : Request ℕ) → DatesRequest r a → DatesRequest r b → a ≡ b
+one_dated_request r a b x y =
+    ap (λ (w : Bool). record { with_body = w; asked = a.asked }) (x.0 ∙ sym y.0)
+    ∙ ap (λ (q : Asked ℕ). record { with_body = b.with_body; asked = q }) (one_dated r.asked a.asked b.asked x.1 y.1)
+
+-- Bytes ask for one thing.
+pub one_request : (bytes : List ℕ) (a b : Request ℕ) → Asks bytes a → Asks bytes b → a ≡ b
+one_request bytes a b (inl x) (inl y) =
+    let same : x.0 ≡ y.0 = (request_unique (front bytes) x.0 y.0 x.1.0.0 y.1.0.0 x.1.0.1 y.1.0.1).0 in
+    one_dated_request (asks_by y.0 bytes) a b (subst (λ (h : RequestHead). DatesRequest (asks_by h bytes) a) same x.2) y.2
+one_request bytes a b (inl x) (inr y) = absurd (y.0 x.0 x.1)
+one_request bytes a b (inr x) (inl y) = absurd (x.0 y.0 y.1)
+one_request bytes a b (inr x) (inr y) = x.1 ∙ sym y.1

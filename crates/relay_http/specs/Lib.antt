@@ -1,0 +1,9 @@
+pub mod Asked
+pub mod Target
+pub mod Routes
+pub mod Fields
+pub mod Content
+pub mod Wanted
+pub mod Reply
+pub mod Seen
+pub mod Settled

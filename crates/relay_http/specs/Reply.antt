@@ -1,0 +1,76 @@
+-- The bytes of a reply (RFC 9112, sections 2 and 4).
+use Rattle.std.specs.Prelude.{ℕ, List, [], ◌∷◌, ◌++◌, Bool, length, if◌then◌else◌, codes, decimal}
+use Rattle.relay_http.specs.declared.fault.RequestFault.{RequestFault}
+use Rattle.relay_http.specs.declared.fault.RequestFault.TheVariants.{BadHead, BadTarget, NoRoute, BadMethod, LengthRequired, BadLength, TooLong, ShortBody, BadMoment}
+use Rattle.relay_http.specs.declared.place.Methods.TheVariants.{Post, GetOrHead}
+use Rattle.relay_http.specs.declared.status.Status.{Status}
+use Rattle.relay_http.specs.declared.status.Status.TheVariants as status
+
+-- the code of a status and its phrase (RFC 9110, section 15)
+abbrev pub status_text : Status → List ℕ
+status_text status.Done = codes "200 OK"
+status_text status.BadRequest = codes "400 Bad Request"
+status_text status.Forbidden = codes "403 Forbidden"
+status_text status.NotFound = codes "404 Not Found"
+status_text (status.MethodNotAllowed methods) = codes "405 Method Not Allowed"
+status_text status.LengthRequired = codes "411 Length Required"
+status_text status.ContentTooLarge = codes "413 Content Too Large"
+status_text status.ServiceUnavailable = codes "503 Service Unavailable"
+
+-- carriage return and newline
+abbrev pub line_end : List ℕ
+line_end = 13 ∷ 10 ∷ []
+
+-- the methods of the route, where another was used (RFC 9110, section 15.5.6)
+abbrev pub allow_line : Status → List ℕ
+allow_line (status.MethodNotAllowed Post) = codes "Allow: POST" ++ line_end
+allow_line (status.MethodNotAllowed GetOrHead) = codes "Allow: GET, HEAD" ++ line_end
+allow_line status.Done = []
+allow_line status.BadRequest = []
+allow_line status.Forbidden = []
+allow_line status.NotFound = []
+allow_line status.LengthRequired = []
+allow_line status.ContentTooLarge = []
+allow_line status.ServiceUnavailable = []
+
+-- the head of a reply, whose body has so many bytes
+abbrev pub reply_head : Status → ℕ → List ℕ
+reply_head s size =
+    codes "HTTP/1.1 " ++ status_text s ++ line_end
+    ++ codes "Content-Type: text/plain" ++ line_end
+    ++ allow_line s
+    ++ codes "Content-Length: " ++ decimal size ++ line_end
+    ++ codes "Connection: close" ++ line_end
+    ++ line_end
+
+-- the reply: its head tells the body's length, and the body is there where it is wanted
+abbrev pub written : Status → List ℕ → (with_body : Bool) → List ℕ
+written s body with_body = reply_head s (length body) ++ (if with_body then body else [])
+
+-- the code and name of a fault
+abbrev pub fault_text : RequestFault → List ℕ
+fault_text BadHead = codes "T1 BadHead"
+fault_text BadTarget = codes "T2 BadTarget"
+fault_text NoRoute = codes "T3 NoRoute"
+fault_text (BadMethod methods) = codes "T4 BadMethod"
+fault_text LengthRequired = codes "T5 LengthRequired"
+fault_text BadLength = codes "T6 BadLength"
+fault_text ShortBody = codes "T7 ShortBody"
+fault_text BadMoment = codes "T8 BadMoment"
+fault_text TooLong = codes "M1 TooLong"
+
+-- the status of a fault
+abbrev pub status_of : RequestFault → Status
+status_of BadHead = status.BadRequest
+status_of BadTarget = status.BadRequest
+status_of NoRoute = status.NotFound
+status_of (BadMethod methods) = status.MethodNotAllowed methods
+status_of LengthRequired = status.LengthRequired
+status_of BadLength = status.BadRequest
+status_of ShortBody = status.BadRequest
+status_of BadMoment = status.BadRequest
+status_of TooLong = status.ContentTooLarge
+
+-- the body of a refusal is its line
+abbrev pub fault_line : RequestFault → List ℕ
+fault_line fault = fault_text fault ++ 10 ∷ []

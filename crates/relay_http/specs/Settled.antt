@@ -1,0 +1,26 @@
+-- When the content is not there yet. Of the program alone: no promise cites it.
+use Rattle.std.specs.Prelude.{ℕ, Bool, true, false}
+use Rattle.relay_http.specs.Asked.{Asked, Request, deliver, grants, parked, host_file, refused}
+use Rattle.relay_http.specs.declared.fault.RequestFault.{RequestFault}
+use Rattle.relay_http.specs.declared.fault.RequestFault.TheVariants.{BadHead, BadTarget, NoRoute, BadMethod, LengthRequired, BadLength, TooLong, ShortBody, BadMoment}
+
+abbrev pub is_short_body : RequestFault → Bool
+is_short_body ShortBody = true
+is_short_body BadHead = false
+is_short_body BadTarget = false
+is_short_body NoRoute = false
+is_short_body (BadMethod methods) = false
+is_short_body LengthRequired = false
+is_short_body BadLength = false
+is_short_body TooLong = false
+is_short_body BadMoment = false
+
+abbrev pub lacks_content : {At : Type 0} → Asked At → Bool
+lacks_content (deliver relay body) = false
+lacks_content (grants at) = false
+lacks_content parked = false
+lacks_content (host_file host) = false
+lacks_content (refused fault) = is_short_body fault
+
+abbrev pub is_short : {At : Type 0} → Request At → Bool
+is_short request = lacks_content request.asked

@@ -1,0 +1,26 @@
+//! What a request asks for.
+
+use crate::fault::RequestFault;
+use sudo_words::Moment;
+
+/// What a request asks of the desk, by its bytes alone.
+#[derive(Clone, Copy, Debug)]
+pub enum Ask<'b> {
+    /// The delivery of a message by a relay, whatever the relay's name and the message's form.
+    Deliver { relay: &'b str, body: &'b [u8] },
+    /// The grants that are live at the moment.
+    Grants(Moment),
+    /// The verdicts whose request has not come.
+    Parked,
+    /// The sudoers file of a host, whatever the form of its name.
+    HostFile(&'b str),
+    /// Nothing: the first fault that applies.
+    Refused(RequestFault),
+}
+
+/// What a request asks for, and whether the reply has its body: that to HEAD has none.
+#[derive(Clone, Copy, Debug)]
+pub struct Wanted<'b> {
+    pub with_body: bool,
+    pub ask: Ask<'b>,
+}

@@ -1,0 +1,71 @@
+//! Why a request is refused by its bytes alone.
+
+use crate::place::Methods;
+use crate::status::Status;
+use std::fmt;
+
+/// Why a request is refused by its bytes alone. It is shown as its code and name.
+#[derive(Clone, Copy, Debug, PartialEq, Eq)]
+pub enum RequestFault {
+    /// The first 8,192 bytes begin with no request head of at most 32 fields, or its Host field is missing or there twice.
+    BadHead,
+    /// The target does not begin with `/`, or has a query, a fragment, an encoded byte or one past ASCII.
+    BadTarget,
+    /// No route has the target.
+    NoRoute,
+    /// The route has other methods.
+    BadMethod(Methods),
+    /// A POST has no Content-Length.
+    LengthRequired,
+    /// A POST has a Transfer-Encoding, a second Content-Length, or one that is not 1 to 9 digits.
+    BadLength,
+    /// Content-Length says more than 16,384.
+    TooLong,
+    /// The stream ends before the content does.
+    ShortBody,
+    /// The text in a moment's place is no moment's canonical text.
+    BadMoment,
+}
+
+impl RequestFault {
+    ghost use Rattle.std.specs.Prelude.{◌≡◌};
+    ghost use Rattle.relay_http.specs.Reply.{status_of};
+
+    /// The status of the refusal.
+    pub fn status(self) -> Status
+        ensures { result ≡ status_of self }
+    {
+        match self {
+            RequestFault::BadHead
+            | RequestFault::BadTarget
+            | RequestFault::BadLength
+            | RequestFault::ShortBody
+            | RequestFault::BadMoment => Status::BadRequest,
+            RequestFault::NoRoute => Status::NotFound,
+            RequestFault::BadMethod(methods) => Status::MethodNotAllowed(methods),
+            RequestFault::LengthRequired => Status::LengthRequired,
+            RequestFault::TooLong => Status::ContentTooLarge,
+        }
+    }
+}
+
+impl fmt::Display for RequestFault {
+    ghost use Rattle.std.specs.Prelude.{Some};
+    ghost use Rattle.relay_http.specs.Reply.{fault_text};
+
+    ghost output = { λ f. Some (fault_text f) };
+
+    fn fmt<W: fmt::Write>(&self, f: &mut fmt::Formatter<W>) -> fmt::Result {
+        f.write_str(match self {
+            RequestFault::BadHead => "T1 BadHead",
+            RequestFault::BadTarget => "T2 BadTarget",
+            RequestFault::NoRoute => "T3 NoRoute",
+            RequestFault::BadMethod(_) => "T4 BadMethod",
+            RequestFault::LengthRequired => "T5 LengthRequired",
+            RequestFault::BadLength => "T6 BadLength",
+            RequestFault::ShortBody => "T7 ShortBody",
+            RequestFault::BadMoment => "T8 BadMoment",
+            RequestFault::TooLong => "M1 TooLong",
+        })
+    }
+}

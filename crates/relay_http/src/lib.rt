@@ -1,0 +1,28 @@
+//! The desk's HTTP interface: what a request asks for, and the bytes of the reply.
+//!
+//! Nothing here reads from a connection or writes to one.
+#![tactic(auto)]
+
+mod asked;
+mod content;
+mod fault;
+mod fields;
+mod laws;
+mod methods;
+mod moment;
+mod place;
+mod reply;
+mod request;
+mod routes;
+mod status;
+mod target;
+mod values;
+
+pub use asked::{Ask, Wanted};
+pub use fault::RequestFault;
+pub use laws::{one_head, one_request};
+pub use place::Methods;
+pub use reply::written;
+pub use request::{SoFar, wanted, wanted_so_far};
+pub use routes::Routes;
+pub use status::Status;

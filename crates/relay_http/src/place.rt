@@ -1,0 +1,38 @@
+//! Where the routes lead.
+
+/// A place of the desk that a route leads to.
+#[derive(Clone, Copy, Debug, PartialEq, Eq)]
+pub enum Place {
+    /// The messages that a relay delivers.
+    Messages,
+    /// The grants that are live at a moment.
+    Grants,
+    /// The verdicts whose request has not come.
+    Parked,
+    /// The sudoers file of a host.
+    HostFile,
+}
+
+impl Place {
+    ghost use Rattle.std.specs.Prelude.{◌≡◌};
+    ghost use Rattle.relay_http.specs.Wanted.{methods_of};
+
+    /// The methods of the place.
+    pub fn methods(self) -> Methods
+        ensures { result ≡ methods_of self }
+    {
+        match self {
+            Place::Messages => Methods::Post,
+            Place::Grants | Place::Parked | Place::HostFile => Methods::GetOrHead,
+        }
+    }
+}
+
+/// The methods of a place, as `Allow` names them.
+#[derive(Clone, Copy, Debug, PartialEq, Eq)]
+pub enum Methods {
+    /// POST alone.
+    Post,
+    /// GET and HEAD.
+    GetOrHead,
+}

@@ -1,0 +1,188 @@
+//! What the bytes of a connection ask for.
+
+ghost use Rattle.std.specs.Prelude.{◌≡◌, ◌++◌, ℕ, List, length, map, All, IsTrue, codes};
+ghost use Rattle.httparse.specs.Spans.{IsHeaderWithin, header_bytes};
+ghost use Rattle.relay_http.specs.Asked.{Asked, Request, asked_of, grants, request_of};
+ghost use Rattle.relay_http.specs.Routes.{parameter};
+ghost use Rattle.relay_http.specs.Settled.{is_short};
+ghost use Rattle.relay_http.specs.Wanted.{Asks, Dates, DatesRequest, asked_by, at_place, delivered, request_by};
+ghost use Rattle.relay_http.specs.Content.{content};
+ghost use Rattle.relay_http.specs.Fields.{values};
+
+use crate::asked::{Ask, Wanted};
+use crate::content::content;
+use crate::fault::RequestFault;
+use crate::fields::is_bad_host;
+use crate::methods::{allow, is_head};
+use crate::moment::moment_of;
+use crate::place::Place;
+use crate::routes::Routes;
+use crate::target::is_plain;
+use crate::values::values_of;
+use httparse::Status;
+use httparse::spans::{EMPTY_HEADER_SPAN, HeaderSpan, parse_request};
+use std::str::from_utf8;
+
+/// The most bytes of a head.
+const MOST_HEAD_BYTES: usize = 8192;
+
+/// The most fields of a head.
+const MOST_FIELDS: usize = 32;
+
+/// What bytes without a head ask for.
+const NO_HEAD: Wanted<'static> = Wanted {
+    with_body: true,
+    ask: Ask::Refused(RequestFault::BadHead),
+};
+
+fn grants_at<'b>(at: &str) -> Ask<'b>
+    ensures { Dates (grants at.now) (asked_of result) }
+{
+    match moment_of(at) {
+        Some(moment) => Ask::Grants(moment),
+        None => Ask::Refused(RequestFault::BadMoment),
+    }
+}
+
+/// A delivery by this relay.
+fn delivery<'b>(relay: &'b str, buf: &'b [u8], headers: &[HeaderSpan], rest: &'b [u8]) -> Ask<'b>
+    requires { All (IsHeaderWithin (length buf.now)) headers.now }
+    ensures { asked_of result ≡ delivered relay.now (content (values (codes "transfer-encoding") (map (header_bytes buf.now) headers.now)) (values (codes "content-length") (map (header_bytes buf.now) headers.now)) rest.now) }
+{
+    let codings = values_of(buf, headers, b"transfer-encoding");
+    let lengths = values_of(buf, headers, b"content-length");
+    match content(codings, lengths, rest) {
+        Ok(body) => Ask::Deliver { relay, body },
+        Err(fault) => Ask::Refused(fault),
+    }
+}
+
+/// What is asked of a place, where its route's parameter took this text.
+fn at_place<'b>(
+    place: Place,
+    taken: &'b str,
+    method: &[u8],
+    buf: &'b [u8],
+    headers: &[HeaderSpan],
+    rest: &'b [u8],
+) -> Ask<'b>
+    requires { All (IsHeaderWithin (length buf.now)) headers.now }
+    ensures { (part_named : List ℕ → List ℕ) → part_named (parameter place) ≡ taken.now
+        → Dates (at_place place method.now part_named (map (header_bytes buf.now) headers.now) rest.now) (asked_of result) }
+{
+    if !allow(place.methods(), method) {
+        return Ask::Refused(RequestFault::BadMethod(place.methods()));
+    }
+    match place {
+        Place::Messages => delivery(taken, buf, headers, rest),
+        Place::Grants => grants_at(taken),
+        Place::Parked => Ask::Parked,
+        Place::HostFile => Ask::HostFile(taken),
+    }
+}
+
+/// What a head asks for, by its parts and the bytes after it.
+fn asked_by<'b>(
+    routes: &Routes,
+    method: &[u8],
+    target: &'b str,
+    minor: u8,
+    buf: &'b [u8],
+    headers: &[HeaderSpan],
+    rest: &'b [u8],
+) -> Ask<'b>
+    requires { All (IsHeaderWithin (length buf.now)) headers.now }
+    ensures { Dates (asked_by method.now target.now minor (map (header_bytes buf.now) headers.now) rest.now) (asked_of result) }
+{
+    if is_bad_host(minor, values_of(buf, headers, b"host")) {
+        return Ask::Refused(RequestFault::BadHead);
+    }
+    if !is_plain(target.as_bytes()) {
+        return Ask::Refused(RequestFault::BadTarget);
+    }
+    match routes.find(target) {
+        Some((place, taken)) => at_place(place, taken, method, buf, headers, rest),
+        None => Ask::Refused(RequestFault::NoRoute),
+    }
+}
+
+/// The same, and whether the reply has its body.
+fn wanted_by<'b>(
+    routes: &Routes,
+    method: &[u8],
+    target: &'b str,
+    minor: u8,
+    buf: &'b [u8],
+    headers: &[HeaderSpan],
+    rest: &'b [u8],
+) -> Wanted<'b>
+    requires { All (IsHeaderWithin (length buf.now)) headers.now }
+    ensures { DatesRequest (request_by method.now target.now minor (map (header_bytes buf.now) headers.now) rest.now) (request_of result) }
+{
+    Wanted {
+        with_body: !is_head(method),
+        ask: asked_by(routes, method, target, minor, buf, headers, rest),
+    }
+}
+
+/// Whether the content is not there yet.
+fn is_short(wanted: &Wanted<'_>) -> bool
+    ensures { result ≡ is_short (request_of wanted.now) }
+{
+    matches!(wanted.ask, Ask::Refused(RequestFault::ShortBody))
+}
+
+/// What the first bytes of a connection ask for, as far as they have come.
+#[derive(Clone, Copy, Debug)]
+pub struct SoFar<'b> {
+    /// What they ask for if the stream ends here.
+    pub wanted: Wanted<'b>,
+    /// Whether no bytes that follow change that.
+    pub is_settled: bool,
+}
+
+/// What the bytes ask for, and whether no bytes that follow change that. It takes no memory.
+pub fn wanted_so_far<'b>(routes: &Routes, bytes: &'b [u8]) -> SoFar<'b>
+    ensures asks { Asks bytes.now (request_of result.wanted) }
+    ensures settled { IsTrue result.is_settled → (more : List ℕ) → Asks (bytes.now ++ more) (request_of result.wanted) }
+{
+    let front = &bytes[..bytes.len().min(MOST_HEAD_BYTES)];
+    let mut headers = [EMPTY_HEADER_SPAN; MOST_FIELDS];
+    match parse_request(front, &mut headers) {
+        Ok(Status::Complete(head)) => match from_utf8(head.path.of(front)) {
+            Ok(target) => {
+                let wanted = wanted_by(
+                    routes,
+                    head.method.of(front),
+                    target,
+                    head.version,
+                    front,
+                    &headers[..head.headers],
+                    &bytes[head.len..],
+                );
+                let is_settled = !is_short(&wanted);
+                SoFar { wanted, is_settled }
+            }
+            Err(_) => SoFar {
+                wanted: NO_HEAD,
+                is_settled: false,
+            },
+        },
+        Ok(Status::Partial) => SoFar {
+            wanted: NO_HEAD,
+            is_settled: bytes.len() >= MOST_HEAD_BYTES,
+        },
+        Err(_) => SoFar {
+            wanted: NO_HEAD,
+            is_settled: true,
+        },
+    }
+}
+
+/// What the bytes of a connection ask for. It takes no memory.
+pub fn wanted<'b>(routes: &Routes, bytes: &'b [u8]) -> Wanted<'b>
+    ensures found { Asks bytes.now (request_of result) }
+    ensures only { (request : Request ℕ) → Asks bytes.now request → request ≡ request_of result }
+{
+    wanted_so_far(routes, bytes).wanted
+}
