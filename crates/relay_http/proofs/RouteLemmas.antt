@@ -5,10 +5,11 @@ use Rattle.matchit.specs.Route.{Scan, scan}
 use Rattle.matchit.specs.Seek.{first}
 use Rattle.matchit.specs.Router.{RouteOf, rename, map_key, InsertsRead}
 use Rattle.matchit.specs.declared.error.InsertError.{InsertError}
+use Rattle.matchit.specs.declared.error.InsertError.TheVariants.{Conflict, InvalidCatchAll, InvalidParam, InvalidParamSegment, OutOfMemory}
 use Rattle.matchit.proofs.RenameLemmas.{first-rename}
 use Rattle.relay_http.specs.declared.place.Place.{Place}
 use Rattle.relay_http.specs.declared.place.Place.TheVariants.{Messages, Grants, Parked, HostFile}
-use Rattle.relay_http.specs.Routes.{routes, added}
+use Rattle.relay_http.specs.Routes.{IsFree, routes, added, with_route}
 use Rattle.relay_http.specs.Target.{is_plain, is_plain_byte}
 use Rattle.matchit.specs.Route.{parse_route}
 use Rattle.matchit.specs.Router.{route_from}
@@ -26,6 +27,37 @@ inserted (Ok s) place old new (Ok u) h = h.1
 inserted (Ok s) place old new (Err e) h = tt
 inserted (Err e) place old new (Ok u) h = h.0
 inserted (Err e) place old new (Err f) h = tt
+
+none_is_some : {A : Type 0} (o : Option A) (x : A) → o ≡ None → o ≡ Some x → ⊥
+none_is_some None x e f = grind (arith, f)
+none_is_some (Some y) x e f = grind (arith, e)
+
+-- a route without conflict is refused for want of memory alone
+pub not_refused : (x : Result Scan InsertError) (place : Place) (old new : RowsOf (RouteOf Place)) (e : InsertError)
+    → InsertsRead x place old new (Err e) → IsFree x old → e ≡ OutOfMemory
+not_refused (Ok s) place old new (Conflict with) h free = absurd (none_is_some _ _ free h.1.1)
+not_refused (Ok s) place old new OutOfMemory h free = refl
+not_refused (Ok s) place old new InvalidParamSegment h free = absurd h.1
+not_refused (Ok s) place old new InvalidParam h free = absurd h.1
+not_refused (Ok s) place old new InvalidCatchAll h free = absurd h.1
+not_refused (Err f) place old new e h free = absurd free
+
+-- each route of the desk is free where it is added
+pub free_messages : IsFree (parse_route (codes "/v1/relays/{relay}/messages")) []
+unfolding scan
+free_messages = refl
+
+pub free_grants : IsFree (parse_route (codes "/v1/grants/{at}")) (with_route (codes "/v1/relays/{relay}/messages") Messages [])
+unfolding scan
+free_grants = refl
+
+pub free_parked : IsFree (parse_route (codes "/v1/parked")) (with_route (codes "/v1/grants/{at}") Grants (with_route (codes "/v1/relays/{relay}/messages") Messages []))
+unfolding scan
+free_parked = refl
+
+pub free_host_file : IsFree (parse_route (codes "/v1/hosts/{host}/sudoers")) (with_route (codes "/v1/parked") Parked (with_route (codes "/v1/grants/{at}") Grants (with_route (codes "/v1/relays/{relay}/messages") Messages [])))
+unfolding scan
+free_host_file = refl
 
 and_true_left : (a b : Bool) → (a && b) ≡ true → a ≡ true
 and_true_left true b h = refl

@@ -3,7 +3,7 @@ use Rattle.std.specs.Prelude.{◌≡◌, ℕ, List, [], Option, Some, None, Resu
 use Rattle.matchit.specs.Rows.{RowsOf}
 use Rattle.matchit.specs.Order.{placed}
 use Rattle.matchit.specs.Route.{Scan, parse_route}
-use Rattle.matchit.specs.Router.{RouteOf, route_from}
+use Rattle.matchit.specs.Router.{RouteOf, nearest, route_from}
 use Rattle.matchit.specs.Params.{walk, named}
 use Rattle.matchit.specs.declared.error.InsertError.{InsertError}
 use Rattle.relay_http.specs.declared.place.Place.{Place}
@@ -16,6 +16,11 @@ added (Err e) place rows = rows
 
 abbrev pub with_route : List ℕ → Place → RowsOf (RouteOf Place) → RowsOf (RouteOf Place)
 with_route text place rows = added (parse_route text) place rows
+
+-- no route conflicts with this one
+abbrev pub IsFree : Result Scan InsertError → RowsOf (RouteOf Place) → Type 0
+IsFree (Ok s) rows = nearest s.pattern rows ≡ None
+IsFree (Err e) rows = ⊥
 
 -- the route of each place: a parameter in braces takes one component of the path, which is not empty
 unfoldable pub routes : RowsOf (RouteOf Place)

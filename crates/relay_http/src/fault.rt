@@ -2,9 +2,8 @@
 
 use crate::place::Methods;
 use crate::status::Status;
-use std::fmt;
 
-/// Why a request is refused by its bytes alone. It is shown as its code and name.
+/// Why a request is refused by its bytes alone.
 #[derive(Clone, Copy, Debug, PartialEq, Eq)]
 pub enum RequestFault {
     /// The first 8,192 bytes begin with no request head of at most 32 fields, or its Host field is missing or there twice.
@@ -29,7 +28,7 @@ pub enum RequestFault {
 
 impl RequestFault {
     ghost use Rattle.std.specs.Prelude.{◌≡◌};
-    ghost use Rattle.relay_http.specs.Reply.{status_of};
+    ghost use Rattle.relay_http.specs.Reply.{fault_line, status_of};
 
     /// The status of the refusal.
     pub fn status(self) -> Status
@@ -47,25 +46,21 @@ impl RequestFault {
             RequestFault::TooLong => Status::ContentTooLarge,
         }
     }
-}
 
-impl fmt::Display for RequestFault {
-    ghost use Rattle.std.specs.Prelude.{Some};
-    ghost use Rattle.relay_http.specs.Reply.{fault_text};
-
-    ghost output = { λ f. Some (fault_text f) };
-
-    fn fmt<W: fmt::Write>(&self, f: &mut fmt::Formatter<W>) -> fmt::Result {
-        f.write_str(match self {
-            RequestFault::BadHead => "T1 BadHead",
-            RequestFault::BadTarget => "T2 BadTarget",
-            RequestFault::NoRoute => "T3 NoRoute",
-            RequestFault::BadMethod(_) => "T4 BadMethod",
-            RequestFault::LengthRequired => "T5 LengthRequired",
-            RequestFault::BadLength => "T6 BadLength",
-            RequestFault::ShortBody => "T7 ShortBody",
-            RequestFault::BadMoment => "T8 BadMoment",
-            RequestFault::TooLong => "M1 TooLong",
-        })
+    /// The body of the refusal: the fault's code and name, and a newline.
+    pub fn line(self) -> &'static [u8]
+        ensures { result.now ≡ fault_line self }
+    {
+        match self {
+            RequestFault::BadHead => b"T1 BadHead\n",
+            RequestFault::BadTarget => b"T2 BadTarget\n",
+            RequestFault::NoRoute => b"T3 NoRoute\n",
+            RequestFault::BadMethod(_) => b"T4 BadMethod\n",
+            RequestFault::LengthRequired => b"T5 LengthRequired\n",
+            RequestFault::BadLength => b"T6 BadLength\n",
+            RequestFault::ShortBody => b"T7 ShortBody\n",
+            RequestFault::BadMoment => b"T8 BadMoment\n",
+            RequestFault::TooLong => b"M1 TooLong\n",
+        }
     }
 }

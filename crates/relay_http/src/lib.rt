@@ -22,7 +22,7 @@ pub use asked::{Ask, Wanted};
 pub use fault::RequestFault;
 pub use laws::{one_head, one_request};
 pub use place::Methods;
-pub use reply::written;
+pub use reply::{refused, written};
 pub use request::{SoFar, wanted, wanted_so_far};
 pub use routes::Routes;
 pub use status::Status;

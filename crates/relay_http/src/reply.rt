@@ -1,8 +1,9 @@
 //! The bytes of a reply.
 
 ghost use Rattle.std.specs.Prelude.{◌≡◌, ◌++◌, IfOk, OnOk, [], decimal, if◌then◌else◌};
-ghost use Rattle.relay_http.specs.Reply.{reply_head, written};
+ghost use Rattle.relay_http.specs.Reply.{fault_line, reply_head, status_of, written};
 
+use crate::fault::RequestFault;
 use crate::status::{Status, allow_line, status_text};
 use std::alloc::{AllocError, Global};
 use sudo_words::NoMemory;
@@ -49,4 +50,11 @@ pub fn written(
         push(&mut out, body)?;
     }
     Ok(out)
+}
+
+/// The bytes of the reply to a request that is refused by its bytes alone.
+pub fn refused(alloc: Global, fault: RequestFault, with_body: bool) -> Result<Vec<u8>, NoMemory>
+    ensures { IfOk result (λ out. out.items ≡ written (status_of fault) (fault_line fault) with_body) }
+{
+    written(alloc, fault.status(), fault.line(), with_body)
 }

@@ -1,15 +1,17 @@
 //! The routes of the desk.
 
-ghost use Rattle.std.specs.Prelude.{◌≡◌, ℕ, List, [], OnOk, IfOk, IsTrue, option_map, unwrap_or};
+ghost use Rattle.std.specs.Prelude.{◌≡◌, [], IfOk, IsTrue, OnOk, option_map, unwrap_or};
 ghost use Rattle.matchit.specs.Params.{AllText, named, walk};
+ghost use Rattle.matchit.specs.Route.{parse_route};
 ghost use Rattle.matchit.specs.Seek.{first};
 ghost use Rattle.relay_http.specs.Target.{is_plain};
-ghost use Rattle.relay_http.specs.Routes.{Takes, parameter, routes, with_route};
+ghost use Rattle.relay_http.specs.Routes.{IsFree, Takes, parameter, routes, with_route};
 
 use crate::place::Place;
 use matchit::{InsertError, Params, Router};
 use std::alloc::Global;
 use std::marker::Model;
+use sudo_words::NoMemory;
 
 /// The routes of the desk, made once, before any request is read.
 #[derive(Drop)]
@@ -29,8 +31,8 @@ impl Model for Routes {
 }
 
 impl Routes {
-    /// The routes. It is refused where memory runs out.
-    pub fn new(alloc: Global) -> Result<Routes, InsertError> {
+    /// The routes. They are refused where memory runs out, and only there.
+    pub fn new(alloc: Global) -> Result<Routes, NoMemory> {
         Ok(Routes {
             router: router(alloc)?,
         })
@@ -48,14 +50,21 @@ impl Routes {
     }
 }
 
-fn add(router: &mut Router<Place>, route: &str, place: Place) -> Result<(), InsertError>
+/// Adds a route that conflicts with none before it, so that only want of memory can refuse it.
+#[tactic(auto, using(crate::proofs::RouteLemmas::inserted, crate::proofs::RouteLemmas::not_refused))]
+fn add(router: &mut Router<Place>, route: &str, place: Place) -> Result<(), NoMemory>
+    requires { IsFree (parse_route route.now) router.old }
     ensures { OnOk result (router.new ≡ with_route route.now place router.old) }
 {
-    router.insert(route, place)
+    match router.insert(route, place) {
+        Ok(()) => Ok(()),
+        Err(InsertError::OutOfMemory) => Err(NoMemory),
+        Err(_) => unreachable!(),
+    }
 }
 
 #[tactic(auto, unfolding(crate::specs::Routes::routes))]
-fn router(alloc: Global) -> Result<Router<Place>, InsertError>
+fn router(alloc: Global) -> Result<Router<Place>, NoMemory>
     ensures { IfOk result (λ router. router ≡ routes) }
 {
     let mut router = Router::new(alloc);

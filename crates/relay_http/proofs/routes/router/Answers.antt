@@ -1,7 +1,35 @@
-use Rattle.std.proofs.Common.{◌≡◌, ap, ◌∙◌, codes}
-use Rattle.relay_http.specs.Routes.{with_route, routes}
+use Rattle.std.proofs.Common.{◌≡◌, sym, subst, ap, ◌∙◌, codes}
+use Rattle.matchit.specs.Route.{parse_route}
+use Rattle.matchit.specs.Router.{RouteOf}
+use Rattle.matchit.specs.Rows.{RowsOf}
+use Rattle.relay_http.specs.Routes.{IsFree, with_route, routes}
+use Rattle.relay_http.specs.declared.place.Place.{Place}
 use Rattle.relay_http.specs.declared.place.Place.TheVariants.{Messages, Grants, Parked, HostFile}
+use Rattle.relay_http.proofs.RouteLemmas.{free_messages, free_grants, free_parked, free_host_file}
 use Rattle.relay_http.proofs.routes.router.Goals as goal
+
+pub add-requires : goal.add-requires
+add-requires c = subst (λ (r : RowsOf (RouteOf Place)). IsFree (parse_route (codes "/v1/relays/{relay}/messages")) r) (sym c.new-router.ensures) free_messages
+
+pub add-requires-2 : goal.add-requires-2
+add-requires-2 c =
+    subst (λ (r : RowsOf (RouteOf Place)). IsFree (parse_route (codes "/v1/grants/{at}")) r)
+    (sym (c.in_ok-add.ensures ∙ ap (with_route (codes "/v1/relays/{relay}/messages") Messages) c.new-router.ensures)) free_grants
+
+pub add-requires-3 : goal.add-requires-3
+add-requires-3 c =
+    subst (λ (r : RowsOf (RouteOf Place)). IsFree (parse_route (codes "/v1/parked")) r)
+    (sym (c.in_ok-add-2.ensures
+    ∙ ap (with_route (codes "/v1/grants/{at}") Grants) (c.in_ok-add.ensures
+    ∙ ap (with_route (codes "/v1/relays/{relay}/messages") Messages) c.new-router.ensures))) free_parked
+
+pub add-requires-4 : goal.add-requires-4
+add-requires-4 c =
+    subst (λ (r : RowsOf (RouteOf Place)). IsFree (parse_route (codes "/v1/hosts/{host}/sudoers")) r)
+    (sym (c.in_ok-add-3.ensures
+    ∙ ap (with_route (codes "/v1/parked") Parked) (c.in_ok-add-2.ensures
+    ∙ ap (with_route (codes "/v1/grants/{at}") Grants) (c.in_ok-add.ensures
+    ∙ ap (with_route (codes "/v1/relays/{relay}/messages") Messages) c.new-router.ensures)))) free_host_file
 
 pub returns : goal.returns
 unfolding routes
