@@ -2,3 +2,5 @@ pub mod Stamps
 pub mod RouteLemmas
 pub mod WantedLemmas
 pub mod SettleLemmas
+pub mod LawLemmas
+pub mod WorkedLemmas

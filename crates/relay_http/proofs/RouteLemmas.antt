@@ -67,7 +67,7 @@ and_true_right : (a b : Bool) → (a && b) ≡ true → b ≡ true
 and_true_right true b h = h
 and_true_right false b h = absurd (grind (arith, h))
 
-below_ascii : (bs : List ℕ) → list_all (λ b. nat_lt b 128) bs ≡ true → IsAscii bs
+pub below_ascii : (bs : List ℕ) → list_all (λ b. nat_lt b 128) bs ≡ true → IsAscii bs
 below_ascii [] h i = IsAscii-nil i
 below_ascii (b ∷ bs) h zero = grind (arith, nat_tests)
 below_ascii (b ∷ bs) h (suc i) = below_ascii bs (and_true_right _ _ h) i

@@ -130,7 +130,7 @@ not_short asked dated dates whole e =
     let no : true ≡ false = sym (ap lacks_content is) ∙ whole in
     grind (arith, no)
 
-kept : (bytes more : List ℕ) (request : Request ℕ) (x : AsksByHead bytes request) → EnoughAsked (asks_by x.0 bytes).asked (drop (length (print_request x.0)) bytes)
+pub kept : (bytes more : List ℕ) (request : Request ℕ) (x : AsksByHead bytes request) → EnoughAsked (asks_by x.0 bytes).asked (drop (length (print_request x.0)) bytes)
     → Asks (bytes ++ more) request
 kept bytes more request x enough =
     let h = x.0 in

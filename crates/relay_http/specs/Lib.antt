@@ -7,3 +7,4 @@ pub mod Wanted
 pub mod Reply
 pub mod Seen
 pub mod Settled
+pub mod Worked

@@ -1,9 +1,13 @@
 //! Laws of the definitions, each the contract of a function that does nothing.
 
-ghost use Rattle.std.specs.Prelude.{◌≡◌, ℕ, List, [], take};
+ghost use Rattle.std.specs.Prelude.{◌≡◌, ◌≤◌, ◌++◌, ℕ, List, [], codes, false, length, take, true};
 ghost use Rattle.httparse.specs.Grammar.{ReadsRequest, RequestHead};
-ghost use Rattle.relay_http.specs.Asked.{Request};
-ghost use Rattle.relay_http.specs.Wanted.{Asks, front};
+ghost use Rattle.relay_http.specs.Asked.{Request, deliver, refused};
+ghost use Rattle.relay_http.specs.Fields.{Fields};
+ghost use Rattle.relay_http.specs.Reply.{written};
+ghost use Rattle.relay_http.specs.Wanted.{Asks, AsksByHead, asked_by, front};
+ghost use Rattle.relay_http.specs.declared.fault.RequestFault.TheVariants.{ShortBody};
+ghost use Rattle.relay_http.specs.declared.status.Status.{Status};
 
 /// Bytes ask for one thing.
 #[tactic(auto, using(crate::proofs::WantedLemmas::one_request))]
@@ -15,4 +19,24 @@ pub fn one_request()
 pub fn one_head()
     ensures { (bytes : List ℕ) (h k : RequestHead) (rest : List ℕ) (n : ℕ)
         → ReadsRequest (front bytes) h rest → ReadsRequest (take n (front bytes)) k [] → k ≡ h }
+{}
+
+/// Bytes that follow a head, with its content where it is asked for, change nothing.
+pub fn rest_ignored()
+    ensures { (bytes more : List ℕ) (request : Request ℕ) → AsksByHead bytes request
+        → (request.asked ≡ refused ShortBody → ⊥) → Asks (bytes ++ more) request }
+{}
+
+/// HEAD asks for what GET does, and the reply to it is that to GET without the body.
+pub fn head_is_get()
+    ensures asks { (target : List ℕ) (minor : ℕ) (fields : Fields) (rest : List ℕ)
+        → asked_by (codes "HEAD") target minor fields rest ≡ asked_by (codes "GET") target minor fields rest }
+    ensures reply { (s : Status) (body : List ℕ) → written s body true ≡ written s body false ++ body }
+{}
+
+/// Nothing but a POST delivers; and what it delivers is a beginning of the bytes after the head, of at most 16,384 bytes.
+pub fn only_post_delivers()
+    ensures { (method target : List ℕ) (minor : ℕ) (fields : Fields) (rest relay body : List ℕ)
+        → asked_by method target minor fields rest ≡ deliver relay body
+        → (method ≡ codes "POST") × (length body ≤ 16384) × (body ≡ take (length body) rest) }
 {}

@@ -17,12 +17,14 @@ mod routes;
 mod status;
 mod target;
 mod values;
+mod worked;
 
 pub use asked::{Ask, Wanted};
 pub use fault::RequestFault;
-pub use laws::{one_head, one_request};
+pub use laws::{head_is_get, one_head, one_request, only_post_delivers, rest_ignored};
 pub use place::Methods;
 pub use reply::{refused, written};
 pub use request::{SoFar, wanted, wanted_so_far};
 pub use routes::Routes;
 pub use status::Status;
+pub use worked::{worked_refusals, worked_replies, worked_requests};

@@ -1,0 +1,113 @@
+-- What the definitions say of methods and of what is delivered.
+use Rattle.std.proofs.Common.{◌≡◌, ◌≤◌, ◌<◌, ℕ, List, [], ◌∷◌, ◌++◌, Bool, true, false, Option, Some, None, Result, Ok, Err, refl, sym, ap, ◌∙◌, subst, inl, take, length, arith, length-take, nat_lt, not, codes, cond}
+use Rattle.std.specs.Str.{bytes_eq}
+use Rattle.std.specs.Str.Parse.{digits_value}
+use Rattle.std.proofs.lemmas.Bool.Decides.{nat_tests}
+use Rattle.std.proofs.lemmas.List.{append-nil}
+use Rattle.std.proofs.lemmas.Slice.Eq.{bytes_eq-Decides}
+use Rattle.matchit.specs.Router.{RouteOf}
+use Rattle.matchit.specs.Seek.{first}
+use Rattle.relay_http.specs.Asked.{Asked, Request, deliver, grants, parked, host_file, refused}
+use Rattle.relay_http.specs.Content.{by_lengths, content, is_length, most_content, sized}
+use Rattle.relay_http.specs.Fields.{Fields, values, is_bad_host}
+use Rattle.relay_http.specs.Routes.{routes, part}
+use Rattle.relay_http.specs.Target.{is_plain}
+use Rattle.relay_http.specs.Wanted.{Asks, AsksByHead, Dates, allow, asked_by, asks_by, at_place, delivered, methods_of, on_route, sought}
+use Rattle.relay_http.specs.declared.fault.RequestFault.{RequestFault}
+use Rattle.relay_http.specs.declared.fault.RequestFault.TheVariants.{BadHead, BadLength, BadMethod, BadTarget, ShortBody, TooLong}
+use Rattle.relay_http.specs.declared.place.Methods.TheVariants.{GetOrHead, Post}
+use Rattle.relay_http.specs.declared.place.Place.{Place}
+use Rattle.relay_http.specs.declared.place.Place.TheVariants.{Messages, Grants, Parked, HostFile}
+use Rattle.relay_http.proofs.SettleLemmas.{kept}
+
+pub rest_ignored : (bytes more : List ℕ) (request : Request ℕ) → AsksByHead bytes request → (request.asked ≡ refused ShortBody → ⊥) → Asks (bytes ++ more) request
+rest_ignored bytes more request x whole =
+    kept bytes more request x (inl (λ e. whole (subst (λ (r : Asked (List ℕ)). Dates r request.asked) e x.2.1)))
+
+head_at : (place : Place) (named : List ℕ → List ℕ) (fields : Fields) (rest : List ℕ)
+    → at_place place (codes "HEAD") named fields rest ≡ at_place place (codes "GET") named fields rest
+head_at Messages named fields rest = refl
+head_at Grants named fields rest = refl
+head_at Parked named fields rest = refl
+head_at HostFile named fields rest = refl
+
+head_on : (route : Option (RouteOf Place)) (target : List ℕ) (fields : Fields) (rest : List ℕ)
+    → on_route route (codes "HEAD") target fields rest ≡ on_route route (codes "GET") target fields rest
+head_on None target fields rest = refl
+head_on (Some route) target fields rest = head_at route.value (λ name. part name route target) fields rest
+
+pub head_asks : (target : List ℕ) (minor : ℕ) (fields : Fields) (rest : List ℕ)
+    → asked_by (codes "HEAD") target minor fields rest ≡ asked_by (codes "GET") target minor fields rest
+head_asks target minor fields rest =
+    ap (λ (a : Asked (List ℕ)). cond (is_bad_host minor (values (codes "host") fields)) (refused BadHead) (cond (not (is_plain target)) (refused BadTarget) a))
+    (head_on (first routes target) target fields rest)
+
+-- what is said of a delivery
+abbrev IsPosted : (method rest : List ℕ) → Asked (List ℕ) → Type 0
+IsPosted method rest (deliver relay body) = (method ≡ codes "POST") × (length body ≤ 16384) × (body ≡ take (length body) rest)
+IsPosted method rest (grants at) = Unit {0}
+IsPosted method rest parked = Unit {0}
+IsPosted method rest (host_file host) = Unit {0}
+IsPosted method rest (refused fault) = Unit {0}
+
+abbrev IsContent : (rest : List ℕ) → Result (List ℕ) RequestFault → Type 0
+IsContent rest (Ok body) = (length body ≤ 16384) × (body ≡ take (length body) rest)
+IsContent rest (Err fault) = Unit {0}
+
+module _ (rest : List ℕ) where
+  sized_content : (n : ℕ) → IsContent rest (sized n rest)
+  sized_content n = by (nat_lt most_content n) refl (nat_lt (length rest) n) refl
+    where
+      by : (a : Bool) → nat_lt most_content n ≡ a → (b : Bool) → nat_lt (length rest) n ≡ b → IsContent rest (cond a (Err TooLong) (cond b (Err ShortBody) (Ok (take n rest))))
+      by true e b f = tt
+      by false e true f = tt
+      by false e false f =
+          let most : n ≤ 16384 = grind (arith, nat_tests) in
+          let inside : n ≤ length rest = grind (arith, nat_tests) in
+          let size : length (take n rest) ≡ n = omega (arith, length-take n rest, inside) in
+          (omega (arith, size, most), ap (λ (k : ℕ). take k rest) (sym size))
+
+  lengths_content : (vs : List (List ℕ)) → IsContent rest (by_lengths vs rest)
+  lengths_content [] = tt
+  lengths_content (v ∷ []) = by (is_length v)
+    where
+      by : (b : Bool) → IsContent rest (cond b (sized (digits_value 10 v) rest) (Err BadLength))
+      by true = sized_content (digits_value 10 v)
+      by false = tt
+  lengths_content (v ∷ w ∷ vs) = tt
+
+  is_content : (cs vs : List (List ℕ)) → IsContent rest (content cs vs rest)
+  is_content [] vs = lengths_content vs
+  is_content (c ∷ cs) vs = tt
+
+  posted : (method relay : List ℕ) → method ≡ codes "POST" → (found : Result (List ℕ) RequestFault) → IsContent rest found → IsPosted method rest (delivered relay found)
+  posted method relay is (Ok body) h = (is, h.0, h.1)
+  posted method relay is (Err fault) h = tt
+
+  posted_at : (place : Place) (method : List ℕ) (named : List ℕ → List ℕ) (fields : Fields) → IsPosted method rest (at_place place method named fields rest)
+  posted_at place method named fields = by place (allow (methods_of place) method) refl
+    where
+      by : (place : Place) (b : Bool) → allow (methods_of place) method ≡ b → IsPosted method rest (cond b (sought place named fields rest) (refused (BadMethod (methods_of place))))
+      by place false e = tt
+      by Messages true e = posted method (named (codes "relay")) ((bytes_eq-Decides method (codes "POST")).0 e) _ (is_content (values (codes "transfer-encoding") fields) (values (codes "content-length") fields))
+      by Grants true e = tt
+      by Parked true e = tt
+      by HostFile true e = tt
+
+  posted_on : (route : Option (RouteOf Place)) (method target : List ℕ) (fields : Fields) → IsPosted method rest (on_route route method target fields rest)
+  posted_on None method target fields = tt
+  posted_on (Some route) method target fields = posted_at route.value method (λ name. part name route target) fields
+
+  posted_by : (method target : List ℕ) (minor : ℕ) (fields : Fields) → IsPosted method rest (asked_by method target minor fields rest)
+  posted_by method target minor fields = by (is_bad_host minor (values (codes "host") fields)) (not (is_plain target))
+    where
+      by : (a b : Bool) → IsPosted method rest (cond a (refused BadHead) (cond b (refused BadTarget) (on_route (first routes target) method target fields rest)))
+      by true b = tt
+      by false true = tt
+      by false false = posted_on (first routes target) method target fields
+
+pub only_post_delivers : (method target : List ℕ) (minor : ℕ) (fields : Fields) (rest relay body : List ℕ)
+    → asked_by method target minor fields rest ≡ deliver relay body
+    → (method ≡ codes "POST") × (length body ≤ 16384) × (body ≡ take (length body) rest)
+only_post_delivers method target minor fields rest relay body e =
+    subst (λ (a : Asked (List ℕ)). IsPosted method rest a) e (posted_by rest method target minor fields)

@@ -1,0 +1,25 @@
+use Rattle.std.proofs.Common.{[], ◌∷◌, codes, inl, refl}
+use Rattle.httparse.specs.Grammar.{is_token_byte, print_request, trim_ows}
+use Rattle.matchit.specs.Route.{scan}
+use Rattle.matchit.specs.Seek.{param_step, seek}
+use Rattle.relay_http.specs.Routes.{part, routes}
+use Rattle.relay_http.specs.Worked.{approval}
+use Rattle.relay_http.proofs.Stamps.{stamped_at_half_past_nine}
+use Rattle.relay_http.proofs.WorkedLemmas.{spelled, worked}
+use Rattle.relay_http.proofs.worked.worked_requests.Goals as goal
+
+pub returns : goal.returns
+unfolding is_token_byte print_request trim_ows scan param_step seek part routes
+returns c = record {
+  delivery =
+      worked (spelled (codes "POST") (codes "/v1/relays/web/messages") 1 ((codes "Host", codes "desk") ∷ (codes "Content-Length", codes "70") ∷ [])) approval
+      _ _ refl refl refl refl (refl, refl);
+  zeros =
+      worked (spelled (codes "POST") (codes "/v1/relays/web/messages") 1 ((codes "Host", codes "desk") ∷ (codes "Content-Length", codes "0070") ∷ [])) approval
+      _ _ refl refl refl refl (refl, refl);
+  grants =
+      worked (spelled (codes "HEAD") (codes "/v1/grants/20260105093000Z") 1 ((codes "Host", codes "desk") ∷ [])) []
+      _ _ refl refl refl refl (refl, inl (1_767_605_400, stamped_at_half_past_nine, refl));
+  host_file = worked (spelled (codes "GET") (codes "/v1/hosts/db9/sudoers") 1 ((codes "Host", codes "desk") ∷ [])) [] _ _ refl refl refl refl (refl, refl);
+  old = worked (spelled (codes "GET") (codes "/v1/parked") 0 []) [] _ _ refl refl refl refl (refl, refl);
+}
