@@ -21,6 +21,7 @@ mod Tables
 mod Entering
 mod Growing
 pub mod Leads
+pub mod LengthLemmas
 pub mod ListLemmas
 pub mod DateLemmas
 pub mod TagLemmas

@@ -5,7 +5,7 @@ use Rattle.std.specs.List.{AllByRecursion}
 use Rattle.std.proofs.lemmas.List.{append-nil}
 use Rattle.sudo_syntax.specs.Printing.{tail_text}
 
-tail_suc : {X : Type 0} (f : X → List ℕ) (xs : List X) (i : ℕ) (d : X) → i < length xs → tail_text f (take (suc i) xs) ≡ (tail_text f (take i xs) ++ codes ", ") ++ f (get_or xs i d)
+pub tail_suc : {X : Type 0} (f : X → List ℕ) (xs : List X) (i : ℕ) (d : X) → i < length xs → tail_text f (take (suc i) xs) ≡ (tail_text f (take i xs) ++ codes ", ") ++ f (get_or xs i d)
 tail_suc f [] i d h = absurd (omega arith)
 tail_suc f (x ∷ xs) zero d h = simp append-nil
 tail_suc f (x ∷ xs) (suc i) d h =

@@ -20,5 +20,6 @@ pub mod Worked
 pub mod Doubling
 pub mod Reading
 pub mod Faults
+pub mod Lengths
 pub mod Fronts
 pub mod Low

@@ -7,7 +7,7 @@ ghost use Rattle.sudo_syntax.specs.Scope.{Adds, IsDraft, IsWhole};
 
 use crate::entry::Entry;
 use crate::fault::LineFault;
-use crate::printing::line_len;
+use crate::lengths::line_len;
 use crate::scope::Scope;
 use std::alloc::Global;
 

@@ -13,6 +13,7 @@ mod fault;
 mod fronts;
 mod items;
 mod laws;
+mod lengths;
 mod line_entries;
 mod line_laws;
 mod listing;

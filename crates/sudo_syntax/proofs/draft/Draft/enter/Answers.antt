@@ -1,6 +1,8 @@
-use Rattle.std.proofs.Common.{◌≡◌, length, arith, rules}
+use Rattle.std.proofs.Common.{◌≡◌, length, refl, arith, rules}
 use Rattle.std.proofs.lemmas.Result.{err_from_is_err_and}
 use Rattle.sudo_syntax.specs.declared.fault.LineFault.TheVariants as fault
+use Rattle.sudo_syntax.specs.Lengths.{stopped}
+use Rattle.sudo_syntax.specs.Printing.{line_text}
 use Rattle.sudo_syntax.proofs.PolicyFronts.{next_placed}
 use Rattle.sudo_syntax.proofs.Growing.{whole_push, limits_hold}
 use Rattle.sudo_syntax.proofs.draft.Draft.enter.Goals as goal
@@ -18,7 +20,8 @@ returns-then-place-ge-MOST_ENTRIES-clause-only c = λ one.
     let d = c.args.self.now in
     let place : c.len-place.result ≡ length d.entries.items = search rules in
     let entered = c.in_ok-more.ensures.found d.entries.items c.requires.draft.scope place in
-    let limits = limits_hold d.entries.items c.args.entry.now d.scope c.enter.new.self d.weight c.in_ok-more.more d.text_len c.in-Ok.len c.requires.draft entered c.in-Ok.ensures one in
+    let limits = limits_hold d.entries.items c.args.entry.now d.scope c.enter.new.self d.weight c.in_ok-more.more d.text_len (length (line_text c.args.entry.now)) c.requires.draft entered refl one in
+    let stops : c.in-Ok.len ≡ stopped (length (line_text c.args.entry.now)) = c.in-Ok.ensures in
     absurd (elim c.then-place-ge-MOST_ENTRIES.branch [
       | then-place-ge-MOST_ENTRIES-via-then-place-ge-MOST_ENTRIES w ↦ omega arith
       | then-place-ge-MOST_ENTRIES-via-else-place-ge-MOST_ENTRIES+then-more-self w ↦ omega arith
@@ -30,5 +33,7 @@ returns-clause-found c =
     let d = c.args.self.now in
     let place : c.len-place.result ≡ length d.entries.items = search rules in
     let entered = c.in_ok-more.ensures.found d.entries.items c.requires.draft.scope place in
-    whole_push d.entries.items c.args.entry.now d.scope c.enter.new.self d.weight c.in_ok-more.more d.text_len c.in-Ok.len c.requires.draft c.requires.entry entered c.in-Ok.ensures
+    let stops : c.in-Ok.len ≡ stopped (length (line_text c.args.entry.now)) = c.in-Ok.ensures in
+    let len : c.in-Ok.len ≡ length (line_text c.args.entry.now) = omega (arith, stops) in
+    whole_push d.entries.items c.args.entry.now d.scope c.enter.new.self d.weight c.in_ok-more.more d.text_len c.in-Ok.len c.requires.draft c.requires.entry entered len
     (omega arith) (omega arith) (omega arith)
