@@ -5,5 +5,6 @@ pub mod FaultLemmas
 pub mod DutyLemmas
 pub mod Order
 pub mod Rising
+pub mod Listed
 pub mod PairLemmas
 pub mod Ranges

@@ -1,5 +1,5 @@
 -- Pairs in their order: where a search by halving ends.
-use Rattle.std.proofs.Common.{◌≡◌, ◌<◌, ◌≤◌, ◌+◌, ℕ, suc, ◌∙◌, Bool, true, false, ◌||◌, List, [], ◌∷◌, length, get_or, Ordering, Less, Equal, Greater, refl, sym, ap, ap₂, subst, arith, ⊎_elim}
+use Rattle.std.proofs.Common.{◌≡◌, ◌<◌, ◌≤◌, ◌+◌, ℕ, ◌∙◌, Bool, true, false, ◌||◌, List, [], ◌∷◌, length, get_or, Ordering, Less, Equal, Greater, refl, sym, ap, subst, arith, ⊎_elim}
 use Rattle.std.specs.Cmp.{IsTotalOrder, both_tied, on_total, then_total}
 use Rattle.std.specs.Cmp.Lexicographic.{nat_list_cmp_total, texts_ties}
 use Rattle.std.specs.List.{list_any}
@@ -10,6 +10,7 @@ use Rattle.std.proofs.lemmas.List.Folds.{list_any_at}
 use Rattle.std.proofs.lemmas.List.Sorted.{list_any-IsPermutation, searchable_from_sorted}
 use Rattle.roster.specs.Relations.{is_pair, joins, pair_order, AreInOrder, IsInOrder}
 use Rattle.roster.proofs.DutyLemmas.{any_same}
+use Rattle.roster.proofs.Listed.{absent}
 use Rattle.roster.proofs.Rising.{same_place}
 
 abbrev Pair : Type 0
@@ -56,10 +57,6 @@ pub one_there : (ps : List Pair) (first second : List ℕ) (m : ℕ) (q : Pair) 
 one_there ps first second m q l is eq =
     list_any_at (is_pair first second) ps m q l (ap (is_pair first second) (sym is) ∙ tied first second q ∙ ap is_eq eq)
 
-absent : (test : Pair → Bool) (ps : List Pair) → ((k : ℕ) (d : Pair) → k < length ps → test (get_or ps k d) ≡ false) → list_any test ps ≡ false
-absent test [] none = refl
-absent test (p ∷ ps) none = ap₂ (λ a b. a || b) (none 0 p (omega arith)) (absent test ps (λ k d l. none (suc k) d (omega arith)))
-
 pub none_there : (ps : List Pair) (first second : List ℕ) (m : ℕ) → Rank ps (first, second) Less 0 m → Rank ps (first, second) Greater m (length ps)
     → list_any (is_pair first second) ps ≡ false
 none_there ps first second m below above = absent (is_pair first second) ps (λ k d l. tied first second (get_or ps k d) ∙ ⊎_elim
@@ -83,10 +80,10 @@ pub either_way_round : (ps : List Pair) (first second : List ℕ)
     → list_any (joins first second) ps ≡ (list_any (is_pair first second) ps || list_any (is_pair second first) ps)
 either_way_round ps first second = any_or (is_pair first second) (is_pair second first) ps
 
-pub any_in_order : (pairs ordered : List Pair) → IsInOrder pairs ordered → (test : Pair → Bool) → list_any test ordered ≡ list_any test pairs
+pub any_in_order : (pairs ordered : List Pair) → IsInOrder pair_order pairs ordered → (test : Pair → Bool) → list_any test ordered ≡ list_any test pairs
 any_in_order pairs ordered o test = sym (list_any-IsPermutation test pairs ordered o.same)
 
-pub one_paired_in_order : (pairs ordered : List Pair) → IsInOrder pairs ordered → (duties : List (List ℕ)) (duty : List ℕ)
+pub one_paired_in_order : (pairs ordered : List Pair) → IsInOrder pair_order pairs ordered → (duties : List (List ℕ)) (duty : List ℕ)
     → list_any (λ d. list_any (joins d duty) ordered) duties ≡ list_any (λ d. list_any (joins d duty) pairs) duties
 one_paired_in_order pairs ordered o duties duty =
     any_same (λ d. list_any (joins d duty) ordered) (λ d. list_any (joins d duty) pairs) (λ d. any_in_order pairs ordered o (joins d duty)) duties

@@ -39,6 +39,9 @@ known_in_texts f =
     ap (λ b. list_all (is_known_pair f.duties) f.conflicts && list_all (λ p. list_all (is_among f.duties) p.1) f.people && b)
     (list_all-map (is_known_ceiling f.duties f.hosts) entry_in_texts f.ceilings)
 
+pub known_of_draft : (f : RosterFields Cmnd) (t : RosterFields (List ℕ)) → in_texts f ≡ t → are_known t ≡ are_known f
+known_of_draft f t same = ap are_known (sym same) ∙ known_in_texts f
+
 pub apart_in_texts : (f : RosterFields Cmnd) → has_self_conflict (in_texts f) ≡ has_self_conflict f
 unfolding has_self_conflict
 apart_in_texts f = refl

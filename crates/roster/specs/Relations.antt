@@ -80,14 +80,20 @@ pub record IsOrdered {C : Type 0} (f : RosterFields C) : Type 0 where
   pub people : AreRising f.people
   pub ceilings : AreRising f.ceilings
 
--- pairs in byte order: by the first of the two, then by the second
+abbrev pub text_order : List ℕ → List ℕ → Ordering
+text_order = slice_cmp nat_cmp
+
+-- pairs by the first of the two, then by the second
 abbrev pub pair_order : (p q : List ℕ × List ℕ) → Ordering
-pair_order p q = ordering_then (slice_cmp nat_cmp p.0 q.0) (slice_cmp nat_cmp p.1 q.1)
+pair_order p q = ordering_then (text_order p.0 q.0) (text_order p.1 q.1)
+
+abbrev pub AreTextsInOrder : List (List ℕ) → Type 0
+AreTextsInOrder texts = IsSorted text_order texts
 
 abbrev pub AreInOrder : List (List ℕ × List ℕ) → Type 0
 AreInOrder pairs = IsSorted pair_order pairs
 
--- the same pairs, in that order
-pub record IsInOrder (pairs ordered : List (List ℕ × List ℕ)) : Type 0 where
-  pub same : IsPermutation pairs ordered
-  pub rising : AreInOrder ordered
+-- the same items, in that order
+pub record IsInOrder {X : Type 0} (order : X → X → Ordering) (items ordered : List X) : Type 0 where
+  pub same : IsPermutation items ordered
+  pub rising : IsSorted order ordered

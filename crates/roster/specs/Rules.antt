@@ -50,11 +50,15 @@ is_known_pair duties p = is_among duties p.0 && is_among duties p.1
 abbrev pub is_known_ceiling : {C : Type 0} → List (List ℕ) → List (List ℕ) → List ℕ × CeilingFields C → Bool
 is_known_ceiling duties hosts c = is_among duties c.1.ask && is_among duties c.1.approve && list_all (is_among hosts) c.1.hosts
 
+-- each duty that is named is one of these, and each host of a ceiling one of these hosts
+abbrev pub names_only : {C : Type 0} → (duties hosts : List (List ℕ)) → RosterFields C → Bool
+names_only duties hosts f =
+    list_all (is_known_pair duties) f.conflicts && list_all (λ p. list_all (is_among duties) p.1) f.people
+    && list_all (is_known_ceiling duties hosts) f.ceilings
+
 -- each duty that is named is one of the duties, and each host of a ceiling one of the hosts
 unfoldable pub are_known : {C : Type 0} → RosterFields C → Bool
-are_known f =
-    list_all (is_known_pair f.duties) f.conflicts && list_all (λ p. list_all (is_among f.duties) p.1) f.people
-    && list_all (is_known_ceiling f.duties f.hosts) f.ceilings
+are_known f = names_only f.duties f.hosts f
 
 -- a duty conflicts with itself
 unfoldable pub has_self_conflict : {C : Type 0} → RosterFields C → Bool

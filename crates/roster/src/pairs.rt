@@ -10,7 +10,7 @@ use sudo_words::{Items, Label};
 
 /// The same pairs in their order; an error where memory runs out.
 pub(crate) fn in_order(pairs: &Items<(Label, Label)>) -> Result<Items<(Label, Label)>, AllocError>
-    ensures { IfOk result (relations.IsInOrder pairs.now) }
+    ensures { IfOk result (relations.IsInOrder relations.pair_order pairs.now) }
 {
     let mut ordered = pairs.clone()?.into_vec();
     ordered.sort_unstable();

@@ -4,6 +4,7 @@ ghost use Rattle.std.specs.Prelude.{◌≡◌, ◌≢◌, Some, None, IfOk, IfEr
 ghost use Rattle.toml.specs.Parse.{parse_document};
 ghost use Rattle.toml.specs.View.{table_view};
 ghost use Rattle.roster.specs.Faults.{IsLeastFault, IsRosterText};
+ghost use Rattle.roster.specs.Fields.{in_texts};
 ghost use Rattle.roster.specs.Relations.{IsOrdered};
 ghost use Rattle.roster.specs.Rules.{GoodNames, IsCmndText};
 ghost use Rattle.roster.specs.Stages.{IsDraftOf, KeepsRules};
@@ -34,13 +35,16 @@ fn document(alloc: Global, text: &str) -> Result<Table, RosterFault>
 }
 
 /// The least fault of what the draft says, where each of its texts in a name's place is such a name.
-fn tested(text: &str, draft: &Draft) -> Result<(), RosterFault>
+#[tactic(auto, using(crate::proofs::Texts::known_of_draft))]
+fn tested(text: &str, draft: &Draft, said: &Said) -> Result<(), RosterFault>
     requires draft { IsDraftOf text.now draft.now }
     requires named { GoodNames IsCmndText draft.now }
+    requires said { in_texts said.now ≡ draft.now }
     ensures kept { IfOk result (λ _. KeepsRules text.now draft.now) }
-    ensures least { IfErr result (IsLeastFault text.now) }
+    ensures least { IfErr result (λ e. e ≢ NoMemory → IsLeastFault text.now e) }
 {
-    if !knows_names(draft) {
+    let known = knows_names(said)?;
+    if !known {
         return Err(RosterFault::UnknownName);
     }
     if has_self_conflict(draft) {
@@ -61,7 +65,7 @@ fn said_by_draft(alloc: Global, text: &str, draft: &Draft) -> Result<Said, Roste
     ensures least { IfErr result (λ e. e ≢ NoMemory → IsLeastFault text.now e) }
 {
     let said = said_of(alloc, draft)?;
-    tested(text, draft)?;
+    tested(text, draft, &said)?;
     Ok(said)
 }
 

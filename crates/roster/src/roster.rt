@@ -34,13 +34,13 @@ impl Model for Roster {
     ghost use Rattle.std.specs.Prelude.{string_bytes};
     ghost use Rattle.roster.specs.Fields.{Reading};
     ghost use Rattle.roster.specs.Faults.{IsRosterText};
-    ghost use Rattle.roster.specs.Relations.{IsInOrder, IsOrdered};
+    ghost use Rattle.roster.specs.Relations.{pair_order, IsInOrder, IsOrdered};
 
     ghost Value = { Reading };
 
     ghost view = { λ r. record { text = string_bytes r.text; says = r.said } };
 
-    ghost invariant = { λ r. IsRosterText (string_bytes r.text) r.said × IsOrdered r.said × IsInOrder r.said.conflicts r.pairs };
+    ghost invariant = { λ r. IsRosterText (string_bytes r.text) r.said × IsOrdered r.said × IsInOrder pair_order r.said.conflicts r.pairs };
 }
 
 impl Roster {

@@ -1,27 +1,43 @@
-//! Tests of a draft, once its texts are names: its duties and hosts, its conflicts, and what it counts.
+//! Tests of a roster, once its texts are names: its duties and hosts, its conflicts, and what it counts.
 
-ghost use Rattle.std.specs.Prelude.{◌≡◌, ◌&&◌, length, nat_le};
+ghost use Rattle.std.specs.Prelude.{◌≡◌, ◌&&◌, IfOk, length, nat_le};
 ghost use Rattle.std.specs.List.{list_all, list_any};
 ghost use Rattle.std.specs.Str.{bytes_eq};
+ghost use Rattle.roster.specs.Relations.{text_order, AreTextsInOrder, IsInOrder};
 ghost use Rattle.roster.specs.Rules as rules;
 
+use crate::ceiling::Ceiling;
 use crate::draft::{Draft, DraftCeiling};
+use crate::said::Said;
 use crate::text::Text;
-use sudo_words::Items;
+use std::alloc::AllocError;
+use sudo_words::{Form, HostName, Items, Label, Name, Word};
 
-fn is_among(words: &[Text], word: &Text) -> bool
-    ensures { result ≡ rules.is_among words.now word.now }
+/// The same words in byte order; an error where memory runs out.
+fn in_order<F: Form + Clone>(words: &Items<Word<F>>) -> Result<Items<Word<F>>, AllocError>
+    ensures { IfOk result (IsInOrder text_order words.now) }
 {
-    words.iter().any(|w| w.as_str() == word.as_str())
+    let mut ordered = words.clone()?.into_vec();
+    ordered.sort_unstable();
+    Ok(Items::new(ordered))
 }
 
-fn are_among(words: &[Text], some: &[Text]) -> bool
-    ensures { result ≡ list_all (rules.is_among words.now) some.now }
+fn is_among<F: Form>(ordered: &[Word<F>], word: &Word<F>) -> bool
+    requires { AreTextsInOrder ordered.now }
+    ensures { result ≡ rules.is_among ordered.now word.now }
 {
-    some.iter().all(|w| is_among(words, w))
+    ordered.binary_search(word).is_ok()
 }
 
-fn knows_pairs(duties: &[Text], pairs: &[(Text, Text)]) -> bool
+fn are_among<F: Form>(ordered: &[Word<F>], some: &[Word<F>]) -> bool
+    requires { AreTextsInOrder ordered.now }
+    ensures { result ≡ list_all (rules.is_among ordered.now) some.now }
+{
+    some.iter().all(|w| is_among(ordered, w))
+}
+
+fn knows_pairs(duties: &[Label], pairs: &[(Label, Label)]) -> bool
+    requires { AreTextsInOrder duties.now }
     ensures { result ≡ list_all (rules.is_known_pair duties.now) pairs.now }
 {
     pairs
@@ -29,13 +45,16 @@ fn knows_pairs(duties: &[Text], pairs: &[(Text, Text)]) -> bool
         .all(|p| is_among(duties, &p.0) && is_among(duties, &p.1))
 }
 
-fn knows_people(duties: &[Text], people: &[(Text, Items<Text>)]) -> bool
+fn knows_people(duties: &[Label], people: &[(Name, Items<Label>)]) -> bool
+    requires { AreTextsInOrder duties.now }
     ensures { result ≡ list_all (λ p. list_all (rules.is_among duties.now) p.1) people.now }
 {
     people.iter().all(|p| are_among(duties, p.1.as_slice()))
 }
 
-fn knows_ceiling(duties: &[Text], hosts: &[Text], ceiling: &(Text, DraftCeiling)) -> bool
+fn knows_ceiling(duties: &[Label], hosts: &[HostName], ceiling: &(Label, Ceiling)) -> bool
+    requires duties { AreTextsInOrder duties.now }
+    requires hosts { AreTextsInOrder hosts.now }
     ensures { result ≡ rules.is_known_ceiling duties.now hosts.now ceiling.now }
 {
     is_among(duties, &ceiling.1.ask)
@@ -43,21 +62,33 @@ fn knows_ceiling(duties: &[Text], hosts: &[Text], ceiling: &(Text, DraftCeiling)
         && are_among(hosts, ceiling.1.hosts.as_slice())
 }
 
-fn knows_ceilings(duties: &[Text], hosts: &[Text], ceilings: &[(Text, DraftCeiling)]) -> bool
+fn knows_ceilings(duties: &[Label], hosts: &[HostName], ceilings: &[(Label, Ceiling)]) -> bool
+    requires duties { AreTextsInOrder duties.now }
+    requires hosts { AreTextsInOrder hosts.now }
     ensures { result ≡ list_all (rules.is_known_ceiling duties.now hosts.now) ceilings.now }
 {
     ceilings.iter().all(|c| knows_ceiling(duties, hosts, c))
 }
 
-/// Whether each duty that the draft names is one of its duties, and each host of a ceiling one of its hosts.
-#[tactic(auto, unfolding(crate::specs::Rules::are_known))]
-pub(crate) fn knows_names(draft: &Draft) -> bool
-    ensures { result ≡ rules.are_known draft.now }
+fn names_only(duties: &Items<Label>, hosts: &Items<HostName>, said: &Said) -> bool
+    requires duties { AreTextsInOrder duties.now }
+    requires hosts { AreTextsInOrder hosts.now }
+    ensures { result ≡ rules.names_only duties.now hosts.now said.now }
 {
-    let duties = draft.duties.as_slice();
-    knows_pairs(duties, draft.conflicts.as_slice())
-        && knows_people(duties, draft.people.as_slice())
-        && knows_ceilings(duties, draft.hosts.as_slice(), draft.ceilings.as_slice())
+    let duties = duties.as_slice();
+    knows_pairs(duties, said.conflicts.as_slice())
+        && knows_people(duties, said.people.as_slice())
+        && knows_ceilings(duties, hosts.as_slice(), said.ceilings.as_slice())
+}
+
+/// Whether each duty that is named is one of the duties, and each host of a ceiling one of the hosts; an error where
+/// memory runs out.
+pub(crate) fn knows_names(said: &Said) -> Result<bool, AllocError>
+    ensures { IfOk result (λ known. known ≡ rules.are_known said.now) }
+{
+    let duties = in_order(&said.duties)?;
+    let hosts = in_order(&said.hosts)?;
+    Ok(names_only(&duties, &hosts, said))
 }
 
 fn has_equal_pair(pairs: &[(Text, Text)]) -> bool
