@@ -20,3 +20,8 @@ pub mod CountingLaws
 pub mod ApprovalLemmas
 pub mod MemberCases
 pub mod NthSmallest
+pub mod FormLaws
+pub mod Privileges
+pub mod SomeAnswer
+pub mod WorkedSite
+pub mod WorkedTeam

@@ -12,3 +12,7 @@ cases_behind y ys x m =
       | inl here ↦ elim (Contains-push_cases [] y x here) as (λ _. (y ≡ x) ⊎ Contains ys x) [ inl none ↦ absurd (nothing_there x none) | inr same ↦ inl same ]
       | inr there ↦ inr there
     ]
+
+pub head_is : {X : Type 0} (y x : X) → Contains (y ∷ []) x → y ≡ x
+head_is y x m =
+    elim (cases_behind y [] x m) as (λ _. y ≡ x) [ inl same ↦ same | inr none ↦ absurd (nothing_there x none) ]

@@ -13,3 +13,4 @@ pub mod Voters
 pub mod Reached
 pub mod Counting
 pub mod Completion
+pub mod WorkedStatuses

@@ -24,7 +24,7 @@ pub use outcome::{Status, Window};
 pub use reached::status;
 pub use status_laws::{
     completion_is_nth_smallest, one_status, order_is_free, uncounted_changes_nothing,
-    who_does_not_count,
+    who_does_not_count, worked_statuses,
 };
 pub use summary::{Summary, apply, ask, ask_again};
 pub use within::is_inside;

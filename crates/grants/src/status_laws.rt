@@ -1,6 +1,6 @@
 //! Laws of what the messages about a request come to, each the contract of a function that does nothing.
 
-ghost use Rattle.std.specs.Prelude.{◌≡◌, ◌≢◌, ◌↔◌, ◌≤◌, Some, [], ◌∷◌, ◌++◌, ℕ, List, true, false};
+ghost use Rattle.std.specs.Prelude.{◌≡◌, ◌≢◌, ◌↔◌, ◌≤◌, Some, [], ◌∷◌, ◌++◌, ℕ, List, true, false, codes};
 ghost use Rattle.sudo_words.specs.declared.cmnd.Cmnd.{Cmnd};
 ghost use Rattle.messages.specs.Fields.{RequestFields, VerdictFields};
 ghost use Rattle.messages.specs.Names.{RequestName, SameMessages};
@@ -13,7 +13,9 @@ ghost use Rattle.grants.specs.Completion.{IsFirstApproval, IsNthSmallest};
 ghost use Rattle.grants.specs.Counting.{NeverCounts};
 ghost use Rattle.grants.specs.Statuses.{IsStatus};
 ghost use Rattle.grants.specs.Verdicts.{counts, IsComplete};
+ghost use Rattle.grants.specs.WorkedStatuses as worked;
 ghost use Rattle.grants.specs.declared.outcome.Status.{Status};
+ghost use Rattle.grants.specs.declared.outcome.Status.TheVariants as statuses;
 
 /// A set of messages gives a name at most one status. `status` gives it.
 pub fn one_status()
@@ -50,4 +52,20 @@ pub fn who_does_not_count()
         v.kind ≢ kinds.Revoke → holds f v.by duty ≡ true → conflicting f duty c.approve ≡ true → counts f c v ≡ false }
     ensures without_duty { (f : RosterFields Cmnd) (c : CeilingFields Cmnd) (v : VerdictFields) →
         v.by ≢ v.of → holds f v.by c.approve ≡ false → counts f c v ≡ false }
+{}
+
+/// Worked statuses, of what ann asked from nine to eleven (32,400 to 39,600) where two have to approve.
+pub fn worked_statuses()
+    // The asker's own approval, that of carol, who also audits, and bob's second one make no second approver.
+    ensures one_of_two { worked.ComesTo (worked.says (codes "ann") kinds.Approve 28_800 ∷ worked.says (codes "carol") kinds.Approve 28_800 ∷ worked.says (codes "bob") kinds.Approve 30_600 ∷ worked.says (codes "bob") kinds.Approve 31_200 ∷ []) statuses.Waiting }
+    // It is in force from the second approver's earliest approval on, and no earlier than it was asked for.
+    ensures two { worked.ComesTo (worked.says (codes "bob") kinds.Approve 30_600 ∷ worked.says (codes "dave") kinds.Approve 34_000 ∷ worked.says (codes "dave") kinds.Approve 33_000 ∷ []) (statuses.Granted (record { start = 33_000; end = 39_600 })) }
+    ensures ahead { worked.ComesTo (worked.says (codes "bob") kinds.Approve 30_600 ∷ worked.says (codes "dave") kinds.Approve 31_200 ∷ []) (statuses.Granted (record { start = 32_400; end = 39_600 })) }
+    // A refusal of the very moment of the completion refuses; a later one, and carol's, have no effect.
+    ensures refused { worked.ComesTo (worked.says (codes "bob") kinds.Approve 30_600 ∷ worked.says (codes "dave") kinds.Approve 33_000 ∷ worked.says (codes "bob") kinds.Refuse 33_000 ∷ []) statuses.Refused }
+    ensures late { worked.ComesTo (worked.says (codes "bob") kinds.Approve 30_600 ∷ worked.says (codes "dave") kinds.Approve 33_000 ∷ worked.says (codes "bob") kinds.Refuse 33_001 ∷ worked.says (codes "carol") kinds.Refuse 28_800 ∷ []) (statuses.Granted (record { start = 33_000; end = 39_600 })) }
+    // A revocation ends it the moment before, carol's too; one of moment 0 leaves nothing, as does an approval past the end.
+    ensures revoked { worked.ComesTo (worked.says (codes "bob") kinds.Approve 30_600 ∷ worked.says (codes "dave") kinds.Approve 33_000 ∷ worked.says (codes "carol") kinds.Revoke 36_000 ∷ []) (statuses.Granted (record { start = 33_000; end = 35_999 })) }
+    ensures void { worked.ComesTo (worked.says (codes "bob") kinds.Approve 30_600 ∷ worked.says (codes "dave") kinds.Approve 33_000 ∷ worked.says (codes "ann") kinds.Revoke 0 ∷ []) statuses.Void }
+    ensures too_late { worked.ComesTo (worked.says (codes "bob") kinds.Approve 30_600 ∷ worked.says (codes "dave") kinds.Approve 39_601 ∷ []) statuses.Void }
 {}
