@@ -1,7 +1,9 @@
 -- What the worked team's messages come to, by the summary that stands for them.
-use Rattle.std.proofs.Common.{◌≡◌, false, List, [], ◌∷◌, ◌++◌, map, Some, refl, sym, subst, lit≤}
+use Rattle.std.proofs.Common.{◌≡◌, ℕ, ◌+◌, ◌≤◌, Option, arith, false, List, [], ◌∷◌, ◌++◌, map, Some, refl, sym, ap, subst, lit≤}
 use Rattle.std.specs.List.{AllByRecursion, Contains}
 use Rattle.std.proofs.lemmas.List.{append_assoc, append-nil}
+use Rattle.sudo_words.specs.declared.cmnd.Cmnd.{Cmnd}
+use Rattle.roster.specs.Fields.{CeilingFields}
 use Rattle.messages.specs.Fields.{RequestFields, VerdictFields}
 use Rattle.messages.specs.Names.{name_of, IsAbout}
 use Rattle.messages.specs.declared.message.Message.{Message}
@@ -14,14 +16,15 @@ use Rattle.grants.specs.Marks.{noted}
 use Rattle.grants.specs.Reached.{admitted_status}
 use Rattle.grants.specs.Statuses.{IsStatus}
 use Rattle.grants.specs.Summaries.{Kept, StandsFor}
-use Rattle.grants.specs.WorkedAdmission.{asked}
-use Rattle.grants.specs.WorkedStatuses.{team, by_two, ComesTo}
+use Rattle.grants.specs.WorkedAdmission.{asked, asked_from}
+use Rattle.grants.specs.WorkedStatuses.{team, by_two, shorter, ComesTo}
 use Rattle.grants.specs.declared.outcome.Status.{Status}
+use Rattle.grants.specs.declared.outcome.Status.TheVariants.{Disputed, Lapsed}
 use Rattle.grants.proofs.AdmissionLemmas.{within}
 use Rattle.grants.proofs.MemberCases.{head_is}
-use Rattle.grants.proofs.Members.{Contains-head}
+use Rattle.grants.proofs.Members.{Contains-head, Contains-behind}
 use Rattle.grants.proofs.StandLemmas.{approved, refused, revoked}
-use Rattle.grants.proofs.StatusLemmas.{admitted_is}
+use Rattle.grants.proofs.StatusLemmas.{admitted_is, lapsed_is}
 
 -- ---- the summary of a request and verdicts
 
@@ -89,3 +92,31 @@ comes_to verdicts status all same single e =
     let stands = stands_all (Request asked ∷ []) (fresh asked) verdicts all (stands_fresh asked) in
     let is = admitted_is team by_two (Request asked ∷ map Verdict verdicts) k (subst (λ (q : RequestFields). ceiling_at team q.ceiling ≡ Some by_two) (sym same) refl) (lit≤ tt) (subst (AdmitsRequest team) (sym same) team_admits) single stands in
     subst (λ (x : Status). ComesTo verdicts x) e (subst (λ (q : RequestFields). IsStatus team (Request asked ∷ map Verdict verdicts) (name_of q) (admitted_status team by_two k)) same is)
+
+-- ---- disputed and lapsed
+
+one_until : (p q : RequestFields) → p ≡ q → p.until ≡ q.until
+one_until p q e = ap (λ (x : RequestFields). x.until) e
+
+pub team_disputed : IsStatus team (Request asked ∷ Request (asked_from 32_400 36_000) ∷ []) (name_of asked) Disputed
+team_disputed = record {
+  first = asked;
+  second = asked_from 32_400 36_000;
+  first_asked = Contains-head (Request asked) (Request (asked_from 32_400 36_000) ∷ []);
+  second_asked = Contains-behind (Request asked) (Request (asked_from 32_400 36_000) ∷ []) (Request (asked_from 32_400 36_000)) (Contains-head (Request (asked_from 32_400 36_000)) []);
+  first_named = (refl, refl);
+  second_named = (refl, refl);
+  differ = λ e. let same : ◌≡◌ {A = ℕ} 39_600 36_000 = one_until asked (asked_from 32_400 36_000) e in absurd (omega (arith, same));
+}
+
+one_ceiling : (c d : CeilingFields Cmnd) → ◌≡◌ {A = Option (CeilingFields Cmnd)} (Some c) (Some d) → c ≡ d
+one_ceiling c d e = cc
+
+too_long : ¬ AdmitsRequest shorter asked
+too_long = λ h.
+    let longest : ◌≡◌ {A = ℕ} 7199 h.ceiling.longest = ap (λ (c : CeilingFields Cmnd). c.longest) (one_ceiling (record by_two { longest = 7199 }) h.ceiling h.may_ask.ceiling_is) in
+    let short : 39_600 ≤ 32_400 + h.ceiling.longest = h.in_time.short in
+    absurd (omega (arith, longest, short))
+
+pub team_lapsed : IsStatus shorter (Request asked ∷ []) (name_of asked) Lapsed
+team_lapsed = lapsed_is shorter (Request asked ∷ []) (fresh asked) too_long refl (stands_fresh asked)

@@ -3,9 +3,9 @@
 ghost use Rattle.std.specs.Prelude.{◌≡◌, ◌≢◌, ◌↔◌, ◌≤◌, Some, [], ◌∷◌, ◌++◌, ℕ, List, true, false, codes};
 ghost use Rattle.sudo_words.specs.declared.cmnd.Cmnd.{Cmnd};
 ghost use Rattle.messages.specs.Fields.{RequestFields, VerdictFields};
-ghost use Rattle.messages.specs.Names.{RequestName, SameMessages};
+ghost use Rattle.messages.specs.Names.{RequestName, SameMessages, name_of};
 ghost use Rattle.messages.specs.declared.message.Message.{Message};
-ghost use Rattle.messages.specs.declared.message.Message.TheVariants as message_of;
+ghost use Rattle.messages.specs.declared.message.Message.TheVariants.{Request, Verdict};
 ghost use Rattle.messages.specs.declared.kind.VerdictKind.TheVariants as kinds;
 ghost use Rattle.roster.specs.Fields.{CeilingFields, RosterFields};
 ghost use Rattle.roster.specs.Relations.{ceiling_at, conflicting, holds};
@@ -13,9 +13,10 @@ ghost use Rattle.grants.specs.Completion.{IsFirstApproval, IsNthSmallest};
 ghost use Rattle.grants.specs.Counting.{NeverCounts};
 ghost use Rattle.grants.specs.Statuses.{IsStatus};
 ghost use Rattle.grants.specs.Verdicts.{counts, IsComplete};
-ghost use Rattle.grants.specs.WorkedStatuses as worked;
+ghost use Rattle.grants.specs.WorkedAdmission.{asked, asked_from};
+ghost use Rattle.grants.specs.WorkedStatuses.{ComesTo, Gives, approves, both_and, refuses, revokes, shorter, team};
 ghost use Rattle.grants.specs.declared.outcome.Status.{Status};
-ghost use Rattle.grants.specs.declared.outcome.Status.TheVariants as statuses;
+ghost use Rattle.grants.specs.declared.outcome.Status.TheVariants.{Disputed, Lapsed, Refused, Void, Waiting};
 
 /// A set of messages gives a name at most one status. `status` gives it.
 pub fn one_status()
@@ -40,7 +41,7 @@ pub fn completion_is_nth_smallest()
 /// A verdict that never counts may be added or taken away: no name's status changes.
 pub fn uncounted_changes_nothing()
     ensures { (f : RosterFields Cmnd) (set : List Message) (v : VerdictFields) (name : RequestName) (status : Status) →
-        NeverCounts f set v → IsStatus f set name status ↔ IsStatus f (set ++ message_of.Verdict v ∷ []) name status }
+        NeverCounts f set v → IsStatus f set name status ↔ IsStatus f (set ++ Verdict v ∷ []) name status }
 {}
 
 /// Separation of duties (NIST SP 800-53 AC-5): the asker's own approval or refusal never counts, nor that of somebody who
@@ -56,16 +57,21 @@ pub fn who_does_not_count()
 
 /// Worked statuses, of what ann asked from nine to eleven (32,400 to 39,600) where two have to approve.
 pub fn worked_statuses()
-    // The asker's own approval, that of carol, who also audits, and bob's second one make no second approver.
-    ensures one_of_two { worked.ComesTo (worked.says (codes "ann") kinds.Approve 28_800 ∷ worked.says (codes "carol") kinds.Approve 28_800 ∷ worked.says (codes "bob") kinds.Approve 30_600 ∷ worked.says (codes "bob") kinds.Approve 31_200 ∷ []) statuses.Waiting }
-    // It is in force from the second approver's earliest approval on, and no earlier than it was asked for.
-    ensures two { worked.ComesTo (worked.says (codes "bob") kinds.Approve 30_600 ∷ worked.says (codes "dave") kinds.Approve 34_000 ∷ worked.says (codes "dave") kinds.Approve 33_000 ∷ []) (statuses.Granted (record { start = 33_000; end = 39_600 })) }
-    ensures ahead { worked.ComesTo (worked.says (codes "bob") kinds.Approve 30_600 ∷ worked.says (codes "dave") kinds.Approve 31_200 ∷ []) (statuses.Granted (record { start = 32_400; end = 39_600 })) }
+    // Neither the asker nor carol, who also audits, approves beside bob, and bob's second approval is no second approver's.
+    ensures asker { ComesTo (approves (codes "ann") 28_800 ∷ approves (codes "bob") 30_600 ∷ []) Waiting }
+    ensures conflict { ComesTo (approves (codes "bob") 30_600 ∷ approves (codes "carol") 28_800 ∷ []) Waiting }
+    ensures twice { ComesTo (approves (codes "bob") 30_600 ∷ approves (codes "bob") 31_200 ∷ []) Waiting }
+    // It is in force from the second approver's first approval on, but no earlier than it was asked for.
+    ensures second { Gives (both_and (approves (codes "dave") 34_000 ∷ [])) 33_000 39_600 }
+    ensures ahead { Gives (approves (codes "dave") 31_200 ∷ approves (codes "bob") 30_600 ∷ []) 32_400 39_600 }
     // A refusal of the very moment of the completion refuses; a later one, and carol's, have no effect.
-    ensures refused { worked.ComesTo (worked.says (codes "bob") kinds.Approve 30_600 ∷ worked.says (codes "dave") kinds.Approve 33_000 ∷ worked.says (codes "bob") kinds.Refuse 33_000 ∷ []) statuses.Refused }
-    ensures late { worked.ComesTo (worked.says (codes "bob") kinds.Approve 30_600 ∷ worked.says (codes "dave") kinds.Approve 33_000 ∷ worked.says (codes "bob") kinds.Refuse 33_001 ∷ worked.says (codes "carol") kinds.Refuse 28_800 ∷ []) (statuses.Granted (record { start = 33_000; end = 39_600 })) }
-    // A revocation ends it the moment before, carol's too; one of moment 0 leaves nothing, as does an approval past the end.
-    ensures revoked { worked.ComesTo (worked.says (codes "bob") kinds.Approve 30_600 ∷ worked.says (codes "dave") kinds.Approve 33_000 ∷ worked.says (codes "carol") kinds.Revoke 36_000 ∷ []) (statuses.Granted (record { start = 33_000; end = 35_999 })) }
-    ensures void { worked.ComesTo (worked.says (codes "bob") kinds.Approve 30_600 ∷ worked.says (codes "dave") kinds.Approve 33_000 ∷ worked.says (codes "ann") kinds.Revoke 0 ∷ []) statuses.Void }
-    ensures too_late { worked.ComesTo (worked.says (codes "bob") kinds.Approve 30_600 ∷ worked.says (codes "dave") kinds.Approve 39_601 ∷ []) statuses.Void }
+    ensures refused { ComesTo (both_and (refuses (codes "bob") 33_000 ∷ [])) Refused }
+    ensures late { Gives (both_and (refuses (codes "bob") 33_001 ∷ refuses (codes "carol") 28_800 ∷ [])) 33_000 39_600 }
+    // A revocation ends it a moment before, carol's too; one of moment 0 leaves nothing, nor does an approval past the end.
+    ensures revoked { Gives (both_and (revokes (codes "carol") 36_000 ∷ [])) 33_000 35_999 }
+    ensures void { ComesTo (both_and (revokes (codes "ann") 0 ∷ [])) Void }
+    ensures too_late { ComesTo (approves (codes "bob") 30_600 ∷ approves (codes "dave") 39_601 ∷ []) Void }
+    // Another request of the name disputes it; and where the ceiling was lowered since, it is lapsed.
+    ensures disputed { IsStatus team (Request asked ∷ Request (asked_from 32_400 36_000) ∷ []) (name_of asked) Disputed }
+    ensures lapsed { IsStatus shorter (Request asked ∷ []) (name_of asked) Lapsed }
 {}

@@ -29,7 +29,13 @@ impl Model for Summary {
 
     ghost Value = { Kept };
 
-    ghost view = { λ s. record { request = s.request; is_disputed = s.is_disputed; approvals = s.approvals.items; refusals = s.refusals.items; revocations = s.revocations.items } };
+    ghost view = { λ s. record {
+      request = s.request;
+      is_disputed = s.is_disputed;
+      approvals = s.approvals.items;
+      refusals = s.refusals.items;
+      revocations = s.revocations.items;
+    } };
 }
 
 impl Summary {
