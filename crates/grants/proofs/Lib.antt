@@ -25,3 +25,4 @@ pub mod Privileges
 pub mod SomeAnswer
 pub mod WorkedSite
 pub mod WorkedTeam
+pub mod WindowLaws

@@ -154,7 +154,7 @@ refused_not f c set q o marks under is k e = λ h.
 
 -- ---- windows
 
-later_too : (f : RosterFields Cmnd) (set : List Message) (q : RequestFields) (early late : ℕ) → early ≤ late → RevokedBy f set q early → RevokedBy f set q late
+pub later_too : (f : RosterFields Cmnd) (set : List Message) (q : RequestFields) (early late : ℕ) → early ≤ late → RevokedBy f set q early → RevokedBy f set q late
 later_too f set q early late le h =
     record { verdict = h.verdict; given = h.given; by_then = omega (arith, le, h.by_then) }
 

@@ -1,11 +1,11 @@
--- The moments at which people first approved, and the n-th smallest of them.
+-- The moments at which people first approved, the n-th smallest of them, and the first revocation.
 use Rattle.std.specs.Prelude.{ℕ, ◌≤◌, ◌<◌, List}
 use Rattle.sudo_words.specs.declared.cmnd.Cmnd.{Cmnd}
 use Rattle.messages.specs.Fields.{RequestFields}
 use Rattle.messages.specs.declared.message.Message.{Message}
 use Rattle.messages.specs.declared.kind.VerdictKind.TheVariants.{Approve}
 use Rattle.roster.specs.Fields.{RosterFields}
-use Rattle.grants.specs.Verdicts.{AtLeast, HasGiven}
+use Rattle.grants.specs.Verdicts.{AtLeast, HasGiven, RevokedBy}
 
 -- The person's earliest approval that counts is of this moment.
 pub record IsFirstApproval (f : RosterFields Cmnd) (messages : List Message) (q : RequestFields) (person : List ℕ) (moment : ℕ) : Type 0 where
@@ -17,3 +17,8 @@ pub record IsFirstApproval (f : RosterFields Cmnd) (messages : List Message) (q 
 pub record IsNthSmallest (n : ℕ) (At : List ℕ → ℕ → Type 0) (moment : ℕ) : Type 0 where
   pub enough : AtLeast n (λ person. (m : ℕ) × At person m × (m ≤ moment))
   pub fewer : ¬ AtLeast n (λ person. (m : ℕ) × At person m × (m < moment))
+
+-- The first revocation that counts is of this moment.
+pub record IsFirstRevocation (f : RosterFields Cmnd) (messages : List Message) (q : RequestFields) (moment : ℕ) : Type 0 where
+  pub revoked : RevokedBy f messages q moment
+  pub least : (other : ℕ) → RevokedBy f messages q other → moment ≤ other

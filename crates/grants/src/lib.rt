@@ -23,8 +23,8 @@ pub use marks::Mark;
 pub use outcome::{Status, Window};
 pub use reached::status;
 pub use status_laws::{
-    completion_is_nth_smallest, one_status, order_is_free, uncounted_changes_nothing,
-    who_does_not_count, worked_statuses,
+    bounds_of_window, completion_is_nth_smallest, one_status, order_is_free,
+    uncounted_changes_nothing, who_does_not_count, worked_statuses,
 };
 pub use summary::{Summary, apply, ask, ask_again};
 pub use within::is_inside;

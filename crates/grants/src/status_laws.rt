@@ -1,6 +1,6 @@
 //! Laws of what the messages about a request come to, each the contract of a function that does nothing.
 
-ghost use Rattle.std.specs.Prelude.{◌≡◌, ◌≢◌, ◌↔◌, ◌≤◌, Some, [], ◌∷◌, ◌++◌, ℕ, List, true, false, codes};
+ghost use Rattle.std.specs.Prelude.{◌≡◌, ◌≢◌, ◌↔◌, ◌≤◌, ◌+◌, max, Some, [], ◌∷◌, ◌++◌, ℕ, List, true, false, codes};
 ghost use Rattle.sudo_words.specs.declared.cmnd.Cmnd.{Cmnd};
 ghost use Rattle.messages.specs.Fields.{RequestFields, VerdictFields};
 ghost use Rattle.messages.specs.Names.{RequestName, SameMessages, name_of};
@@ -9,10 +9,10 @@ ghost use Rattle.messages.specs.declared.message.Message.TheVariants.{Request, V
 ghost use Rattle.messages.specs.declared.kind.VerdictKind.TheVariants as kinds;
 ghost use Rattle.roster.specs.Fields.{CeilingFields, RosterFields};
 ghost use Rattle.roster.specs.Relations.{ceiling_at, conflicting, holds};
-ghost use Rattle.grants.specs.Completion.{IsFirstApproval, IsNthSmallest};
+ghost use Rattle.grants.specs.Completion.{IsFirstApproval, IsFirstRevocation, IsNthSmallest};
 ghost use Rattle.grants.specs.Counting.{NeverCounts};
-ghost use Rattle.grants.specs.Statuses.{IsStatus};
-ghost use Rattle.grants.specs.Verdicts.{counts, IsComplete};
+ghost use Rattle.grants.specs.Statuses.{IsFirstMoment, IsLastMoment, IsStatus};
+ghost use Rattle.grants.specs.Verdicts.{counts, IsComplete, RevokedBy};
 ghost use Rattle.grants.specs.WorkedAdmission.{asked, asked_from};
 ghost use Rattle.grants.specs.WorkedStatuses.{ComesTo, Gives, approves, both_and, refuses, revokes, shorter, team};
 ghost use Rattle.grants.specs.declared.outcome.Status.{Status};
@@ -36,6 +36,17 @@ pub fn completion_is_nth_smallest()
     ensures { (f : RosterFields Cmnd) (set : List Message) (q : RequestFields) (c : CeilingFields Cmnd) (moment : ℕ) →
         ceiling_at f q.ceiling ≡ Some c → 1 ≤ c.needs →
         IsComplete f set q moment ↔ IsNthSmallest c.needs (IsFirstApproval f set q) moment }
+{}
+
+/// A window begins where the request is complete, but not before it asks to; it ends where the request asks to, or a moment
+/// before the first revocation.
+pub fn bounds_of_window()
+    ensures begins { (f : RosterFields Cmnd) (set : List Message) (q : RequestFields) (start complete : ℕ) →
+        IsFirstMoment f set q start → IsComplete f set q complete → start ≡ max q.from complete }
+    ensures ends_as_asked { (f : RosterFields Cmnd) (set : List Message) (q : RequestFields) (end : ℕ) →
+        IsLastMoment f set q end → ¬ RevokedBy f set q q.until → end ≡ q.until }
+    ensures ends_revoked { (f : RosterFields Cmnd) (set : List Message) (q : RequestFields) (end revoked : ℕ) →
+        IsLastMoment f set q end → IsFirstRevocation f set q revoked → revoked ≤ q.until → end + 1 ≡ revoked }
 {}
 
 /// A verdict that never counts may be added or taken away: no name's status changes.
