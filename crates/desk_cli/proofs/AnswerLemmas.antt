@@ -3,7 +3,8 @@ use Rattle.std.proofs.Common.{◌≡◌, ℕ, List, [], ◌∷◌, Option, Some,
 use Rattle.std.specs.Io.KnownBytes.{Appends}
 use Rattle.std.proofs.lemmas.List.{append-nil}
 use Rattle.sudo_decide.specs.declared.invocation.Invocation.{Invocation}
-use Rattle.desk_cli.specs.Answers.{ChecksFile, DecidesByFile, IsAnswer}
+use Rattle.desk_cli.specs.Answers.{ChecksFile, DecidesByFile, EndsReading, IsAnswer, IsCause}
+use Rattle.desk_cli.specs.declared.refusal.Refusal.{Refusal as Reason}
 use Rattle.desk_cli.specs.declared.status.Status.{Status}
 use Rattle.desk_cli.specs.declared.task.Job.{Job}
 use Rattle.desk_cli.specs.declared.task.Job.TheVariants.{Check, Decide}
@@ -31,3 +32,19 @@ module _ {F : Type 0} (bytes : F → List ℕ) (input : Option (List ℕ)) (stat
   decides_first job name run (f ∷ fs) file body is first same decides =
       let this : body ≡ bytes f = cc in
       rw is (subst (λ (b : List ℕ). DecidesByFile b run status text) this decides, refl)
+
+-- why a job is refused over its first file
+module _ {F : Type 0} (bytes : F → List ℕ) (input : Option (List ℕ)) (reason : Reason) where
+  pub check_cause : (job : Job) (name : List ℕ) (files : List F) (file : F) (body : List ℕ) → job ≡ Check name → Some file ≡ slice_get files 0
+      → body ≡ bytes file → EndsReading body reason → IsCause job (map bytes files) input reason
+  check_cause job name [] file body is first same ends = absurd cc
+  check_cause job name (f ∷ fs) file body is first same ends =
+      let this : body ≡ bytes f = cc in
+      rw is (subst (λ (b : List ℕ). EndsReading b reason) this ends)
+
+  pub decide_cause : (job : Job) (name : List ℕ) (run : Invocation) (files : List F) (file : F) (body : List ℕ) → job ≡ Decide name run
+      → Some file ≡ slice_get files 0 → body ≡ bytes file → EndsReading body reason → IsCause job (map bytes files) input reason
+  decide_cause job name run [] file body is first same ends = absurd cc
+  decide_cause job name run (f ∷ fs) file body is first same ends =
+      let this : body ≡ bytes f = cc in
+      rw is (subst (λ (b : List ℕ). EndsReading b reason) this ends)

@@ -1,5 +1,5 @@
 -- The messages of a desk to which lines were delivered, where memory did not run out.
-use Rattle.std.proofs.Common.{Option, IfSome, ap, ◌≡◌, ◌≢◌, ◌⊎◌, ℕ, zero, suc, ◌<◌, List, [], ◌∷◌, ◌∙◌, Result, Ok, Err, IsOk, arith, get_or, inl, inr, length, refl, subst, sym}
+use Rattle.std.proofs.Common.{Option, IfSome, ap, ◌≡◌, ◌≢◌, ℕ, zero, suc, ◌<◌, List, [], ◌∷◌, ◌∙◌, Result, Ok, Err, IsOk, arith, get_or, inl, inr, length, refl, subst, sym}
 use Rattle.std.specs.List.{AllZip, Contains}
 use Rattle.messages.specs.Wire.{IsMessage, wire}
 use Rattle.messages.specs.declared.message.Message.{Message}

@@ -1,5 +1,5 @@
 -- How the lines of a text grow as it is read byte by byte.
-use Rattle.std.proofs.Common.{◌≡◌, ◌≢◌, ℕ, ◌+◌, ◌==◌, ◌<◌, ◌≤◌, Bool, false, true, List, [], ◌∷◌, ◌++◌, ◌∙◌, add-one, append_assoc, ap, arith, drop, drop-cons, get_or, length, map, refl, subst, sym}
+use Rattle.std.proofs.Common.{◌≡◌, ◌≢◌, ℕ, ◌+◌, ◌==◌, ◌<◌, ◌≤◌, false, true, List, [], ◌∷◌, ◌++◌, ◌∙◌, add-one, append_assoc, ap, arith, drop, drop-cons, get_or, length, map, refl, subst, sym}
 use Rattle.std.proofs.lemmas.Bool.Decides.{nat_tests}
 use Rattle.std.specs.List.{onto_first}
 use Rattle.std.proofs.lemmas.List.{append-nil, drop_all, map_push}

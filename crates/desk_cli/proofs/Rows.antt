@@ -1,7 +1,7 @@
 -- What the getters of matches read, as rows.
-use Rattle.std.proofs.Common.{◌≡◌, List, [], ap, ◌∙◌, sym, Option, Some, None, map, option_map, refl, unwrap_or, Box, Global}
+use Rattle.std.proofs.Common.{◌≡◌, List, [], ap, ◌∙◌, sym, Option, Some, None, option_map, refl, unwrap_or, Box, Global}
 use Rattle.std.specs.Box.{box_value}
-use Rattle.clap.specs.Words.{Row, Text, first_of, all_of, rows_of, first_value, found_of, matched_of, raw_values, subcommand_name_of, subcommand_rows_of}
+use Rattle.clap.specs.Words.{Row, Text, first_of, rows_of, first_value, found_of, matched_of, raw_values, subcommand_name_of, subcommand_rows_of}
 use Rattle.clap.specs.declared.parser.matches.ArgMatches.TheViews.{out-ArgMatches, out-SubCommand}
 use Rattle.clap.specs.declared.parser.matches.SubCommand.{SubCommand}
 use Rattle.clap.specs.declared.ArgMatches.{ArgMatches}

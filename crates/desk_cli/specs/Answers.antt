@@ -1,5 +1,5 @@
 -- What a job answers.
-use Rattle.std.specs.Prelude.{◌≡◌, ℕ, List, [], ◌∷◌, ◌++◌, Option, codes}
+use Rattle.std.specs.Prelude.{◌≡◌, ℕ, List, [], ◌∷◌, ◌++◌, Option}
 use Rattle.sudo_syntax.specs.Spelling.{Spells}
 use Rattle.sudo_syntax.specs.Printing.{canon}
 use Rattle.sudo_syntax.specs.declared.entry.Entry.{Entry}
@@ -7,7 +7,9 @@ use Rattle.sudo_decide.specs.Decision.{Decides, decision_text}
 use Rattle.sudo_decide.specs.declared.invocation.Invocation.{Invocation}
 use Rattle.sudo_decide.specs.declared.decision.Decision.{Decision}
 use Rattle.sudo_decide.specs.declared.decision.Decision.TheVariants.{Deny, Allow, AllowNoPassword}
-use Rattle.desk_cli.specs.Printing.{PrintsHost}
+use Rattle.desk_cli.specs.Printing.{EndsPrinting, IsFaultOf, PrintsHost}
+use Rattle.desk_cli.specs.declared.refusal.Refusal.{Refusal as Reason}
+use Rattle.desk_cli.specs.declared.refusal.Refusal.TheVariants.{FileFailed, BadWord, NoMemory, Policy, Desk}
 use Rattle.desk_cli.specs.declared.status.Status.{Status}
 use Rattle.desk_cli.specs.declared.status.Status.TheVariants.{Done, Denied, Refused}
 use Rattle.desk_cli.specs.declared.task.Job.{Job}
@@ -49,3 +51,20 @@ IsAnswer (Print name host) (file ∷ more) input status text said = PrintsHost f
 -- The job over these files and this input has an answer.
 abbrev pub HasAnswer : Job → List (List ℕ) → Option (List ℕ) → Type 0
 HasAnswer job files input = (status : Status) × (text said : List ℕ) × IsAnswer job files input status text said
+
+-- ---- what else may come of it
+
+-- `check` and `decide` may be refused for this, before their answer is written
+abbrev pub EndsReading : List ℕ → Reason → Type 0
+EndsReading file FileFailed = ⊥
+EndsReading file BadWord = ⊥
+EndsReading file NoMemory = Unit {0}
+EndsReading file (Policy fault) = IsFaultOf file fault
+EndsReading file (Desk refusal) = ⊥
+
+-- The job over these files and this input may be refused for this, before its answer is written. Without a file it is.
+abbrev pub IsCause : Job → List (List ℕ) → Option (List ℕ) → Reason → Type 0
+IsCause job [] input reason = reason ≡ FileFailed
+IsCause (Check name) (file ∷ more) input reason = EndsReading file reason
+IsCause (Decide name invocation) (file ∷ more) input reason = EndsReading file reason
+IsCause (Print name host) (file ∷ more) input reason = EndsPrinting file host input reason

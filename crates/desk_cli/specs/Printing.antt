@@ -1,13 +1,16 @@
 -- What `print` answers.
-use Rattle.std.specs.Prelude.{◌≡◌, ◌≢◌, ℕ, suc, ◌==◌, List, [], ◌∷◌, ◌++◌, Contains, Option, Result, Err, Ok, IfSome, codes, decimal, if◌then◌else◌}
+use Rattle.std.specs.Prelude.{◌≡◌, ◌≢◌, ℕ, suc, ◌==◌, ◌<◌, List, [], ◌∷◌, ◌++◌, length, Contains, Option, Result, Err, Ok, IfSome, codes, decimal, if◌then◌else◌}
 use Rattle.std.specs.List.{AllZip, onto_first}
 use Rattle.messages.specs.declared.message.Message.{Message}
 use Rattle.sudo_syntax.specs.Spelling.{Spells}
 use Rattle.sudo_syntax.specs.declared.entry.Entry.{Entry}
+use Rattle.sudo_syntax.specs.declared.fault.FaultKind.TheVariants as kinds
+use Rattle.sudo_syntax.specs.declared.fault.ReadFault.{ReadFault}
 use Rattle.desk.specs.Delivery.{Answers, IsBodyOf, IsKept}
-use Rattle.desk.specs.HostFile.{IsHostFile}
+use Rattle.desk.specs.HostFile.{AreLines, IsHostFile, Line}
 use Rattle.desk.specs.Refusals.{refusal_text}
 use Rattle.desk.specs.Rights.{GivesRights}
+use Rattle.desk.specs.State.{FitsBase}
 use Rattle.desk.specs.declared.ack.Ack.{Ack}
 use Rattle.desk.specs.declared.refusal.Refusal.{Refusal}
 use Rattle.desk.specs.declared.refusal.Refusal.TheVariants as desk
@@ -70,20 +73,50 @@ abbrev pub HadMemory : List (Result Ack Refusal) → Type 0
 HadMemory [] = Unit {0}
 HadMemory (answer ∷ answers) = (answer ≢ Err desk.NoMemory) × HadMemory answers
 
+-- While lines are taken, this may end it: the input or the standard error fails, or memory runs out. No line that is refused ends it.
+abbrev pub EndsTaking : Reason → Type 0
+EndsTaking reasons.FileFailed = Unit {0}
+EndsTaking reasons.BadWord = ⊥
+EndsTaking reasons.NoMemory = Unit {0}
+EndsTaking (reasons.Policy fault) = ⊥
+EndsTaking (reasons.Desk refusal) = refusal ≡ desk.NoMemory
+
+-- Where the file spells a policy, the fault is want of memory.
+abbrev pub IsFaultOf : List ℕ → ReadFault → Type 0
+IsFaultOf file fault = (es : List Entry) → Spells file es → fault.kind ≡ kinds.NoMemory
+
+-- the file spells a policy that is past a limit of the desk
+pub record HasLargeBase (file : List ℕ) : Type 0 where
+  pub base : List Entry
+  pub spelled : Spells file base
+  pub large : FitsBase base → ⊥
+
+-- the file spells a base that the desk takes, and behind it would stand more than 8,192 lines
+pub record HasManyLines (file host : List ℕ) (input : Option (List ℕ)) : Type 0 where
+  pub base : List Entry
+  pub messages : List Message
+  pub said : List ℕ
+  pub lines : List Line
+  pub spelled : Spells file base
+  pub fits : FitsBase base
+  pub taken : IsTaken input messages said
+  pub lines_are : AreLines messages host lines
+  pub many : 8_192 < length lines
+
 -- the desk may refuse as a whole for this, and not a line alone
-abbrev pub EndsDesk : Refusal → Type 0
-EndsDesk desk.TooLong = ⊥
-EndsDesk desk.NotCanonical = ⊥
-EndsDesk desk.BadField = ⊥
-EndsDesk desk.WindowBackwards = ⊥
-EndsDesk desk.TooManyRules = Unit {0}
-EndsDesk desk.NoMemory = Unit {0}
-EndsDesk desk.BaseTooLarge = Unit {0}
+abbrev pub EndsDesk : (file host : List ℕ) → Option (List ℕ) → Refusal → Type 0
+EndsDesk file host input desk.TooLong = ⊥
+EndsDesk file host input desk.NotCanonical = ⊥
+EndsDesk file host input desk.BadField = ⊥
+EndsDesk file host input desk.WindowBackwards = ⊥
+EndsDesk file host input desk.TooManyRules = HasManyLines file host input
+EndsDesk file host input desk.NoMemory = Unit {0}
+EndsDesk file host input desk.BaseTooLarge = HasLargeBase file
 
 -- `print` may be refused for this. No line that is refused ends it.
-abbrev pub EndsPrinting : Reason → Type 0
-EndsPrinting reasons.FileFailed = Unit {0}
-EndsPrinting reasons.BadWord = ⊥
-EndsPrinting reasons.NoMemory = Unit {0}
-EndsPrinting (reasons.Policy fault) = Unit {0}
-EndsPrinting (reasons.Desk refusal) = EndsDesk refusal
+abbrev pub EndsPrinting : (file host : List ℕ) → Option (List ℕ) → Reason → Type 0
+EndsPrinting file host input reasons.FileFailed = Unit {0}
+EndsPrinting file host input reasons.BadWord = ⊥
+EndsPrinting file host input reasons.NoMemory = Unit {0}
+EndsPrinting file host input (reasons.Policy fault) = IsFaultOf file fault
+EndsPrinting file host input (reasons.Desk refusal) = EndsDesk file host input refusal

@@ -2,7 +2,7 @@
 
 ghost use Rattle.std.specs.Prelude.{◌≡◌, ◌≢◌, ◌⊎◌, ◌++◌, ℕ, List, [], IfErr, IfOk, IfSome, OnOk, map, string_bytes};
 ghost use Rattle.std.specs.Io.KnownBytes.{Appends};
-ghost use Rattle.desk_cli.specs.Printing.{EndsPrinting, HadMemory, IsTaken, PrintsHost, complaint, complaints, lines_of};
+ghost use Rattle.desk_cli.specs.Printing.{EndsPrinting, EndsTaking, HadMemory, IsTaken, PrintsHost, complaint, complaints, lines_of};
 ghost use Rattle.desk.specs.declared.refusal.Refusal.TheVariants as refusals;
 ghost use Rattle.desk_cli.specs.declared.status.Status.TheVariants.{Done};
 
@@ -18,7 +18,7 @@ use sudo_words::HostName;
 /// All that an input has left.
 fn whole<R: Read>(alloc: Global, input: &mut R) -> Result<Vec<u8>, Refusal>
     ensures bytes { IfOk result (λ v. IfSome (R.remaining input.old) (λ bytes. v.items ≡ bytes)) }
-    ensures err { IfErr result EndsPrinting }
+    ensures err { IfErr result EndsTaking }
 {
     let mut bytes = Vec::new(alloc);
     match input.read_to_end(&mut bytes) {
@@ -50,7 +50,7 @@ fn lines(alloc: Global, bytes: &[u8]) -> Result<Vec<Vec<u8>>, AllocError>
 /// The lines that an input has left.
 fn read_lines<R: Read>(alloc: Global, input: &mut R) -> Result<Vec<Vec<u8>>, Refusal>
     ensures lines { IfOk result (λ v. IfSome (R.remaining input.old) (λ bytes. map (λ l. l.items) v.items ≡ lines_of bytes)) }
-    ensures err { IfErr result EndsPrinting }
+    ensures err { IfErr result EndsTaking }
 {
     let bytes = whole(alloc, input)?;
     Ok(lines(alloc, bytes.as_slice())?)
@@ -60,7 +60,7 @@ fn read_lines<R: Read>(alloc: Global, input: &mut R) -> Result<Vec<Vec<u8>>, Ref
 fn complain(said: &mut String, number: usize, refusal: desk::Refusal) -> Result<(), Refusal>
     ensures said { OnOk result (string_bytes said.new ≡ string_bytes said.old ++ complaint number refusal) }
     ensures memory { OnOk result (refusal ≢ refusals.NoMemory) }
-    ensures err { IfErr result EndsPrinting }
+    ensures err { IfErr result EndsTaking }
 {
     if refusal == desk::Refusal::NoMemory {
         return Err(Refusal::Desk(refusal));
@@ -72,7 +72,7 @@ fn complain(said: &mut String, number: usize, refusal: desk::Refusal) -> Result<
 fn complaints_of(alloc: Global, answers: &[Result<Ack, desk::Refusal>]) -> Result<String, Refusal>
     ensures said { IfOk result (λ s. string_bytes s ≡ complaints 1 answers.now) }
     ensures memory { OnOk result (HadMemory answers.now) }
-    ensures err { IfErr result EndsPrinting }
+    ensures err { IfErr result EndsTaking }
 {
     let mut said = String::new(alloc);
     for (index, answer) in answers.iter().enumerate() {
@@ -86,7 +86,7 @@ fn complaints_of(alloc: Global, answers: &[Result<Ack, desk::Refusal>]) -> Resul
 /// Says it on `err`.
 fn say<E: Write>(said: &str, err: &mut E) -> Result<(), Refusal>
     ensures said { OnOk result (Appends (E.contents err.old) (E.contents err.new) said.now) }
-    ensures err { IfErr result EndsPrinting }
+    ensures err { IfErr result EndsTaking }
 {
     if said.is_empty() {
         return Ok(());
@@ -108,7 +108,7 @@ fn take_lines<R: Read, E: Write>(
     ensures base { desk.new.base ≡ desk.old.base }
     ensures taken { OnOk result ((said : List ℕ) × IsTaken (R.remaining input.old) desk.new.messages said
         × Appends (E.contents err.old) (E.contents err.new) said) }
-    ensures err { IfErr result EndsPrinting }
+    ensures err { IfErr result EndsTaking }
 {
     let lines = read_lines(alloc, input)?;
     let answers = desk.deliver_all(lines.as_slice())?;
@@ -130,7 +130,7 @@ pub fn print_host<R: Read, E: Write>(
 ) -> Result<String, Refusal>
     ensures printed { IfOk result (λ s. (said : List ℕ) × PrintsHost file.now host.now (R.remaining input.old) Done (string_bytes s) said
         × Appends (E.contents err.old) (E.contents err.new) said) }
-    ensures err { IfErr result EndsPrinting }
+    ensures err { IfErr result (EndsPrinting file.now host.now (R.remaining input.old)) }
 {
     let base = read_policy(alloc, file)?;
     let mut desk = Desk::open(alloc, base)?;

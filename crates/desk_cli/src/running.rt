@@ -1,10 +1,10 @@
 //! Doing a job. Its answer is made whole before any of it is written.
 
-ghost use Rattle.std.specs.Prelude.{◌≡◌, ◌≢◌, ◌⊎◌, ℕ, List, [], IfOk, map, string_bytes};
+ghost use Rattle.std.specs.Prelude.{◌≡◌, ◌≢◌, ◌⊎◌, ℕ, List, [], IfErr, IfOk, map, string_bytes};
 ghost use Rattle.std.specs.Io.Buffered.{writer_buffer, writer_contents};
 ghost use Rattle.std.specs.Io.KnownBytes.{Appends, Keeps};
-ghost use Rattle.desk_cli.specs.Printing.{PrintsHost};
-ghost use Rattle.desk_cli.specs.Answers.{ChecksFile, DecidesByFile, HasAnswer, IsAnswer, IsDecided, status_of};
+ghost use Rattle.desk_cli.specs.Printing.{EndsPrinting, PrintsHost};
+ghost use Rattle.desk_cli.specs.Answers.{ChecksFile, DecidesByFile, EndsReading, HasAnswer, IsAnswer, IsCause, IsDecided, status_of};
 
 use crate::printing::print_host;
 use crate::refusal::Refusal;
@@ -43,7 +43,8 @@ fn decision_line(alloc: Global, decision: Decision) -> Result<Answer, AllocError
 }
 
 fn check(alloc: Global, file: &[u8]) -> Result<Answer, Refusal>
-    ensures { IfOk result (λ a. ChecksFile file.now a.status (string_bytes a.text)) }
+    ensures err { IfErr result (EndsReading file.now) }
+    ensures found { IfOk result (λ a. ChecksFile file.now a.status (string_bytes a.text)) }
 {
     let policy = read_policy(alloc, file)?;
     Ok(Answer {
@@ -53,7 +54,8 @@ fn check(alloc: Global, file: &[u8]) -> Result<Answer, Refusal>
 }
 
 fn decided(alloc: Global, file: &[u8], invocation: &Invocation) -> Result<Answer, Refusal>
-    ensures { IfOk result (λ a. DecidesByFile file.now invocation.now a.status (string_bytes a.text)) }
+    ensures err { IfErr result (EndsReading file.now) }
+    ensures found { IfOk result (λ a. DecidesByFile file.now invocation.now a.status (string_bytes a.text)) }
 {
     let policy = read_policy(alloc, file)?;
     Ok(decision_line(alloc, decide(&policy, invocation))?)
@@ -66,7 +68,8 @@ fn printed<R: Read, E: Write>(
     input: &mut R,
     err: &mut E,
 ) -> Result<Answer, Refusal>
-    ensures { IfOk result (λ a. (said : List ℕ) × PrintsHost file.now host.now (R.remaining input.old) a.status (string_bytes a.text) said
+    ensures err { IfErr result (EndsPrinting file.now host.now (R.remaining input.old)) }
+    ensures found { IfOk result (λ a. (said : List ℕ) × PrintsHost file.now host.now (R.remaining input.old) a.status (string_bytes a.text) said
         × Appends (E.contents err.old) (E.contents err.new) said) }
 {
     Ok(Answer {
@@ -75,7 +78,7 @@ fn printed<R: Read, E: Write>(
     })
 }
 
-/// What the job answers. What else there is to say is said on `err`.
+/// What the job answers, or why it is refused. What else there is to say is said on `err`.
 fn answered<R: Read, E: Write>(
     alloc: Global,
     job: &Job,
@@ -83,7 +86,8 @@ fn answered<R: Read, E: Write>(
     input: &mut R,
     err: &mut E,
 ) -> Result<Answer, Refusal>
-    ensures { IfOk result (λ a. (said : List ℕ)
+    ensures cause { IfErr result (IsCause job.now (map (λ f. f.items) files.now) (R.remaining input.old)) }
+    ensures found { IfOk result (λ a. (said : List ℕ)
         × IsAnswer job.now (map (λ f. f.items) files.now) (R.remaining input.old) a.status (string_bytes a.text) said
         × Appends (E.contents err.old) (E.contents err.new) said) }
 {
