@@ -141,10 +141,13 @@ pub record AreCommandCases (cmnds : List Cmnd) (runs : List Run) : Type 0 where
 
 -- ---- moments: 0, each NOTBEFORE, and the moment behind each NOTAFTER. Between two of them no rule begins or ceases to take part.
 
--- the last moment of all, 20991231235959Z, has none behind it
+-- 20991231235958Z: behind it there is one moment more, and behind that there is none
+abbrev pub last_but_one : ℕ
+last_but_one = 4_102_444_798
+
 abbrev pub behind : Option ℕ → List ℕ
 behind None = []
-behind (Some last) = if nat_le last 4_102_444_798 then (last + 1) ∷ [] else []
+behind (Some last) = if nat_le last last_but_one then (last + 1) ∷ [] else []
 
 abbrev pub turns_of : Rule → List ℕ
 turns_of r = option_to_list r.not_before ++ behind r.not_after

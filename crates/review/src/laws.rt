@@ -1,6 +1,6 @@
 //! Laws of what lies beyond a policy, each the contract of a function that does nothing.
 
-ghost use Rattle.std.specs.Prelude.{◌≡◌, ℕ, ◌≤◌, ◌++◌, true, List, length};
+ghost use Rattle.std.specs.Prelude.{◌≡◌, ℕ, ◌≤◌, ◌++◌, true, List, [], ◌∷◌, length, Some, codes};
 ghost use Rattle.std.specs.List.{AllByRecursion, Contains, flat_map};
 ghost use Rattle.sudo_words.specs.Moment.{IsMoment};
 ghost use Rattle.sudo_words.specs.Word.{is_name, is_host_name, is_file_path, is_arg};
@@ -20,7 +20,8 @@ ghost use Rattle.review.specs.declared.cases.Cases.{Cases};
 ghost use Rattle.review.specs.declared.scope.Scope.{Scope};
 ghost use Rattle.review.specs.Standing.{names_in, cmnds_in, users, hosts, runas, commands};
 ghost use Rattle.review.specs.Beyond.{Agrees, IsScope, IsInvocation, IsInScope, IsGap, LiesBeyond, SomethingBeyond};
-ghost use Rattle.review.specs.Cases.{AreCases, run_of, product, invocations};
+ghost use Rattle.review.specs.Cases.{AreCases, run_of, behind, product, invocations};
+ghost use Rattle.review.specs.Worked.{all_but_bob, ann_alone, anything, runs_other};
 ghost use Rattle.review.specs.Alike.{AlikeNames, AlikeCmnds, AlikeMoments, Alike};
 
 // ---- items, lists and aliases
@@ -115,14 +116,24 @@ pub fn nothing_beyond_a_third()
     ensures { (s : Scope) (a b c : List Entry) → (SomethingBeyond s a b → ⊥) → (SomethingBeyond s b c → ⊥) → SomethingBeyond s a c → ⊥ }
 {}
 
-/// What lies beyond in a scope does so where nothing is fixed; and a narrower scope shows no more.
+/// What lies beyond in a scope does so in each wider one.
 pub fn wider_scope()
     ensures { (s t : Scope) (a b : List Entry) → ((i : Invocation) → IsInScope s i → IsInScope t i) →
         SomethingBeyond s a b → SomethingBeyond t a b }
 {}
 
-/// Of what lies beyond, whatever the first policy is found to decide is no denial, and the second's decision is one.
+/// Of what lies beyond, whatever the first policy decides is no denial, and whatever the second decides is one.
 pub fn beyond_is_decided()
     ensures first { (s : Scope) (a b : List Entry) (i : Invocation) (d : Decision) → LiesBeyond s a b i → Decides a i d → d ≡ Deny → ⊥ }
     ensures second { (s : Scope) (a b : List Entry) (i : Invocation) (d : Decision) → LiesBeyond s a b i → Decides b i d → d ≡ Deny }
+{}
+
+/// Worked cases: `ALL, !bob db1 = ALL` allows somebody who stands in no text what `ann db1 = ALL` refuses them, and bob
+/// nothing; a rule's last moment turns one second later, and the last moment of all never.
+pub fn worked_beyond()
+    ensures somebody { LiesBeyond anything all_but_bob ann_alone (runs_other (codes "other0")) }
+    ensures bob { LiesBeyond anything all_but_bob ann_alone (runs_other (codes "bob")) → ⊥ }
+    ensures standing { users all_but_bob ++ users ann_alone ≡ codes "bob" ∷ codes "ann" ∷ [] }
+    ensures next { behind (Some 1_767_610_800) ≡ 1_767_610_801 ∷ [] }
+    ensures last { behind (Some 4_102_444_799) ≡ [] }
 {}

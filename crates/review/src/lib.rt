@@ -1,4 +1,4 @@
-//! Reviews: whether a policy allows what another refuses.
+//! Reviews: what one policy allows beyond another.
 #![tactic(auto)]
 
 mod cases;
@@ -23,6 +23,6 @@ pub use laws::{
     alike_commands, alike_decide, alike_names, beyond_is_decided, cases_are_invocations,
     cases_suffice, each_command_has_a_case, each_host_has_a_case, each_moment_has_a_case,
     each_target_has_a_case, each_user_has_a_case, nothing_beyond_a_third, nothing_beyond_itself,
-    one_list_of_each, wider_scope,
+    one_list_of_each, wider_scope, worked_beyond,
 };
 pub use scope::Scope;
