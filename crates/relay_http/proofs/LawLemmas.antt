@@ -1,9 +1,7 @@
 -- What the definitions say of methods and of what is delivered.
-use Rattle.std.proofs.Common.{◌≡◌, ◌≤◌, ◌<◌, ℕ, List, [], ◌∷◌, ◌++◌, Bool, true, false, Option, Some, None, Result, Ok, Err, refl, sym, ap, ◌∙◌, subst, inl, take, length, arith, length-take, nat_lt, not, codes, cond}
-use Rattle.std.specs.Str.{bytes_eq}
+use Rattle.std.proofs.Common.{◌≡◌, ◌≤◌, ℕ, List, [], ◌∷◌, ◌++◌, Bool, true, false, Option, Some, None, Result, Ok, Err, refl, sym, ap, subst, inl, take, length, arith, length-take, nat_lt, not, codes, cond}
 use Rattle.std.specs.Str.Parse.{digits_value}
 use Rattle.std.proofs.lemmas.Bool.Decides.{nat_tests}
-use Rattle.std.proofs.lemmas.List.{append-nil}
 use Rattle.std.proofs.lemmas.Slice.Eq.{bytes_eq-Decides}
 use Rattle.matchit.specs.Router.{RouteOf}
 use Rattle.matchit.specs.Seek.{first}
@@ -12,10 +10,9 @@ use Rattle.relay_http.specs.Content.{by_lengths, content, is_length, most_conten
 use Rattle.relay_http.specs.Fields.{Fields, values, is_bad_host}
 use Rattle.relay_http.specs.Routes.{routes, part}
 use Rattle.relay_http.specs.Target.{is_plain}
-use Rattle.relay_http.specs.Wanted.{Asks, AsksByHead, Dates, allow, asked_by, asks_by, at_place, delivered, methods_of, on_route, sought}
+use Rattle.relay_http.specs.Wanted.{Asks, AsksByHead, Dates, allow, asked_by, at_place, delivered, methods_of, on_route, sought}
 use Rattle.relay_http.specs.declared.fault.RequestFault.{RequestFault}
 use Rattle.relay_http.specs.declared.fault.RequestFault.TheVariants.{BadHead, BadLength, BadMethod, BadTarget, ShortBody, TooLong}
-use Rattle.relay_http.specs.declared.place.Methods.TheVariants.{GetOrHead, Post}
 use Rattle.relay_http.specs.declared.place.Place.{Place}
 use Rattle.relay_http.specs.declared.place.Place.TheVariants.{Messages, Grants, Parked, HostFile}
 use Rattle.relay_http.proofs.SettleLemmas.{kept}

@@ -1,5 +1,5 @@
 -- Each route of the desk is known by its value.
-use Rattle.std.proofs.Common.{zero, suc, ◌-◌, ◌&&◌, IsTrue, unwrap_or, take, drop, length, arith, nat_lt, leb, ◌≡◌, ◌≤◌, ◌<◌, ℕ, List, [], ◌∷◌, Option, Some, None, Result, Ok, Err, refl, sym, ap, ◌∙◌, subst, codes, OnOk, Bool, true, false, cond}
+use Rattle.std.proofs.Common.{zero, suc, ◌-◌, ◌&&◌, IsTrue, unwrap_or, take, drop, length, arith, nat_lt, leb, ◌≡◌, ℕ, List, [], ◌∷◌, Option, Some, None, Result, Ok, Err, refl, sym, ap, ◌∙◌, subst, codes, OnOk, Bool, true, false, cond}
 use Rattle.matchit.specs.Rows.{RowsOf}
 use Rattle.matchit.specs.Route.{Scan, scan}
 use Rattle.matchit.specs.Seek.{first}

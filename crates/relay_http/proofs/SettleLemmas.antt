@@ -1,5 +1,5 @@
 -- Bytes that follow do not change what is asked, once that is settled or as many have come as may count.
-use Rattle.std.proofs.Common.{zero, suc, ◌≡◌, ◌≤◌, ◌<◌, ℕ, ◌+◌, ◌-◌, List, [], ◌∷◌, ◌++◌, Bool, true, false, Option, Some, None, Result, Ok, Err, ◌⊎◌, refl, sym, ap, ◌∙◌, subst, inl, inr, take, drop, length, map, arith, length-take, length-drop, length-append, nat_lt, not, codes, cond}
+use Rattle.std.proofs.Common.{zero, suc, ◌≡◌, ◌≤◌, ℕ, ◌+◌, ◌-◌, List, [], ◌∷◌, ◌++◌, Bool, true, false, Option, Some, None, Result, Ok, Err, ◌⊎◌, refl, sym, ap, ◌∙◌, subst, inl, inr, take, drop, length, map, arith, length-take, length-drop, length-append, nat_lt, not, codes, cond}
 use Rattle.std.specs.Str.Parse.{digits_value}
 use Rattle.std.proofs.lemmas.List.{take-append-le, drop-append-le}
 use Rattle.std.proofs.lemmas.Bool.Decides.{nat_tests}
@@ -8,8 +8,8 @@ use Rattle.httparse.specs.Spans.{RequestOverflows, name_and_value}
 use Rattle.httparse.proofs.GrammarLemmas.{ReadsRequest-append}
 use Rattle.matchit.specs.Router.{RouteOf}
 use Rattle.matchit.specs.Seek.{first}
-use Rattle.relay_http.specs.Asked.{Asked, Request, deliver, grants, parked, host_file, refused}
-use Rattle.relay_http.specs.Content.{by_lengths, content, is_length, most_content, sized}
+use Rattle.relay_http.specs.Asked.{Asked, Request, refused}
+use Rattle.relay_http.specs.Content.{by_lengths, content, content_of, is_length, most_content, sized}
 use Rattle.relay_http.specs.Fields.{Fields, values, is_bad_host}
 use Rattle.relay_http.specs.Routes.{routes, part}
 use Rattle.relay_http.specs.Settled.{is_short, lacks_content}
@@ -64,8 +64,7 @@ module _ (rest more : List ℕ) where
       → sought place named fields (rest ++ more) ≡ sought place named fields rest
   sought_more Messages named fields h =
       ap (λ (r : Result (List ℕ) RequestFault). delivered (named (codes "relay")) r)
-      (content_more (values (codes "transfer-encoding") fields) (values (codes "content-length") fields)
-      (enough_content (named (codes "relay")) (content (values (codes "transfer-encoding") fields) (values (codes "content-length") fields) rest) h))
+      (content_more (values (codes "transfer-encoding") fields) (values (codes "content-length") fields) (enough_content (named (codes "relay")) (content_of fields rest) h))
   sought_more Grants named fields h = refl
   sought_more Parked named fields h = refl
   sought_more HostFile named fields h = refl

@@ -1,5 +1,5 @@
 -- From the parser's answer to what is asked.
-use Rattle.std.proofs.Common.{◌≡◌, ◌≤◌, ◌<◌, Bool, ℕ, List, [], ◌∷◌, Result, Ok, Err, refl, sym, ap, ◌∙◌, subst, inl, inr, take, drop, min, length, map, arith, length-take, length-drop, ◌-◌}
+use Rattle.std.proofs.Common.{◌≡◌, ◌≤◌, Bool, ℕ, List, Ok, sym, ap, ◌∙◌, subst, inl, inr, take, drop, min, length, map, arith, length-take, length-drop, ◌-◌}
 use Rattle.std.proofs.lemmas.List.{length-map, take_min, take_all}
 use Rattle.httparse.specs.declared.Error.{Error}
 use Rattle.httparse.specs.declared.Status.{Status}
@@ -7,13 +7,13 @@ use Rattle.httparse.specs.declared.Status.TheVariants.{Complete, Partial}
 use Rattle.httparse.specs.declared.spans.HeaderSpan.{HeaderSpan}
 use Rattle.httparse.specs.declared.spans.RequestSpans.{RequestSpans}
 use Rattle.httparse.specs.Outcome.{IfComplete, IsCompleteAnd}
-use Rattle.httparse.specs.Spans.{header_bytes, span_bytes, name_and_value, IsRequestAt, FindsRequest}
-use Rattle.httparse.specs.Grammar.{RequestHead, ReadsRequest, print_request, Field}
+use Rattle.httparse.specs.Spans.{header_bytes, span_bytes, name_and_value, IsRequestAt}
+use Rattle.httparse.specs.Grammar.{RequestHead, ReadsRequest, Field}
 use Rattle.httparse.proofs.GrammarLemmas.{request_unique}
 use Rattle.sudo_words.proofs.MomentLemmas.{stamp_spells}
 use Rattle.sudo_words.proofs.MomentTexts.{one_spelled}
 use Rattle.relay_http.specs.Asked.{Asked, Request, deliver, grants, parked, host_file, refused}
-use Rattle.relay_http.specs.Wanted.{Asks, AsksByHead, Dates, DatesRequest, HasHead, front, request_by, asks_by}
+use Rattle.relay_http.specs.Wanted.{Asks, AsksByHead, Dates, DatesRequest, front, request_by, asks_by}
 
 take_at_most : (xs : List ℕ) (n k : ℕ) → n ≡ min (length xs) k → take n xs ≡ take k xs
 take_at_most xs n k e =

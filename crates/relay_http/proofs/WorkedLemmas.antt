@@ -1,7 +1,6 @@
 -- A text with a head asks for what the head does.
-use Rattle.std.proofs.Common.{◌≡◌, ◌≤◌, ◌<◌, ℕ, List, [], ◌∷◌, ◌++◌, Bool, ◌&&◌, true, refl, sym, ap, ◌∙◌, subst, inl, take, drop, length, map, arith, nat_lt, nat_le}
+use Rattle.std.proofs.Common.{◌≡◌, ◌≤◌, ℕ, List, [], ◌∷◌, ◌++◌, Bool, ◌&&◌, true, sym, ap, ◌∙◌, subst, inl, drop, length, map, arith, nat_lt, nat_le}
 use Rattle.std.specs.List.{list_all}
-use Rattle.std.specs.Str.{IsAscii}
 use Rattle.std.proofs.lemmas.Bool.{and_parts}
 use Rattle.std.proofs.lemmas.Bool.Decides.{nat_tests}
 use Rattle.std.proofs.lemmas.List.{take_all}
@@ -11,7 +10,7 @@ use Rattle.std.proofs.Math.Seq.{drop-append_seam}
 use Rattle.httparse.specs.Grammar.{Field, IsField, IsRequestHead, IsToken, RequestHead, crlf, is_token, is_token_byte, is_uri_byte, is_value_byte, print_request}
 use Rattle.httparse.specs.Spans.{name_and_value}
 use Rattle.relay_http.specs.Asked.{Request}
-use Rattle.relay_http.specs.Wanted.{Asks, DatesRequest, asks_by, front, request_by}
+use Rattle.relay_http.specs.Wanted.{Asks, DatesRequest, front, request_by}
 use Rattle.relay_http.proofs.RouteLemmas.{below_ascii}
 
 abbrev is_field : Field → Bool

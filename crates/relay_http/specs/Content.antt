@@ -1,8 +1,9 @@
 -- The content of a POST: as many of the bytes after the head as Content-Length says (RFC 9112, section 6).
-use Rattle.std.specs.Prelude.{ℕ, List, [], ◌∷◌, Bool, ◌&&◌, Result, Ok, Err, length, take, nat_lt, nat_le, if◌then◌else◌}
+use Rattle.std.specs.Prelude.{ℕ, List, [], ◌∷◌, Bool, ◌&&◌, Result, Ok, Err, codes, length, take, nat_lt, nat_le, if◌then◌else◌}
 use Rattle.std.specs.List.{list_all}
 use Rattle.std.specs.Str.Parse.{digits_value}
 use Rattle.std.specs.Char.{is_ascii_digit}
+use Rattle.relay_http.specs.Fields.{Fields, values}
 use Rattle.relay_http.specs.declared.fault.RequestFault.{RequestFault}
 use Rattle.relay_http.specs.declared.fault.RequestFault.TheVariants.{LengthRequired, BadLength, TooLong, ShortBody}
 
@@ -31,3 +32,7 @@ by_lengths (value ∷ other ∷ more) rest = Err BadLength
 abbrev pub content : (codings lengths : List (List ℕ)) → List ℕ → Result (List ℕ) RequestFault
 content [] lengths rest = by_lengths lengths rest
 content (coding ∷ codings) lengths rest = Err BadLength
+
+-- the content, by the fields of the head
+abbrev pub content_of : Fields → List ℕ → Result (List ℕ) RequestFault
+content_of fields rest = content (values (codes "transfer-encoding") fields) (values (codes "content-length") fields) rest

@@ -1,5 +1,6 @@
 -- What the bytes of a connection ask for, by the bytes alone (RFC 9112, sections 2 to 6).
-use Rattle.std.specs.Prelude.{◌≡◌, ◌≤◌, ◌⊎◌, ℕ, List, Bool, true, not, ◌||◌, Option, Some, None, Result, Ok, Err, length, take, drop, map, codes, if◌then◌else◌}
+use Rattle.std.specs.Prelude.{◌≡◌, ◌≤◌, ◌⊎◌, ◌||◌, ℕ, List, Bool, true, not, codes, if◌then◌else◌}
+use Rattle.std.specs.Prelude.{Option, Some, None, Result, Ok, Err, length, take, drop, map}
 use Rattle.std.specs.Str.{bytes_eq}
 use Rattle.httparse.specs.Grammar.{RequestHead, ReadsRequest, print_request}
 use Rattle.httparse.specs.Spans.{name_and_value}
@@ -8,7 +9,7 @@ use Rattle.matchit.specs.Seek.{first}
 use Rattle.sudo_words.specs.Moment.{IsStamp}
 use Rattle.relay_http.specs.Asked.{Asked, Request, deliver, grants, parked, host_file, refused}
 use Rattle.relay_http.specs.Fields.{Fields, values, is_bad_host}
-use Rattle.relay_http.specs.Content.{content}
+use Rattle.relay_http.specs.Content.{content_of}
 use Rattle.relay_http.specs.Target.{is_plain}
 use Rattle.relay_http.specs.Routes.{routes, part}
 use Rattle.relay_http.specs.declared.fault.RequestFault.{RequestFault}
@@ -47,8 +48,7 @@ delivered relay (Err fault) = refused fault
 
 -- what is sought at a place, where the route's parameter of a name took this part of the target
 abbrev pub sought : Place → (List ℕ → List ℕ) → Fields → (rest : List ℕ) → Asked (List ℕ)
-sought Messages part_named fields rest =
-    delivered (part_named (codes "relay")) (content (values (codes "transfer-encoding") fields) (values (codes "content-length") fields) rest)
+sought Messages part_named fields rest = delivered (part_named (codes "relay")) (content_of fields rest)
 sought Grants part_named fields rest = grants (part_named (codes "at"))
 sought Parked part_named fields rest = parked
 sought HostFile part_named fields rest = host_file (part_named (codes "host"))

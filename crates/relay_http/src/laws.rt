@@ -40,3 +40,8 @@ pub fn only_post_delivers()
         → asked_by method target minor fields rest ≡ deliver relay body
         → (method ≡ codes "POST") × (length body ≤ 16384) × (body ≡ take (length body) rest) }
 {}
+
+/// What is asked is decided by the first 24,576 bytes, which is a longest head and a longest content.
+pub fn first_bytes_decide()
+    ensures { (bytes more : List ℕ) (request : Request ℕ) → 24576 ≤ length bytes → Asks bytes request → Asks (bytes ++ more) request }
+{}

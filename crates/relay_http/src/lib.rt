@@ -21,7 +21,9 @@ mod worked;
 
 pub use asked::{Ask, Wanted};
 pub use fault::RequestFault;
-pub use laws::{head_is_get, one_head, one_request, only_post_delivers, rest_ignored};
+pub use laws::{
+    first_bytes_decide, head_is_get, one_head, one_request, only_post_delivers, rest_ignored,
+};
 pub use place::Methods;
 pub use reply::{refused, written};
 pub use request::{SoFar, wanted, wanted_so_far};

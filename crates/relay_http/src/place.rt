@@ -1,7 +1,7 @@
 //! Where the routes lead.
 
 /// A place of the desk that a route leads to.
-#[derive(Clone, Copy, Debug, PartialEq, Eq)]
+#[derive(Clone, Copy)]
 pub enum Place {
     /// The messages that a relay delivers.
     Messages,

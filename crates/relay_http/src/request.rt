@@ -1,13 +1,12 @@
 //! What the bytes of a connection ask for.
 
-ghost use Rattle.std.specs.Prelude.{◌≡◌, ◌++◌, ℕ, List, length, map, All, IsTrue, codes};
+ghost use Rattle.std.specs.Prelude.{◌≡◌, ◌++◌, ℕ, List, length, map, All, IsTrue};
 ghost use Rattle.httparse.specs.Spans.{IsHeaderWithin, header_bytes};
 ghost use Rattle.relay_http.specs.Asked.{Asked, Request, asked_of, grants, request_of};
+ghost use Rattle.relay_http.specs.Content.{content_of};
 ghost use Rattle.relay_http.specs.Routes.{parameter};
 ghost use Rattle.relay_http.specs.Settled.{is_short};
 ghost use Rattle.relay_http.specs.Wanted.{Asks, Dates, DatesRequest, asked_by, at_place, delivered, request_by};
-ghost use Rattle.relay_http.specs.Content.{content};
-ghost use Rattle.relay_http.specs.Fields.{values};
 
 use crate::asked::{Ask, Wanted};
 use crate::content::content;
@@ -35,6 +34,7 @@ const NO_HEAD: Wanted<'static> = Wanted {
     ask: Ask::Refused(RequestFault::BadHead),
 };
 
+/// What is asked by this text in the place of a moment.
 fn grants_at<'b>(at: &str) -> Ask<'b>
     ensures { Dates (grants at.now) (asked_of result) }
 {
@@ -47,7 +47,7 @@ fn grants_at<'b>(at: &str) -> Ask<'b>
 /// A delivery by this relay.
 fn delivery<'b>(relay: &'b str, buf: &'b [u8], headers: &[HeaderSpan], rest: &'b [u8]) -> Ask<'b>
     requires { All (IsHeaderWithin (length buf.now)) headers.now }
-    ensures { asked_of result ≡ delivered relay.now (content (values (codes "transfer-encoding") (map (header_bytes buf.now) headers.now)) (values (codes "content-length") (map (header_bytes buf.now) headers.now)) rest.now) }
+    ensures { asked_of result ≡ delivered relay.now (content_of (map (header_bytes buf.now) headers.now) rest.now) }
 {
     let codings = values_of(buf, headers, b"transfer-encoding");
     let lengths = values_of(buf, headers, b"content-length");

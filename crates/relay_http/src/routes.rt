@@ -4,8 +4,8 @@ ghost use Rattle.std.specs.Prelude.{◌≡◌, [], IfOk, IsTrue, OnOk, option_ma
 ghost use Rattle.matchit.specs.Params.{AllText, named, walk};
 ghost use Rattle.matchit.specs.Route.{parse_route};
 ghost use Rattle.matchit.specs.Seek.{first};
-ghost use Rattle.relay_http.specs.Target.{is_plain};
 ghost use Rattle.relay_http.specs.Routes.{IsFree, Takes, parameter, routes, with_route};
+ghost use Rattle.relay_http.specs.Target.{is_plain};
 
 use crate::place::Place;
 use matchit::{InsertError, Params, Router};
@@ -87,6 +87,7 @@ fn parameter(place: Place) -> &'static str
     }
 }
 
+/// What the parameter of a place's route took.
 fn taken<'b>(place: Place, params: &Params<'_, 'b>) -> &'b str
     requires { AllText (walk params.now.pattern.now params.now.text.now params.now.path.now params.now.names.now 0 0) }
     ensures { result.now ≡ unwrap_or (named (parameter place) (walk params.now.pattern.now params.now.text.now params.now.path.now params.now.names.now 0 0)) [] }

@@ -9,7 +9,7 @@ ghost use Rattle.relay_http.specs.Seen.{AreValues, and_all, nothing, one_more, s
 use httparse::spans::HeaderSpan;
 
 /// The values of a name's fields, as far as they matter.
-#[derive(Clone, Copy, Debug)]
+#[derive(Clone, Copy)]
 pub enum Values<'b> {
     /// The head has no such field.
     Nothing,

@@ -5,7 +5,8 @@ ghost use Rattle.relay_http.specs.Asked.{deliver, grants, host_file, parked, ref
 ghost use Rattle.relay_http.specs.Reply.{fault_line, status_of, written};
 ghost use Rattle.relay_http.specs.Wanted.{Asks};
 ghost use Rattle.relay_http.specs.Worked.{approval, asked_with_host, lines, posted};
-ghost use Rattle.relay_http.specs.declared.fault.RequestFault.TheVariants.{BadHead, BadLength, BadMethod, BadMoment, BadTarget, LengthRequired, NoRoute, ShortBody, TooLong};
+ghost use Rattle.relay_http.specs.declared.fault.RequestFault.TheVariants.{BadHead, BadLength, BadMethod, BadMoment, BadTarget};
+ghost use Rattle.relay_http.specs.declared.fault.RequestFault.TheVariants.{LengthRequired, NoRoute, ShortBody, TooLong};
 ghost use Rattle.relay_http.specs.declared.place.Methods.TheVariants.{GetOrHead, Post};
 ghost use Rattle.relay_http.specs.declared.status.Status.TheVariants as status;
 
@@ -39,7 +40,8 @@ pub fn worked_refusals()
 /// The replies to a delivery, to a method that a route has not, and to the same by HEAD.
 pub fn worked_replies()
     ensures ack { written status.Done (codes "ack" ++ 10 ∷ []) true
-        ≡ lines (codes "HTTP/1.1 200 OK" ∷ codes "Content-Type: text/plain" ∷ codes "Content-Length: 4" ∷ codes "Connection: close" ∷ [] ∷ []) ++ codes "ack" ++ 10 ∷ [] }
+        ≡ lines (codes "HTTP/1.1 200 OK" ∷ codes "Content-Type: text/plain" ∷ codes "Content-Length: 4" ∷ codes "Connection: close" ∷ [] ∷ [])
+        ++ codes "ack" ++ 10 ∷ [] }
     ensures method { written (status_of (BadMethod GetOrHead)) (fault_line (BadMethod GetOrHead)) true
         ≡ lines (codes "HTTP/1.1 405 Method Not Allowed" ∷ codes "Content-Type: text/plain" ∷ codes "Allow: GET, HEAD" ∷ codes "Content-Length: 13"
         ∷ codes "Connection: close" ∷ [] ∷ []) ++ codes "T4 BadMethod" ++ 10 ∷ [] }

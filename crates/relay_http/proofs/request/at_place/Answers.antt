@@ -7,7 +7,6 @@ use Rattle.relay_http.specs.declared.fault.RequestFault.TheVariants.{BadMethod}
 use Rattle.relay_http.specs.declared.place.Methods.{Methods}
 use Rattle.relay_http.specs.declared.place.Methods.TheVariants.{GetOrHead}
 use Rattle.relay_http.specs.declared.place.Place.{Place}
-use Rattle.relay_http.specs.declared.place.Place.TheVariants.{Grants}
 use Rattle.relay_http.proofs.request.at_place.Goals as goal
 
 pub returns-in-Grants : goal.returns-in-Grants

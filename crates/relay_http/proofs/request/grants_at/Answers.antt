@@ -1,4 +1,4 @@
-use Rattle.std.proofs.Common.{◌≡◌, Some, refl, sym, ◌∙◌, inr}
+use Rattle.std.proofs.Common.{refl, inr}
 use Rattle.std.proofs.Common.{arith}
 use Rattle.relay_http.proofs.request.grants_at.Goals as goal
 

@@ -1,4 +1,3 @@
-use Rattle.std.proofs.Common.{◌≡◌}
 use Rattle.relay_http.proofs.WantedLemmas.{one_request}
 use Rattle.relay_http.proofs.request.wanted.Goals as goal
 

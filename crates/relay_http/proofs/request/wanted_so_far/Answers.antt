@@ -1,4 +1,4 @@
-use Rattle.std.proofs.Common.{◌≡◌, ◌≤◌, ◌-◌, ℕ, List, sym, subst, refl, ap, ◌∙◌, inl, inr, take, length, map, drop, Bool, true, false, not, leb-true}
+use Rattle.std.proofs.Common.{◌≡◌, ◌-◌, ℕ, List, sym, subst, refl, ap, ◌∙◌, inl, inr, take, length, map, drop, Bool, true, false, not, leb-true}
 use Rattle.httparse.specs.Spans.{IsRequestAt, IsRequestOf, span_bytes, header_bytes}
 use Rattle.httparse.specs.Grammar.{RequestHead, ReadsRequest}
 use Rattle.relay_http.specs.Asked.{Request, request_of}

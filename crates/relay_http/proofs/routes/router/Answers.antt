@@ -1,4 +1,4 @@
-use Rattle.std.proofs.Common.{◌≡◌, sym, subst, ap, ◌∙◌, codes}
+use Rattle.std.proofs.Common.{sym, subst, ap, ◌∙◌, codes}
 use Rattle.matchit.specs.Route.{parse_route}
 use Rattle.matchit.specs.Router.{RouteOf}
 use Rattle.matchit.specs.Rows.{RowsOf}

@@ -1,9 +1,9 @@
-use Rattle.std.proofs.Common.{◌≡◌, ℕ, List, [], ◌∷◌, refl, sym, ◌∙◌, map, subst}
+use Rattle.std.proofs.Common.{◌≡◌, ℕ, List, [], ◌∷◌, refl, sym, map, subst}
 use Rattle.httparse.specs.Spans.{header_bytes}
 use Rattle.relay_http.specs.declared.values.Values.{Values}
 use Rattle.relay_http.specs.declared.values.Values.TheVariants.{Nothing, One, Many}
 use Rattle.relay_http.specs.Fields.{values}
-use Rattle.relay_http.specs.Seen.{AreValues, Seen, nothing, one, many, seen_of, one_more, and_all}
+use Rattle.relay_http.specs.Seen.{AreValues, Seen, nothing, one, many, seen_of, and_all}
 use Rattle.relay_http.proofs.values.values_of.Goals as goal
 
 many_stay : (vs : List (List ℕ)) → and_all many vs ≡ many

@@ -1,4 +1,4 @@
-use Rattle.std.proofs.Common.{◌≡◌, ℕ, [], ◌∷◌, codes, false, inr, length, true, refl, sym, ◌∙◌, arith}
+use Rattle.std.proofs.Common.{◌≡◌, ℕ, [], ◌∷◌, codes, inr, length, refl, arith}
 use Rattle.sudo_words.specs.Moment.{IsStamp}
 use Rattle.httparse.specs.Grammar.{is_token_byte, print_request, trim_ows}
 use Rattle.matchit.specs.Route.{scan}

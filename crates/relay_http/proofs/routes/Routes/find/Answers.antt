@@ -1,9 +1,9 @@
-use Rattle.std.proofs.Common.{◌≡◌, ℕ, List, [], Option, Some, sym, subst, refl, ap, ◌∙◌, unwrap_or}
+use Rattle.std.proofs.Common.{ℕ, List, [], Option, Some, sym, subst, refl, ap, ◌∙◌, unwrap_or}
 use Rattle.matchit.specs.Params.{walk, named, AllText}
 use Rattle.matchit.specs.Rows.{RowsOf}
 use Rattle.matchit.specs.Router.{RouteOf}
 use Rattle.matchit.specs.Seek.{first}
-use Rattle.relay_http.specs.Routes.{routes, part, Takes, parameter}
+use Rattle.relay_http.specs.Routes.{part, Takes, parameter}
 use Rattle.relay_http.specs.declared.place.Place.{Place}
 use Rattle.relay_http.proofs.RouteLemmas.{texts}
 use Rattle.relay_http.proofs.routes.Routes.find.Goals as goal
