@@ -20,9 +20,5 @@ pub mod CountingLaws
 pub mod ApprovalLemmas
 pub mod MemberCases
 pub mod NthSmallest
-pub mod FormLaws
-pub mod Privileges
-pub mod SomeAnswer
-pub mod WorkedSite
 pub mod WorkedTeam
 pub mod WindowLaws

@@ -4,8 +4,8 @@ ghost use Rattle.std.specs.Prelude.{◌≡◌, map, IfOk, IsPermutation, IsSorte
 ghost use Rattle.grants.specs.Marks as spec;
 ghost use Rattle.grants.specs.Summaries.{approval_cmp};
 
-use std::alloc::{AllocError, Global};
-use sudo_words::{Moment, Name};
+use std::alloc::Global;
+use sudo_words::{Moment, Name, NoMemory};
 
 /// A person, and when the person's first verdict was given.
 #[derive(Debug, Drop)]
@@ -37,7 +37,7 @@ fn lower(marks: &mut [Mark], person: &Name, at: Moment)
 }
 
 /// Adds a verdict of the person's. What needs memory comes first, so that a refusal changes nothing.
-pub(crate) fn note(marks: &mut Vec<Mark>, person: &Name, at: Moment) -> Result<(), AllocError>
+pub(crate) fn note(marks: &mut Vec<Mark>, person: &Name, at: Moment) -> Result<(), NoMemory>
     ensures ok { OnOk result (marks.new.items ≡ spec.noted person.now at marks.old.items) }
     ensures err { OnErr result (marks.new.items ≡ marks.old.items) }
 {
@@ -54,7 +54,7 @@ pub(crate) fn note(marks: &mut Vec<Mark>, person: &Name, at: Moment) -> Result<(
 }
 
 /// Each person with the moment, in the order of the marks.
-fn shown(alloc: Global, marks: &[Mark]) -> Result<Vec<(Name, Moment)>, AllocError>
+fn shown(alloc: Global, marks: &[Mark]) -> Result<Vec<(Name, Moment)>, NoMemory>
     ensures { IfOk result (λ list. list.items ≡ map spec.shown marks.now) }
 {
     let mut list = Vec::new(alloc);
@@ -65,7 +65,7 @@ fn shown(alloc: Global, marks: &[Mark]) -> Result<Vec<(Name, Moment)>, AllocErro
 }
 
 /// Each person with the moment, by person and then by moment.
-pub(crate) fn in_order(alloc: Global, marks: &[Mark]) -> Result<Vec<(Name, Moment)>, AllocError>
+pub(crate) fn in_order(alloc: Global, marks: &[Mark]) -> Result<Vec<(Name, Moment)>, NoMemory>
     ensures { IfOk result (λ list. IsPermutation (map spec.shown marks.now) list.items × IsSorted approval_cmp list.items) }
 {
     let mut list = shown(alloc, marks)?;

@@ -9,9 +9,9 @@ ghost use Rattle.grants.specs.Verdicts.{IsDisputed, StandsAlone};
 
 use crate::marks::{Mark, in_order, note};
 use messages::{Request, Verdict, VerdictKind};
-use std::alloc::{AllocError, Global};
+use std::alloc::Global;
 use std::marker::Model;
-use sudo_words::{Moment, Name};
+use sudo_words::{Moment, Name, NoMemory};
 
 /// What the messages about one request say: a request of its name, whether there is another of that name, and of each
 /// person the earliest verdict of each kind.
@@ -54,7 +54,7 @@ impl Summary {
     }
 
     /// Who has approved and when first, whether it counts or not, by person and then by moment.
-    pub fn approvals(&self) -> Result<Vec<(Name, Moment)>, AllocError>
+    pub fn approvals(&self) -> Result<Vec<(Name, Moment)>, NoMemory>
         ensures { (set : List AnyMessage) → StandsFor set self.now → IfOk result (λ list. AreApprovals set self.now.request list.items) }
     {
         in_order(*self.approvals.allocator(), &self.approvals)
@@ -62,7 +62,7 @@ impl Summary {
 }
 
 /// The summary of the request alone.
-pub fn ask(alloc: Global, request: &Request) -> Result<Summary, AllocError>
+pub fn ask(alloc: Global, request: &Request) -> Result<Summary, NoMemory>
     ensures { IfOk result (λ s. StandsFor (message_of.Request request.now ∷ []) s) }
 {
     Ok(Summary {
@@ -86,7 +86,7 @@ pub fn ask_again(s: &mut Summary, request: &Request)
 }
 
 /// Adds a verdict about the request.
-pub fn apply(s: &mut Summary, verdict: &Verdict) -> Result<(), AllocError>
+pub fn apply(s: &mut Summary, verdict: &Verdict) -> Result<(), NoMemory>
     requires { IsAbout s.old.request verdict.now }
     // Where it stood for a set, it stands for the set with the verdict.
     ensures ok { (set : List AnyMessage) → StandsFor set s.old → OnOk result (StandsFor (set ++ message_of.Verdict verdict.now ∷ []) s.new) }
