@@ -2,7 +2,7 @@
 """Times `desk check` and `desk decide` beside `visudo -c`.
 
 The policies: 1,601 and 16,001 rules with dates; 8,000 aliases of the four kinds, each of which uses another, with 8,000 rules that use
-them; and one whose weight is just below the limit, by aliases that double. Then times `desk print` on 1,000, 8,000 and 10,000 requests, each with an approval, in shuffled order and all for one host.
+them; and one whose weight is just below the limit, by aliases that double. Then times `desk print` on 800 and 8,000 requests, each with an approval, in shuffled order and all for one host.
 Prints of each the instructions that it executes (counted by valgrind's callgrind, so that the machine's load does not matter; none where
 valgrind is missing), the best wall time of a few runs and the peak memory, and then the ratios that the desk promises. A peak below that of
 this script's own process, some 14 MiB, is not seen.
@@ -46,8 +46,8 @@ def aliases(count):
     each = count // 4
     for n in range(each):
         for kind, letter, item in kinds:
-            # every 16th begins a chain anew, so that no alias is deep
-            more = f", !{letter}{n - 1}" if n % 16 else ""
+            # every 4th begins a chain anew, so that the rules' weight stays below its limit
+            more = f", !{letter}{n - 1}" if n % 4 else ""
             lines.append(f"{kind} {letter}{n} = {item.format(n, n)}{more}\n")
     for n in range(count):
         k = n % each
@@ -86,8 +86,11 @@ def run(words, given=None):
         with open(given or os.devnull, "rb") as source:
             start = time.perf_counter()
             child = subprocess.Popen(words, stdin=source, stdout=subprocess.DEVNULL, stderr=subprocess.DEVNULL)
-            _, _, usage = os.wait4(child.pid, 0)
+            _, status, usage = os.wait4(child.pid, 0)
             best = min(best, time.perf_counter() - start)
+        # the time of a refused run says nothing
+        if os.waitstatus_to_exitcode(status) > 1:
+            sys.exit(f"bench: refused: {' '.join(words)}")
         peak = max(peak, usage.ru_maxrss * 1024)
     return best, peak
 
@@ -143,7 +146,7 @@ def main():
         base = os.path.join(folder, "base.sudo")
         with open(base, "w") as file:
             file.write("bob db1 = ALL\n")
-        for requests in (1_000, 8_000, 10_000):
+        for requests in (800, 8_000):
             path = os.path.join(folder, f"{requests}.messages")
             with open(path, "w") as file:
                 file.write(messages(requests))
@@ -152,7 +155,7 @@ def main():
             figures["print", requests] = (instructions(words, path), *run(words, path), size)
             print(f"print   {requests:6} requests, {shown(figures['print', requests])}")
     wrong = 0
-    ratio = figures["print", 10_000][1] / figures["print", 1_000][1]
+    ratio = figures["print", 8_000][1] / figures["print", 800][1]
     wrong += ratio > 15
     print(f"print: ten times the messages: {ratio:.2f}, at most 15: {'holds' if ratio <= 15 else 'FAILS'}")
     for name in ("check", "decide"):
