@@ -9,7 +9,6 @@ ghost use Rattle.desk.specs.Asked.{AreAsked, IsNoted};
 
 use crate::naming::{RequestName, name_of};
 use crate::refusal::Refusal;
-use crate::same::is_same;
 use messages::{Message, Request};
 use std::alloc::Global;
 use std::collections::BTreeMap;
@@ -32,7 +31,7 @@ fn noted<'a>(before: Option<&Asked<'a>>, request: &'a Request) -> Asked<'a>
         },
         Some(first) => Asked {
             request: first.request,
-            is_disputed: first.is_disputed || !is_same(first.request, request),
+            is_disputed: first.is_disputed || !first.request.is_same(request),
         },
     }
 }

@@ -12,7 +12,6 @@ mod laws;
 mod naming;
 mod refusal;
 mod rules;
-mod same;
 mod window;
 
 pub use ack::Ack;
