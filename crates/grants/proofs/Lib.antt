@@ -22,3 +22,5 @@ pub mod MemberCases
 pub mod NthSmallest
 pub mod WorkedTeam
 pub mod WindowLaws
+pub mod LawfulRules
+pub mod RuleLemmas

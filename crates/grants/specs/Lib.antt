@@ -14,3 +14,7 @@ pub mod Reached
 pub mod Counting
 pub mod Completion
 pub mod WorkedStatuses
+pub mod GrantRules
+pub mod Bases
+pub mod HostFaults
+pub mod Given

@@ -3,11 +3,15 @@
 
 mod admission;
 mod admission_laws;
+mod base;
 mod denial;
+mod host_fault;
+mod host_file;
 mod marks;
 mod outcome;
 mod ranks;
 mod reached;
+mod rules;
 mod status_laws;
 mod summary;
 mod voters;
@@ -18,10 +22,14 @@ pub use admission::admit;
 pub use admission_laws::{
     least_privilege, more_admits_more, one_answer, worked_requests, worked_windows,
 };
+pub use base::fits_base;
 pub use denial::Denial;
+pub use host_fault::HostFault;
+pub use host_file::host_policy;
 pub use marks::Mark;
 pub use outcome::{Status, Window};
 pub use reached::status;
+pub use rules::rules_of;
 pub use status_laws::{
     bounds_of_window, completion_is_nth_smallest, one_status, order_is_free,
     uncounted_changes_nothing, who_does_not_count, worked_statuses,

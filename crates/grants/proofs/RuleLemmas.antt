@@ -1,0 +1,70 @@
+-- The rules that a request gives a host are those of each set that its summary stands for.
+use Rattle.std.proofs.Common.{◌≡◌, ℕ, Bool, true, false, cond, List, [], map, refl, sym, ap, ◌∙◌, subst}
+use Rattle.std.specs.Prelude.{Contains}
+use Rattle.std.specs.List.{list_any}
+use Rattle.std.specs.Str.{bytes_eq}
+use Rattle.std.proofs.lemmas.Slice.Eq.{bytes_eq-Decides}
+use Rattle.sudo_words.specs.declared.cmnd.Cmnd.{Cmnd}
+use Rattle.sudo_syntax.specs.declared.entry.Rule.{Rule}
+use Rattle.messages.specs.Fields.{RequestFields}
+use Rattle.messages.specs.Names.{IsNamed, name_of}
+use Rattle.messages.specs.declared.message.Message.{Message}
+use Rattle.roster.specs.Fields.{RosterFields}
+use Rattle.grants.specs.Given.{rules_for}
+use Rattle.grants.specs.GrantRules.{AreRules, grant_rule}
+use Rattle.grants.specs.Statuses.{InWindow, IsFirstMoment, IsLastMoment, IsStatus}
+use Rattle.grants.specs.Summaries.{Kept, StandsFor}
+use Rattle.grants.specs.Verdicts.{StandsAlone}
+use Rattle.grants.specs.declared.outcome.Status.{Status}
+use Rattle.grants.specs.declared.outcome.Status.TheVariants.{Disputed, Lapsed, Refused, Waiting, Void, Granted}
+use Rattle.grants.proofs.Members.{member, passes}
+use Rattle.grants.proofs.StatusLaws.{one_status}
+
+module _ (f : RosterFields Cmnd) (set : List Message) (k : Kept) (stands : StandsFor set k) (host : List ℕ) where
+  -- a request of the name that stands alone is the one kept
+  own : (q : RequestFields) → IsNamed q (name_of k.request) → StandsAlone set q → k.request ≡ q
+  own q named alone = alone.alone k.request stands.asked (sym named.0, sym named.1)
+
+  granted_is : (first last : ℕ) → IsFirstMoment f set k.request first → IsLastMoment f set k.request last → IsStatus f set (name_of k.request) (Granted (record { start = first; end = last }))
+  granted_is first last a b = record {
+    request = k.request;
+    named = (refl, refl);
+    alone = a.inside.alone;
+    admissible = a.inside.admissible;
+    is = (a, b);
+  }
+
+  granted : (status : Status) → IsStatus f set (name_of k.request) status → (first last : ℕ) → Contains k.request.hosts host → IsFirstMoment f set k.request first → IsLastMoment f set k.request last → rules_for host k.request status ≡ map (grant_rule host k.request first last) k.request.cmnds
+  granted status is first last named a b =
+      let lines = map (grant_rule host k.request first last) k.request.cmnds in
+      let same = one_status f set (name_of k.request) status (Granted (record { start = first; end = last })) is (granted_is first last a b) in
+      ap (rules_for host k.request) same ∙ ap (λ (t : Bool). cond t lines []) (passes (λ v. bytes_eq v host) k.request.hosts host named ((bytes_eq-Decides host host).1 refl))
+
+  unnamed : (lines : List Rule) (t : Bool) → list_any (λ h. bytes_eq h host) k.request.hosts ≡ t → ¬ Contains k.request.hosts host → cond t lines [] ≡ []
+  unnamed lines true e other = absurd (other (member k.request.hosts host e))
+  unnamed lines false e other = refl
+
+  other_host : (status : Status) → ¬ Contains k.request.hosts host → rules_for host k.request status ≡ []
+  other_host Disputed other = refl
+  other_host Lapsed other = refl
+  other_host Refused other = refl
+  other_host Waiting other = refl
+  other_host Void other = refl
+  other_host (Granted w) other =
+      unnamed (map (grant_rule host k.request w.start w.end) k.request.cmnds) (list_any (λ h. bytes_eq h host) k.request.hosts) refl other
+
+  never : (status : Status) → IsStatus f set (name_of k.request) status → ((moment : ℕ) → ¬ InWindow f set k.request moment) → rules_for host k.request status ≡ []
+  never Disputed is none = refl
+  never Lapsed is none = refl
+  never Refused is none = refl
+  never Waiting is none = refl
+  never Void is none = refl
+  never (Granted w) is none =
+      absurd (none w.start (subst (λ (q : RequestFields). InWindow f set q w.start) (sym (own is.request is.named is.alone)) is.is.0.inside))
+
+  pub are_rules_for : (status : Status) (rules : List Rule) → IsStatus f set (name_of k.request) status → rules ≡ rules_for host k.request status → AreRules f set k.request host rules
+  are_rules_for status rules is e = record {
+    granted = λ first last named a b. e ∙ granted status is first last named a b;
+    other_host = λ other. e ∙ other_host status other;
+    never = λ none. e ∙ never status is none;
+  }

@@ -1,0 +1,18 @@
+-- The rules that a request gives a host, from what it has come to. For private clauses.
+use Rattle.std.specs.Prelude.{ℕ, List, [], if◌then◌else◌, map}
+use Rattle.std.specs.List.{list_any}
+use Rattle.std.specs.Str.{bytes_eq}
+use Rattle.sudo_syntax.specs.declared.entry.Rule.{Rule}
+use Rattle.messages.specs.Fields.{RequestFields}
+use Rattle.grants.specs.GrantRules.{grant_rule}
+use Rattle.grants.specs.declared.outcome.Status.{Status}
+use Rattle.grants.specs.declared.outcome.Status.TheVariants.{Disputed, Lapsed, Refused, Waiting, Void, Granted}
+
+abbrev pub rules_for : List ℕ → RequestFields → Status → List Rule
+rules_for host q Disputed = []
+rules_for host q Lapsed = []
+rules_for host q Refused = []
+rules_for host q Waiting = []
+rules_for host q Void = []
+rules_for host q (Granted w) =
+    if list_any (λ h. bytes_eq h host) q.hosts then map (grant_rule host q w.start w.end) q.cmnds else []

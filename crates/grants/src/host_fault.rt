@@ -1,0 +1,29 @@
+//! Why a host gets no file.
+
+use std::error::Error;
+use std::fmt;
+
+/// Why a base and rules of grants are no host's policy. It is shown as its code and name.
+#[derive(Clone, Copy, Debug, PartialEq, Eq)]
+pub enum HostFault {
+    /// There are more than 8,192 rules beside the base's.
+    TooManyRules,
+    /// Memory ran out.
+    NoMemory,
+}
+
+impl fmt::Display for HostFault {
+    ghost use Rattle.std.specs.Prelude.{Some};
+    ghost use Rattle.grants.specs.HostFaults.{host_fault_text};
+
+    ghost output = { λ f. Some (host_fault_text f) };
+
+    fn fmt<W: fmt::Write>(&self, f: &mut fmt::Formatter<W>) -> fmt::Result {
+        f.write_str(match self {
+            HostFault::TooManyRules => "G1 TooManyRules",
+            HostFault::NoMemory => "G2 NoMemory",
+        })
+    }
+}
+
+impl Error for HostFault {}

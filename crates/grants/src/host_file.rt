@@ -1,0 +1,34 @@
+//! One host's policy.
+
+ghost use Rattle.std.specs.Prelude.{◌≡◌, ◌<◌, ◌≤◌, Err, MatchResult, length};
+ghost use Rattle.std.specs.List.{AllByRecursion};
+ghost use Rattle.sudo_syntax.specs.Reading.{with_rules};
+ghost use Rattle.grants.specs.Bases.{FitsBase};
+ghost use Rattle.grants.specs.GrantRules.{IsGrantRule};
+ghost use Rattle.grants.specs.declared.host_fault.HostFault.TheVariants as fault;
+
+use crate::host_fault::HostFault;
+use std::alloc::Global;
+use sudo_syntax::{FaultKind, Policy, Rule, extend};
+
+/// The most rules of grants behind a base.
+const MOST_RULES: usize = 8_192;
+
+/// The base's entries, then the rules of grants: `TooManyRules` where these are more than 8,192.
+pub fn host_policy(alloc: Global, base: &Policy, rules: Vec<Rule>) -> Result<Policy, HostFault>
+    requires fits { FitsBase base.now }
+    requires grants { AllByRecursion IsGrantRule rules.items }
+    ensures few { length rules.items ≤ 8_192 → MatchResult result (λ p. p ≡ with_rules base.now rules.items) (λ e. e ≡ fault.NoMemory) }
+    ensures many { 8_192 < length rules.items → result ≡ Err fault.TooManyRules }
+{
+    if rules.len() > MOST_RULES {
+        return Err(HostFault::TooManyRules);
+    }
+    match extend(alloc, base, rules) {
+        Ok(policy) => Ok(policy),
+        Err(fault) => match fault.kind {
+            FaultKind::NoMemory => Err(HostFault::NoMemory),
+            _ => Err(HostFault::TooManyRules),
+        },
+    }
+}

@@ -1,0 +1,117 @@
+//! The rules that a request gives a host.
+
+ghost use Rattle.std.specs.Prelude.{◌≡◌, IfOk, List, map, false};
+ghost use Rattle.sudo_syntax.specs.declared.entry.Item.TheVariants as items;
+ghost use Rattle.sudo_syntax.specs.declared.entry.CmndItem.TheVariants as cmnds;
+ghost use Rattle.messages.specs.declared.message.Message.{Message as AnyMessage};
+ghost use Rattle.grants.specs.Given as given;
+ghost use Rattle.grants.specs.GrantRules.{AreRules, grant_rule, one};
+ghost use Rattle.grants.specs.Summaries.{StandsFor};
+
+use crate::outcome::{Status, Window};
+use crate::reached::status;
+use crate::summary::Summary;
+use messages::Request;
+use roster::Roster;
+use std::alloc::{AllocError, Global};
+use sudo_syntax::{CmndItem, Item, Rule, Signed};
+use sudo_words::{Cmnd, HostName, Items, Name};
+
+fn one_name(alloc: Global, name: &Name) -> Result<Items<Signed<Item<Name>>>, AllocError>
+    ensures { IfOk result (λ x. x ≡ one (items.Name name.now)) }
+{
+    let mut list = Vec::new(alloc);
+    list.push(Signed {
+        negated: false,
+        item: Item::Name(name.clone()?),
+    })?;
+    Ok(Items::new(list))
+}
+
+fn one_host(alloc: Global, host: &HostName) -> Result<Items<Signed<Item<HostName>>>, AllocError>
+    ensures { IfOk result (λ x. x ≡ one (items.Name host.now)) }
+{
+    let mut list = Vec::new(alloc);
+    list.push(Signed {
+        negated: false,
+        item: Item::Name(host.clone()?),
+    })?;
+    Ok(Items::new(list))
+}
+
+fn granted_cmnd(cmnd: &Cmnd) -> Result<Signed<CmndItem>, AllocError>
+    ensures { IfOk result (λ x. x ≡ record { negated = false; item = cmnds.Cmnd cmnd.now }) }
+{
+    Ok(Signed {
+        negated: false,
+        item: CmndItem::Cmnd(cmnd.clone()?),
+    })
+}
+
+/// The rule of one command of a request.
+fn rule_of(
+    alloc: Global,
+    host: &HostName,
+    request: &Request,
+    window: Window,
+    cmnd: &Cmnd,
+) -> Result<Rule, AllocError>
+    ensures { IfOk result (λ r. r ≡ grant_rule host.now request.now window.start window.end cmnd.now) }
+{
+    Ok(Rule {
+        users: one_name(alloc, request.by())?,
+        hosts: one_host(alloc, host)?,
+        runas: one_name(alloc, request.runas())?,
+        not_before: Some(window.start),
+        not_after: Some(window.end),
+        nopasswd: false,
+        cmnd: granted_cmnd(cmnd)?,
+    })
+}
+
+/// The rules of a request's commands, in order.
+fn rules_in(
+    alloc: Global,
+    host: &HostName,
+    request: &Request,
+    window: Window,
+) -> Result<Vec<Rule>, AllocError>
+    ensures { IfOk result (λ v. v.items ≡ map (grant_rule host.now request.now window.start window.end) request.now.cmnds) }
+{
+    let mut rules = Vec::new(alloc);
+    for cmnd in request.cmnds() {
+        rules.push(rule_of(alloc, host, request, window, cmnd)?)?;
+    }
+    Ok(rules)
+}
+
+/// The same, where the request names the host and is granted.
+fn rules_for(
+    alloc: Global,
+    host: &HostName,
+    request: &Request,
+    status: Status,
+) -> Result<Vec<Rule>, AllocError>
+    ensures { IfOk result (λ v. v.items ≡ given.rules_for host.now request.now status) }
+{
+    match status {
+        Status::Granted(window) if request.hosts().contains(host) => {
+            rules_in(alloc, host, request, window)
+        }
+        _ => Ok(Vec::new(alloc)),
+    }
+}
+
+/// The rules that the request gives the host under this roster: one for each of its commands, in its order, where it names the
+/// host and is granted, and none elsewhere.
+pub fn rules_of(
+    alloc: Global,
+    roster: &Roster,
+    s: &Summary,
+    host: &HostName,
+) -> Result<Vec<Rule>, AllocError>
+    // They are those of each set that the summary stands for.
+    ensures { (set : List AnyMessage) → StandsFor set s.now → IfOk result (λ v. AreRules roster.now.says set s.now.request host.now v.items) }
+{
+    rules_for(alloc, host, &s.request, status(roster, s))
+}
