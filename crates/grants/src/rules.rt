@@ -13,11 +13,11 @@ use crate::reached::status;
 use crate::summary::Summary;
 use messages::Request;
 use roster::Roster;
-use std::alloc::{AllocError, Global};
+use std::alloc::Global;
 use sudo_syntax::{CmndItem, Item, Rule, Signed};
-use sudo_words::{Cmnd, HostName, Items, Name};
+use sudo_words::{Cmnd, HostName, Items, Name, NoMemory};
 
-fn one_name(alloc: Global, name: &Name) -> Result<Items<Signed<Item<Name>>>, AllocError>
+fn one_name(alloc: Global, name: &Name) -> Result<Items<Signed<Item<Name>>>, NoMemory>
     ensures { IfOk result (λ x. x ≡ one (items.Name name.now)) }
 {
     let mut list = Vec::new(alloc);
@@ -28,7 +28,7 @@ fn one_name(alloc: Global, name: &Name) -> Result<Items<Signed<Item<Name>>>, All
     Ok(Items::new(list))
 }
 
-fn one_host(alloc: Global, host: &HostName) -> Result<Items<Signed<Item<HostName>>>, AllocError>
+fn one_host(alloc: Global, host: &HostName) -> Result<Items<Signed<Item<HostName>>>, NoMemory>
     ensures { IfOk result (λ x. x ≡ one (items.Name host.now)) }
 {
     let mut list = Vec::new(alloc);
@@ -39,7 +39,7 @@ fn one_host(alloc: Global, host: &HostName) -> Result<Items<Signed<Item<HostName
     Ok(Items::new(list))
 }
 
-fn granted_cmnd(cmnd: &Cmnd) -> Result<Signed<CmndItem>, AllocError>
+fn granted_cmnd(cmnd: &Cmnd) -> Result<Signed<CmndItem>, NoMemory>
     ensures { IfOk result (λ x. x ≡ record { negated = false; item = cmnds.Cmnd cmnd.now }) }
 {
     Ok(Signed {
@@ -55,7 +55,7 @@ fn rule_of(
     request: &Request,
     window: Window,
     cmnd: &Cmnd,
-) -> Result<Rule, AllocError>
+) -> Result<Rule, NoMemory>
     ensures { IfOk result (λ r. r ≡ grant_rule host.now request.now window.start window.end cmnd.now) }
 {
     Ok(Rule {
@@ -75,7 +75,7 @@ fn rules_in(
     host: &HostName,
     request: &Request,
     window: Window,
-) -> Result<Vec<Rule>, AllocError>
+) -> Result<Vec<Rule>, NoMemory>
     ensures { IfOk result (λ v. v.items ≡ map (grant_rule host.now request.now window.start window.end) request.now.cmnds) }
 {
     let mut rules = Vec::new(alloc);
@@ -91,7 +91,7 @@ fn rules_for(
     host: &HostName,
     request: &Request,
     status: Status,
-) -> Result<Vec<Rule>, AllocError>
+) -> Result<Vec<Rule>, NoMemory>
     ensures { IfOk result (λ v. v.items ≡ given.rules_for host.now request.now status) }
 {
     match status {
@@ -109,7 +109,7 @@ pub fn rules_of(
     roster: &Roster,
     s: &Summary,
     host: &HostName,
-) -> Result<Vec<Rule>, AllocError>
+) -> Result<Vec<Rule>, NoMemory>
     // They are those of each set that the summary stands for.
     ensures { (set : List AnyMessage) → StandsFor set s.now → IfOk result (λ v. AreRules roster.now.says set s.now.request host.now v.items) }
 {
