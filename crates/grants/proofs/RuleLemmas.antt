@@ -1,17 +1,20 @@
 -- The rules that a request gives a host are those of each set that its summary stands for.
-use Rattle.std.proofs.Common.{◌≡◌, ℕ, Bool, true, false, cond, List, [], map, refl, sym, ap, ◌∙◌, subst}
-use Rattle.std.specs.Prelude.{Contains}
-use Rattle.std.specs.List.{list_any}
+use Rattle.std.proofs.Common.{◌≡◌, ℕ, Bool, true, false, cond, List, Some, [], ◌∷◌, map, arith, refl, sym, ap, ◌∙◌, subst}
+use Rattle.std.specs.Prelude.{Contains, ◌≤◌}
+use Rattle.std.specs.List.{AllByRecursion, list_any}
 use Rattle.std.specs.Str.{bytes_eq}
 use Rattle.std.proofs.lemmas.Slice.Eq.{bytes_eq-Decides}
+use Rattle.std.proofs.lemmas.List.Elements.{All-contains, recursion_from_All}
+use Rattle.sudo_words.specs.Command.{IsLawful}
+use Rattle.sudo_words.specs.Word.{is_host_name}
 use Rattle.sudo_words.specs.declared.cmnd.Cmnd.{Cmnd}
 use Rattle.sudo_syntax.specs.declared.entry.Rule.{Rule}
-use Rattle.messages.specs.Fields.{RequestFields}
+use Rattle.messages.specs.Fields.{RequestFields, IsRequest}
 use Rattle.messages.specs.Names.{IsNamed, name_of}
 use Rattle.messages.specs.declared.message.Message.{Message}
 use Rattle.roster.specs.Fields.{RosterFields}
-use Rattle.grants.specs.Given.{rules_for}
-use Rattle.grants.specs.GrantRules.{AreRules, grant_rule}
+use Rattle.grants.specs.Given.{EndsInTime, rules_for}
+use Rattle.grants.specs.GrantRules.{AreRules, IsGrantRule, grant_rule}
 use Rattle.grants.specs.Statuses.{InWindow, IsFirstMoment, IsLastMoment, IsStatus}
 use Rattle.grants.specs.Summaries.{Kept, StandsFor}
 use Rattle.grants.specs.Verdicts.{StandsAlone}
@@ -62,9 +65,49 @@ module _ (f : RosterFields Cmnd) (set : List Message) (k : Kept) (stands : Stand
   never (Granted w) is none =
       absurd (none w.start (subst (λ (q : RequestFields). InWindow f set q w.start) (sym (own is.request is.named is.alone)) is.is.0.inside))
 
+  pub ends_in_time : (status : Status) → IsStatus f set (name_of k.request) status → EndsInTime k.request status
+  ends_in_time Disputed is = tt
+  ends_in_time Lapsed is = tt
+  ends_in_time Refused is = tt
+  ends_in_time Waiting is = tt
+  ends_in_time Void is = tt
+  ends_in_time (Granted w) is =
+      subst (λ (q : RequestFields). (w.start ≤ q.until) × (w.end ≤ q.until)) (sym (own is.request is.named is.alone)) (is.is.0.inside.until, is.is.1.inside.until)
+
   pub are_rules_for : (status : Status) (rules : List Rule) → IsStatus f set (name_of k.request) status → rules ≡ rules_for host k.request status → AreRules f set k.request host rules
   are_rules_for status rules is e = record {
     granted = λ first last named a b. e ∙ granted status is first last named a b;
     other_host = λ other. e ∙ other_host status other;
     never = λ none. e ∙ never status is none;
   }
+
+-- ---- they may stand behind a base
+
+module _ (host : List ℕ) (q : RequestFields) (is : IsRequest q) (first last : ℕ) (first_in : first ≤ q.until) (last_in : last ≤ q.until) where
+  each_grants : is_host_name host ≡ true → (cs : List Cmnd) → AllByRecursion IsLawful cs → AllByRecursion IsGrantRule (map (grant_rule host q first last) cs)
+  each_grants named [] lawful = tt
+  each_grants named (c ∷ cs) lawful = (
+    record {
+      user = q.by;
+      host = host;
+      target = q.runas;
+      not_before = Some first;
+      not_after = Some last;
+      nopasswd = false;
+      cmnd = c;
+      user_is = is.by;
+      host_is = named;
+      target_is = is.runas;
+      not_before_is = omega (arith, first_in, is.until);
+      not_after_is = omega (arith, last_in, is.until);
+      lawful = lawful.0;
+      rule_is = refl;
+    },
+    each_grants named cs lawful.1,
+  )
+
+  pub request_grants : list_any (λ h. bytes_eq h host) q.hosts ≡ true → (rules : List Rule) → rules ≡ map (grant_rule host q first last) q.cmnds → AllByRecursion IsGrantRule rules
+  request_grants among rules e =
+      let named : is_host_name host ≡ true = All-contains (λ (h : List ℕ). is_host_name h ≡ true) q.hosts host is.hosts.1 (member q.hosts host among) in
+      let P : List Rule → Type 0 = λ x. AllByRecursion IsGrantRule x in
+      subst P (sym e) (each_grants named q.cmnds (recursion_from_All IsLawful q.cmnds is.cmnds.1))

@@ -1,5 +1,5 @@
 -- The rules that a request gives a host, from what it has come to. For private clauses.
-use Rattle.std.specs.Prelude.{ℕ, List, [], if◌then◌else◌, map}
+use Rattle.std.specs.Prelude.{ℕ, ◌≤◌, List, [], if◌then◌else◌, map}
 use Rattle.std.specs.List.{list_any}
 use Rattle.std.specs.Str.{bytes_eq}
 use Rattle.sudo_syntax.specs.declared.entry.Rule.{Rule}
@@ -16,3 +16,12 @@ rules_for host q Waiting = []
 rules_for host q Void = []
 rules_for host q (Granted w) =
     if list_any (λ h. bytes_eq h host) q.hosts then map (grant_rule host q w.start w.end) q.cmnds else []
+
+-- a window that begins and ends by the last moment that the request asks for
+abbrev pub EndsInTime : RequestFields → Status → Type 0
+EndsInTime q Disputed = Unit {0}
+EndsInTime q Lapsed = Unit {0}
+EndsInTime q Refused = Unit {0}
+EndsInTime q Waiting = Unit {0}
+EndsInTime q Void = Unit {0}
+EndsInTime q (Granted w) = (w.start ≤ q.until) × (w.end ≤ q.until)

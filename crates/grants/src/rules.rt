@@ -1,11 +1,12 @@
 //! The rules that a request gives a host.
 
 ghost use Rattle.std.specs.Prelude.{◌≡◌, IfOk, List, map, false};
+ghost use Rattle.std.specs.List.{AllByRecursion};
 ghost use Rattle.sudo_syntax.specs.declared.entry.Item.TheVariants as items;
 ghost use Rattle.sudo_syntax.specs.declared.entry.CmndItem.TheVariants as cmnds;
 ghost use Rattle.messages.specs.declared.message.Message.{Message as AnyMessage};
 ghost use Rattle.grants.specs.Given as given;
-ghost use Rattle.grants.specs.GrantRules.{AreRules, grant_rule, one};
+ghost use Rattle.grants.specs.GrantRules.{AreRules, IsGrantRule, grant_rule, one};
 ghost use Rattle.grants.specs.Summaries.{StandsFor};
 
 use crate::outcome::{Status, Window};
@@ -92,7 +93,8 @@ fn rules_for(
     request: &Request,
     status: Status,
 ) -> Result<Vec<Rule>, NoMemory>
-    ensures { IfOk result (λ v. v.items ≡ given.rules_for host.now request.now status) }
+    ensures rules { IfOk result (λ v. v.items ≡ given.rules_for host.now request.now status) }
+    ensures grants { given.EndsInTime request.now status → IfOk result (λ v. AllByRecursion IsGrantRule v.items) }
 {
     match status {
         Status::Granted(window) if request.hosts().contains(host) => {
@@ -111,7 +113,9 @@ pub fn rules_of(
     host: &HostName,
 ) -> Result<Vec<Rule>, NoMemory>
     // They are those of each set that the summary stands for.
-    ensures { (set : List AnyMessage) → StandsFor set s.now → IfOk result (λ v. AreRules roster.now.says set s.now.request host.now v.items) }
+    ensures rules { (set : List AnyMessage) → StandsFor set s.now → IfOk result (λ v. AreRules roster.now.says set s.now.request host.now v.items) }
+    // And they may stand behind a base.
+    ensures grants { (set : List AnyMessage) → StandsFor set s.now → IfOk result (λ v. AllByRecursion IsGrantRule v.items) }
 {
     rules_for(alloc, host, &s.request, status(roster, s))
 }
