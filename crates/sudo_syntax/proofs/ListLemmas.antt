@@ -1,9 +1,15 @@
 -- A list with marks between is read in one way.
-use Rattle.std.proofs.Common.{◌≡◌, ℕ, Bool, List, [], ◌∷◌, ◌++◌, refl, sym, ap, ◌∙◌, subst, append_assoc}
+use Rattle.std.proofs.Common.{◌≡◌, ℕ, Bool, true, false, List, [], ◌∷◌, ◌++◌, length, refl, sym, ap, ◌∙◌, subst, append_assoc, arith}
+use Rattle.std.specs.Prelude.{◌==◌}
+use Rattle.std.proofs.lemmas.Bool.{false≢true, eqb-true}
 use Rattle.std.proofs.lemmas.List.{append-nil}
-use Rattle.sudo_syntax.specs.Lex.{Tok, word, mark}
-use Rattle.sudo_syntax.specs.Fronts.{NoMark}
-use Rattle.sudo_syntax.specs.Grammar.{More, Listed}
+use Rattle.sudo_syntax.specs.declared.entry.Signed.{Signed}
+use Rattle.sudo_syntax.specs.declared.entry.Item.{Item}
+use Rattle.sudo_syntax.specs.declared.token.Token.{Token}
+use Rattle.sudo_syntax.specs.declared.tree.Part.{Part}
+use Rattle.sudo_syntax.specs.Lex.{Tok, word, mark, toks}
+use Rattle.sudo_syntax.specs.Fronts.{NoMark, Defines}
+use Rattle.sudo_syntax.specs.Grammar.{More, Listed, Hosts, SpellsPart, begins_spaced}
 use Rattle.sudo_syntax.proofs.Leads.{Leads, leads_on}
 
 -- what no `m` begins does not begin with `m`
@@ -101,3 +107,36 @@ list_is m Is out ts n xs r (y ∷ ys) x t = absurd (no_mark m ts n t.0 t.1 t.3)
 
 pub list_ends : {X : Type 0} (m : ℕ) (Is : List Tok → X → List Tok → Type 0) (F : List Tok → Type 0) (W : List X → List Tok → Type 0) (out : List X) (ts : List Tok) → Leads (Behind m Is F) W (Left m Is F out ts) → W out ts
 list_ends m Is F W out ts l = l.back out ts ([], sym (append-nil out), refl)
+
+-- ---- tokens that are all read
+
+pub none_left : (ts : List Token) → (length ts == 0) ≡ true → toks ts ≡ []
+none_left [] e = refl
+none_left (t ∷ ts) e = let none : length (t ∷ ts) ≡ 0 = eqb-true (length (t ∷ ts)) 0 e in absurd (omega arith)
+
+pub some_left : (ts : List Token) → (length ts == 0) ≡ false → toks ts ≡ [] → ⊥
+some_left [] e h = false≢true (sym e)
+some_left (t ∷ ts) e h = absurd cc
+
+-- ---- definitions behind the word of their kind
+
+abbrev behind_first : List Tok → List Tok
+behind_first [] = []
+behind_first (t ∷ ts) = ts
+
+pub defined_behind : {X : Type 0} {kind : List ℕ} (Is : List Tok → X → List Tok → Type 0) {ts : List Tok} {a : Bool} (next : List Tok) → ts ≡ word a 0 kind ∷ next
+    → (defs : List X) → Defines kind Is ts defs → (begins_spaced next ≡ true) × Listed 58 Is next defs []
+defined_behind Is next e defs (b, behind, is, spaced, list) =
+    let same : behind ≡ next = ap behind_first (sym is ∙ e) in
+    (subst (λ (r : List Tok). begins_spaced r ≡ true) same spaced, subst (λ (r : List Tok). Listed 58 Is r defs []) same list)
+
+-- ---- parts of a user specification
+
+hosts_begin : (ts : List Tok) (hosts : List (Signed (Item (List ℕ)))) (rest : List Tok) → Hosts ts hosts rest → NoMark 44 ts
+hosts_begin ts [] rest h = absurd h
+hosts_begin ts (s ∷ hosts) rest h = subst (NoMark 44) (sym h.1.toks) tt
+
+-- users are followed by no `,`: a part begins with a word
+pub no_comma : (next : List Tok) (parts : List Part) → Listed 58 SpellsPart next parts [] → NoMark 44 next
+no_comma next [] h = absurd h
+no_comma next (p ∷ parts) h = hosts_begin next p.hosts _ h.1.hosts
