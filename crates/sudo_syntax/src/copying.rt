@@ -6,20 +6,40 @@ use crate::entry::{CmndItem, Entry, Item, Rule, Signed};
 use std::alloc::AllocError;
 use sudo_words::{HostName, Items, Name};
 
-pub(crate) fn copied_names(
-    list: &Items<Signed<Item<Name>>>,
-) -> Result<Items<Signed<Item<Name>>>, AllocError>
+fn copied_names(list: &Items<Signed<Item<Name>>>) -> Result<Items<Signed<Item<Name>>>, AllocError>
     ensures { IfOk result (λ x. x ≡ list.now) }
 {
     list.clone()
 }
 
-pub(crate) fn copied_hosts(
+fn copied_hosts(
     list: &Items<Signed<Item<HostName>>>,
 ) -> Result<Items<Signed<Item<HostName>>>, AllocError>
     ensures { IfOk result (λ x. x ≡ list.now) }
 {
     list.clone()
+}
+
+/// The users, the hosts and the targets of a rule, copied.
+pub(crate) fn copied_lists(
+    users: &Items<Signed<Item<Name>>>,
+    hosts: &Items<Signed<Item<HostName>>>,
+    runas: &Items<Signed<Item<Name>>>,
+) -> Result<
+    (
+        Items<Signed<Item<Name>>>,
+        Items<Signed<Item<HostName>>>,
+        Items<Signed<Item<Name>>>,
+    ),
+    AllocError,
+>
+    ensures { IfOk result (λ x. (x.0 ≡ users.now) × (x.1 ≡ hosts.now) × (x.2 ≡ runas.now)) }
+{
+    Ok((
+        copied_names(users)?,
+        copied_hosts(hosts)?,
+        copied_names(runas)?,
+    ))
 }
 
 fn copied_cmnds(list: &Items<Signed<CmndItem>>) -> Result<Items<Signed<CmndItem>>, AllocError>
@@ -38,10 +58,11 @@ impl Clone for Rule {
     ghost is_clone = { λ rule copy. copy ≡ rule };
 
     fn clone(&self) -> Result<Rule, AllocError> {
+        let (users, hosts, runas) = copied_lists(&self.users, &self.hosts, &self.runas)?;
         Ok(Rule {
-            users: copied_names(&self.users)?,
-            hosts: copied_hosts(&self.hosts)?,
-            runas: copied_names(&self.runas)?,
+            users,
+            hosts,
+            runas,
             not_before: self.not_before,
             not_after: self.not_after,
             nopasswd: self.nopasswd,

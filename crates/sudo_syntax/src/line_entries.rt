@@ -8,7 +8,7 @@ ghost use Rattle.sudo_syntax.specs.Inheritance as inheritance;
 ghost use Rattle.sudo_syntax.specs.Policy.{IsEntry, IsPolicy};
 ghost use Rattle.sudo_syntax.specs.Scope.{Adds, IsDraft};
 
-use crate::copying::{copied_hosts, copied_names};
+use crate::copying::copied_lists;
 use crate::draft::Draft;
 use crate::entry::{CmndItem, Entry, Item, Rule, Signed};
 use crate::fault::LineFault;
@@ -69,10 +69,11 @@ fn rule_with(
 ) -> Result<Rule, AllocError>
     ensures { IfOk result (λ x. x ≡ inheritance.rule_with users.now hosts.now held.now cmnd) }
 {
+    let (users, hosts, runas) = copied_lists(users, hosts, &held.runas)?;
     Ok(Rule {
-        users: copied_names(users)?,
-        hosts: copied_hosts(hosts)?,
-        runas: copied_names(&held.runas)?,
+        users,
+        hosts,
+        runas,
         not_before: held.not_before,
         not_after: held.not_after,
         nopasswd: held.nopasswd,

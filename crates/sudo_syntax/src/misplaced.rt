@@ -53,24 +53,17 @@ pub(crate) fn bad_word(text: &str) -> LineFault {
     }
 }
 
-/// Whether the word is an option or a tag that the desk has.
-fn is_known(text: &str) -> bool {
-    matches!(text, "NOTBEFORE" | "NOTAFTER" | "PASSWD" | "NOPASSWD")
-}
+/// The options and tags that the desk has.
+const KNOWN: [&str; 4] = ["NOTBEFORE", "NOTAFTER", "PASSWD", "NOPASSWD"];
 
-/// Whether the word names no path in the place of a command: sudo's own commands, and digests.
-fn names_no_path(text: &str) -> bool {
-    matches!(
-        text,
-        "sudoedit" | "list" | "sha224" | "sha256" | "sha384" | "sha512"
-    )
-}
+/// Words that name no path in the place of a command: sudo's own commands, and digests.
+const NO_PATHS: [&str; 6] = ["sudoedit", "list", "sha224", "sha256", "sha384", "sha512"];
 
 /// What is wrong with a word that begins no command.
 pub(crate) fn bad_cmnd(text: &str) -> LineFault {
-    if is_known(text) {
+    if KNOWN.contains(&text) {
         LineFault::Unexpected
-    } else if names_no_path(text) || (is_reserved(text.as_bytes()) && text != "ALL") {
+    } else if NO_PATHS.contains(&text) || (is_reserved(text.as_bytes()) && text != "ALL") {
         LineFault::LeftOut
     } else {
         LineFault::BadWord
@@ -79,7 +72,7 @@ pub(crate) fn bad_cmnd(text: &str) -> LineFault {
 
 /// What is wrong with an option that is none of the two dates, or given twice.
 pub(crate) fn bad_option(name: &str) -> LineFault {
-    if is_known(name) || !is_reserved(name.as_bytes()) {
+    if KNOWN.contains(&name) || !is_reserved(name.as_bytes()) {
         LineFault::Unexpected
     } else {
         LineFault::LeftOut
