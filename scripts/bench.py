@@ -2,12 +2,15 @@
 """Times `desk check` and `desk decide` beside `visudo -c`.
 
 The policies: 1,601 and 16,001 rules with dates; 8,000 aliases of the four kinds, each of which uses another, with 8,000 rules that use
-them; and one whose weight is just below the limit, by aliases that double. Then times `desk print` on 800 and 8,000 requests, each with an approval, in shuffled order and all for one host.
+them; and one whose weight is just below the limit, by aliases that double. Then times `desk print` on 800 and 8,000 requests, each with an approval, in shuffled order and all for one host, over a roster of 501 people.
+Then rosters of 1 MiB (scripts/big_roster.py): reading one beside Python's `tomllib`, and printing over one from 8,000 messages; what it costs to
+admit a request of 16 commands under a ceiling of 256; and what it costs to say what a request comes to that thousands of people approved.
 Prints of each the instructions that it executes (counted by valgrind's callgrind, so that the machine's load does not matter; none where
-valgrind is missing), the best wall time of a few runs and the peak memory, and then the ratios that the desk promises. A peak below that of
-this script's own process, some 14 MiB, is not seen.
+valgrind is missing), the best wall time of a few runs and the peak memory, and then the ratios that the desk promises. Where GNU
+time is missing, a peak below that of this script's own process, some 14 MiB, is not seen.
 """
 
+import json
 import os
 import random
 import re
@@ -16,6 +19,9 @@ import subprocess
 import sys
 import tempfile
 import time
+import tomllib
+
+import big_roster
 
 ROOT = os.path.dirname(os.path.dirname(os.path.abspath(__file__)))
 DESK = os.path.join(ROOT, "build", "desk")
@@ -79,9 +85,64 @@ def messages(requests):
     return "".join(lines)
 
 
+def labels(letter, numbers):
+    return "[" + ",".join(f'"{letter}{n}"' for n in numbers) + "]"
+
+
+def rules_roster(people, commands):
+    """A roster of so many people who may all approve, and of one ceiling with these commands under which `ann` may ask."""
+    named = "".join(f'p{n}=["approve"]\n' for n in range(people))
+    return (
+        'relays=["web"]\nhosts=["db1"]\nduties=["approve","ask"]\nconflicts=[]\n'
+        f'[people]\nann=["ask"]\n{named}'
+        '[ceilings.db-root]\nask="ask"\napprove="approve"\nneeds=3\nhosts=["db1"]\nrunas=["root"]\n'
+        f"commands={json.dumps(commands)}\nlongest=7200\n"
+    )
+
+
+def request(no, commands, asker="ann", ceiling="db-root", host="db1"):
+    return json.dumps(
+        {
+            "at": "20260105060000Z", "by": asker, "ceiling": ceiling, "cmnds": sorted(commands), "from": "20260105090000Z",
+            "hosts": [host], "kind": "request", "no": no, "runas": "root", "until": "20260105110000Z",
+        },
+        separators=(",", ":"),
+        sort_keys=True,
+    )
+
+
+def approval(no, by, at="20260105083000Z", asker="ann"):
+    return json.dumps({"at": at, "by": by, "kind": "approve", "no": no, "of": asker}, separators=(",", ":"))
+
+
+def alike(kind, count):
+    """So many commands that are long and differ late: in their paths, or in their arguments."""
+    if kind == "paths":
+        return [f"/usr/bin/{'a' * 242}{n:03}" for n in range(count)]
+    return [f"/bin/ls {' '.join(['a' * 60] * 14)} {'b' * 57}{n:03} c" for n in range(count)]
+
+
+def wanted(kind):
+    """16 commands that lie inside a ceiling of 256, whose last ones these are."""
+    return alike(kind, 256)[-16:] if kind == "paths" else [f"/bin/ls {' '.join(['a' * 60] * 14)} {'b' * 57}{n:03} c" for n in range(240, 256)]
+
+
+def roster():
+    """A roster under which the askers of the messages may ask for what they ask for, and the boss may approve it."""
+    people = "".join(f'user{n} = ["operate-db"]\n' for n in range(500))
+    return (
+        'relays = ["web"]\nhosts = ["db1"]\nduties = ["approve-db", "operate-db"]\nconflicts = []\n'
+        f'[people]\nboss = ["approve-db"]\n{people}'
+        '[ceilings.db-root]\nask = "operate-db"\napprove = "approve-db"\nneeds = 1\nhosts = ["db1"]\n'
+        'runas = ["root"]\ncommands = ["/bin/"]\nlongest = 7200\n'
+    )
+
+
 def run(words, given=None):
-    """The best wall time in seconds and the peak memory in bytes of a few runs."""
+    """The best wall time in seconds and the peak memory in bytes of a few runs. Where GNU time is there it starts the program for the peak,
+    so that this script's own memory does not count."""
     best, peak = float("inf"), 0
+    timer = shutil.which("time")
     for _ in range(RUNS):
         with open(given or os.devnull, "rb") as source:
             start = time.perf_counter()
@@ -92,6 +153,10 @@ def run(words, given=None):
         if os.waitstatus_to_exitcode(status) > 1:
             sys.exit(f"bench: refused: {' '.join(words)}")
         peak = max(peak, usage.ru_maxrss * 1024)
+    if timer:
+        with open(given or os.devnull, "rb") as source:
+            done = subprocess.run([timer, "-f", "%M", *words], stdin=source, stdout=subprocess.DEVNULL, stderr=subprocess.PIPE, text=True)
+        peak = int(done.stderr.split()[-1]) * 1024
     return best, peak
 
 
@@ -114,6 +179,87 @@ def shown(figure):
         f"{size:9,} bytes: {millions}{seconds * 1000:8.1f} ms, "
         f"{memory / 1024:8,.0f} KiB ({memory / size:5.1f} times the text)"
     )
+
+
+def stored(folder, name, text):
+    """The path of a file of this text."""
+    path = os.path.join(folder, name)
+    with open(path, "w") as file:
+        file.write(text)
+    return path
+
+
+def judged(what, ratio, most):
+    """Prints a figure beside what is promised of it; whether it is more."""
+    print(f"{what}: {ratio:,.2f}, at most {most:,g}: {'holds' if ratio <= most else 'FAILS'}")
+    return ratio > most
+
+
+def best_of_tomllib(text):
+    best = float("inf")
+    for _ in range(5):
+        start = time.perf_counter()
+        tomllib.loads(text)
+        best = min(best, time.perf_counter() - start)
+    return best
+
+
+def rosters(folder):
+    """The rows on rosters; how many of them do not hold."""
+    wrong, none, base = 0, stored(folder, "none", ""), stored(folder, "empty.sudo", "")
+    for what in ("commands", "hosts", "duties"):
+        text = big_roster.roster(what)
+        words = [DESK, "print", stored(folder, "large.toml", text), base, "-", "h0"]
+        figure = (instructions(words, none), *run(words, none), len(text))
+        print(f"roster of many {what:8}, {shown(figure)}")
+        wrong += judged(f"roster of many {what} against tomllib", figure[1] / best_of_tomllib(text), 1.0)
+    # 8,000 messages over the largest roster: requests and approvals, one after the other, in any order
+    lines = []
+    for n in range(4_000):
+        ceiling = n % 1_024
+        # who holds the duties that the ceiling's asking and approving want
+        asker, approver = f"p{ceiling % 256}", f"p{(ceiling + 1) % 256}"
+        lines.append(request(n, [f"/bin/t{ceiling}"], asker, f"c{ceiling}", f"h{ceiling}"))
+        lines.append(approval(n, approver, asker=asker))
+    random.Random(7).shuffle(lines)
+    given = stored(folder, "many.messages", "\n".join(lines) + "\n")
+    words = [DESK, "print", stored(folder, "large.toml", big_roster.roster("hosts")), base, "-", "h0"]
+    print(f"print over it, 8,000 messages, {shown((instructions(words, given), *run(words, given), os.path.getsize(given)))}")
+    wrong += admission(folder, base)
+    return wrong + statuses(folder, base)
+
+
+def admission(folder, base):
+    """What one request costs with a ceiling of 256 commands, beyond what it costs with a ceiling that has those of the request alone."""
+    wrong = 0
+    for kind in ("paths", "args"):
+        costs = []
+        for commands in (alike(kind, 256), wanted(kind)):
+            words = [DESK, "deliver", stored(folder, "ceiling.toml", rules_roster(1, commands)), base, "-", "web"]
+            counts = []
+            for requests in (1, 101):
+                lines = "".join(request(n, wanted(kind)) + "\n" for n in range(requests))
+                counts.append(instructions(words, stored(folder, "asked", lines)))
+            if None in counts:
+                return 0
+            costs.append((counts[1] - counts[0]) / 100)
+        # under the small ceiling 16 by 16 commands are compared at most
+        wrong += judged(f"admit: 16 commands against 256, {kind} alike, instructions", (costs[0] - costs[1]) * 256 / 240, 500_000)
+    return wrong
+
+
+def statuses(folder, base):
+    """What a request costs that so many people approve, of whom three are needed, by twice as many people."""
+    counts = []
+    for people in (2_048, 4_095):
+        lines = [request(7, ["/bin/ls"])]
+        lines += [approval(7, f"p{n}", f"2026010507{n // 60 % 60:02}{n % 60:02}Z") for n in range(people)]
+        words = [DESK, "print", stored(folder, "people.toml", rules_roster(people, ["/bin/ls"])), base, "-", "db1"]
+        given = stored(folder, "approved", "\n".join(lines) + "\n")
+        figure = (instructions(words, given), *run(words, given), os.path.getsize(given))
+        counts.append(figure[0] or figure[1])
+        print(f"print, {people:,} people who approve one request, {shown(figure)}")
+    return judged("statuses: twice the people", counts[1] / counts[0], 2.5)
 
 
 def main():
@@ -146,15 +292,18 @@ def main():
         base = os.path.join(folder, "base.sudo")
         with open(base, "w") as file:
             file.write("bob db1 = ALL\n")
+        people = os.path.join(folder, "roster.toml")
+        with open(people, "w") as file:
+            file.write(roster())
         for requests in (800, 8_000):
             path = os.path.join(folder, f"{requests}.messages")
             with open(path, "w") as file:
                 file.write(messages(requests))
             size = os.path.getsize(path)
-            words = [DESK, "print", "-", base, "-", "db1"]
+            words = [DESK, "print", people, base, "-", "db1"]
             figures["print", requests] = (instructions(words, path), *run(words, path), size)
             print(f"print   {requests:6} requests, {shown(figures['print', requests])}")
-    wrong = 0
+        wrong = rosters(folder)
     ratio = figures["print", 8_000][1] / figures["print", 800][1]
     wrong += ratio > 15
     print(f"print: ten times the messages: {ratio:.2f}, at most 15: {'holds' if ratio <= 15 else 'FAILS'}")

@@ -6,6 +6,7 @@ last line has the counts.
 """
 
 import contextlib
+import itertools
 import json
 import os
 import shlex
@@ -20,12 +21,13 @@ DESK = os.path.join(ROOT, "build", "desk")
 
 
 class Run(NamedTuple):
-    """The policy in the file BASE, the program's words, its input, and the names of the files that take the place of its streams."""
+    """The texts of the files BASE and ROSTER, the program's words, its input, and the names of the files that take the place of its streams."""
 
     base: bytes
     words: list
     given: bytes = b""
     streams: dict = {}
+    roster: bytes = b""
 
 
 def some(text):
@@ -49,6 +51,11 @@ def chained(count):
     return "User_Alias X1 = ann\n" + "".join(f"User_Alias X{n} = X{n - 1}\n" for n in range(2, count + 1))
 
 
+def counted(text, count):
+    """The text so many times, with 0, 1, .. in the place of its `{}`."""
+    return "".join(text.replace("{}", str(n)) for n in range(count))
+
+
 def text_of(value):
     """The text that a string stands for, or a list of pieces."""
     if isinstance(value, str):
@@ -62,7 +69,7 @@ def piece(part):
     if isinstance(part, list):
         text, times = part
         return text * times
-    makers = {"doubled": doubled, "chained": chained}
+    makers = {"doubled": doubled, "chained": chained, "counted": lambda made: counted(*made)}
     [(maker, count)] = part.items()
     return makers[maker](count)
 
@@ -133,7 +140,7 @@ def moments(table):
             yield f"rising: {late}, {option}={bound}", *decide(policy, f"ann db1 root {late} /bin/ls", after)
 
 
-def asked(text):
+def asked(roster, text):
     """A run over a request for the command and its approval."""
     request = {
         "at": "20260105060000Z", "by": "ann", "ceiling": "db-root", "cmnds": [text], "from": "20260105090000Z",
@@ -141,7 +148,7 @@ def asked(text):
     }
     approval = {"at": "20260105083000Z", "by": "bob", "kind": "approve", "no": 7, "of": "ann"}
     lines = [json.dumps(message, separators=(",", ":")) + "\n" for message in (request, approval)]
-    return Run(b"", ["print", "-", "BASE", "-", "db1"], "".join(lines).encode())
+    return Run(b"", ["print", "ROSTER", "BASE", "-", "db1"], "".join(lines).encode(), roster=roster)
 
 
 def granted(text):
@@ -150,29 +157,41 @@ def granted(text):
 
 
 def commands(table):
-    refused = ("", "line 1: M3 BadField\n", 0)
+    refused, roster = ("", "line 1: M3 BadField\n", 0), table["roster"].encode()
     for text in table["commands"]:
-        yield f"asked for: {text}", asked(text), granted(text)
+        yield f"asked for: {text}", asked(roster, text), granted(text)
         yield f"checked: {text}", check(f"ann db1 = {text}"), (f"ann db1 = (root) {text}\n", "", 0)
     for text in table["refused"]:
-        yield f"refused: {text}", asked(text), refused
+        yield f"refused: {text}", asked(roster, text), refused
     for row in table["most"]:
         most, longer = both(row)
-        yield row["name"], asked(most), granted(most)
-        yield row["name"] + ", and one more", asked(longer), refused
+        yield row["name"], asked(roster, most), granted(most)
+        yield row["name"] + ", and one more", asked(roster, longer), refused
+
+
+def input_of(table, row):
+    """The input of a row: a text in pieces, or the messages of these names, a line each."""
+    if "text" in row:
+        given = text_of(row["text"])
+    else:
+        given = "".join(table["message"][line] + "\n" for line in row["lines"])
+    return (given.removesuffix("\n") if row.get("no_newline") else given).encode()
 
 
 def printed(table):
     for row in table["printed"]:
-        if "text" in row:
-            given = text_of(row["text"])
-        else:
-            given = "".join(table["message"][line] + "\n" for line in row["lines"])
-        if row.get("no_newline"):
-            given = given.removesuffix("\n")
-        base = text_of(row.get("base", table["base"])).encode()
-        words = ["print", "-", "BASE", "-", row.get("host", table["host"])]
-        yield row["name"], Run(base, words, given.encode()), (text_of(row["out"]), row.get("err", ""), row.get("status", 0))
+        base, roster = (text_of(row.get(name, table[name])).encode() for name in ("base", "roster"))
+        words = ["print", "ROSTER", "BASE", "-", row.get("host", table["host"])]
+        wanted = (text_of(row["out"]), row.get("err", ""), row.get("status", 0))
+        yield row["name"], Run(base, words, input_of(table, row), roster=roster), wanted
+
+
+def delivered(table):
+    for row in table["delivered"]:
+        base, roster = (text_of(row.get(name, table[name])).encode() for name in ("base", "roster"))
+        words = ["deliver", "ROSTER", "BASE", "-", text_of(row.get("relay", table["relay"]))]
+        out = "".join(line + "\n" for line in row["out"])
+        yield row["name"], Run(base, words, input_of(table, row), roster=roster), (out, row.get("err", ""), row.get("status", 0))
 
 
 def altered(request, row):
@@ -184,13 +203,14 @@ def altered(request, row):
 
 
 def messages(table):
-    request, base = table["request"], table["base"].encode()
+    request, base, roster = table["request"], table["base"].encode(), table["roster"].encode()
     for row in table["read"]:
         host, bounds = row.get("host", "db1"), "NOTBEFORE=20260105090000Z NOTAFTER=20260105110000Z"
         approval = table["approval"].replace('"no":7', f'"no":{row.get("no", 7)}')
         given = altered(request, row) + b"\n" + approval.encode() + b"\n"
         lines = [f"ann {host} = (root) {bounds} {command}\n" for command in row["grants"]]
-        yield f"read: {row['by']}", Run(base, ["print", "-", "BASE", "-", host], given), (table["out"] + "".join(lines), row.get("err", ""), 0)
+        run = Run(base, ["print", "ROSTER", "BASE", "-", host], given, roster=roster)
+        yield f"read: {row['by']}", run, (table["out"] + "".join(lines), row.get("err", ""), 0)
     for group in table["group"]:
         lines = [text_of(line).encode() for line in group.get("lines", [])]
         lines += [altered(request, row) for row in group.get("rows", [])]
@@ -198,16 +218,16 @@ def messages(table):
             lines += [request[:count].encode() for count in range(len(request))]
         for line in lines:
             wanted = (table["out"], f"line 1: {group['fault']}\n", 0)
-            yield f"{group['name']}: {line}", Run(base, ["print", "-", "BASE", "-", "db1"], line + b"\n"), wanted
+            yield f"{group['name']}: {line}", Run(base, ["print", "ROSTER", "BASE", "-", "db1"], line + b"\n", roster=roster), wanted
 
 
 def words(table):
-    base = table["base"].encode()
+    base, roster = table["base"].encode(), table["roster"].encode()
     for group in table["group"]:
         out = some if group.get("help") else ""
         err = begins(group["begins"]) if "begins" in group else group.get("err", "")
         for line in group["lines"]:
-            run = Run(base, words_of(line), group.get("given", "").encode(), group.get("streams", {}))
+            run = Run(base, words_of(line), group.get("given", "").encode(), group.get("streams", {}), roster)
             yield f"{group['name']}: {line}", run, (None if "stdout" in run.streams else out, None if "stderr" in run.streams else err, group["status"])
 
 
@@ -234,15 +254,196 @@ def many(table):
             given, granted = given + lines, granted + rules
         out = "" if "err" in row else "\n".join([table["bare"], *granted]) + "\n"
         wanted = (out, row.get("err", ""), row.get("status", 0))
-        yield row["name"], Run(table["base"].encode(), ["print", "-", "BASE", "-", "db1"], ("\n".join(given) + "\n").encode()), wanted
+        run = Run(table["base"].encode(), ["print", "ROSTER", "BASE", "-", "db1"], ("\n".join(given) + "\n").encode(), roster=table["roster"].encode())
+        yield row["name"], run, wanted
+
+
+def edited(text, edits):
+    """The text with another in the place of each part, one edit after the other."""
+    for part, by in edits:
+        front, found, rest = text.partition(part)
+        if found != part:
+            sys.exit(f"an edit has no place: {short(part)}")
+        text = front + text_of(by) + rest
+    return text
+
+
+def rows_of(group):
+    """The edits of each row of a group."""
+    shared = group.get("with", [])
+    for row in [[edit] for edit in group.get("edits", [])] + group.get("several", []):
+        yield shared + row
+    for part in group.get("parts", []):
+        for by in group.get("by", []):
+            yield shared + [[part, by]]
+    places = group.get("places", []) + [[member, member.partition("=")[0] + "= ", ""] for member in group.get("members", [])]
+    for part, front, back in places:
+        for value in group.get("values", []):
+            yield shared + [[part, front + value + back]]
+
+
+def rosters(table):
+    base, roster = table["base"].encode(), table["roster"]
+    words = ["print", "ROSTER", "BASE", "-", "db1"]
+
+    def run(text, given=""):
+        return Run(base, words, given.encode(), roster=text if isinstance(text, bytes) else text.encode())
+
+    for group in table["read"]:
+        texts = group.get("texts", []) + [edited(roster, edits) for edits in rows_of(group)]
+        given, out = group.get("given", table["messages"]), group.get("out", table["out"])
+        for text in texts:
+            yield f"read: {group['name']}", run(text, given), (out, "", 0)
+    for group in table["refused"]:
+        texts = group.get("texts", []) + [edited(roster, edits) for edits in rows_of(group)]
+        texts += [roster.encode() + bytes.fromhex(tail) for tail in group.get("bytes", [])]
+        for text in texts:
+            yield f"refused: {group['name']}", run(text), ("", group["fault"] + "\n", 2)
+    for row in table["limits"]:
+        if "fills" in row:
+            most, more = (roster + "#" * (row["fills"] + extra - len(roster)) for extra in (0, 1))
+        else:
+            most, more = (edited(roster, [[row["part"], row[key]]]) for key in ("most", "more"))
+        yield f"limit: {row['name']}", run(most, table["messages"]), (table["out"], "", 0)
+        yield f"limit: {row['name']}, and one more", run(more), ("", "O7 OutOfRange\n", 2)
+    faults = sorted(table["faults"], key=lambda row: row["fault"])
+    for rows in [*itertools.combinations(faults, 2), faults]:
+        text = roster
+        for row in reversed(rows):
+            text = edited(text, row["edits"])
+        yield "faults at once: " + ", ".join(row["fault"] for row in rows), run(text), ("", rows[0]["fault"] + "\n", 2)
+
+
+def line_of(members):
+    """A message's text."""
+    return json.dumps(members, separators=(",", ":"), sort_keys=True, ensure_ascii=False)
+
+
+def message_of(table, row):
+    """The message that a text names in a table, or of a name in it and other members; the member `kind` alone makes a verdict."""
+    if isinstance(row, str):
+        return table["message"][row]
+    members = dict(row)
+    return table["message"][members.pop("of_message")] | members
+
+
+def lines_of(table, rows):
+    return "".join(line_of(message_of(table, row)) + "\n" for row in rows)
+
+
+def answers_of(table, roster, rows, relay="web"):
+    """A run that delivers the messages of rows, each with what is answered, and what is wanted of it."""
+    answers = [row["answer"] for row in rows]
+    given = "".join((row["line"] if "line" in row else line_of(message_of(table, row["message"]))) + "\n" for row in rows)
+    run = Run(table["base"].encode(), ["deliver", "ROSTER", "BASE", "-", relay], given.encode(), roster=roster.encode())
+    return run, ("".join(answer + "\n" for answer in answers), "", 0 if all(answer == "ack" for answer in answers) else 2)
+
+
+def admission(table):
+    for group in table["group"]:
+        roster = edited(table["roster"], group.get("with", []))
+        rows = [{"answer": answer, "message": {"of_message": group.get("message", "Q7")} | members} for answer, members in group["rows"]]
+        yield group["name"], *answers_of(table, roster, rows)
+        for row in rows:
+            yield f"{group['name']}, alone", *answers_of(table, roster, [row])
+    # of each set of denials the first is answered
+    denials, rows = table["denials"], []
+    for count in range(1, len(denials) + 1):
+        for some_of in itertools.combinations(denials, count):
+            members = {"of_message": "Q7"}
+            for row in reversed(some_of):
+                members |= row["members"]
+            rows.append({"answer": some_of[0]["denial"], "message": members})
+    yield "each set of denials", *answers_of(table, table["roster"], rows)
+    # of each two commands the one lies inside the other, or not
+    inside = table["inside"]
+    ceilings = "".join(
+        f'[ceilings.c{n}]\nask = "operate-db"\napprove = "approve-db"\nneeds = 1\nhosts = ["db1"]\nrunas = ["root"]\n'
+        f"commands = {json.dumps([command])}\nlongest = 7200\n"
+        for n, command in enumerate(inside["ceilings"])
+    )
+    rows = [
+        {"answer": "ack" if command in within else "A6 CommandOutside", "message": {"of_message": "Q7", "ceiling": f"c{n}", "cmnds": [asked]}}
+        for asked, within in inside["rows"]
+        for n, command in enumerate(inside["ceilings"])
+    ]
+    yield "each two commands", *answers_of(table, table["roster"] + ceilings, rows)
+
+
+def all_orders(rows):
+    """The rows in each order, each once and each twice; only as they stand and turned round where there are many."""
+    orders = itertools.permutations(rows) if len(rows) <= 4 else [rows, rows[::-1]]
+    for order in orders:
+        yield list(order)
+        yield list(order) * 2
+
+
+def desk(table):
+    for row in table["row"]:
+        roster, base = edited(table["roster"], row.get("with", [])), row.get("base", table["base"])
+        out = text_of(row.get("bare", table["bare"])) + text_of(row.get("grants", ""))
+        orders = all_orders(row["messages"]) if row.get("orders", True) else [row["messages"]]
+        for rows in orders:
+            for host in row.get("hosts", ["db1"]):
+                run = Run(base.encode(), ["print", "ROSTER", "BASE", "-", host], lines_of(table, rows).encode(), roster=roster.encode())
+                yield f"{row['name']}: {host}", run, (out, row.get("err", ""), row.get("status", 0))
+        for line, decision in row.get("decided", []):
+            yield f"{row['name']}: {line}", *decide(out, line, decision)
+    for row in table["delivered"]:
+        relay = text_of(row.get("relay", "web"))
+        yield row["name"], *answers_of(table, edited(table["roster"], row.get("with", [])), row["rows"], relay)
+    yield from crowd(table)
+    requests = [line_of(message_of(table, {"of_message": "Q7", "until": second_of(10, n)})) for n in range(table["disputes"]["requests"])]
+    given = "\n".join([*requests, line_of(table["message"]["V7"])])
+    words = ["print", "ROSTER", "BASE", "-", "db1"]
+    yield "a name that is disputed often", Run(table["base"].encode(), words, given.encode(), roster=table["roster"].encode()), (table["bare"], "", 0)
+    longest = table["longest"]
+    rows = [{"line": long_request(table, longest["bytes"] + more), "answer": longest["more"] if more else "ack"} for more in (0, 1)]
+    yield "as many bytes as a message may have, and one more", *answers_of(table, edited(table["roster"], longest["with"]), rows)
+
+
+def second_of(hour, n):
+    """The moment so many seconds past the hour, on the day of the cases."""
+    return f"20260105{hour + n // 3600:02}{n // 60 % 60:02}{n % 60:02}Z"
+
+
+def crowd(table):
+    """A roster of many people who all approve."""
+    made = table["crowd"]
+    roster = edited(table["roster"], made["with"])
+    approvals = [line_of(message_of(table, {"of_message": "V7", "by": f"p{n}", "at": second_of(9, n)})) for n in range(made["people"])]
+    lines = [line_of(table["message"]["Q7"]), *approvals]
+    for needs, start in made["starts"]:
+        out = table["bare"] + f"ann db1 = (root) NOTBEFORE={start} NOTAFTER=20260105110000Z /bin/ls\n"
+        text = edited(roster, [["needs = 1", f"needs = {needs}"]]).encode()
+        for given in (lines, lines[::-1]):
+            run = Run(table["base"].encode(), ["print", "ROSTER", "BASE", "-", "db1"], "\n".join(given).encode(), roster=text)
+            yield f"{made['people']} people approve, {needs} needed", run, (out, "", 0)
+
+
+def long_request(table, size):
+    """A request of 16 commands with a text of so many bytes."""
+    texts = [f"/bin/c{n:02}" + (" " + "a" * 64) * 15 for n in range(16)]
+
+    def line():
+        return line_of(message_of(table, {"of_message": "Q7", "cmnds": texts}))
+
+    for n in range(16):
+        more = min(size - len(line()), 1_024 - len(texts[n]))
+        if more > 1:
+            texts[n] += " " + "a" * (more - 1)
+    if len(line()) != size:
+        sys.exit(f"no request of {size} bytes")
+    return line()
 
 
 def answer(folder, run):
-    """What the program prints, and its status. BASE is the name of a file that has the base, NONE that of no file, FOLDER that of a folder."""
-    path = os.path.join(folder, "base.sudo")
-    with open(path, "wb") as file:
-        file.write(run.base)
-    names = {"BASE": path, "NONE": os.path.join(folder, "none.sudo"), "FOLDER": folder}
+    """What the program prints, and its status. BASE and ROSTER are the names of files that have these, NONE that of no file, FOLDER that of a folder."""
+    paths = {"BASE": os.path.join(folder, "base.sudo"), "ROSTER": os.path.join(folder, "roster.toml")}
+    for name, text in (("BASE", run.base), ("ROSTER", run.roster)):
+        with open(paths[name], "wb") as file:
+            file.write(text)
+    names = paths | {"NONE": os.path.join(folder, "none.sudo"), "FOLDER": folder}
     streams = {"stdout": subprocess.PIPE, "stderr": subprocess.PIPE}
     with contextlib.ExitStack() as opened:
         for stream, name in run.streams.items():
@@ -265,7 +466,7 @@ def short(value):
 
 
 def main():
-    kinds = [checked, commands, decided, limits, many, messages, moments, printed, refused, words]
+    kinds = [admission, checked, commands, decided, delivered, desk, limits, many, messages, moments, printed, refused, rosters, words]
     count = wrong = 0
     with tempfile.TemporaryDirectory() as folder:
         for kind in kinds:

@@ -23,16 +23,22 @@ ask decide examples/team.sudo olga db1 root 20260105093000Z /usr/bin/systemctl r
 ask decide examples/team.sudo omar db1 root 20260105093000Z /usr/bin/systemctl restart postgresql
 ask check examples/left_out.sudo
 
-# A grant's life: asked for, approved, written into the host's file, and decided by it.
-print_file() {
-    printf '$ desk print - examples/site.sudo - db1 < %s\n' "$1"
-    build/desk print - examples/site.sudo - db1 < "$1" 2>&1
+# A grant's life: approved before it is asked for, asked for, refused too late, and revoked; the host's file at each step, and what it decides.
+with_messages() {
+    local messages=$1
+    shift
+    printf '$ desk %s < %s\n' "$*" "$messages"
+    build/desk "$@" < "$messages" 2>&1
     printf '(status %s)\n\n' "$?"
 }
 
-print_file examples/asked.messages
-print_file examples/approved.messages
-build/desk print - examples/site.sudo - db1 < examples/approved.messages > build/db1.sudo
-for at in 20260105091459Z 20260105091500Z 20260105110000Z 20260105110001Z; do
+desk=(examples/roster.toml examples/site.sudo -)
+with_messages examples/revoked.messages deliver "${desk[@]}" chat
+with_messages examples/parked.messages deliver "${desk[@]}" fax
+for step in parked asked approved refused revoked; do
+    with_messages "examples/$step.messages" print "${desk[@]}" db1
+done
+build/desk print "${desk[@]}" db1 < examples/revoked.messages > build/db1.sudo
+for at in 20260105091459Z 20260105091500Z 20260105102959Z 20260105103000Z; do
     ask decide build/db1.sudo ann db1 root "$at" /usr/bin/id
 done

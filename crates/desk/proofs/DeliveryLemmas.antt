@@ -1,23 +1,27 @@
--- One answer to a body, and what is kept once one more body is answered.
-use Rattle.std.proofs.Common.{◌≡◌, ◌≢◌, ℕ, ◌<◌, ◌≤◌, ◌⊎◌, List, [], ◌∷◌, ◌++◌, map, take, length, get_or, Result, Ok, Err, true, false, refl, sym, ap, ◌∙◌, subst, inl, inr, arith}
-use Rattle.std.specs.List.{AllZip, Contains}
-use Rattle.std.specs.Result.{OnOk, OnErr, IsOk}
-use Rattle.std.proofs.lemmas.List.Elements.{Contains-append_left, Contains-push, Contains-push_cases}
+-- One answer to a delivery, and what is held once one more delivery is answered.
+use Rattle.std.proofs.Common.{◌≡◌, ℕ, ◌<◌, ◌⊎◌, List, [], ◌∷◌, ◌++◌, length, Result, Ok, Err, true, false, refl, sym, ap, ◌∙◌, subst, inl, inr, arith}
 use Rattle.messages.specs.Canonical.{IsCanonicalText}
-use Rattle.messages.specs.Fields.{RequestFields}
 use Rattle.messages.specs.Members.{value_of}
 use Rattle.messages.specs.Wire.{wire, IsMessage}
 use Rattle.messages.specs.declared.message.Message.{Message}
-use Rattle.messages.specs.declared.message.Message.TheVariants.{Request, Verdict}
 use Rattle.messages.proofs.Readings.{text_of_message}
 use Rattle.messages.proofs.Uniqueness.{one_message}
+use Rattle.sudo_words.specs.declared.cmnd.Cmnd.{Cmnd}
+use Rattle.roster.specs.Fields.{RosterFields}
+use Rattle.roster.specs.Rules.{is_among}
+use Rattle.grants.specs.Admission.{Admits, IsDenial}
+use Rattle.grants.specs.declared.denial.Denial.{Denial}
+use Rattle.grants.proofs.Answering.{no_denial, one_denial}
+use Rattle.desk_store.specs.Sets.{IsWith}
 use Rattle.desk.specs.declared.ack.Ack.{Ack}
 use Rattle.desk.specs.declared.refusal.Refusal.{Refusal}
-use Rattle.desk.specs.declared.refusal.Refusal.TheVariants.{TooLong, NotCanonical, BadField, WindowBackwards, TooManyRules, NoMemory, BaseTooLarge}
-use Rattle.desk.specs.Grants.{IsAdmissible}
-use Rattle.desk.specs.Delivery.{Answers, IsAnswer, IsAcked, IsBodyOf, IsDelivered, IsKept}
+use Rattle.desk.specs.declared.refusal.Refusal.TheVariants.{UnknownRelay, UnknownHost, TooLong, NotCanonical, BadField, Denied, TooManyRules, RosterChanged, NotADesk, Storage, NoMemory, BaseTooLarge}
+use Rattle.desk.specs.Delivery.{Acknowledges, AcknowledgesAmong, Answers, AnswersBody, AreAnswers, Delivery, HeldAfter, HeldAfterAll, IsAnswer, IsBodyOf, WasWanting}
 
 -- ---- one answer
+
+too_long : (body : List ℕ) (m : Message) → IsBodyOf body m → 16_384 < length body → ⊥
+too_long body m is long = omega (arith, long, is.short)
 
 canonical_body : (body : List ℕ) (m : Message) → IsBodyOf body m → IsCanonicalText body
 canonical_body body m is =
@@ -27,143 +31,143 @@ canonical_body body m is =
 same_body : (body : List ℕ) (m n : Message) → IsBodyOf body m → IsBodyOf body n → m ≡ n
 same_body body m n x y = one_message m n x.message y.message (sym x.text ∙ y.text)
 
-kept_request : (body : List ℕ) (m : Message) (q : RequestFields) → IsBodyOf body m → IsBodyOf body (Request q) → IsKept m → IsAdmissible q
-kept_request body m q x y kept =
-    let P : Message → Type 0 = IsKept in
-    subst P (same_body body m (Request q) x y) kept
+admitted_denied : (f : RosterFields Cmnd) (body : List ℕ) (m n : Message) (d : Denial) → IsBodyOf body m → IsBodyOf body n → Admits f m → IsDenial f n d → ⊥
+admitted_denied f body m n d x y admits denial =
+    let P : Message → Type 0 = Admits f in
+    no_denial f n d (subst P (same_body body m n x y) admits) denial.applies
 
-pub one_answer : (body : List ℕ) (a b : Result Ack Refusal) → Answers body a → Answers body b → a ≡ b
-one_answer body (Err TooManyRules) b x y = absurd x
-one_answer body (Err NoMemory) b x y = absurd x
-one_answer body (Err BaseTooLarge) b x y = absurd x
-one_answer body (Ok p) (Err TooManyRules) x y = absurd y
-one_answer body (Ok p) (Err NoMemory) x y = absurd y
-one_answer body (Ok p) (Err BaseTooLarge) x y = absurd y
-one_answer body (Ok p) (Ok q) x y = refl
-one_answer body (Ok p) (Err TooLong) x y = absurd (omega (arith, y, x.1.short))
-one_answer body (Ok p) (Err NotCanonical) x y = absurd (y.1 (canonical_body body x.0 x.1))
-one_answer body (Ok p) (Err BadField) x y = absurd (y.2 x.0 x.1.message x.1.text)
-one_answer body (Ok p) (Err WindowBackwards) x y = absurd (y.2 (kept_request body x.0 y.0 x.1 y.1 x.2))
-one_answer body (Err TooLong) (Err TooManyRules) x y = absurd y
-one_answer body (Err TooLong) (Err NoMemory) x y = absurd y
-one_answer body (Err TooLong) (Err BaseTooLarge) x y = absurd y
-one_answer body (Err TooLong) (Ok q) x y = absurd (omega (arith, x, y.1.short))
-one_answer body (Err TooLong) (Err TooLong) x y = refl
-one_answer body (Err TooLong) (Err NotCanonical) x y = absurd (omega (arith, x, y.0))
-one_answer body (Err TooLong) (Err BadField) x y = absurd (omega (arith, x, y.0))
-one_answer body (Err TooLong) (Err WindowBackwards) x y = absurd (omega (arith, x, y.1.short))
-one_answer body (Err NotCanonical) (Err TooManyRules) x y = absurd y
-one_answer body (Err NotCanonical) (Err NoMemory) x y = absurd y
-one_answer body (Err NotCanonical) (Err BaseTooLarge) x y = absurd y
-one_answer body (Err NotCanonical) (Ok q) x y = absurd (x.1 (canonical_body body y.0 y.1))
-one_answer body (Err NotCanonical) (Err TooLong) x y = absurd (omega (arith, y, x.0))
-one_answer body (Err NotCanonical) (Err NotCanonical) x y = refl
-one_answer body (Err NotCanonical) (Err BadField) x y = absurd (x.1 (y.1))
-one_answer body (Err NotCanonical) (Err WindowBackwards) x y = absurd (x.1 (canonical_body body (Request y.0) y.1))
-one_answer body (Err BadField) (Err TooManyRules) x y = absurd y
-one_answer body (Err BadField) (Err NoMemory) x y = absurd y
-one_answer body (Err BadField) (Err BaseTooLarge) x y = absurd y
-one_answer body (Err BadField) (Ok q) x y = absurd (x.2 y.0 y.1.message y.1.text)
-one_answer body (Err BadField) (Err TooLong) x y = absurd (omega (arith, y, x.0))
-one_answer body (Err BadField) (Err NotCanonical) x y = absurd (y.1 (x.1))
-one_answer body (Err BadField) (Err BadField) x y = refl
-one_answer body (Err BadField) (Err WindowBackwards) x y = absurd (x.2 (Request y.0) y.1.message y.1.text)
-one_answer body (Err WindowBackwards) (Err TooManyRules) x y = absurd y
-one_answer body (Err WindowBackwards) (Err NoMemory) x y = absurd y
-one_answer body (Err WindowBackwards) (Err BaseTooLarge) x y = absurd y
-one_answer body (Err WindowBackwards) (Ok q) x y = absurd (x.2 (kept_request body y.0 x.0 y.1 x.1 y.2))
-one_answer body (Err WindowBackwards) (Err TooLong) x y = absurd (omega (arith, y, x.1.short))
-one_answer body (Err WindowBackwards) (Err NotCanonical) x y = absurd (y.1 (canonical_body body (Request x.0) x.1))
-one_answer body (Err WindowBackwards) (Err BadField) x y = absurd (y.2 (Request x.0) x.1.message x.1.text)
-one_answer body (Err WindowBackwards) (Err WindowBackwards) x y = refl
+denials_agree : (f : RosterFields Cmnd) (body : List ℕ) (m n : Message) (d e : Denial) → IsBodyOf body m → IsBodyOf body n → IsDenial f m d → IsDenial f n e → d ≡ e
+denials_agree f body m n d e x y first second =
+    let P : Message → Type 0 = λ v. IsDenial f v d in
+    one_denial f n d e (subst P (same_body body m n x y) first) second
 
-pub answer_from_sound : (body : List ℕ) (a : Result Ack Refusal) → (a ≡ Err NoMemory) ⊎ Answers body a → IsAnswer body a
-answer_from_sound body a sound = record {
+one_body_answer : (f : RosterFields Cmnd) (body : List ℕ) (a b : Result Ack Refusal) → AnswersBody f body a → AnswersBody f body b → a ≡ b
+one_body_answer f body (Err UnknownRelay) b x y = absurd x
+one_body_answer f body (Err UnknownHost) b x y = absurd x
+one_body_answer f body (Err TooManyRules) b x y = absurd x
+one_body_answer f body (Err RosterChanged) b x y = absurd x
+one_body_answer f body (Err NotADesk) b x y = absurd x
+one_body_answer f body (Err Storage) b x y = absurd x
+one_body_answer f body (Err NoMemory) b x y = absurd x
+one_body_answer f body (Err BaseTooLarge) b x y = absurd x
+one_body_answer f body a (Err UnknownRelay) x y = absurd y
+one_body_answer f body a (Err UnknownHost) x y = absurd y
+one_body_answer f body a (Err TooManyRules) x y = absurd y
+one_body_answer f body a (Err RosterChanged) x y = absurd y
+one_body_answer f body a (Err NotADesk) x y = absurd y
+one_body_answer f body a (Err Storage) x y = absurd y
+one_body_answer f body a (Err NoMemory) x y = absurd y
+one_body_answer f body a (Err BaseTooLarge) x y = absurd y
+one_body_answer f body (Ok p) (Ok q) x y = refl
+one_body_answer f body (Ok p) (Err TooLong) x y = absurd (too_long body x.0 x.1 y)
+one_body_answer f body (Ok p) (Err NotCanonical) x y = absurd (y.1 (canonical_body body x.0 x.1))
+one_body_answer f body (Ok p) (Err BadField) x y = absurd (y.2 x.0 x.1.message x.1.text)
+one_body_answer f body (Ok p) (Err (Denied e)) x y = absurd (admitted_denied f body x.0 y.0 e x.1 y.1 x.2 y.2)
+one_body_answer f body (Err TooLong) (Ok q) x y = absurd (too_long body y.0 y.1 x)
+one_body_answer f body (Err TooLong) (Err TooLong) x y = refl
+one_body_answer f body (Err TooLong) (Err NotCanonical) x y = absurd (omega (arith, x, y.0))
+one_body_answer f body (Err TooLong) (Err BadField) x y = absurd (omega (arith, x, y.0))
+one_body_answer f body (Err TooLong) (Err (Denied e)) x y = absurd (too_long body y.0 y.1 x)
+one_body_answer f body (Err NotCanonical) (Ok q) x y = absurd (x.1 (canonical_body body y.0 y.1))
+one_body_answer f body (Err NotCanonical) (Err TooLong) x y = absurd (omega (arith, y, x.0))
+one_body_answer f body (Err NotCanonical) (Err NotCanonical) x y = refl
+one_body_answer f body (Err NotCanonical) (Err BadField) x y = absurd (x.1 y.1)
+one_body_answer f body (Err NotCanonical) (Err (Denied e)) x y = absurd (x.1 (canonical_body body y.0 y.1))
+one_body_answer f body (Err BadField) (Ok q) x y = absurd (x.2 y.0 y.1.message y.1.text)
+one_body_answer f body (Err BadField) (Err TooLong) x y = absurd (omega (arith, y, x.0))
+one_body_answer f body (Err BadField) (Err NotCanonical) x y = absurd (y.1 x.1)
+one_body_answer f body (Err BadField) (Err BadField) x y = refl
+one_body_answer f body (Err BadField) (Err (Denied e)) x y = absurd (x.2 y.0 y.1.message y.1.text)
+one_body_answer f body (Err (Denied d)) (Ok q) x y = absurd (admitted_denied f body y.0 x.0 d y.1 x.1 y.2 x.2)
+one_body_answer f body (Err (Denied d)) (Err TooLong) x y = absurd (too_long body x.0 x.1 y)
+one_body_answer f body (Err (Denied d)) (Err NotCanonical) x y = absurd (y.1 (canonical_body body x.0 x.1))
+one_body_answer f body (Err (Denied d)) (Err BadField) x y = absurd (y.2 x.0 x.1.message x.1.text)
+one_body_answer f body (Err (Denied d)) (Err (Denied e)) x y = ap (λ (v : Denial). Err (Denied v)) (denials_agree f body x.0 y.0 d e x.1 y.1 x.2 y.2)
+
+pub one_answer : (f : RosterFields Cmnd) (d : Delivery) (a b : Result Ack Refusal) → Answers f d a → Answers f d b → a ≡ b
+one_answer f d a b (inl x) (inl y) = x.1 ∙ sym y.1
+one_answer f d a b (inl x) (inr y) = let wrong : false ≡ true = sym x.0 ∙ y.0 in absurd cc
+one_answer f d a b (inr x) (inl y) = let wrong : false ≡ true = sym y.0 ∙ x.0 in absurd cc
+one_answer f d a b (inr x) (inr y) = one_body_answer f d.body a b x.1 y.1
+
+pub answer_from_sound : (f : RosterFields Cmnd) (d : Delivery) (a : Result Ack Refusal) → (WasWanting a ⊎ Answers f d a) → IsAnswer f d a
+answer_from_sound f d a sound = record {
   sound = sound;
   complete = λ right is.
-      elim sound as (λ _. (a ≡ Err NoMemory) ⊎ (a ≡ right)) [ inl memory ↦ inl memory | inr right_too ↦ inr (one_answer body a right right_too is) ];
+      elim sound as (λ _. WasWanting a ⊎ (a ≡ right)) [ inl wanting ↦ inl wanting | inr right_too ↦ inr (one_answer f d a right right_too is) ];
 }
 
-pub refused : (body : List ℕ) (e : Refusal) → (e ≡ NoMemory) ⊎ Answers body (Err e) → IsAnswer body (Err e)
-refused body e (inl memory) = answer_from_sound body (Err e) (inl (ap (λ (x : Refusal). Err x) memory))
-refused body e (inr right) = answer_from_sound body (Err e) (inr right)
+-- a body of a known relay that is refused before anything is kept
+pub refused : (f : RosterFields Cmnd) (d : Delivery) (e : Refusal) → is_among f.relays d.relay ≡ true → (e ≡ NoMemory) ⊎ AnswersBody f d.body (Err e) → IsAnswer f d (Err e)
+refused f d e known (inl memory) = answer_from_sound f d (Err e) (inl (inl memory))
+refused f d e known (inr right) = answer_from_sound f d (Err e) (inr (inr (known, right)))
 
--- ---- one more body
+pub acknowledged : (f : RosterFields Cmnd) (d : Delivery) (ack : Ack) (m : Message) → is_among f.relays d.relay ≡ true → IsBodyOf d.body m → Admits f m → IsAnswer f d (Ok ack)
+acknowledged f d ack m known body admits = answer_from_sound f d (Ok ack) (inr (inr (known, (m, body, admits))))
 
-all_zip_push : {A B : Type 0} (R : A → B → Type 0) (xs : List A) (ys : List B) (x : A) (y : B) → AllZip R xs ys → R x y → AllZip R (xs ++ x ∷ []) (ys ++ y ∷ [])
-all_zip_push R [] [] x y all is = (is, tt)
-all_zip_push R [] (b ∷ ys) x y all is = absurd all
-all_zip_push R (a ∷ xs) [] x y all is = absurd all
-all_zip_push R (a ∷ xs) (b ∷ ys) x y all is = (all.0, all_zip_push R xs ys x y all.1 is)
+-- ---- the set
 
-acked_before : (m : Message) (bodies : List (List ℕ)) (answers : List (Result Ack Refusal)) (body : List ℕ) (answer : Result Ack Refusal) → IsAcked m bodies answers → IsAcked m (bodies ++ body ∷ []) (answers ++ answer ∷ [])
-acked_before m [] answers body answer h = absurd h
-acked_before m (b ∷ bodies) [] body answer h = absurd h
-acked_before m (b ∷ bodies) (a ∷ answers) body answer (inl here) = inl here
-acked_before m (b ∷ bodies) (a ∷ answers) body answer (inr later) = inr (acked_before m bodies answers body answer later)
+pub held_at_ok : (S T : Message → Type 0) (d : Delivery) (ack : Ack) (m : Message) → IsBodyOf d.body m → IsWith S m T → HeldAfter S d (Ok ack) T
+held_at_ok S T d ack m body is = λ n. (
+  λ held. elim held as (λ _. T n) [
+    | inl before ↦ (is n).0 (inl before)
+    | inr acked ↦ (is n).0 (inr (one_message n m acked.0 body.message (sym acked.1 ∙ body.text)))
+  ],
+  λ held. elim ((is n).1 held) as (λ _. S n ⊎ Acknowledges d (Ok ack) n) [
+    | inl before ↦ inl before
+    | inr equal ↦
+        let P : Message → Type 0 = IsMessage in
+        inr (subst P (sym equal) body.message, body.text ∙ ap wire (sym equal), refl)
+  ],
+)
 
-acked_last : (m : Message) (bodies : List (List ℕ)) (answers : List (Result Ack Refusal)) (body : List ℕ) (answer : Result Ack Refusal) → AllZip IsAnswer bodies answers → body ≡ wire m → IsOk answer → IsAcked m (bodies ++ body ∷ []) (answers ++ answer ∷ [])
-acked_last m [] [] body answer all text ok = inl (text, ok)
-acked_last m [] (a ∷ answers) body answer all text ok = absurd all
-acked_last m (b ∷ bodies) [] body answer all text ok = absurd all
-acked_last m (b ∷ bodies) (a ∷ answers) body answer all text ok = inr (acked_last m bodies answers body answer all.1 text ok)
+-- ---- many deliveries
 
-acked_cases : (m : Message) (bodies : List (List ℕ)) (answers : List (Result Ack Refusal)) (body : List ℕ) (answer : Result Ack Refusal) → AllZip IsAnswer bodies answers → IsAcked m (bodies ++ body ∷ []) (answers ++ answer ∷ []) → IsAcked m bodies answers ⊎ ((body ≡ wire m) × IsOk answer)
-acked_cases m [] [] body answer all (inl here) = inr here
-acked_cases m [] [] body answer all (inr none) = absurd none
-acked_cases m [] (a ∷ answers) body answer all h = absurd all
-acked_cases m (b ∷ bodies) [] body answer all h = absurd all
-acked_cases m (b ∷ bodies) (a ∷ answers) body answer all (inl here) = inl (inl here)
-acked_cases m (b ∷ bodies) (a ∷ answers) body answer all (inr later) =
-    elim (acked_cases m bodies answers body answer all.1 later) as (λ _. IsAcked m (b ∷ bodies) (a ∷ answers) ⊎ ((body ≡ wire m) × IsOk answer)) [ inl before ↦ inl (inr before) | inr last ↦ inr last ]
+pub answers_push : (f : RosterFields Cmnd) (ds : List Delivery) (answers : List (Result Ack Refusal)) (d : Delivery) (a : Result Ack Refusal) → AreAnswers f ds answers → IsAnswer f d a → AreAnswers f (ds ++ d ∷ []) (answers ++ a ∷ [])
+answers_push f [] [] d a all is = (is, tt)
+answers_push f [] (b ∷ answers) d a all is = absurd all
+answers_push f (e ∷ ds) [] d a all is = absurd all
+answers_push f (e ∷ ds) (b ∷ answers) d a all is = (all.0, answers_push f ds answers d a all.1 is)
 
-from_before : (old mid : List Message) (bodies : List (List ℕ)) (answers : List (Result Ack Refusal)) (body : List ℕ) (answer : Result Ack Refusal) → IsDelivered old mid bodies answers → (m : Message) → Contains mid m → Contains old m ⊎ (IsMessage m × IsAcked m (bodies ++ body ∷ []) (answers ++ answer ∷ []))
-from_before old mid bodies answers body answer d m h =
-    elim (d.only m h) as (λ _. Contains old m ⊎ (IsMessage m × IsAcked m (bodies ++ body ∷ []) (answers ++ answer ∷ []))) [
-      | inl was ↦ inl was
-      | inr acked ↦ inr (acked.0, acked_before m bodies answers body answer acked.1)
+among_before : (m : Message) (ds : List Delivery) (answers : List (Result Ack Refusal)) (d : Delivery) (a : Result Ack Refusal) → AcknowledgesAmong ds answers m → AcknowledgesAmong (ds ++ d ∷ []) (answers ++ a ∷ []) m
+among_before m [] answers d a h = absurd h
+among_before m (e ∷ ds) [] d a h = absurd h
+among_before m (e ∷ ds) (b ∷ answers) d a (inl here) = inl here
+among_before m (e ∷ ds) (b ∷ answers) d a (inr later) = inr (among_before m ds answers d a later)
+
+among_last : (f : RosterFields Cmnd) (m : Message) (ds : List Delivery) (answers : List (Result Ack Refusal)) (d : Delivery) (a : Result Ack Refusal) → AreAnswers f ds answers → Acknowledges d a m → AcknowledgesAmong (ds ++ d ∷ []) (answers ++ a ∷ []) m
+among_last f m [] [] d a all h = inl h
+among_last f m [] (b ∷ answers) d a all h = absurd all
+among_last f m (e ∷ ds) [] d a all h = absurd all
+among_last f m (e ∷ ds) (b ∷ answers) d a all h = inr (among_last f m ds answers d a all.1 h)
+
+among_cases : (f : RosterFields Cmnd) (m : Message) (ds : List Delivery) (answers : List (Result Ack Refusal)) (d : Delivery) (a : Result Ack Refusal) → AreAnswers f ds answers → AcknowledgesAmong (ds ++ d ∷ []) (answers ++ a ∷ []) m → AcknowledgesAmong ds answers m ⊎ Acknowledges d a m
+among_cases f m [] [] d a all (inl here) = inr here
+among_cases f m [] [] d a all (inr none) = absurd none
+among_cases f m [] (b ∷ answers) d a all h = absurd all
+among_cases f m (e ∷ ds) [] d a all h = absurd all
+among_cases f m (e ∷ ds) (b ∷ answers) d a all (inl here) = inl (inl here)
+among_cases f m (e ∷ ds) (b ∷ answers) d a all (inr later) =
+    elim (among_cases f m ds answers d a all.1 later) as (λ _. AcknowledgesAmong (e ∷ ds) (b ∷ answers) m ⊎ Acknowledges d a m) [ inl before ↦ inl (inr before) | inr last ↦ inr last ]
+
+pub held_by_none : (S : Message → Type 0) → HeldAfterAll S [] [] S
+held_by_none S = λ m. (λ h. elim h as (λ _. S m) [ inl held ↦ held | inr none ↦ absurd none ], λ h. inl h)
+
+pub held_push : (f : RosterFields Cmnd) (S T U : Message → Type 0) (ds : List Delivery) (answers : List (Result Ack Refusal)) (d : Delivery) (a : Result Ack Refusal) → AreAnswers f ds answers
+    → HeldAfterAll S ds answers T → HeldAfter T d a U → HeldAfterAll S (ds ++ d ∷ []) (answers ++ a ∷ []) U
+held_push f S T U ds answers d a all before last = λ m. (
+  λ h. elim h as (λ _. U m) [
+    | inl held ↦ (last m).0 (inl ((before m).0 (inl held)))
+    | inr acked ↦ elim (among_cases f m ds answers d a all acked) as (λ _. U m) [
+      | inl sooner ↦ (last m).0 (inl ((before m).0 (inr sooner)))
+      | inr now ↦ (last m).0 (inr now)
     ]
-
-pub one_more : (old mid new : List Message) (bodies : List (List ℕ)) (answers : List (Result Ack Refusal)) (body : List ℕ) (answer : Result Ack Refusal) → IsDelivered old mid bodies answers → IsAnswer body answer → OnOk answer ((m : Message) × IsBodyOf body m × (new ≡ mid ++ m ∷ [])) → OnErr answer (new ≡ mid) → IsDelivered old new (bodies ++ body ∷ []) (answers ++ answer ∷ [])
-one_more old mid new bodies answers body (Ok ack) d is ok err =
-    let P : List Message → Type 0 = λ ms. (m : Message) → Contains mid m → Contains ms m in
-    let grows : (m : Message) → Contains mid m → Contains new m = subst P (sym ok.2) (λ m h. Contains-append_left mid (ok.0 ∷ []) m h) in
-    record {
-      answered = all_zip_push IsAnswer bodies answers body (Ok ack) d.answered is;
-      stays = λ m h. grows m (d.stays m h);
-      added = λ m message acked.
-          elim (acked_cases m bodies answers body (Ok ack) d.answered acked) as (λ _. Contains new m) [
-            | inl before ↦ grows m (d.added m message before)
-            | inr last ↦
-                let same : ok.0 ≡ m = one_message ok.0 m ok.1.message message (sym ok.1.text ∙ last.0) in
-                let Q : List Message → Type 0 = λ ms. Contains ms ok.0 in
-                let R : Message → Type 0 = λ x. Contains new x in
-                subst R same (subst Q (sym ok.2) (Contains-push mid ok.0))
-          ];
-      only = λ m h.
-          let Q : List Message → Type 0 = λ ms. Contains ms m in
-          elim (Contains-push_cases mid ok.0 m (subst Q ok.2 h)) as (λ _. Contains old m ⊎ (IsMessage m × IsAcked m (bodies ++ body ∷ []) (answers ++ Ok ack ∷ []))) [
-            | inl before ↦ from_before old mid bodies answers body (Ok ack) d m before
-            | inr same ↦
-                let R : Message → Type 0 = λ x. IsMessage x × IsAcked x (bodies ++ body ∷ []) (answers ++ Ok ack ∷ []) in
-                inr (subst R same (ok.1.message, acked_last ok.0 bodies answers body (Ok ack) d.answered ok.1.text refl))
-          ];
-    }
-one_more old mid new bodies answers body (Err e) d is ok err =
-    let P : List Message → Type 0 = λ ms. (m : Message) → Contains mid m → Contains ms m in
-    let grows : (m : Message) → Contains mid m → Contains new m = subst P (sym err) (λ m h. h) in
-    record {
-      answered = all_zip_push IsAnswer bodies answers body (Err e) d.answered is;
-      stays = λ m h. grows m (d.stays m h);
-      added = λ m message acked.
-          elim (acked_cases m bodies answers body (Err e) d.answered acked) as (λ _. Contains new m) [
-            | inl before ↦ grows m (d.added m message before)
-            | inr last ↦ let wrong : false ≡ true = last.1 in absurd cc
-          ];
-      only = λ m h.
-          let Q : List Message → Type 0 = λ ms. Contains ms m in
-          from_before old mid bodies answers body (Err e) d m (subst Q err h);
-    }
-
-pub none_delivered : (old : List Message) → IsDelivered old old [] []
-none_delivered old = record { answered = tt; stays = λ m h. h; added = λ m message acked. absurd acked; only = λ m h. inl h }
+  ],
+  λ h. elim ((last m).1 h) as (λ _. S m ⊎ AcknowledgesAmong (ds ++ d ∷ []) (answers ++ a ∷ []) m) [
+    | inl sooner ↦ elim ((before m).1 sooner) as (λ _. S m ⊎ AcknowledgesAmong (ds ++ d ∷ []) (answers ++ a ∷ []) m) [
+      | inl held ↦ inl held
+      | inr acked ↦ inr (among_before m ds answers d a acked)
+    ]
+    | inr now ↦ inr (among_last f m ds answers d a all now)
+  ],
+)

@@ -1,5 +1,5 @@
 -- What the rule of a grant says of an invocation, whatever the aliases are: yes where each of its parts fits, and nothing elsewhere.
-use Rattle.std.proofs.Common.{◌≡◌, ℕ, ◌≤◌, ◌⊎◌, Bool, true, false, cond, ◌&&◌, leb, Option, Some, None, List, [], ◌∷◌, refl, sym, ap, ◌∙◌, subst, inl, inr}
+use Rattle.std.proofs.Common.{◌≡◌, ℕ, ◌≤◌, ◌⊎◌, Bool, true, false, cond, ◌&&◌, leb, Option, Some, None, List, refl, inl, inr}
 use Rattle.std.specs.Str.{bytes_eq}
 use Rattle.std.proofs.lemmas.Bool.{leb-true, le-leb}
 use Rattle.std.proofs.lemmas.Slice.Eq.{bytes_eq-Decides}
@@ -9,7 +9,7 @@ use Rattle.messages.specs.Fields.{RequestFields}
 use Rattle.sudo_syntax.specs.declared.entry.Entry.{Entry}
 use Rattle.sudo_decide.specs.declared.invocation.Invocation.{Invocation}
 use Rattle.sudo_decide.specs.Decision.{is_yes, says}
-use Rattle.desk.specs.HostFile.{grant_rule}
+use Rattle.grants.specs.GrantRules.{grant_rule}
 
 -- the answer, from the test of each part
 abbrev pub answer_of : (begun lasts user host target fits : Bool) → Option Bool

@@ -1,5 +1,5 @@
 -- What a host's file decides: it allows what a grant covers, and decides all else as the base does.
-use Rattle.std.proofs.Common.{◌≡◌, ℕ, ◌≤◌, ◌⊎◌, Bool, true, false, Option, Some, None, List, [], ◌∷◌, ◌++◌, map, reverse, refl, sym, ap, ◌∙◌, subst, inl, inr, append_assoc, max, arith}
+use Rattle.std.proofs.Common.{◌≡◌, ℕ, ◌⊎◌, Bool, true, false, Option, Some, None, List, [], ◌∷◌, ◌++◌, map, reverse, refl, sym, ap, ◌∙◌, subst, inl, inr, append_assoc, max, arith}
 use Rattle.std.specs.List.{Contains}
 use Rattle.std.proofs.lemmas.List.{append-nil}
 use Rattle.messages.specs.declared.message.Message.{Message}
@@ -11,10 +11,15 @@ use Rattle.sudo_decide.specs.declared.decision.Decision.TheVariants.{Allow}
 use Rattle.sudo_decide.specs.declared.invocation.Invocation.{Invocation}
 use Rattle.sudo_decide.specs.Decision.{says, outcome, Decides, DecidesBy}
 use Rattle.sudo_decide.proofs.DecisionLemmas.{decides_silent_last, decides_rule_last, same_definitions}
-use Rattle.desk.specs.Grants.{InWindow, Covers}
-use Rattle.desk.specs.HostFile.{Line, grant_rule, IsLine, AreLines, with_lines}
+use Rattle.sudo_words.specs.declared.cmnd.Cmnd.{Cmnd}
+use Rattle.messages.specs.Names.{name_of}
+use Rattle.roster.specs.Fields.{RosterFields}
+use Rattle.grants.specs.GrantRules.{grant_rule}
+use Rattle.grants.specs.Statuses.{IsLastMoment}
+use Rattle.desk.specs.Covers.{Covers}
+use Rattle.desk.specs.HostFile.{Line, IsLine, AreLines, with_lines}
 use Rattle.desk.proofs.Membership.{no_member, Contains-head, Contains-behind, Contains-cases, Contains-from_get, get_from_Contains}
-use Rattle.desk.proofs.GrantLemmas.{first_moment, last_moment, bounds_fit, between}
+use Rattle.desk.proofs.Windows.{between, first_of, not_endless}
 use Rattle.desk.proofs.GrantedRules.{grant_answers, fits_from_yes, yes_from_fits}
 
 -- ---- lines behind a policy, where these entries define the aliases
@@ -66,61 +71,71 @@ some_grants defined es (first ∷ lines) i each line m says_yes =
 
 -- ---- the lines of a set
 
-module _ (defined : List Entry) (messages : List Message) (i : Invocation) where
-  line_grants : (line : Line) → IsLine messages i.host line → Grants defined line i
+-- a line of them says yes, or none does
+one_says_yes : (defined : List Entry) (i : Invocation) (lines : List Line) → ((line : Line) → Contains lines line → Grants defined line i) → ((line : Line) × Contains lines line × (says defined line.rule i ≡ Some true)) ⊎ ((line : Line) → Contains lines line → says defined line.rule i ≡ None)
+one_says_yes defined i [] each = inr (λ line m. absurd (no_member line m))
+one_says_yes defined i (first ∷ lines) each =
+    let Found : Type 0 = ((line : Line) × Contains (first ∷ lines) line × (says defined line.rule i ≡ Some true)) ⊎ ((line : Line) → Contains (first ∷ lines) line → says defined line.rule i ≡ None) in
+    elim (each first (Contains-head first lines)).1 as (λ _. Found) [
+      | inl says_yes ↦ inl (first, Contains-head first lines, says_yes)
+      | inr quiet ↦ elim (one_says_yes defined i lines (λ l m. each l (Contains-behind first lines l m))) as (λ _. Found) [
+        | inl found ↦ inl (found.0, Contains-behind first lines found.0 found.1, found.2)
+        | inr all ↦ inr (λ line m. elim (Contains-cases first lines line m) as (λ _. says defined line.rule i ≡ None) [
+          | inl same ↦ subst (λ (l : Line). says defined l.rule i ≡ None) same quiet
+          | inr later ↦ all line later
+        ])
+      ]
+    ]
+
+module _ (f : RosterFields Cmnd) (defined : List Entry) (messages : List Message) (i : Invocation) where
+  line_grants : (line : Line) → IsLine f messages i.host line → Grants defined line i
   line_grants line l =
       let P : Rule → Type 0 = λ r. (r.nopasswd ≡ false) × ((says defined r i ≡ Some true) ⊎ (says defined r i ≡ None)) in
       subst P (sym l.rule_is) (refl, grant_answers defined i.host l.request l.first l.last l.cmnd i)
 
-  covers_from_yes : (line : Line) → IsLine messages i.host line → says defined line.rule i ≡ Some true → Covers messages i
+  covers_from_yes : (line : Line) → IsLine f messages i.host line → says defined line.rule i ≡ Some true → Covers f messages i
   covers_from_yes line l says_yes =
       let P : Rule → Type 0 = λ r. says defined r i ≡ Some true in
-      let f = fits_from_yes defined i.host l.request l.first l.last l.cmnd i (subst P l.rule_is says_yes) in
+      let fits = fits_from_yes defined i.host l.request l.first l.last l.cmnd i (subst P l.rule_is says_yes) in
       record {
         request = l.request;
         cmnd = l.cmnd;
-        window = between messages l.request l.first l.last i.at l.first_is l.last_is f.begun f.lasts;
-        user = f.user;
+        window = between f messages l.request l.first i.at l.last l.first_is.inside l.last_is.inside fits.begun fits.lasts;
+        user = fits.user;
         host = l.names_host;
-        target = f.target;
+        target = fits.target;
         of_request = Contains-from_get l.request.cmnds line.place l.cmnd l.cmnd_is;
-        matches_it = f.matches_it;
+        matches_it = fits.matches_it;
       }
 
   -- what covers an invocation gives its host a line that says yes
   record SaysYes : Type 0 where
     line : Line
-    is_line : IsLine messages i.host line
+    is_line : IsLine f messages i.host line
     says_yes : says defined line.rule i ≡ Some true
 
-  yes_from_covers : Covers messages i → SaysYes
-  yes_from_covers c =
+  yes_from_covers : (c : Covers f messages i) → (last : ℕ) → IsLastMoment f messages c.request last → SaysYes
+  yes_from_covers c last last_is =
       let place = get_from_Contains c.request.cmnds c.cmnd c.of_request in
-      let fits = bounds_fit messages c.request i.at c.window in
       let w = c.window in
+      let first : ℕ = max c.request.from w.complete in
       record {
-        line = record {
-          by = c.request.by;
-          no = c.request.no;
-          place = place.0;
-          rule = grant_rule i.host c.request (max c.request.from w.complete) c.request.until c.cmnd;
-        };
+        line = record { name = name_of c.request; place = place.0; rule = grant_rule i.host c.request first last c.cmnd };
         is_line = record {
           request = c.request;
-          first = max c.request.from w.complete;
-          last = c.request.until;
+          first = first;
+          last = last;
           cmnd = c.cmnd;
           names_host = c.host;
-          first_is = first_moment messages c.request w.complete w.alone w.admissible w.complete_is fits;
-          last_is = last_moment messages c.request w.complete w.alone w.admissible w.complete_is fits;
+          first_is = first_of f messages c.request i.at w;
+          last_is = last_is;
           cmnd_is = place.1;
-          by_is = refl;
-          no_is = refl;
+          name_is = refl;
           rule_is = refl;
         };
-        says_yes = yes_from_fits defined i.host c.request (max c.request.from w.complete) c.request.until c.cmnd i (record {
+        says_yes = yes_from_fits defined i.host c.request first last c.cmnd i (record {
           begun = omega (arith, w.from, w.behind);
-          lasts = w.until;
+          lasts = last_is.greatest i.at w;
           user = c.user;
           host_is = refl;
           target = c.target;
@@ -130,23 +145,32 @@ module _ (defined : List Entry) (messages : List Message) (i : Invocation) where
 
 -- ---- the file
 
-module _ (base : List Entry) (messages : List Message) (i : Invocation) (lines : List Line) (are : AreLines messages i.host lines) where
+module _ (f : RosterFields Cmnd) (base : List Entry) (messages : List Message) (i : Invocation) (lines : List Line) (are : AreLines f messages i.host lines) where
   -- the lines define nothing
   abbrev defined : List Entry
   defined = reverse (with_lines base lines)
 
   each_grants : (line : Line) → Contains lines line → Grants defined line i
-  each_grants line m = line_grants defined messages i line (are.each line m)
+  each_grants line m = line_grants f defined messages i line (are.each line m)
 
-  pub covered_allowed : Covers messages i → Decides (with_lines base lines) i Allow
+  not_all_quiet : Covers f messages i → ((line : Line) → Contains lines line → says defined line.rule i ≡ None) → ⊥
+  not_all_quiet c quiet =
+      not_endless f messages c.request i.at c.window (λ last last_is.
+      let found = yes_from_covers f defined messages i c last last_is in
+      let wrong : ◌≡◌ {A = Option Bool} (Some true) None = sym found.says_yes ∙ quiet found.line (are.all found.line found.is_line) in
+      absurd cc)
+
+  pub covered_allowed : Covers f messages i → Decides (with_lines base lines) i Allow
   covered_allowed c =
-      let found = yes_from_covers defined messages i c in
-      some_grants defined base lines i each_grants found.line (are.all found.line found.is_line) found.says_yes
+      elim (one_says_yes defined i lines each_grants) as (λ _. Decides (with_lines base lines) i Allow) [
+        | inl found ↦ some_grants defined base lines i each_grants found.0 found.1 found.2
+        | inr quiet ↦ absurd (not_all_quiet c quiet)
+      ]
 
-  quiet_line : (Covers messages i → ⊥) → (line : Line) → Contains lines line → says defined line.rule i ≡ None
+  quiet_line : (Covers f messages i → ⊥) → (line : Line) → Contains lines line → says defined line.rule i ≡ None
   quiet_line bare line m =
       elim (each_grants line m).1 as (λ _. says defined line.rule i ≡ None) [
-        | inl says_yes ↦ absurd (bare (covers_from_yes defined messages i line (are.each line m) says_yes))
+        | inl says_yes ↦ absurd (bare (covers_from_yes f defined messages i line (are.each line m) says_yes))
         | inr quiet ↦ quiet
       ]
 
@@ -155,5 +179,5 @@ module _ (base : List Entry) (messages : List Message) (i : Invocation) (lines :
       let P : List Entry → Type 0 = λ es. DecidesBy (reverse (base ++ es)) base i d in
       subst P (entries_of_rules lines) (same_definitions base (map (λ (line : Line). line.rule) lines) i d by)
 
-  pub bare_as_base : (Covers messages i → ⊥) → (d : Decision) → Decides base i d → Decides (with_lines base lines) i d
+  pub bare_as_base : (Covers f messages i → ⊥) → (d : Decision) → Decides base i d → Decides (with_lines base lines) i d
   bare_as_base bare d by = silent_lines defined base lines i d (quiet_line bare) (base_decides d by)

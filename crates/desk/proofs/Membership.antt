@@ -1,5 +1,5 @@
 -- The members of a list, by its head and its tail.
-use Rattle.std.proofs.Common.{◌≡◌, ℕ, List, [], ◌∷◌, ◌++◌, refl, sym, ap, subst, ◌∙◌, zero, suc, ◌<◌, length, get_or, Option, Some, None, true, arith, inl, inr, ◌⊎◌}
+use Rattle.std.proofs.Common.{◌≡◌, ℕ, List, [], ◌∷◌, ap, subst, zero, suc, ◌<◌, length, get_or, Some, true, arith, inl, inr, ◌⊎◌}
 use Rattle.std.specs.List.{Contains, slice_get, list_any}
 use Rattle.std.specs.Str.{bytes_eq}
 use Rattle.std.proofs.lemmas.Bool.{or_cases, or_left, or_right}

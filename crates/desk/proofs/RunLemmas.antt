@@ -1,80 +1,112 @@
--- What a run leaves is what was kept before it, and the set that it acknowledges.
-use Rattle.std.proofs.Common.{◌≡◌, ◌⊎◌, ℕ, List, [], ◌∷◌, Result, sym, subst, inl, inr, arith}
+-- What a run leaves is what was held before it, and the set that it acknowledges.
+use Rattle.std.proofs.Common.{◌≡◌, ◌⊎◌, List, [], ◌∷◌, ◌++◌, Result, Ok, Err, sym, subst, inl, inr}
 use Rattle.std.specs.List.{Contains}
-use Rattle.messages.specs.Wire.{IsMessage}
+use Rattle.std.proofs.lemmas.List.Elements.{Contains-append_left, Contains-push, Contains-push_cases}
+use Rattle.sudo_words.specs.declared.cmnd.Cmnd.{Cmnd}
+use Rattle.messages.specs.Names.{SameMessages}
 use Rattle.messages.specs.declared.message.Message.{Message}
-use Rattle.sudo_syntax.specs.declared.entry.Entry.{Entry}
+use Rattle.roster.specs.Fields.{RosterFields}
+use Rattle.desk_store.specs.Sets.{SameSet, IsWith}
 use Rattle.desk.specs.declared.ack.Ack.{Ack}
 use Rattle.desk.specs.declared.refusal.Refusal.{Refusal}
-use Rattle.desk.specs.Delivery.{IsAcked, IsDelivered}
-use Rattle.desk.specs.HostFile.{IsHostFile}
-use Rattle.desk.specs.Runs.{Step, Delivery, Question, IsRun, IsAckedIn, SameAcked}
-use Rattle.desk.specs.Sets.{SameMessages}
-use Rattle.desk.proofs.SetLemmas.{file_of_set}
+use Rattle.desk.specs.Delivery.{AcknowledgesAmong, AreAnswers, Delivery, HeldAfter, HeldAfterAll, IsAnswer}
+use Rattle.desk.specs.Runs.{Event, Delivered, Asked, IsRun, IsAckedIn, SameAcked, run_of}
+use Rattle.desk.proofs.DeliveryLemmas.{held_at_ok}
 
--- nothing that is kept is lost
-stays : (base : List Entry) (old new : List Message) (run : List Step) → IsRun base old run new
-    → (m : Message) → Contains old m → Contains new m
-stays base old new [] is m kept = let P : List Message → Type 0 = λ l. Contains l m in subst P is kept
-stays base old new (Delivery bodies answers ∷ run) is m kept = stays base is.0 new run is.2 m (is.1.stays m kept)
-stays base old new (Question host text ∷ run) is m kept = stays base old new run is.1 m kept
+-- ---- what a run leaves
 
--- what is acknowledged is kept
-added : (base : List Entry) (old new : List Message) (run : List Step) → IsRun base old run new
-    → (m : Message) → IsMessage m → IsAckedIn m run → Contains new m
-added base old new [] is m message acked = absurd acked
-added base old new (Delivery bodies answers ∷ run) is m message (inl acked) =
-    stays base is.0 new run is.2 m (is.1.added m message acked)
-added base old new (Delivery bodies answers ∷ run) is m message (inr acked) = added base is.0 new run is.2 m message acked
-added base old new (Question host text ∷ run) is m message acked = added base old new run is.1 m message acked
+stays : (f : RosterFields Cmnd) (old new : List Message) (run : List Event) → IsRun f old run new
+    → (m : Message) → (Contains old m ⊎ IsAckedIn run m) → Contains new m
+stays f old new [] is m (inl held) = (is m).0 held
+stays f old new [] is m (inr acked) = absurd acked
+stays f old new (Delivered d answer ∷ run) is m (inl held) = stays f is.0 new run is.3 m (inl ((is.2 m).0 (inl held)))
+stays f old new (Delivered d answer ∷ run) is m (inr (inl now)) = stays f is.0 new run is.3 m (inl ((is.2 m).0 (inr now)))
+stays f old new (Delivered d answer ∷ run) is m (inr (inr later)) = stays f is.0 new run is.3 m (inr later)
+stays f old new (Asked ∷ run) is m h = stays f old new run is m h
 
-sooner : (m : Message) (old : List Message) (bodies : List (List ℕ)) (answers : List (Result Ack Refusal)) (run : List Step)
-    → (Contains old m ⊎ (IsMessage m × IsAcked m bodies answers))
-    → Contains old m ⊎ (IsMessage m × IsAckedIn m (Delivery bodies answers ∷ run))
-sooner m old bodies answers run (inl kept) = inl kept
-sooner m old bodies answers run (inr acked) = inr (acked.0, inl acked.1)
+only : (f : RosterFields Cmnd) (old new : List Message) (run : List Event) → IsRun f old run new
+    → (m : Message) → Contains new m → Contains old m ⊎ IsAckedIn run m
+only f old new [] is m held = inl ((is m).1 held)
+only f old new (Delivered d answer ∷ run) is m held =
+    elim (only f is.0 new run is.3 m held) as (λ _. Contains old m ⊎ IsAckedIn (Delivered d answer ∷ run) m) [
+      | inl sooner ↦ elim ((is.2 m).1 sooner) as (λ _. Contains old m ⊎ IsAckedIn (Delivered d answer ∷ run) m) [
+        | inl before ↦ inl before
+        | inr now ↦ inr (inl now)
+      ]
+      | inr later ↦ inr (inr later)
+    ]
+only f old new (Asked ∷ run) is m held = only f old new run is m held
 
-later : (m : Message) (old kept : List Message) (bodies : List (List ℕ)) (answers : List (Result Ack Refusal)) (run : List Step)
-    → IsDelivered old kept bodies answers → (Contains kept m ⊎ (IsMessage m × IsAckedIn m run))
-    → Contains old m ⊎ (IsMessage m × IsAckedIn m (Delivery bodies answers ∷ run))
-later m old kept bodies answers run is (inl now) = sooner m old bodies answers run (is.only m now)
-later m old kept bodies answers run is (inr acked) = inr (acked.0, inr acked.1)
+pub run_leaves : (f : RosterFields Cmnd) (old new : List Message) (run : List Event) → IsRun f old run new
+    → SameSet (λ m. Contains old m ⊎ IsAckedIn run m) (λ m. Contains new m)
+run_leaves f old new run is = λ m. (stays f old new run is m, only f old new run is m)
 
--- and nothing else
-only : (base : List Entry) (old new : List Message) (run : List Step) → IsRun base old run new
-    → (m : Message) → Contains new m → Contains old m ⊎ (IsMessage m × IsAckedIn m run)
-only base old new [] is m kept = inl (let P : List Message → Type 0 = λ l. Contains l m in subst P (sym is) kept)
-only base old new (Delivery bodies answers ∷ run) is m kept =
-    later m old is.0 bodies answers run is.1 (only base is.0 new run is.2 m kept)
-only base old new (Question host text ∷ run) is m kept = only base old new run is.1 m kept
+half : (f : RosterFields Cmnd) (old s t : List Message) (r u : List Event) → ((m : Message) → IsAckedIn r m → IsAckedIn u m)
+    → IsRun f old r s → IsRun f old u t → (m : Message) → Contains s m → Contains t m
+half f old s t r u same first second m held =
+    elim (only f old s r first m held) as (λ _. Contains t m) [
+      | inl before ↦ stays f old t u second m (inl before)
+      | inr acked ↦ stays f old t u second m (inr (same m acked))
+    ]
 
--- ---- runs from nothing kept
+pub runs_agree : (f : RosterFields Cmnd) (old s t : List Message) (r u : List Event) → SameAcked r u
+    → IsRun f old r s → IsRun f old u t → SameMessages s t
+runs_agree f old s t r u same first second = λ m.
+    (half f old s t r u (λ n. (same n).0) first second m, half f old t s u r (λ n. (same n).1) second first m)
 
-from_nothing : (m : Message) (run : List Step) → (Contains [] m ⊎ (IsMessage m × IsAckedIn m run)) → IsMessage m × IsAckedIn m run
-from_nothing m run (inl kept) = absurd (omega (arith, kept.1))
-from_nothing m run (inr acked) = acked
+-- ---- deliveries as a run
 
-one_way : (base : List Entry) (s t : List Message) (r u : List Step) → IsRun base [] r s → IsRun base [] u t
-    → ((m : Message) → IsMessage m → IsAckedIn m r → IsAckedIn m u) → (m : Message) → Contains s m → Contains t m
-one_way base s t r u is was same m kept =
-    let acked = from_nothing m r (only base [] s r is m kept) in
-    added base [] t u was m acked.0 (same m acked.0 acked.1)
-
-pub same_messages : (base : List Entry) (s t : List Message) (r u : List Step) → SameAcked r u
-    → IsRun base [] r s → IsRun base [] u t → SameMessages s t
-same_messages base s t r u same is was = λ m. (
-  one_way base s t r u is was (λ n message. (same n message).0) m,
-  one_way base t s u r was is (λ n message. (same n message).1) m,
+pushed : (old : List Message) (m : Message) → IsWith (λ n. Contains old n) m (λ n. Contains (old ++ m ∷ []) n)
+pushed old m = λ n. (
+  λ h. elim h as (λ _. Contains (old ++ m ∷ []) n) [
+    | inl before ↦ Contains-append_left old (m ∷ []) n before
+    | inr equal ↦ let P : Message → Type 0 = λ x. Contains (old ++ m ∷ []) x in subst P (sym {A = Message} equal) (Contains-push old m)
+  ],
+  λ h. elim (Contains-push_cases old m n h) as (λ _. Contains old n ⊎ (n ≡ m)) [ inl before ↦ inl before | inr equal ↦ inr (sym {A = Message} equal) ],
 )
 
-pub same_files : (base : List Entry) (s t : List Message) (r u : List Step) (host x y : List ℕ) → SameAcked r u
-    → IsRun base [] r s → IsRun base [] u t → IsHostFile base s host x → IsHostFile base t host y → x ≡ y
-same_files base s t r u host x y same is was a b = file_of_set base s t host x y (same_messages base s t r u same is was) a b
+-- a list of what is held once a delivery is answered
+next : (f : RosterFields Cmnd) (old : List Message) (d : Delivery) (answer : Result Ack Refusal) → IsAnswer f d answer
+    → (held : List Message) × HeldAfter (λ m. Contains old m) d answer (λ m. Contains held m)
+next f old d (Err e) is = (old, λ m. (λ h. elim h as (λ _. Contains old m) [ inl held ↦ held | inr acked ↦ let wrong = acked.2 in absurd cc ], λ h. inl h))
+next f old d (Ok ack) is = elim is.sound as (λ _. (held : List Message) × HeldAfter (λ m. Contains old m) d (Ok ack) (λ m. Contains held m)) [
+  | inl wanting ↦ absurd wanting
+  | inr right ↦ elim right as (λ _. (held : List Message) × HeldAfter (λ m. Contains old m) d (Ok ack) (λ m. Contains held m)) [
+    | inl unknown ↦ absurd (let wrong = unknown.1 in cc)
+    | inr known ↦
+        let m : Message = known.1.0 in
+        (old ++ m ∷ [], held_at_ok (λ n. Contains old n) (λ n. Contains (old ++ m ∷ []) n) d ack m known.1.1 (pushed old m))
+  ]
+]
 
--- a message is kept exactly where the run acknowledges it
-pub kept_exactly : (base : List Entry) (s : List Message) (run : List Step) → IsRun base [] run s → (m : Message)
-    → (Contains s m → IsMessage m × IsAckedIn m run) × (IsMessage m → IsAckedIn m run → Contains s m)
-kept_exactly base s run is m = (
-  λ kept. from_nothing m run (only base [] s run is m kept),
-  λ message acked. added base [] s run is m message acked,
+shifted : (old held new : List Message) (d : Delivery) (answer : Result Ack Refusal) (ds : List Delivery) (answers : List (Result Ack Refusal))
+    → HeldAfter (λ m. Contains old m) d answer (λ m. Contains held m) → HeldAfterAll (λ m. Contains old m) (d ∷ ds) (answer ∷ answers) (λ m. Contains new m)
+    → HeldAfterAll (λ m. Contains held m) ds answers (λ m. Contains new m)
+shifted old held new d answer ds answers one all = λ m. (
+  λ h. elim h as (λ _. Contains new m) [
+    | inl now ↦ elim ((one m).1 now) as (λ _. Contains new m) [
+      | inl before ↦ (all m).0 (inl before)
+      | inr acked ↦ (all m).0 (inr (inl acked))
+    ]
+    | inr later ↦ (all m).0 (inr (inr later))
+  ],
+  λ h. elim ((all m).1 h) as (λ _. Contains held m ⊎ AcknowledgesAmong ds answers m) [
+    | inl before ↦ inl ((one m).0 (inl before))
+    | inr acked ↦ elim acked as (λ _. Contains held m ⊎ AcknowledgesAmong ds answers m) [
+      | inl now ↦ inl ((one m).0 (inr now))
+      | inr later ↦ inr later
+    ]
+  ],
 )
+
+none_left : (old new : List Message) → HeldAfterAll (λ m. Contains old m) [] [] (λ m. Contains new m) → SameMessages old new
+none_left old new all = λ m. (λ h. (all m).0 (inl h), λ h. elim ((all m).1 h) as (λ _. Contains old m) [ inl held ↦ held | inr none ↦ absurd none ])
+
+pub deliveries_run : (f : RosterFields Cmnd) (old new : List Message) (ds : List Delivery) (answers : List (Result Ack Refusal)) → AreAnswers f ds answers
+    → HeldAfterAll (λ m. Contains old m) ds answers (λ m. Contains new m) → IsRun f old (run_of ds answers) new
+deliveries_run f old new [] [] are all = none_left old new all
+deliveries_run f old new [] (a ∷ answers) are all = absurd are
+deliveries_run f old new (d ∷ ds) [] are all = absurd are
+deliveries_run f old new (d ∷ ds) (a ∷ answers) are all =
+    let one = next f old d a are.0 in
+    (one.0, are.0, one.1, deliveries_run f one.0 new ds answers are.1 (shifted old one.0 new d a ds answers one.1 all))

@@ -1,17 +1,26 @@
--- What the desk answers to a body, and which messages it keeps.
-use Rattle.std.specs.Prelude.{◌≡◌, ◌≢◌, ◌⊎◌, ℕ, ◌<◌, ◌≤◌, List, [], ◌∷◌, ◌++◌, length, Contains, Result, Ok, Err, IsOk}
+-- What the desk answers to a delivery, and which messages it holds then.
+use Rattle.std.specs.Prelude.{◌≡◌, ◌≢◌, ◌⊎◌, ℕ, ◌<◌, ◌≤◌, true, false, List, [], ◌∷◌, length, Result, Ok, Err, IsOk, String, Vec, string_bytes}
 use Rattle.std.specs.List.{AllZip}
+use Rattle.std.specs.declared.alloc.Global.{Global}
+use Rattle.sudo_words.specs.declared.cmnd.Cmnd.{Cmnd}
 use Rattle.messages.specs.Canonical.{IsCanonicalText}
-use Rattle.messages.specs.Fields.{RequestFields}
 use Rattle.messages.specs.Wire.{wire, IsMessage}
 use Rattle.messages.specs.declared.message.Message.{Message}
-use Rattle.messages.specs.declared.message.Message.TheVariants.{Request, Verdict}
-use Rattle.messages.specs.declared.fault.MessageFault.{MessageFault}
-use Rattle.messages.specs.declared.fault.MessageFault.TheVariants as faults
+use Rattle.roster.specs.Fields.{RosterFields}
+use Rattle.roster.specs.Rules.{is_among}
+use Rattle.grants.specs.Admission.{Admits, IsDenial}
+use Rattle.desk_store.specs.Sets.{SameSet}
+use Rattle.desk.specs.Refusals.{IsWant}
 use Rattle.desk.specs.declared.ack.Ack.{Ack}
 use Rattle.desk.specs.declared.refusal.Refusal.{Refusal}
-use Rattle.desk.specs.declared.refusal.Refusal.TheVariants.{TooLong, NotCanonical, BadField, WindowBackwards, TooManyRules, NoMemory, BaseTooLarge}
-use Rattle.desk.specs.Grants.{IsAdmissible}
+use Rattle.desk.specs.declared.refusal.Refusal.TheVariants.{UnknownRelay, TooLong, NotCanonical, BadField, Denied}
+
+-- A relay brings a body. The relay vouches for it, and has no other effect.
+pub record Delivery : Type 0 where
+  pub relay : List ℕ
+  pub body : List ℕ
+
+-- ---- the answer
 
 -- the body is the text of the message, and not too long
 pub record IsBodyOf (body : List ℕ) (m : Message) : Type 0 where
@@ -19,44 +28,57 @@ pub record IsBodyOf (body : List ℕ) (m : Message) : Type 0 where
   pub text : body ≡ wire m
   pub short : length body ≤ 16_384
 
--- the desk keeps every message but a request whose window is backwards
-abbrev pub IsKept : Message → Type 0
-IsKept (Request q) = IsAdmissible q
-IsKept (Verdict v) = Unit {0}
+-- The answer to a body of a known relay: the message is acknowledged where the roster admits it, else the first fault is told.
+abbrev pub AnswersBody : RosterFields Cmnd → (body : List ℕ) → Result Ack Refusal → Type 0
+AnswersBody f body (Ok ack) = (m : Message) × IsBodyOf body m × Admits f m
+AnswersBody f body (Err TooLong) = 16_384 < length body
+AnswersBody f body (Err NotCanonical) = (length body ≤ 16_384) × (¬ IsCanonicalText body)
+AnswersBody f body (Err BadField) = (length body ≤ 16_384) × IsCanonicalText body × ((m : Message) → IsMessage m → body ≢ wire m)
+AnswersBody f body (Err (Denied d)) = (m : Message) × IsBodyOf body m × IsDenial f m d
+AnswersBody f body (Err _) = ⊥
 
--- the answer to a body where memory lasts: at most one, by a law
-abbrev pub Answers : List ℕ → Result Ack Refusal → Type 0
-Answers body (Ok ack) = (m : Message) × IsBodyOf body m × IsKept m
-Answers body (Err TooLong) = 16_384 < length body
-Answers body (Err NotCanonical) = (length body ≤ 16_384) × (IsCanonicalText body → ⊥)
-Answers body (Err BadField) =
-    (length body ≤ 16_384) × IsCanonicalText body × ((m : Message) → IsMessage m → body ≢ wire m)
-Answers body (Err WindowBackwards) = (q : RequestFields) × IsBodyOf body (Request q) × (IsAdmissible q → ⊥)
-Answers body (Err TooManyRules) = ⊥
-Answers body (Err NoMemory) = ⊥
-Answers body (Err BaseTooLarge) = ⊥
+-- The answer to a delivery, where memory lasts and the storage holds: at most one, by a law. A relay that the roster lacks comes before
+-- all that the body may have.
+abbrev pub Answers : RosterFields Cmnd → Delivery → Result Ack Refusal → Type 0
+Answers f d answer =
+    ((is_among f.relays d.relay ≡ false) × (answer ≡ Err UnknownRelay)) ⊎ ((is_among f.relays d.relay ≡ true) × AnswersBody f d.body answer)
 
--- the reader's fault, as the desk names it
-abbrev pub refusal_of_fault : MessageFault → Refusal
-refusal_of_fault faults.TooLong = TooLong
-refusal_of_fault faults.NotCanonical = NotCanonical
-refusal_of_fault faults.BadField = BadField
-refusal_of_fault faults.NoMemory = NoMemory
+-- the answer tells that memory or the storage was wanting
+abbrev pub WasWanting : Result Ack Refusal → Type 0
+WasWanting (Ok ack) = ⊥
+WasWanting (Err e) = IsWant e
 
--- What is answered is right, unless memory ran out; and where an answer is right, it is given, unless memory ran out.
-pub record IsAnswer (body : List ℕ) (answer : Result Ack Refusal) : Type 0 where
-  pub sound : (answer ≡ Err NoMemory) ⊎ Answers body answer
-  pub complete : (right : Result Ack Refusal) → Answers body right → (answer ≡ Err NoMemory) ⊎ (answer ≡ right)
+-- What is answered is right, unless memory or the storage was wanting; and where an answer is right, it is given, unless they were.
+pub record IsAnswer (f : RosterFields Cmnd) (d : Delivery) (answer : Result Ack Refusal) : Type 0 where
+  pub sound : WasWanting answer ⊎ Answers f d answer
+  pub complete : (right : Result Ack Refusal) → Answers f d right → WasWanting answer ⊎ (answer ≡ right)
 
--- the text of the message is a body that was answered with an acknowledgement
-abbrev pub IsAcked : Message → List (List ℕ) → List (Result Ack Refusal) → Type 0
-IsAcked m [] answers = ⊥
-IsAcked m (body ∷ bodies) [] = ⊥
-IsAcked m (body ∷ bodies) (answer ∷ answers) = ((body ≡ wire m) × IsOk answer) ⊎ IsAcked m bodies answers
+-- ---- the set
 
--- Each body has its answer, in order; and what is kept then is what was kept before, and each message whose text was acknowledged.
-pub record IsDelivered (old new : List Message) (bodies : List (List ℕ)) (answers : List (Result Ack Refusal)) : Type 0 where
-  pub answered : AllZip IsAnswer bodies answers
-  pub stays : (m : Message) → Contains old m → Contains new m
-  pub added : (m : Message) → IsMessage m → IsAcked m bodies answers → Contains new m
-  pub only : (m : Message) → Contains new m → Contains old m ⊎ (IsMessage m × IsAcked m bodies answers)
+-- the delivery brought the message, and was acknowledged
+abbrev pub Acknowledges : Delivery → Result Ack Refusal → Message → Type 0
+Acknowledges d answer m = IsMessage m × (d.body ≡ wire m) × IsOk answer
+
+-- What is held then is exactly what was held, and the message that was acknowledged. A refusal changes nothing.
+abbrev pub HeldAfter : (old : Message → Type 0) → Delivery → Result Ack Refusal → (new : Message → Type 0) → Type 0
+HeldAfter old d answer new = SameSet (λ m. old m ⊎ Acknowledges d answer m) new
+
+-- ---- many deliveries
+
+-- one of the deliveries brought the message, and was acknowledged
+abbrev pub AcknowledgesAmong : List Delivery → List (Result Ack Refusal) → Message → Type 0
+AcknowledgesAmong [] answers m = ⊥
+AcknowledgesAmong (d ∷ ds) [] m = ⊥
+AcknowledgesAmong (d ∷ ds) (answer ∷ answers) m = Acknowledges d answer m ⊎ AcknowledgesAmong ds answers m
+
+-- each delivery has its answer, in order
+abbrev pub AreAnswers : RosterFields Cmnd → List Delivery → List (Result Ack Refusal) → Type 0
+AreAnswers f ds answers = AllZip (IsAnswer f) ds answers
+
+-- What is held then is exactly what was held, and each message that was acknowledged.
+abbrev pub HeldAfterAll : (old : Message → Type 0) → List Delivery → List (Result Ack Refusal) → (new : Message → Type 0) → Type 0
+HeldAfterAll old ds answers new = SameSet (λ m. old m ⊎ AcknowledgesAmong ds answers m) new
+
+-- a relay's name and a body, as the desk is lent them
+abbrev pub delivery_of : String Global × Vec ℕ Global → Delivery
+delivery_of d = record { relay = string_bytes d.0; body = d.1.items }

@@ -1,31 +1,39 @@
--- A run of a desk: what is asked of it, in the order of time, with what it answers; and the set that it acknowledges.
-use Rattle.std.specs.Prelude.{◌≡◌, ◌⊎◌, ℕ, List, [], ◌∷◌, Contains, Result}
-use Rattle.messages.specs.Wire.{IsMessage}
+-- A run of a desk: what is asked of it, in the order of time, and the set that it acknowledges.
+use Rattle.std.specs.Prelude.{◌⊎◌, List, [], ◌∷◌, Contains, Result}
+use Rattle.sudo_words.specs.declared.cmnd.Cmnd.{Cmnd}
+use Rattle.messages.specs.Names.{SameMessages}
 use Rattle.messages.specs.declared.message.Message.{Message}
-use Rattle.sudo_syntax.specs.declared.entry.Entry.{Entry}
+use Rattle.roster.specs.Fields.{RosterFields}
+use Rattle.desk_store.specs.Sets.{SameSet}
+use Rattle.desk.specs.Delivery.{Acknowledges, Delivery, HeldAfter, IsAnswer}
 use Rattle.desk.specs.declared.ack.Ack.{Ack}
 use Rattle.desk.specs.declared.refusal.Refusal.{Refusal}
-use Rattle.desk.specs.Delivery.{IsAcked, IsDelivered}
-use Rattle.desk.specs.HostFile.{IsHostFile}
 
--- a delivery of bodies with the answer to each, or the question for a host's file with its text
-pub data Step : Type 0 where
-  Delivery : List (List ℕ) → List (Result Ack Refusal) → Step
-  Question : List ℕ → List ℕ → Step
+-- A delivery with its answer, or any question with any answer. What is lost on its way is no event.
+pub data Event : Type 0 where
+  Delivered : Delivery → Result Ack Refusal → Event
+  Asked : Event
 
--- From the messages kept before, the run leaves these. A question changes nothing, and is answered from what is kept then.
-abbrev pub IsRun : List Entry → List Message → List Step → List Message → Type 0
-IsRun base old [] new = old ≡ new
-IsRun base old (Delivery bodies answers ∷ run) new =
-    (kept : List Message) × IsDelivered old kept bodies answers × IsRun base kept run new
-IsRun base old (Question host text ∷ run) new = IsHostFile base old host text × IsRun base old run new
+-- From the messages held before, the run leaves these: each delivery is answered, and changes the set, by the rule of deliveries, and a
+-- question changes nothing. Of the lists only the members mean anything.
+abbrev pub IsRun : RosterFields Cmnd → (old : List Message) → List Event → (new : List Message) → Type 0
+IsRun f old [] new = SameMessages old new
+IsRun f old (Delivered d answer ∷ run) new =
+    (held : List Message) × IsAnswer f d answer × HeldAfter (λ m. Contains old m) d answer (λ m. Contains held m) × IsRun f held run new
+IsRun f old (Asked ∷ run) new = IsRun f old run new
 
--- some delivery of the run acknowledges the message
-abbrev pub IsAckedIn : Message → List Step → Type 0
-IsAckedIn m [] = ⊥
-IsAckedIn m (Delivery bodies answers ∷ run) = IsAcked m bodies answers ⊎ IsAckedIn m run
-IsAckedIn m (Question host text ∷ run) = IsAckedIn m run
+-- some delivery of the run brought the message, and was acknowledged
+abbrev pub IsAckedIn : List Event → Message → Type 0
+IsAckedIn [] m = ⊥
+IsAckedIn (Delivered d answer ∷ run) m = Acknowledges d answer m ⊎ IsAckedIn run m
+IsAckedIn (Asked ∷ run) m = IsAckedIn run m
 
--- the two runs acknowledge one set of messages
-abbrev pub SameAcked : List Step → List Step → Type 0
-SameAcked r s = (m : Message) → IsMessage m → (IsAckedIn m r → IsAckedIn m s) × (IsAckedIn m s → IsAckedIn m r)
+-- both runs acknowledge one set of messages
+abbrev pub SameAcked : List Event → List Event → Type 0
+SameAcked r u = SameSet (IsAckedIn r) (IsAckedIn u)
+
+-- the deliveries, each with its answer, as a run
+abbrev pub run_of : List Delivery → List (Result Ack Refusal) → List Event
+run_of [] answers = []
+run_of (d ∷ ds) [] = []
+run_of (d ∷ ds) (answer ∷ answers) = Delivered d answer ∷ run_of ds answers

@@ -1,106 +1,194 @@
-//! A desk over memory.
+//! A desk.
 
-ghost use Rattle.std.specs.Prelude.{◌≡◌, ◌⊎◌, ◌<◌, ◌≤◌, List, [], length, map, string_bytes, IfOk, IfErr, OnErr, MatchResult};
-ghost use Rattle.sudo_syntax.specs.Policy.{IsPolicy};
-ghost use Rattle.sudo_syntax.specs.Printing.{canon};
+ghost use Rattle.std.specs.Prelude.{◌≡◌, ◌⊎◌, ◌↔◌, ◌≤◌, [], length, map, vec_capacity, Contains, IfOk, IfErr, OnErr, MatchResult, Err};
+ghost use Rattle.grants.specs.Bases.{FitsBase};
+ghost use Rattle.desk_store.specs.Keeping.{HasFailed};
+ghost use Rattle.desk.specs.Delivery.{AreAnswers, HeldAfter, HeldAfterAll, IsAnswer, delivery_of};
+ghost use Rattle.desk.specs.Opening.{Opens, Refuses};
+ghost use Rattle.desk.specs.Refusals.{IsWant};
 ghost use Rattle.desk.specs.declared.refusal.Refusal.TheVariants as refusal;
-ghost use Rattle.desk.specs.Delivery.{IsDelivered};
-ghost use Rattle.desk.specs.HostFile.{Line, AreLines, IsHostFile, with_lines};
-ghost use Rattle.desk.specs.Rights.{GivesRights};
-ghost use Rattle.desk.specs.State.{FitsBase};
 
 use crate::ack::Ack;
-use crate::base::fits;
-use crate::delivery::deliver_each;
-use crate::host_file::{lines, text};
+use crate::delivery::admitted;
+use crate::opening::find_or_make;
 use crate::refusal::Refusal;
-use messages::Message;
+use desk_store::Keeper;
+use grants::fits_base;
+use roster::Roster;
 use std::alloc::Global;
 use std::marker::Model;
 use sudo_syntax::Policy;
-use sudo_words::HostName;
 
-/// A desk, which contracts see as its base policy and the messages kept. Of these only the set means anything.
+/// A desk, which contracts see as its roster, its base policy and its keeper, which holds the set of messages.
 ///
 /// A base has at most 4,096 entries, a weight of at most 65,536, and a canonical text of at most 1 MiB.
 #[derive(Drop)]
-pub struct Desk {
-    alloc: Global,
-    base: Policy,
-    messages: Vec<Message>,
+pub struct Desk<K: Keeper> {
+    pub(crate) alloc: Global,
+    pub(crate) roster: Roster,
+    pub(crate) base: Policy,
+    pub(crate) keeper: K,
 }
 
-impl Model for Desk {
-    ghost use Rattle.sudo_syntax.specs.Policy.{IsPolicy};
-    ghost use Rattle.desk.specs.State.{DeskState, FitsBase};
+impl<K: Keeper> Model for Desk<K> {
+    ghost use Rattle.std.specs.Prelude.{◌≡◌};
+    ghost use Rattle.grants.specs.Bases.{FitsBase};
+    ghost use Rattle.desk.specs.State.{DeskState};
 
-    ghost Value = { DeskState };
+    ghost Value = { DeskState K };
 
-    ghost view = { λ d. record { base = d.base; messages = d.messages.items } };
+    ghost view = { λ d. record { roster = d.roster; base = d.base; keeper = d.keeper } };
 
-    ghost invariant = { λ d. FitsBase d.base × IsPolicy d.base };
+    ghost invariant = { λ d. FitsBase d.base × (K.is_up d.keeper → K.is_desk d.keeper) × (K.is_up d.keeper → K.roster d.keeper ≡ d.roster.text) };
 }
 
-impl Desk {
-    /// A desk of this base, without messages.
+impl<K: Keeper> Desk<K> {
+    /// Opens the desk that the keeper keeps, or makes one without messages where it keeps nothing of a desk's.
     ///
-    /// `BaseTooLarge` comes exactly where the base is past a limit of the desk, and `NoMemory` where memory runs out.
-    pub fn open(alloc: Global, base: Policy) -> Result<Desk, Refusal>
-        ensures found { IfOk result (λ d. (d.base ≡ base) × (d.messages ≡ []) × FitsBase base) }
-        ensures fits { FitsBase base → MatchResult result (λ d. d.base ≡ base) (λ e. e ≡ refusal.NoMemory) }
-        ensures err { IfErr result (λ e. (e ≡ refusal.NoMemory) ⊎ ((e ≡ refusal.BaseTooLarge) × (FitsBase base → ⊥))) }
+    /// `BaseTooLarge` comes exactly where the base is past a limit of the desk. Else `NotADesk` comes where the keeper has
+    /// something of a desk's and no desk, and `RosterChanged` where its desk has another roster's text; `Storage` and
+    /// `NoMemory` wherever the storage or memory refuses. A refusal hands the keeper back, with what it keeps as it was.
+    pub fn open(
+        alloc: Global,
+        roster: Roster,
+        base: Policy,
+        keeper: K,
+    ) -> Result<Desk<K>, (Refusal, K)>
+        ensures handed_in { IfOk result (λ d. (d.roster ≡ roster) × (d.base ≡ base)) }
+        ensures fits { IfOk result (λ d. FitsBase base) }
+        ensures opens { IfOk result (λ d. K.is_up d.keeper
+            → Opens (K.is_empty keeper) (K.is_desk keeper) (K.roster keeper) roster.text (K.holds keeper) (K.holds d.keeper)) }
+        ensures too_large { IfErr result (λ r. (r.0 ≡ refusal.BaseTooLarge) ↔ (¬ FitsBase base)) }
+        ensures refused { IfErr result (λ r. K.is_up r.1
+            → IsWant r.0 ⊎ Refuses (FitsBase base) (K.is_empty keeper) (K.is_desk keeper) (K.roster keeper) roster.text r.0) }
+        ensures unchanged { IfErr result (λ r. K.is_up r.1 → K.is_same keeper r.1) }
+        ensures was_up { MatchResult result (λ d. K.is_up d.keeper → K.is_up keeper) (λ r. K.is_up r.1 → K.is_up keeper) }
+        ensures was_clean { MatchResult result (λ d. K.is_clean d.keeper → K.is_clean keeper) (λ r. K.is_clean r.1 → K.is_clean keeper) }
+        ensures shuts { K.is_up keeper → MatchResult result
+            (λ d. K.is_clean d.keeper → K.is_up d.keeper ⊎ HasFailed (K.failures keeper) (K.failures d.keeper))
+            (λ r. K.is_clean r.1 → K.is_up r.1 ⊎ HasFailed (K.failures keeper) (K.failures r.1)) }
+        ensures counts { MatchResult result (λ d. K.failures keeper ≤ K.failures d.keeper) (λ r. K.failures keeper ≤ K.failures r.1) }
+        ensures cause { IfErr result (λ r. r.0 ≡ refusal.Storage → HasFailed (K.failures keeper) (K.failures r.1)) }
     {
-        if !fits(&base) {
-            return Err(Refusal::BaseTooLarge);
+        if !fits_base(&base) {
+            return Err((Refusal::BaseTooLarge, keeper));
         }
-        Ok(Desk {
-            alloc,
-            base,
-            messages: Vec::new(alloc),
-        })
+        let mut keeper = keeper;
+        match find_or_make(&mut keeper, roster.text()) {
+            Ok(()) => Ok(Desk {
+                alloc,
+                roster,
+                base,
+                keeper,
+            }),
+            Err(refusal) => Err((refusal, keeper)),
+        }
     }
 
-    /// Delivers each body in order, and answers for each.
+    /// Delivers the body that the relay brings.
     ///
-    /// An answer is an acknowledgement, and then the message is kept; or the reader's refusal (`TooLong`, `NotCanonical`,
-    /// `BadField`), or `WindowBackwards`, or `NoMemory` where memory runs out, and then nothing is kept of that body.
-    /// A repeat adds nothing to the set. The whole is refused with `NoMemory` alone, before anything is delivered.
-    pub fn deliver_all(&mut self, bodies: &[Vec<u8>]) -> Result<Vec<Result<Ack, Refusal>>, Refusal>
-        ensures delivered { IfOk result (λ answers. IsDelivered self.old.messages self.new.messages
-            (map (λ b. b.items) bodies.now) answers.items) }
+    /// `UnknownRelay` comes where the roster has no such relay; else `TooLong`, `NotCanonical` or `BadField`, where the
+    /// body is no message's; else the denial, where the roster does not admit the message: the first that applies. Want of
+    /// memory anywhere is `NoMemory`, and a failure of the storage is `Storage`. An acknowledgement says that the message is
+    /// kept; one that was kept before changes nothing. After a refusal nothing changed.
+    pub fn deliver(&mut self, relay: &str, body: &[u8]) -> Result<Ack, Refusal>
+        ensures answer { IsAnswer self.old.roster.says (record { relay = relay.now; body = body.now }) result }
+        ensures held { K.is_up self.new.keeper
+            → HeldAfter (K.holds self.old.keeper) (record { relay = relay.now; body = body.now }) result (K.holds self.new.keeper) }
+        ensures unchanged { K.is_up self.new.keeper → OnErr result (K.is_same self.old.keeper self.new.keeper) }
+        ensures roster { self.new.roster ≡ self.old.roster }
         ensures base { self.new.base ≡ self.old.base }
+        ensures was_up { K.is_up self.new.keeper → K.is_up self.old.keeper }
+        ensures was_clean { K.is_clean self.new.keeper → K.is_clean self.old.keeper }
+        ensures shuts { K.is_up self.old.keeper → K.is_clean self.new.keeper
+            → K.is_up self.new.keeper ⊎ HasFailed (K.failures self.old.keeper) (K.failures self.new.keeper) }
+        ensures counts { K.failures self.old.keeper ≤ K.failures self.new.keeper }
+        ensures cause { result ≡ Err refusal.Storage → HasFailed (K.failures self.old.keeper) (K.failures self.new.keeper) }
+    {
+        if !self.roster.has_relay(relay) {
+            return Err(Refusal::UnknownRelay);
+        }
+        let message = admitted(self.alloc, &self.roster, body)?;
+        self.keeper.add(message)?;
+        Ok(Ack)
+    }
+
+    /// Delivers each body that a relay brings, in order, and answers for each as `deliver` does.
+    ///
+    /// The whole is refused with `NoMemory` alone, before anything is delivered: the room for the answers is taken first.
+    pub fn deliver_all(
+        &mut self,
+        list: &[(String, Vec<u8>)],
+    ) -> Result<Vec<Result<Ack, Refusal>>, Refusal>
+        ensures answers { IfOk result (λ answers. AreAnswers self.old.roster.says (map delivery_of list.now) answers.items) }
+        ensures held { K.is_up self.new.keeper → IfOk result
+            (λ answers. HeldAfterAll (K.holds self.old.keeper) (map delivery_of list.now) answers.items (K.holds self.new.keeper)) }
         ensures refused { OnErr result (self.new ≡ self.old) }
         ensures err { IfErr result (λ e. e ≡ refusal.NoMemory) }
+        ensures roster { self.new.roster ≡ self.old.roster }
+        ensures base { self.new.base ≡ self.old.base }
+        ensures was_up { K.is_up self.new.keeper → K.is_up self.old.keeper }
+        ensures was_clean { K.is_clean self.new.keeper → K.is_clean self.old.keeper }
+        ensures shuts { K.is_up self.old.keeper → K.is_clean self.new.keeper
+            → K.is_up self.new.keeper ⊎ HasFailed (K.failures self.old.keeper) (K.failures self.new.keeper) }
+        ensures counts { K.failures self.old.keeper ≤ K.failures self.new.keeper }
+        ensures cause { IfOk result (λ answers. Contains answers.items (Err refusal.Storage)
+            → HasFailed (K.failures self.old.keeper) (K.failures self.new.keeper)) }
     {
-        let mut answers = Vec::with_capacity(self.alloc, bodies.len())?;
-        deliver_each(self.alloc, &mut self.messages, bodies, &mut answers);
+        let mut answers = Vec::with_capacity(self.alloc, list.len())?;
+        self.deliver_each(list, &mut answers);
         Ok(answers)
     }
 
-    /// The text of the host's sudoers file: the base's canonical text, and behind it a line for each command of each
-    /// request that is granted on the host, with the first and the last moment of its window.
-    ///
-    /// It allows what a grant covers, and decides all else as the base does. It takes nothing away from the desk.
-    /// `TooManyRules` comes where the lines behind the base are more than 8,192, and `NoMemory` where memory runs out.
-    pub fn host_file(&self, host: &HostName) -> Result<String, Refusal>
-        ensures file { IfOk result (λ s. IsHostFile self.now.base self.now.messages host.now (string_bytes s)) }
-        ensures rights { IfOk result (λ s. GivesRights self.now.base self.now.messages host.now (string_bytes s)) }
-        ensures few { (ls : List Line) → AreLines self.now.messages host.now ls → length ls ≤ 8_192
-            → MatchResult result (λ s. string_bytes s ≡ canon (with_lines self.now.base ls)) (λ e. e ≡ refusal.NoMemory) }
-        ensures many { (ls : List Line) → AreLines self.now.messages host.now ls → 8_192 < length ls
-            → MatchResult result (λ _. ⊥) (λ e. (e ≡ refusal.TooManyRules) ⊎ (e ≡ refusal.NoMemory)) }
-        ensures err { IfErr result (λ e. (e ≡ refusal.NoMemory)
-            ⊎ ((e ≡ refusal.TooManyRules) × ((ls : List Line) × AreLines self.now.messages host.now ls × (8_192 < length ls)))) }
+    /// Delivers each in order, and puts the answers behind one another. There is room for them.
+    fn deliver_each(&mut self, list: &[(String, Vec<u8>)], answers: &mut Vec<Result<Ack, Refusal>>)
+        requires none { answers.old.items ≡ [] }
+        requires room { length list.now ≤ vec_capacity answers.old }
+        ensures answers { AreAnswers self.old.roster.says (map delivery_of list.now) answers.new.items }
+        ensures held { K.is_up self.new.keeper
+            → HeldAfterAll (K.holds self.old.keeper) (map delivery_of list.now) answers.new.items (K.holds self.new.keeper) }
+        ensures roster { self.new.roster ≡ self.old.roster }
+        ensures base { self.new.base ≡ self.old.base }
+        ensures was_up { K.is_up self.new.keeper → K.is_up self.old.keeper }
+        ensures was_clean { K.is_clean self.new.keeper → K.is_clean self.old.keeper }
+        ensures shuts { K.is_up self.old.keeper → K.is_clean self.new.keeper
+            → K.is_up self.new.keeper ⊎ HasFailed (K.failures self.old.keeper) (K.failures self.new.keeper) }
+        ensures counts { K.failures self.old.keeper ≤ K.failures self.new.keeper }
+        ensures cause { Contains answers.new.items (Err refusal.Storage) → HasFailed (K.failures self.old.keeper) (K.failures self.new.keeper) }
     {
-        let rules = lines(self.alloc, &self.messages, host)?;
-        text(self.alloc, &self.base, rules)
+        for (relay, body) in list {
+            let answer = self.deliver(relay.as_str(), body.as_slice());
+            answers.push_reserved(answer);
+        }
     }
 
-    /// The base policy.
+    /// The roster, as it was handed in.
+    pub fn roster(&self) -> &Roster
+        ensures { result.now ≡ self.now.roster }
+    {
+        &self.roster
+    }
+
+    /// The base policy, as it was handed in.
     pub fn base(&self) -> &Policy
         ensures value { result.now ≡ self.now.base }
         ensures fits { FitsBase self.now.base }
     {
         &self.base
+    }
+
+    /// Gives the keeper up as it is. It takes no memory.
+    pub fn into_keeper(self) -> K
+        ensures same { result ≡ self.keeper }
+        ensures desk { K.is_up result → K.is_desk result }
+        ensures roster { K.is_up result → K.roster result ≡ self.roster.text }
+    {
+        let Desk {
+            alloc: _,
+            roster: _,
+            base: _,
+            keeper,
+        } = self;
+        keeper
     }
 }

@@ -1,23 +1,34 @@
-//! The desk: it keeps messages that ask for and approve time-boxed rights, and prints each host's sudoers file.
+//! The desk: it answers messages that ask for time-boxed rights, approve, refuse and revoke them, keeps those that it acknowledges,
+//! and prints each host's sudoers file.
 #![tactic(auto)]
 
 mod ack;
-mod approved;
-mod asked;
-mod base;
+mod answer_laws;
 mod delivery;
 mod desk;
+mod gathering;
+mod grant_laws;
 mod host_file;
-mod laws;
+mod live;
 mod naming;
+mod opening;
+mod outcomes;
+mod parked;
+mod queries;
 mod refusal;
-mod rules;
-mod window;
+mod reopening;
+mod run_laws;
 
 pub use ack::Ack;
+pub use answer_laws::runs_answer_alike;
 pub use desk::Desk;
-pub use laws::{
-    disputed_gives_nothing, empty_window_no_line, one_answer, order_free,
-    own_approval_counts_for_nothing, run_free,
+pub use desk_store::{Keeper, MemoryKeeper};
+pub use grant_laws::{
+    disputed_gives_nothing, each_has_one, file_gives_rights, one_of_each, order_free,
+    parked_until_asked, refusal_in_time, revocation_ends, who_changes_nothing,
 };
+pub use live::Live;
+pub use naming::RequestName;
 pub use refusal::Refusal;
+pub use reopening::restart;
+pub use run_laws::{one_answer, run_free};

@@ -1,26 +1,41 @@
 //! Why the desk refuses.
 
 ghost use Rattle.std.specs.Prelude.{◌≡◌};
+ghost use Rattle.desk.specs.Refusals.{refusal_of_error, refusal_of_fault, refusal_of_host};
 ghost use Rattle.desk.specs.declared.refusal.Refusal.TheVariants as refusal;
 
+use desk_store::KeeperError;
+use grants::{Denial, HostFault};
+use messages::MessageFault;
 use std::alloc::{AllocError, AllocFailed};
+use std::error::Error;
 use std::fmt;
 use sudo_words::NoMemory;
 
 /// Why the desk refuses. It is shown as its code and name.
 #[derive(Clone, Copy, Debug, PartialEq, Eq)]
 pub enum Refusal {
+    /// The roster has no such relay.
+    UnknownRelay,
+    /// The roster has no such host.
+    UnknownHost,
     /// A body has more than 16,384 bytes.
     TooLong,
     /// A body is not a canonical text of JSON whose numbers are whole.
     NotCanonical,
     /// A body is canonical, but no message's: a member is wrong, missing or too many.
     BadField,
-    /// A request's window is backwards, or begins before the request was made.
-    WindowBackwards,
+    /// The roster does not admit the message.
+    Denied(Denial),
     /// A host's file would have more than 8,192 lines beside the base's.
     TooManyRules,
-    /// Memory ran out.
+    /// The keeper has a desk of another roster's text.
+    RosterChanged,
+    /// The keeper has something of a desk's, and no desk.
+    NotADesk,
+    /// The keeper's storage failed.
+    Storage,
+    /// Memory ran out: a growth was refused.
     NoMemory,
     /// The base policy is past the desk's limits.
     BaseTooLarge,
@@ -33,15 +48,66 @@ impl fmt::Display for Refusal {
     ghost output = { λ r. Some (refusal_text r) };
 
     fn fmt<W: fmt::Write>(&self, f: &mut fmt::Formatter<W>) -> fmt::Result {
-        f.write_str(match self {
+        let text = match self {
+            Refusal::UnknownRelay => "P1 UnknownRelay",
+            Refusal::UnknownHost => "P2 UnknownHost",
             Refusal::TooLong => "M1 TooLong",
             Refusal::NotCanonical => "M2 NotCanonical",
             Refusal::BadField => "M3 BadField",
-            Refusal::WindowBackwards => "A8 WindowBackwards",
+            Refusal::Denied(denial) => return denial.fmt(f),
             Refusal::TooManyRules => "G1 TooManyRules",
+            Refusal::RosterChanged => "K1 RosterChanged",
+            Refusal::NotADesk => "K2 NotADesk",
+            Refusal::Storage => "K4 Storage",
             Refusal::NoMemory => "K5 NoMemory",
             Refusal::BaseTooLarge => "K6 BaseTooLarge",
-        })
+        };
+        f.write_str(text)
+    }
+}
+
+impl Error for Refusal {}
+
+impl From<MessageFault> for Refusal {
+    ghost from_gives = { λ fault e. e ≡ refusal_of_fault fault };
+
+    fn from(fault: MessageFault) -> Refusal {
+        match fault {
+            MessageFault::TooLong => Refusal::TooLong,
+            MessageFault::NotCanonical => Refusal::NotCanonical,
+            MessageFault::BadField => Refusal::BadField,
+            MessageFault::NoMemory => Refusal::NoMemory,
+        }
+    }
+}
+
+impl From<Denial> for Refusal {
+    ghost from_gives = { λ denial e. e ≡ refusal.Denied denial };
+
+    fn from(denial: Denial) -> Refusal {
+        Refusal::Denied(denial)
+    }
+}
+
+impl From<HostFault> for Refusal {
+    ghost from_gives = { λ fault e. e ≡ refusal_of_host fault };
+
+    fn from(fault: HostFault) -> Refusal {
+        match fault {
+            HostFault::TooManyRules => Refusal::TooManyRules,
+            HostFault::NoMemory => Refusal::NoMemory,
+        }
+    }
+}
+
+impl From<KeeperError> for Refusal {
+    ghost from_gives = { λ error e. e ≡ refusal_of_error error };
+
+    fn from(error: KeeperError) -> Refusal {
+        match error {
+            KeeperError::NoMemory => Refusal::NoMemory,
+            KeeperError::Storage => Refusal::Storage,
+        }
     }
 }
 

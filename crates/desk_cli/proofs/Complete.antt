@@ -1,5 +1,5 @@
 -- A line in which clap finds no fault is one of the program's commands, with a value for each argument that it wants.
-use Rattle.std.specs.Prelude.{◌≡◌, ℕ, ◌&&◌, ◌||◌, Bool, true, false, not, List, [], ◌∷◌, Option, Some, None, codes, if◌then◌else◌, is_some, find, fold, option_and_then, option_map, slice_get, slice_index_or, refl}
+use Rattle.std.specs.Prelude.{◌≡◌, ◌⊎◌, ℕ, ◌&&◌, ◌||◌, Bool, true, false, not, List, [], ◌∷◌, Option, Some, None, codes, if◌then◌else◌, is_some, find, fold, option_and_then, option_map, slice_get, slice_index_or, refl}
 use Rattle.std.specs.List.{list_all, list_any}
 use Rattle.std.specs.Option.{option_map_or}
 use Rattle.std.specs.Str.{bytes_eq}
@@ -13,7 +13,7 @@ use Rattle.clap.specs.Kinds.{Kinds, check_kinds, or_else}
 use Rattle.clap.specs.Lexer.{long_of, short_of}
 use Rattle.clap.specs.Simple.{Shape, matches_of, argument_words, built, entered, label_of, names_of, rows_at, subcommand_of}
 use Rattle.clap.specs.Takes.{is_given}
-use Rattle.desk_cli.specs.CommandLine.{HasPlaces, HasRun, HasSome, IsComplete, check, desk}
+use Rattle.desk_cli.specs.CommandLine.{HaveSome, IsComplete, check, desk}
 use Rattle.desk_cli.proofs.Filled.{AreFull, IsFull, defaults-full, is_giving, no_first, no_second, settled-full, walk-full}
 
 -- ---- a row that is given has a value
@@ -184,105 +184,79 @@ others_are : (given others : Bool) → (not given || others) ≡ false → other
 others_are true others none = none
 others_are false others none = absurd cc
 
+-- ---- the arguments that may not be left out
+
+abbrev required_ids : List Rule → List Text
+required_ids [] = []
+required_ids (a ∷ rest) = if a.required then a.id ∷ required_ids rest else required_ids rest
+
+given_all : (rules : List Rule) (rows : List Row) → AreFull rows → list_any (λ a. a.required && not (is_given a.id rows)) rules ≡ false
+    → HaveSome (required_ids rules) rows
+given_all [] rows full none = tt
+given_all (a ∷ rest) rows full none =
+    (elim a.required as (λ b. ((b && not (is_given a.id rows)) || list_any (λ r. r.required && not (is_given r.id rows)) rest) ≡ false
+    → HaveSome (if b then a.id ∷ required_ids rest else required_ids rest) rows) [
+      | true ↦ λ e. (
+        given_first a.id rows full (is_there (is_given a.id rows) _ e),
+        given_all rest rows full (others_are (is_given a.id rows) _ e),
+      )
+      | false ↦ λ e. given_all rest rows full e
+    ]) none
+
+always : (negates any : Bool) → (not (negates && false) && any) ≡ false → any ≡ false
+always true any none = none
+always false any none = none
+
+leaf_complete : (s : Shape) (words : List Text) → list_all is_giving s.rules ≡ true → level_fault s [] nothing_held words false [] ≡ []
+    → HaveSome (required_ids s.rules) (rows_after s.rules [] words)
+leaf_complete s words all none =
+    let p = passes s [] nothing_held words false [] none in
+    let rows = rows_after s.rules [] words in
+    given_all s.rules rows (leaf_full s words all p) (always s.subcommand_negates_reqs _ (none_wanted s rows false p.checks))
+
 -- ---- the program's commands
 
--- the commands as they are built, with `help` behind them
+-- the commands as they are built, with `help` after them
 abbrev nth : ℕ → List Shape → Shape
 nth n shapes = slice_index_or shapes n check.top
 
-abbrev check_leaf : Shape
-check_leaf = nth 0 (built desk).subs
+abbrev leaf : ℕ → Shape
+leaf n = nth n (built desk).subs
 
-abbrev decide_leaf : Shape
-decide_leaf = nth 1 (built desk).subs
+-- words in which the command finds no fault are complete
+abbrev Completes : Shape → Type 0
+Completes s = (words : List Text) → level_fault s [] nothing_held words false [] ≡ [] → IsComplete (Some (rows_at s words))
 
-abbrev print_leaf : Shape
-print_leaf = nth 2 (built desk).subs
+check_complete : Completes (leaf 0)
+check_complete words none = inl (refl, leaf_complete (leaf 0) words refl none)
 
-abbrev help_leaf : Shape
-help_leaf = nth 3 (built desk).subs
+decide_complete : Completes (leaf 1)
+decide_complete words none = inr (inl (refl, leaf_complete (leaf 1) words refl none))
 
-check_complete : (words : List Text) → level_fault check_leaf [] nothing_held words false [] ≡ []
-    → HasSome (codes "FILE") (rows_after check_leaf.rules [] words)
-check_complete words none =
-    let p = passes check_leaf [] nothing_held words false [] none in
-    let rows = rows_after check_leaf.rules [] words in
-    let full : AreFull rows = leaf_full check_leaf words refl p in
-    let wants : (not (is_given (codes "FILE") rows) || false) ≡ false = none_wanted check_leaf rows false p.checks in
-    given_first (codes "FILE") rows full (is_there (is_given (codes "FILE") rows) false wants)
+deliver_complete : Completes (leaf 2)
+deliver_complete words none = inr (inr (inl (refl, leaf_complete (leaf 2) words refl none)))
 
-record HasAll (rows : List Row) : Type 0 where
-  pub file : HasSome (codes "FILE") rows
-  pub run : HasRun rows
+print_complete : Completes (leaf 3)
+print_complete words none = inr (inr (inr (refl, leaf_complete (leaf 3) words refl none)))
 
-decide_complete : (words : List Text) → level_fault decide_leaf [] nothing_held words false [] ≡ []
-    → HasAll (rows_after decide_leaf.rules [] words)
-decide_complete words none =
-    let p = passes decide_leaf [] nothing_held words false [] none in
-    let rows = rows_after decide_leaf.rules [] words in
-    let full : AreFull rows = leaf_full decide_leaf words refl p in
-    let lacks = λ (id : Text). not (is_given id rows) in
-    let from_file : (lacks (codes "FILE") || (lacks (codes "USER") || (lacks (codes "HOST") || (lacks (codes "RUNAS") || (lacks (codes "AT") || (lacks (codes "PATH") || false))))))
-    ≡ false = none_wanted decide_leaf rows false p.checks in
-    let from_user = others_are (is_given (codes "FILE") rows) _ from_file in
-    let from_host = others_are (is_given (codes "USER") rows) _ from_user in
-    let from_runas = others_are (is_given (codes "HOST") rows) _ from_host in
-    let from_at = others_are (is_given (codes "RUNAS") rows) _ from_runas in
-    let from_path = others_are (is_given (codes "AT") rows) _ from_at in
-    record {
-      file = given_first (codes "FILE") rows full (is_there _ _ from_file);
-      run = record {
-        user = given_first (codes "USER") rows full (is_there _ _ from_user);
-        host = given_first (codes "HOST") rows full (is_there _ _ from_host);
-        runas = given_first (codes "RUNAS") rows full (is_there _ _ from_runas);
-        at = given_first (codes "AT") rows full (is_there _ _ from_at);
-        path = given_first (codes "PATH") rows full (is_there _ _ from_path);
-      };
-    }
+-- each of the commands is such a one, or is not called so
+abbrev AllComplete : Text → List Shape → Type 0
+AllComplete name [] = Unit {0}
+AllComplete name (s ∷ rest) = ((answers_to name (label_of s) ≡ false) ⊎ Completes s) × AllComplete name rest
 
-print_complete : (words : List Text) → level_fault print_leaf [] nothing_held words false [] ≡ []
-    → HasPlaces (rows_after print_leaf.rules [] words)
-print_complete words none =
-    let p = passes print_leaf [] nothing_held words false [] none in
-    let rows = rows_after print_leaf.rules [] words in
-    let full : AreFull rows = leaf_full print_leaf words refl p in
-    let lacks = λ (id : Text). not (is_given id rows) in
-    let from_roster : (lacks (codes "ROSTER") || (lacks (codes "BASE") || (lacks (codes "STORE") || (lacks (codes "HOST") || false)))) ≡ false =
-    none_wanted print_leaf rows false p.checks in
-    let from_base = others_are (is_given (codes "ROSTER") rows) _ from_roster in
-    let from_store = others_are (is_given (codes "BASE") rows) _ from_base in
-    let from_host = others_are (is_given (codes "STORE") rows) _ from_store in
-    record {
-      roster = given_first (codes "ROSTER") rows full (is_there _ _ from_roster);
-      base = given_first (codes "BASE") rows full (is_there _ _ from_base);
-      store = given_first (codes "STORE") rows full (is_there _ _ from_store);
-      host = given_first (codes "HOST") rows full (is_there _ _ from_host);
-    }
-
--- the first that passes a test of four, the last of which does not
-data IsFound (x y z : Shape) : Option Shape → Type 0 where
-  is_first : IsFound x y z (Some x)
-  is_second : IsFound x y z (Some y)
-  is_third : IsFound x y z (Some z)
-  is_none_of_them : IsFound x y z None
-
-found_by : (a b c d : Bool) (x y z last : Shape) → d ≡ false
-    → IsFound x y z (if a then Some x else (if b then Some y else (if c then Some z else (if d then Some last else None))))
-found_by true b c d x y z last e = is_first
-found_by false true c d x y z last e = is_second
-found_by false false true d x y z last e = is_third
-found_by false false false false x y z last e = is_none_of_them
-found_by false false false true x y z last e = absurd cc
-
-found_complete : (words : List Text) (found : Option Shape) → IsFound check_leaf decide_leaf print_leaf found
-    → is_some (option_map (λ s. rows_at s words) found) ≡ true → option_map_or (λ s. level_fault s [] nothing_held words false []) found [] ≡ []
-    → IsComplete (option_map (λ s. rows_at s words) found)
-found_complete words found is_first is none = inl (refl, check_complete words none)
-found_complete words found is_second is none =
-    let all = decide_complete words none in
-    inr (inl (refl, all.file, all.run))
-found_complete words found is_third is none = inr (inr (refl, print_complete words none))
-found_complete words found is_none_of_them is none = absurd cc
+found_complete : (name : Text) (shapes : List Shape) (words : List Text) → AllComplete name shapes
+    → is_some (option_map (λ s. rows_at s words) (find (λ s. answers_to name (label_of s)) shapes)) ≡ true
+    → option_map_or (λ s. level_fault s [] nothing_held words false []) (find (λ s. answers_to name (label_of s)) shapes) [] ≡ []
+    → IsComplete (option_map (λ s. rows_at s words) (find (λ s. answers_to name (label_of s)) shapes))
+found_complete name [] words all is none = absurd cc
+found_complete name (s ∷ rest) words all is none =
+    (elim (answers_to name (label_of s)) as (λ b. answers_to name (label_of s) ≡ b
+    → is_some (option_map (λ x. rows_at x words) (if b then Some s else find (λ x. answers_to name (label_of x)) rest)) ≡ true
+    → option_map_or (λ x. level_fault x [] nothing_held words false []) (if b then Some s else find (λ x. answers_to name (label_of x)) rest) [] ≡ []
+    → IsComplete (option_map (λ x. rows_at x words) (if b then Some s else find (λ x. answers_to name (label_of x)) rest))) [
+      | true ↦ λ met some faultless. elim all.0 [ inl other ↦ absurd cc | inr completes ↦ completes words faultless ]
+      | false ↦ λ met some faultless. found_complete name rest words all.1 some faultless
+    ]) refl is none
 
 flipped : (b : Bool) → (b ≡ true → ⊥) → (b || false) ≡ false
 flipped true never = absurd (never refl)
@@ -297,9 +271,8 @@ stop_complete : (stop : Option (Text × List Text)) → IsOther stop → is_some
     → IsComplete (entered (built desk) stop)
 stop_complete None other is none = absurd cc
 stop_complete (Some p) other is none =
-    found_complete p.1 (find (λ s. answers_to p.0 (label_of s)) (built desk).subs)
-    (found_by (answers_to p.0 (label_of check_leaf)) (answers_to p.0 (label_of decide_leaf)) (answers_to p.0 (label_of print_leaf))
-    (answers_to p.0 (label_of help_leaf)) check_leaf decide_leaf print_leaf help_leaf (other_name p.0 other)) is none
+    found_complete p.0 (built desk).subs p.1
+    (inr check_complete, (inr decide_complete, (inr deliver_complete, (inr print_complete, (inl (other_name p.0 other), tt))))) is none
 
 pub complete : (words : List Text) → fault_of desk words ≡ [] → IsComplete (subcommand_of desk words)
 complete words none =

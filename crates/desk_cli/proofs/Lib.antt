@@ -7,5 +7,7 @@ pub mod Filled
 pub mod Complete
 pub mod LineLemmas
 pub mod ComplaintLemmas
+pub mod AnswerLines
 pub mod BroughtLemmas
+pub mod PrintLemmas
 pub mod AnswerLemmas

@@ -3,7 +3,7 @@ use Rattle.std.proofs.Common.{◌≡◌, ◌≢◌, ℕ, ◌+◌, ◌==◌, ◌<
 use Rattle.std.proofs.lemmas.Bool.Decides.{nat_tests}
 use Rattle.std.specs.List.{onto_first}
 use Rattle.std.proofs.lemmas.List.{append-nil, drop_all, map_push}
-use Rattle.desk_cli.specs.Printing.{lines_of}
+use Rattle.desk_cli.specs.Lines.{lines_of}
 
 -- the lines, the first of which begins with these bytes
 abbrev pub with_front : List ℕ → List (List ℕ) → List (List ℕ)
@@ -37,64 +37,66 @@ lines-none : lines_of [] ≡ []
 unfolding lines_of
 lines-none = refl
 
--- what is read of a text: the lines that ended, and the bytes behind them
-pub record AreRead (text : List ℕ) (ended : List (List ℕ)) (line rest : List ℕ) : Type 0 where
-  pub same : ended ++ with_front line (lines_of rest) ≡ lines_of text
+-- what is read of a text: what each line that ended makes, and the bytes after them
+pub record AreSplit {X : Type 0} (each : List ℕ → X) (text : List ℕ) (ended : List X) (line rest : List ℕ) : Type 0 where
+  pub same : ended ++ map each (with_front line (lines_of rest)) ≡ map each (lines_of text)
 
-step : (text : List ℕ) (ended : List (List ℕ)) (line : List ℕ) (i : ℕ) → i < length text → AreRead text ended line (drop i text)
-    → ended ++ with_front line (lines_of (get_or text i 0 ∷ drop (i + 1) text)) ≡ lines_of text
-step text ended line i lt read =
-    let here : drop i text ≡ get_or text i 0 ∷ drop (i + 1) text = rw add-one (drop-cons text i 0 lt) in
-    subst (λ (rest : List ℕ). ended ++ with_front line (lines_of rest) ≡ lines_of text) here read.same
+module _ {X : Type 0} (each : List ℕ → X) where
+  step : (text : List ℕ) (ended : List X) (line : List ℕ) (i : ℕ) → i < length text → AreSplit each text ended line (drop i text)
+      → ended ++ map each (with_front line (lines_of (get_or text i 0 ∷ drop (i + 1) text))) ≡ map each (lines_of text)
+  step text ended line i lt read =
+      let here : drop i text ≡ get_or text i 0 ∷ drop (i + 1) text = rw add-one (drop-cons text i 0 lt) in
+      subst (λ (rest : List ℕ). ended ++ map each (with_front line (lines_of rest)) ≡ map each (lines_of text)) here read.same
 
-ending : (line : List ℕ) (b : ℕ) (rest : List ℕ) → b ≡ 10 → with_front line (lines_of (b ∷ rest)) ≡ line ∷ lines_of rest
-ending line b rest newline =
-    let split : lines_of (b ∷ rest) ≡ [] ∷ lines_of rest = rw newline (lines-newline rest) in
-    rw split (front_line line (lines_of rest))
+  ending : (line : List ℕ) (b : ℕ) (rest : List ℕ) → b ≡ 10 → with_front line (lines_of (b ∷ rest)) ≡ line ∷ lines_of rest
+  ending line b rest newline =
+      let split : lines_of (b ∷ rest) ≡ [] ∷ lines_of rest = rw newline (lines-newline rest) in
+      rw split (front_line line (lines_of rest))
 
-pub line_ends : (text : List ℕ) (ended : List (List ℕ)) (line : List ℕ) (i : ℕ) (now : List (List ℕ)) (then : List ℕ) → i < length text
-    → get_or text i 0 ≡ 10 → now ≡ ended ++ line ∷ [] → then ≡ [] → AreRead text ended line (drop i text) → AreRead text now then (drop (i + 1) text)
-line_ends text ended line i now then lt newline more none read =
-    let rest = drop (i + 1) text in
-    rw (more, none) (record {
-      same = append_assoc ended (line ∷ []) (lines_of rest)
-          ∙ ap (λ (tail : List (List ℕ)). ended ++ tail) (sym (ending line (get_or text i 0) rest newline))
-          ∙ step text ended line i lt read;
-    })
+  pub line_ends : (text : List ℕ) (ended : List X) (line : List ℕ) (i : ℕ) (now : List X) (then : List ℕ) → i < length text
+      → get_or text i 0 ≡ 10 → now ≡ ended ++ each line ∷ [] → then ≡ [] → AreSplit each text ended line (drop i text)
+      → AreSplit each text now then (drop (i + 1) text)
+  line_ends text ended line i now then lt newline more none read =
+      let rest = drop (i + 1) text in
+      rw (more, none) (record {
+        same = append_assoc ended (each line ∷ []) (map each (lines_of rest))
+            ∙ ap (λ (tail : List (List ℕ)). ended ++ map each tail) (sym (ending line (get_or text i 0) rest newline))
+            ∙ step text ended line i lt read;
+      })
 
-pub line_grows : (text : List ℕ) (ended : List (List ℕ)) (line : List ℕ) (i : ℕ) (now : List (List ℕ)) (then : List ℕ) → i < length text
-    → get_or text i 0 ≢ 10 → now ≡ ended → then ≡ line ++ get_or text i 0 ∷ [] → AreRead text ended line (drop i text)
-    → AreRead text now then (drop (i + 1) text)
-line_grows text ended line i now then lt other same more read =
-    let rest = drop (i + 1) text in
-    let b = get_or text i 0 in
-    rw (same, more) (record {
-      same = ap (λ (tail : List (List ℕ)). ended ++ tail) (front_push line b (lines_of rest) ∙ ap (with_front line) (sym (lines-other b rest other)))
-          ∙ step text ended line i lt read;
-    })
+  pub line_grows : (text : List ℕ) (ended : List X) (line : List ℕ) (i : ℕ) (now : List X) (then : List ℕ) → i < length text
+      → get_or text i 0 ≢ 10 → now ≡ ended → then ≡ line ++ get_or text i 0 ∷ [] → AreSplit each text ended line (drop i text)
+      → AreSplit each text now then (drop (i + 1) text)
+  line_grows text ended line i now then lt other same more read =
+      let rest = drop (i + 1) text in
+      let b = get_or text i 0 in
+      rw (same, more) (record {
+        same = ap (λ (tail : List (List ℕ)). ended ++ map each tail) (front_push line b (lines_of rest) ∙ ap (with_front line) (sym (lines-other b rest other)))
+            ∙ step text ended line i lt read;
+      })
 
-pub last_read : (text : List ℕ) (ended : List (List ℕ)) (line : List ℕ) (i : ℕ) (now : List (List ℕ)) → length text ≤ i → line ≢ []
-    → now ≡ ended ++ line ∷ [] → AreRead text ended line (drop i text) → now ≡ lines_of text
-last_read text ended line i now past some is read =
-    let at_end : drop i text ≡ [] = drop_all i text past in
-    let whole : ended ++ with_front line (lines_of []) ≡ lines_of text =
-    subst (λ (rest : List ℕ). ended ++ with_front line (lines_of rest) ≡ lines_of text) at_end read.same in
-    let here : with_front line (lines_of []) ≡ line ∷ [] = rw lines-none (front_last line some) in
-    is ∙ ap (λ (tail : List (List ℕ)). ended ++ tail) (sym here) ∙ whole
+  pub last_read : (text : List ℕ) (ended : List X) (line : List ℕ) (i : ℕ) (now : List X) → length text ≤ i → line ≢ []
+      → now ≡ ended ++ each line ∷ [] → AreSplit each text ended line (drop i text) → now ≡ map each (lines_of text)
+  last_read text ended line i now past some is read =
+      let at_end : drop i text ≡ [] = drop_all i text past in
+      let whole : ended ++ map each (with_front line (lines_of [])) ≡ map each (lines_of text) =
+      subst (λ (rest : List ℕ). ended ++ map each (with_front line (lines_of rest)) ≡ map each (lines_of text)) at_end read.same in
+      let here : with_front line (lines_of []) ≡ line ∷ [] = rw lines-none (front_last line some) in
+      is ∙ ap (λ (tail : List (List ℕ)). ended ++ map each tail) (sym here) ∙ whole
 
-pub all_read : (text : List ℕ) (ended : List (List ℕ)) (line : List ℕ) (i : ℕ) → length text ≤ i → line ≡ [] → AreRead text ended line (drop i text)
-    → ended ≡ lines_of text
-all_read text ended line i past none read =
-    let at_end : drop i text ≡ [] = drop_all i text past in
-    let whole : ended ++ with_front line (lines_of []) ≡ lines_of text =
-    subst (λ (rest : List ℕ). ended ++ with_front line (lines_of rest) ≡ lines_of text) at_end read.same in
-    let here : with_front line (lines_of []) ≡ [] = rw (none, lines-none) refl in
-    sym (append-nil ended) ∙ ap (λ (tail : List (List ℕ)). ended ++ tail) (sym here) ∙ whole
+  pub all_read : (text : List ℕ) (ended : List X) (line : List ℕ) (i : ℕ) → length text ≤ i → line ≡ [] → AreSplit each text ended line (drop i text)
+      → ended ≡ map each (lines_of text)
+  all_read text ended line i past none read =
+      let at_end : drop i text ≡ [] = drop_all i text past in
+      let whole : ended ++ map each (with_front line (lines_of [])) ≡ map each (lines_of text) =
+      subst (λ (rest : List ℕ). ended ++ map each (with_front line (lines_of rest)) ≡ map each (lines_of text)) at_end read.same in
+      let here : with_front line (lines_of []) ≡ [] = rw (none, lines-none) refl in
+      sym (append-nil ended) ∙ ap (λ (tail : List (List ℕ)). ended ++ map each tail) (sym here) ∙ whole
 
--- the bytes of lines, after one more
-pub one_more : {L : Type 0} (bytes : L → List ℕ) (lines now : List L) (line : L) (text : List ℕ) → now ≡ lines ++ line ∷ [] → bytes line ≡ text
-    → map bytes now ≡ map bytes lines ++ text ∷ []
-one_more bytes lines now line text more is = rw (more, ← is) (map_push bytes lines line)
+-- what lines make, after one more
+pub one_more : {L X : Type 0} (view : L → X) (lines now : List L) (line : L) (x : X) → now ≡ lines ++ line ∷ [] → view line ≡ x
+    → map view now ≡ map view lines ++ x ∷ []
+one_more view lines now line x more is = rw (more, ← is) (map_push view lines line)
 
 pub some_bytes : (line : List ℕ) (len : ℕ) → len ≡ length line → (len == 0) ≡ false → line ≢ []
 some_bytes [] len is some =

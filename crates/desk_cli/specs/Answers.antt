@@ -7,18 +7,21 @@ use Rattle.sudo_decide.specs.Decision.{Decides, decision_text}
 use Rattle.sudo_decide.specs.declared.invocation.Invocation.{Invocation}
 use Rattle.sudo_decide.specs.declared.decision.Decision.{Decision}
 use Rattle.sudo_decide.specs.declared.decision.Decision.TheVariants.{Deny, Allow, AllowNoPassword}
-use Rattle.desk_cli.specs.Printing.{EndsPrinting, IsFaultOf, PrintsHost}
+use Rattle.desk_cli.specs.Delivering.{DeliversLines, EndsDelivering}
+use Rattle.desk_cli.specs.Files.{IsFaultOf}
+use Rattle.desk_cli.specs.Printing.{EndsPrinting, PrintsHost}
 use Rattle.desk_cli.specs.declared.refusal.Refusal.{Refusal as Reason}
-use Rattle.desk_cli.specs.declared.refusal.Refusal.TheVariants.{FileFailed, BadWord, NoMemory, Policy, Desk}
+use Rattle.desk_cli.specs.declared.refusal.Refusal.TheVariants.{BadWord, Desk, FileFailed, NoMemory, Policy, Roster}
 use Rattle.desk_cli.specs.declared.status.Status.{Status}
-use Rattle.desk_cli.specs.declared.status.Status.TheVariants.{Done, Denied, Refused}
+use Rattle.desk_cli.specs.declared.status.Status.TheVariants.{Denied, Done, LinesRefused, Refused}
 use Rattle.desk_cli.specs.declared.task.Job.{Job}
-use Rattle.desk_cli.specs.declared.task.Job.TheVariants.{Check, Decide, Print}
+use Rattle.desk_cli.specs.declared.task.Job.TheVariants.{Check, Decide, Deliver, Print}
 
 -- the program's exit status
 abbrev pub exit_status : Status → ℕ
 exit_status Done = 0
 exit_status Denied = 1
+exit_status LinesRefused = 2
 exit_status Refused = 2
 
 -- how the program ends after it
@@ -40,13 +43,14 @@ abbrev pub DecidesByFile : List ℕ → Invocation → Status → List ℕ → T
 DecidesByFile file invocation status text =
     (es : List Entry) × (decision : Decision) × Spells file es × Decides es invocation decision × IsDecided decision status text
 
--- The job over these files, the first of which it names, and this input, if it is known, is answered by this text, and ends
--- so. Beside the answer this is said.
+-- The job over these files, in the order in which it names them, and this input, if it is known, is answered by this text,
+-- and ends so. Beside the answer this is said.
 abbrev pub IsAnswer : Job → List (List ℕ) → Option (List ℕ) → Status → List ℕ → List ℕ → Type 0
-IsAnswer job [] input status text said = ⊥
 IsAnswer (Check name) (file ∷ more) input status text said = ChecksFile file status text × (said ≡ [])
 IsAnswer (Decide name invocation) (file ∷ more) input status text said = DecidesByFile file invocation status text × (said ≡ [])
-IsAnswer (Print name host) (file ∷ more) input status text said = PrintsHost file host input status text said
+IsAnswer (Deliver places relay) (roster ∷ base ∷ more) input status text said = DeliversLines roster base relay input status text × (said ≡ [])
+IsAnswer (Print places host) (roster ∷ base ∷ more) input status text said = PrintsHost roster base host input status text said
+IsAnswer job files input status text said = ⊥
 
 -- The job over these files and this input has an answer.
 abbrev pub HasAnswer : Job → List (List ℕ) → Option (List ℕ) → Type 0
@@ -59,12 +63,14 @@ abbrev pub EndsReading : List ℕ → Reason → Type 0
 EndsReading file FileFailed = ⊥
 EndsReading file BadWord = ⊥
 EndsReading file NoMemory = Unit {0}
+EndsReading file (Roster fault) = ⊥
 EndsReading file (Policy fault) = IsFaultOf file fault
 EndsReading file (Desk refusal) = ⊥
 
--- The job over these files and this input may be refused for this, before its answer is written. Without a file it is.
+-- The job over these files and this input may be refused for this, before its answer is written. Without its files it is.
 abbrev pub IsCause : Job → List (List ℕ) → Option (List ℕ) → Reason → Type 0
-IsCause job [] input reason = reason ≡ FileFailed
 IsCause (Check name) (file ∷ more) input reason = EndsReading file reason
 IsCause (Decide name invocation) (file ∷ more) input reason = EndsReading file reason
-IsCause (Print name host) (file ∷ more) input reason = EndsPrinting file host input reason
+IsCause (Deliver places relay) (roster ∷ base ∷ more) input reason = EndsDelivering roster base reason
+IsCause (Print places host) (roster ∷ base ∷ more) input reason = EndsPrinting roster base host input reason
+IsCause job files input reason = reason ≡ FileFailed

@@ -6,8 +6,9 @@ use Rattle.clap.specs.declared.builder.ArgAction.TheVariants.{Set, Append}
 use Rattle.sudo_words.specs.Moment.{IsStamp}
 use Rattle.sudo_words.specs.Word.{is_arg, is_file_path, is_host_name, is_name}
 use Rattle.sudo_decide.specs.declared.invocation.Invocation.{Invocation}
+use Rattle.desk_cli.specs.declared.task.Places.{Places}
 use Rattle.desk_cli.specs.declared.task.Job.{Job}
-use Rattle.desk_cli.specs.declared.task.Job.TheVariants.{Check, Decide, Print}
+use Rattle.desk_cli.specs.declared.task.Job.TheVariants.{Check, Decide, Deliver, Print}
 
 -- ---- the program's commands
 
@@ -24,29 +25,55 @@ abbrev pub with_wanted : App → List Text → App
 with_wanted command [] = command
 with_wanted command (id ∷ ids) = with_wanted (with_rule command (wanted id)) ids
 
+-- the arguments of each command that have one value each and may not be left out
+abbrev pub check_args : List Text
+check_args = codes "FILE" ∷ []
+
+abbrev pub decide_args : List Text
+decide_args = codes "FILE" ∷ codes "USER" ∷ codes "HOST" ∷ codes "RUNAS" ∷ codes "AT" ∷ codes "PATH" ∷ []
+
+abbrev pub deliver_args : List Text
+deliver_args = codes "ROSTER" ∷ codes "BASE" ∷ codes "STORE" ∷ codes "RELAY" ∷ []
+
+abbrev pub print_args : List Text
+print_args = codes "ROSTER" ∷ codes "BASE" ∷ codes "STORE" ∷ codes "HOST" ∷ []
+
 -- `check FILE`
 abbrev pub check : App
-check = with_wanted (new_app (codes "check")) (codes "FILE" ∷ [])
+check = with_wanted (new_app (codes "check")) check_args
 
 -- `decide FILE USER HOST RUNAS AT PATH [ARGS..]`
 abbrev pub decide : App
-decide =
-    let run = codes "FILE" ∷ codes "USER" ∷ codes "HOST" ∷ codes "RUNAS" ∷ codes "AT" ∷ codes "PATH" ∷ [] in
-    with_rule (with_wanted (new_app (codes "decide")) run) (several (codes "ARGS"))
+decide = with_rule (with_wanted (new_app (codes "decide")) decide_args) (several (codes "ARGS"))
+
+-- `deliver ROSTER BASE STORE RELAY`
+abbrev pub deliver : App
+deliver = with_wanted (new_app (codes "deliver")) deliver_args
 
 -- `print ROSTER BASE STORE HOST`
 abbrev pub print : App
-print = with_wanted (new_app (codes "print")) (codes "ROSTER" ∷ codes "BASE" ∷ codes "STORE" ∷ codes "HOST" ∷ [])
+print = with_wanted (new_app (codes "print")) print_args
+
+-- the command with these commands under it as well
+abbrev pub with_subcommands : App → List App → App
+with_subcommands command [] = command
+with_subcommands command (sub ∷ more) = with_subcommands (with_subcommand command sub.top) more
 
 -- the commands on one policy
-abbrev pub on_policies : App
-on_policies =
-    let top = new_app (codes "desk") in
-    with_subcommand (with_subcommand (record top { top = record top.top { subcommand_required = true } }) check.top) decide.top
+abbrev pub on_policies : List App
+on_policies = check ∷ decide ∷ []
+
+-- the commands on a desk
+abbrev pub on_desks : List App
+on_desks = deliver ∷ print ∷ []
+
+-- the program, which is run by one of its commands
+abbrev pub program : App
+program = let top = new_app (codes "desk") in record top { top = record top.top { subcommand_required = true } }
 
 -- `desk COMMAND`
 abbrev pub desk : App
-desk = with_subcommand on_policies print.top
+desk = with_subcommands (with_subcommands program on_policies) on_desks
 
 -- ---- the values of a command's arguments
 
@@ -79,12 +106,11 @@ pub record IsInvocation (rows : List Row) (run : Invocation) : Type 0 where
   pub path : HasWord is_file_path (codes "PATH") rows run.path
   pub args : HasWords is_arg 64 (codes "ARGS") rows run.args
 
--- what the values of `print` say: no roster, no store, the base's path, and the host
-pub record IsPlaces (rows : List Row) (base host : Text) : Type 0 where
-  pub roster : HasValue (codes "ROSTER") rows (codes "-")
-  pub base_is : HasValue (codes "BASE") rows base
+-- the places that the values say: the paths of the roster and of the base, and no store
+pub record ArePlaces (rows : List Row) (places : Places) : Type 0 where
+  pub roster : HasValue (codes "ROSTER") rows places.roster
+  pub base : HasValue (codes "BASE") rows places.base
   pub store : HasValue (codes "STORE") rows (codes "-")
-  pub host_is : HasWord is_host_name (codes "HOST") rows host
 
 -- ---- what the line says
 
@@ -94,7 +120,8 @@ Says None job = ⊥
 Says (Some line) (Check file) = (line.0 ≡ codes "check") × HasValue (codes "FILE") line.1 file
 Says (Some line) (Decide file run) =
     (line.0 ≡ codes "decide") × HasValue (codes "FILE") line.1 file × IsInvocation line.1 run
-Says (Some line) (Print base host) = (line.0 ≡ codes "print") × IsPlaces line.1 base host
+Says (Some line) (Deliver places relay) = (line.0 ≡ codes "deliver") × ArePlaces line.1 places × HasValue (codes "RELAY") line.1 relay
+Says (Some line) (Print places host) = (line.0 ≡ codes "print") × ArePlaces line.1 places × HasWord is_host_name (codes "HOST") line.1 host
 
 -- By clap's rules the words are a command of the program, without a fault, and their values say the job.
 pub record IsCommandLine (words : List Text) (job : Job) : Type 0 where
@@ -136,18 +163,18 @@ pub record HasOther (id : Text) (rows : List Row) : Type 0 where
 
 -- one of the values of `print` is not of its form
 pub data HasBadPlace (rows : List Row) : Type 0 where
-  bad_roster : HasOther (codes "ROSTER") rows → HasBadPlace rows
   bad_store : HasOther (codes "STORE") rows → HasBadPlace rows
   bad_target : HasBadWord is_host_name (codes "HOST") rows → HasBadPlace rows
 
--- the command is `decide` or `print`, with such a value
+-- the command's name, with a value that is not of its form
 abbrev pub SaysBadly : Option (Text × List Row) → Type 0
 SaysBadly None = ⊥
 SaysBadly (Some line) =
     ((line.0 ≡ codes "decide") × HasBadValue line.1)
+    ⊎ ((line.0 ≡ codes "deliver") × HasOther (codes "STORE") line.1)
     ⊎ ((line.0 ≡ codes "print") × HasBadPlace line.1)
 
--- By clap's rules the words are the command `decide` or `print`, without a fault, but a value is not of its form.
+-- By clap's rules the words are a command of the program, without a fault, but a value is not of its form.
 pub record IsBadLine (words : List Text) : Type 0 where
   pub faultless : fault_of desk words ≡ []
   pub says : SaysBadly (subcommand_of desk words)
@@ -158,25 +185,16 @@ pub record IsBadLine (words : List Text) : Type 0 where
 abbrev pub HasSome : Text → List Row → Type 0
 HasSome id rows = is_some (first_of id rows) ≡ true
 
--- the arguments of `decide` that say the run, but for those that may be left out, have values
-pub record HasRun (rows : List Row) : Type 0 where
-  pub user : HasSome (codes "USER") rows
-  pub host : HasSome (codes "HOST") rows
-  pub runas : HasSome (codes "RUNAS") rows
-  pub at : HasSome (codes "AT") rows
-  pub path : HasSome (codes "PATH") rows
-
--- the arguments of `print` have values
-pub record HasPlaces (rows : List Row) : Type 0 where
-  pub roster : HasSome (codes "ROSTER") rows
-  pub base : HasSome (codes "BASE") rows
-  pub store : HasSome (codes "STORE") rows
-  pub host : HasSome (codes "HOST") rows
+-- each of these arguments has one
+abbrev pub HaveSome : List Text → List Row → Type 0
+HaveSome [] rows = Unit {0}
+HaveSome (id ∷ ids) rows = HasSome id rows × HaveSome ids rows
 
 -- the command is one of the program's, with a value for each argument that it wants
 abbrev pub IsComplete : Option (Text × List Row) → Type 0
 IsComplete None = ⊥
 IsComplete (Some line) =
-    ((line.0 ≡ codes "check") × HasSome (codes "FILE") line.1)
-    ⊎ ((line.0 ≡ codes "decide") × HasSome (codes "FILE") line.1 × HasRun line.1)
-    ⊎ ((line.0 ≡ codes "print") × HasPlaces line.1)
+    ((line.0 ≡ codes "check") × HaveSome check_args line.1)
+    ⊎ ((line.0 ≡ codes "decide") × HaveSome decide_args line.1)
+    ⊎ ((line.0 ≡ codes "deliver") × HaveSome deliver_args line.1)
+    ⊎ ((line.0 ≡ codes "print") × HaveSome print_args line.1)

@@ -76,6 +76,22 @@ fn decide<'a>(alloc: Global) -> Result<Command<'a>, AllocError>
     with_wanted(alloc, command, &wanted)?.arg(args)
 }
 
+fn deliver<'a>(alloc: Global) -> Result<Command<'a>, AllocError>
+    ensures app { IfOk result (λ c. app_of c ≡ line.deliver) }
+    ensures globals { IfOk result (λ c. (fields_of c).has_globals ≡ false) }
+{
+    let command = Command::new(alloc, "deliver").about(
+        "Deliver the messages on standard input, and print the answer to each",
+    );
+    let wanted = [
+        ("ROSTER", "The roster"),
+        ("BASE", "The base policy"),
+        ("STORE", "`-`: the messages are kept in memory alone"),
+        ("RELAY", "The relay that the messages come from"),
+    ];
+    with_wanted(alloc, command, &wanted)
+}
+
 fn print<'a>(alloc: Global) -> Result<Command<'a>, AllocError>
     ensures app { IfOk result (λ c. app_of c ≡ line.print) }
     ensures globals { IfOk result (λ c. (fields_of c).has_globals ≡ false) }
@@ -84,7 +100,7 @@ fn print<'a>(alloc: Global) -> Result<Command<'a>, AllocError>
         "Print a host's sudoers file, from a base policy and the messages on standard input",
     );
     let wanted = [
-        ("ROSTER", "`-`: there is no roster"),
+        ("ROSTER", "The roster"),
         ("BASE", "The base policy"),
         ("STORE", "`-`: the messages are the lines of standard input"),
         ("HOST", "The host"),
@@ -92,22 +108,36 @@ fn print<'a>(alloc: Global) -> Result<Command<'a>, AllocError>
     with_wanted(alloc, command, &wanted)
 }
 
-fn on_policies<'a>(alloc: Global) -> Result<Command<'a>, AllocError>
-    ensures app { IfOk result (λ c. app_of c ≡ line.on_policies) }
+/// Adds the commands on one policy.
+fn with_policies<'a>(alloc: Global, command: Command<'a>) -> Result<Command<'a>, AllocError>
+    requires { (fields_of command).has_globals ≡ false }
+    ensures app { IfOk result (λ c. app_of c ≡ line.with_subcommands (app_of command.entry) line.on_policies) }
     ensures globals { IfOk result (λ c. (fields_of c).has_globals ≡ false) }
 {
-    Command::new(alloc, "desk")
-        .about("A privileged access desk")
-        .subcommand_required(true)
+    command
         .subcommand(check(alloc)?)?
         .subcommand(decide(alloc)?)
+}
+
+/// Adds the commands on a desk.
+fn with_desks<'a>(alloc: Global, command: Command<'a>) -> Result<Command<'a>, AllocError>
+    requires { (fields_of command).has_globals ≡ false }
+    ensures app { IfOk result (λ c. app_of c ≡ line.with_subcommands (app_of command.entry) line.on_desks) }
+    ensures globals { IfOk result (λ c. (fields_of c).has_globals ≡ false) }
+{
+    command
+        .subcommand(deliver(alloc)?)?
+        .subcommand(print(alloc)?)
 }
 
 fn command<'a>(alloc: Global) -> Result<Command<'a>, AllocError>
     ensures app { IfOk result (λ c. app_of c ≡ desk) }
     ensures globals { IfOk result (λ c. (fields_of c).has_globals ≡ false) }
 {
-    on_policies(alloc)?.subcommand(print(alloc)?)
+    let program = Command::new(alloc, "desk")
+        .about("A privileged access desk")
+        .subcommand_required(true);
+    with_desks(alloc, with_policies(alloc, program)?)
 }
 
 fn fault_of_error(error: clap::Error) -> JobFault

@@ -1,23 +1,25 @@
 //! What the command line says to do.
 
-ghost use Rattle.std.specs.Prelude.{◌≡◌, ◌≢◌, IfOk, IfErr, MatchResult, Some, [], codes, map, string_bytes};
+ghost use Rattle.std.specs.Prelude.{◌≡◌, ◌≢◌, IfOk, IfErr, MatchResult, Some, [], ◌∷◌, codes, map, string_bytes};
 ghost use Rattle.clap.specs.Words.{fault_of, found_of, rows_of, subcommand_rows_of};
 ghost use Rattle.sudo_decide.specs.declared.invocation.Invocation.{Invocation as Run};
-ghost use Rattle.desk_cli.specs.CommandLine.{HasBadValue, HasPlaces, HasRun, HasSome, IsBadLine, IsCommandLine, IsComplete, IsInvocation, Says, SaysBadly, desk};
+ghost use Rattle.desk_cli.specs.CommandLine as line;
+ghost use Rattle.desk_cli.specs.CommandLine.{ArePlaces, HasBadValue, HasOther, HaveSome, IsBadLine, IsCommandLine, IsComplete, IsInvocation, Says, SaysBadly, desk};
 ghost use Rattle.desk_cli.specs.Faults.{IsUsage};
 ghost use Rattle.desk_cli.specs.declared.fault.JobFault.TheVariants.{BadWord, NoMemory};
 ghost use Rattle.desk_cli.specs.declared.task.Job.{Job as Task};
+ghost use Rattle.desk_cli.specs.declared.task.Places.{Places as Parts};
 
 use crate::command::parsed;
 use crate::fault::JobFault;
-use crate::task::Job;
+use crate::task::{Job, Places};
 use crate::values::{args, dash, moment, text, word};
 use clap::ArgMatches;
 use std::alloc::{AllocError, Global};
 use sudo_decide::Invocation;
 
 fn invocation(alloc: Global, matches: &ArgMatches<'_>) -> Result<Invocation, JobFault>
-    requires { HasRun (rows_of (found_of matches.now)) }
+    requires { HaveSome line.decide_args (rows_of (found_of matches.now)) }
     ensures found { IfOk result (λ run. IsInvocation (rows_of (found_of matches.now)) run) }
     ensures only { (run : Run) → IsInvocation (rows_of (found_of matches.now)) run → MatchResult result (λ r. r ≡ run) (λ e. e ≡ NoMemory) }
     ensures word { IfErr result (λ e. e ≡ BadWord → HasBadValue (rows_of (found_of matches.now))) }
@@ -40,7 +42,7 @@ fn invocation(alloc: Global, matches: &ArgMatches<'_>) -> Result<Invocation, Job
 }
 
 fn check(alloc: Global, matches: &ArgMatches<'_>) -> Result<Job, AllocError>
-    requires { HasSome (codes "FILE") (rows_of (found_of matches.now)) }
+    requires { HaveSome line.check_args (rows_of (found_of matches.now)) }
     ensures found { IfOk result (λ j. Says (Some (codes "check", rows_of (found_of matches.now))) j) }
     ensures only { (j : Task) → Says (Some (codes "check", rows_of (found_of matches.now))) j → IfOk result (λ k. k ≡ j) }
 {
@@ -50,8 +52,7 @@ fn check(alloc: Global, matches: &ArgMatches<'_>) -> Result<Job, AllocError>
 }
 
 fn decide(alloc: Global, matches: &ArgMatches<'_>) -> Result<Job, JobFault>
-    requires file { HasSome (codes "FILE") (rows_of (found_of matches.now)) }
-    requires run { HasRun (rows_of (found_of matches.now)) }
+    requires { HaveSome line.decide_args (rows_of (found_of matches.now)) }
     ensures found { IfOk result (λ j. Says (Some (codes "decide", rows_of (found_of matches.now))) j) }
     ensures only { (j : Task) → Says (Some (codes "decide", rows_of (found_of matches.now))) j → MatchResult result (λ k. k ≡ j) (λ e. e ≡ NoMemory) }
     ensures word { IfErr result (λ e. e ≡ BadWord → SaysBadly (Some (codes "decide", rows_of (found_of matches.now)))) }
@@ -62,18 +63,42 @@ fn decide(alloc: Global, matches: &ArgMatches<'_>) -> Result<Job, JobFault>
     Ok(Job::Decide { file, invocation })
 }
 
+/// The values of `ROSTER`, `BASE` and `STORE`.
+fn places(alloc: Global, matches: &ArgMatches<'_>) -> Result<Places, JobFault>
+    requires { HaveSome (codes "ROSTER" ∷ codes "BASE" ∷ codes "STORE" ∷ []) (rows_of (found_of matches.now)) }
+    ensures found { IfOk result (λ p. ArePlaces (rows_of (found_of matches.now)) p) }
+    ensures only { (p : Parts) → ArePlaces (rows_of (found_of matches.now)) p → MatchResult result (λ q. q ≡ p) (λ e. e ≡ NoMemory) }
+    ensures word { IfErr result (λ e. e ≡ BadWord → HasOther (codes "STORE") (rows_of (found_of matches.now))) }
+    ensures usage { IfErr result (λ e. IsUsage e → ⊥) }
+{
+    let roster = text(alloc, matches, "ROSTER")?;
+    let base = text(alloc, matches, "BASE")?;
+    dash(matches, "STORE")?;
+    Ok(Places { roster, base })
+}
+
+fn deliver(alloc: Global, matches: &ArgMatches<'_>) -> Result<Job, JobFault>
+    requires { HaveSome line.deliver_args (rows_of (found_of matches.now)) }
+    ensures found { IfOk result (λ j. Says (Some (codes "deliver", rows_of (found_of matches.now))) j) }
+    ensures only { (j : Task) → Says (Some (codes "deliver", rows_of (found_of matches.now))) j → MatchResult result (λ k. k ≡ j) (λ e. e ≡ NoMemory) }
+    ensures word { IfErr result (λ e. e ≡ BadWord → SaysBadly (Some (codes "deliver", rows_of (found_of matches.now)))) }
+    ensures usage { IfErr result (λ e. IsUsage e → ⊥) }
+{
+    let places = places(alloc, matches)?;
+    let relay = text(alloc, matches, "RELAY")?;
+    Ok(Job::Deliver { places, relay })
+}
+
 fn print(alloc: Global, matches: &ArgMatches<'_>) -> Result<Job, JobFault>
-    requires { HasPlaces (rows_of (found_of matches.now)) }
+    requires { HaveSome line.print_args (rows_of (found_of matches.now)) }
     ensures found { IfOk result (λ j. Says (Some (codes "print", rows_of (found_of matches.now))) j) }
     ensures only { (j : Task) → Says (Some (codes "print", rows_of (found_of matches.now))) j → MatchResult result (λ k. k ≡ j) (λ e. e ≡ NoMemory) }
     ensures word { IfErr result (λ e. e ≡ BadWord → SaysBadly (Some (codes "print", rows_of (found_of matches.now)))) }
     ensures usage { IfErr result (λ e. IsUsage e → ⊥) }
 {
-    dash(matches, "ROSTER")?;
-    let base = text(alloc, matches, "BASE")?;
-    dash(matches, "STORE")?;
+    let places = places(alloc, matches)?;
     let host = word(alloc, matches, "HOST")?;
-    Ok(Job::Print { base, host })
+    Ok(Job::Print { places, host })
 }
 
 fn by_name(alloc: Global, name: &str, matches: &ArgMatches<'_>) -> Result<Job, JobFault>
@@ -87,6 +112,8 @@ fn by_name(alloc: Global, name: &str, matches: &ArgMatches<'_>) -> Result<Job, J
         Ok(check(alloc, matches)?)
     } else if name == "decide" {
         decide(alloc, matches)
+    } else if name == "deliver" {
+        deliver(alloc, matches)
     } else {
         print(alloc, matches)
     }
@@ -107,8 +134,8 @@ fn named(alloc: Global, matches: &ArgMatches<'_>) -> Result<Job, JobFault>
 
 /// What the words say to do, the program's own name first, by clap's rules for the program's commands.
 ///
-/// `BadWord` comes where a value of `decide` or `print` has not the form that its place asks for, and `Usage` where the
-/// words are no command, or ask for help.
+/// `BadWord` comes where a value has not the form that its place asks for, and `Usage` where the words are no command, or
+/// ask for help.
 pub fn job(alloc: Global, words: Vec<String>) -> Result<Job, JobFault>
     ensures found { IfOk result (λ j. IsCommandLine (map string_bytes words.items) j) }
     ensures only { (j : Task) → IsCommandLine (map string_bytes words.items) j → MatchResult result (λ k. k ≡ j) (λ e. e ≡ NoMemory) }

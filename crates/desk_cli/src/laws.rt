@@ -39,10 +39,18 @@ pub fn decides_with_flag()
         })) }
 {}
 
-/// `desk print - base.sudo - db1`
+/// `desk deliver roster.toml base.sudo - web`
+pub fn delivers()
+    ensures { IsCommandLine
+        (codes "desk" ∷ codes "deliver" ∷ codes "roster.toml" ∷ codes "base.sudo" ∷ codes "-" ∷ codes "web" ∷ [])
+        (jobs.Deliver (record { roster = codes "roster.toml"; base = codes "base.sudo" }) (codes "web")) }
+{}
+
+/// `desk print roster.toml base.sudo - db1`
 pub fn prints()
-    ensures { IsCommandLine (codes "desk" ∷ codes "print" ∷ codes "-" ∷ codes "base.sudo" ∷ codes "-" ∷ codes "db1" ∷ [])
-        (jobs.Print (codes "base.sudo") (codes "db1")) }
+    ensures { IsCommandLine
+        (codes "desk" ∷ codes "print" ∷ codes "roster.toml" ∷ codes "base.sudo" ∷ codes "-" ∷ codes "db1" ∷ [])
+        (jobs.Print (record { roster = codes "roster.toml"; base = codes "base.sudo" }) (codes "db1")) }
 {}
 
 /// A line in which clap finds no fault is a command of the program, with a value for each argument that it wants.

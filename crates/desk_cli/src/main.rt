@@ -1,10 +1,14 @@
 //! The desk's program: reads its command line, and does what it says.
 #![tactic(auto)]
 
+mod answer;
 mod command;
 mod command_line;
+mod delivering;
 mod fault;
 mod laws;
+mod lines;
+mod opening;
 mod printing;
 mod refusal;
 mod running;
@@ -21,6 +25,7 @@ use crate::refusal::Refusal;
 use crate::running::{finish, refuse, run};
 use crate::status::{Status, code};
 use crate::task::Job;
+use crate::text::Text;
 use std::io::{BufReader, BufWriter};
 use std::process::ExitCode;
 use std::{env, fs, io};
@@ -33,18 +38,25 @@ fn words(rt: &HostRuntime) -> Result<Vec<String>, Refusal> {
     }
 }
 
+fn file(rt: &HostRuntime, path: &Text) -> Result<Vec<u8>, Refusal> {
+    match fs::read(rt, path.as_str()) {
+        Ok(bytes) => Ok(bytes),
+        Err(error) if error.kind() == io::ErrorKind::OutOfMemory => Err(Refusal::NoMemory),
+        Err(_) => Err(Refusal::FileFailed),
+    }
+}
+
 /// The bytes of the files that the job names, in the order of its words.
 fn files(rt: &HostRuntime, job: &Job) -> Result<Vec<Vec<u8>>, Refusal> {
-    let path = match job {
-        Job::Check { file } => file.as_str(),
-        Job::Decide { file, .. } => file.as_str(),
-        Job::Print { base, .. } => base.as_str(),
-    };
     let mut files = Vec::new(rt.alloc());
-    match fs::read(rt, path) {
-        Ok(bytes) => files.push(bytes)?,
-        Err(error) if error.kind() == io::ErrorKind::OutOfMemory => return Err(Refusal::NoMemory),
-        Err(_) => return Err(Refusal::FileFailed),
+    match job {
+        Job::Check { file: path } | Job::Decide { file: path, .. } => {
+            files.push(file(rt, path)?)?;
+        }
+        Job::Deliver { places, .. } | Job::Print { places, .. } => {
+            files.push(file(rt, &places.roster)?)?;
+            files.push(file(rt, &places.base)?)?;
+        }
     }
     Ok(files)
 }

@@ -1,71 +1,33 @@
-//! Printing a host's file: the lines of the input are delivered to a desk over the base policy.
+//! Printing a host's file: the lines of the input are delivered to a desk.
 
-ghost use Rattle.std.specs.Prelude.{◌≡◌, ◌≢◌, ◌⊎◌, ◌++◌, ℕ, List, [], IfErr, IfOk, IfSome, OnOk, map, string_bytes};
+ghost use Rattle.std.specs.Prelude.{◌≡◌, ◌++◌, ℕ, List, IfErr, IfOk, OnOk, string_bytes};
 ghost use Rattle.std.specs.Io.KnownBytes.{Appends};
-ghost use Rattle.desk_cli.specs.Printing.{EndsPrinting, EndsTaking, HadMemory, IsTaken, PrintsHost, complaint, complaints, lines_of};
-ghost use Rattle.desk.specs.declared.refusal.Refusal.TheVariants as refusals;
+ghost use Rattle.desk_cli.specs.Printing.{EndsPrinting, EndsTaking, HadMemory, IsTaken, PrintsHost, complaint, complaints};
+ghost use Rattle.messages.specs.declared.message.Message.{Message};
+ghost use Rattle.desk_store.specs.Memory.{Holds};
+ghost use Rattle.desk_store.specs.Sets.{IsNothing, Lists};
+ghost use Rattle.desk.specs.Refusals.{IsWant};
 ghost use Rattle.desk_cli.specs.declared.status.Status.TheVariants.{Done};
 
+use crate::lines::read_lines;
+use crate::opening::open;
 use crate::refusal::Refusal;
-use desk::{Ack, Desk};
+use desk::{Ack, Desk, MemoryKeeper};
 use std::alloc::{AllocError, Global};
 use std::fmt::Write as _;
 use std::io::{Read, Write};
-use std::{io, mem};
-use sudo_syntax::read_policy;
 use sudo_words::HostName;
 
-/// All that an input has left.
-fn whole<R: Read>(alloc: Global, input: &mut R) -> Result<Vec<u8>, Refusal>
-    ensures bytes { IfOk result (λ v. IfSome (R.remaining input.old) (λ bytes. v.items ≡ bytes)) }
-    ensures err { IfErr result EndsTaking }
-{
-    let mut bytes = Vec::new(alloc);
-    match input.read_to_end(&mut bytes) {
-        Ok(_) => Ok(bytes),
-        Err(error) if error.kind() == io::ErrorKind::OutOfMemory => Err(Refusal::NoMemory),
-        Err(_) => Err(Refusal::FileFailed),
-    }
-}
-
-/// The lines of a text: what stands before each newline, and what stands behind the last one, unless that is nothing.
-fn lines(alloc: Global, bytes: &[u8]) -> Result<Vec<Vec<u8>>, AllocError>
-    ensures { IfOk result (λ v. map (λ l. l.items) v.items ≡ lines_of bytes.now) }
-{
-    let mut lines = Vec::new(alloc);
-    let mut line = Vec::new(alloc);
-    for byte in bytes {
-        if *byte == b'\n' {
-            lines.push(mem::replace(&mut line, Vec::new(alloc)))?;
-        } else {
-            line.push(*byte)?;
-        }
-    }
-    if !line.is_empty() {
-        lines.push(line)?;
-    }
-    Ok(lines)
-}
-
-/// The lines that an input has left.
-fn read_lines<R: Read>(alloc: Global, input: &mut R) -> Result<Vec<Vec<u8>>, Refusal>
-    ensures lines { IfOk result (λ v. IfSome (R.remaining input.old) (λ bytes. map (λ l. l.items) v.items ≡ lines_of bytes)) }
-    ensures err { IfErr result EndsTaking }
-{
-    let bytes = whole(alloc, input)?;
-    Ok(lines(alloc, bytes.as_slice())?)
-}
-
-/// Adds why a line is refused. Where the desk could not take the line for want of memory, nothing can be printed.
+/// Adds why a line is refused. Where the desk could not take the line for want of memory or storage, nothing can be printed.
 fn complain(said: &mut String, number: usize, refusal: desk::Refusal) -> Result<(), Refusal>
     ensures said { OnOk result (string_bytes said.new ≡ string_bytes said.old ++ complaint number refusal) }
-    ensures memory { OnOk result (refusal ≢ refusals.NoMemory) }
+    ensures memory { OnOk result (¬ IsWant refusal) }
     ensures err { IfErr result EndsTaking }
 {
-    if refusal == desk::Refusal::NoMemory {
-        return Err(Refusal::Desk(refusal));
+    match refusal {
+        desk::Refusal::NoMemory | desk::Refusal::Storage => Err(Refusal::Desk(refusal)),
+        _ => Ok(write!(said, "line {number}: {refusal}\n")?),
     }
-    Ok(write!(said, "line {number}: {refusal}\n")?)
 }
 
 /// Why lines are refused, in their order, with the number of each from 1.
@@ -97,43 +59,49 @@ fn say<E: Write>(said: &str, err: &mut E) -> Result<(), Refusal>
     Ok(())
 }
 
-/// Delivers the lines of the input, and says on `err` which the desk does not take.
+/// Delivers the lines of the input as those of the roster's first relay in byte order, and says on `err` which the desk does
+/// not take.
 fn take_lines<R: Read, E: Write>(
     alloc: Global,
-    desk: &mut Desk,
+    desk: &mut Desk<MemoryKeeper>,
     input: &mut R,
     err: &mut E,
 ) -> Result<(), Refusal>
-    requires { desk.old.messages ≡ [] }
+    requires { IsNothing (Holds desk.old.keeper) }
+    ensures roster { desk.new.roster ≡ desk.old.roster }
     ensures base { desk.new.base ≡ desk.old.base }
-    ensures taken { OnOk result ((said : List ℕ) × IsTaken (R.remaining input.old) desk.new.messages said
-        × Appends (E.contents err.old) (E.contents err.new) said) }
+    ensures taken { OnOk result ((messages : List Message) × (said : List ℕ) × Lists (Holds desk.new.keeper) messages
+        × IsTaken desk.old.roster.says (R.remaining input.old) messages said × Appends (E.contents err.old) (E.contents err.new) said) }
     ensures err { IfErr result EndsTaking }
 {
-    let lines = read_lines(alloc, input)?;
+    let lines = read_lines(alloc, desk.roster().first_relay().as_str(), input)?;
     let answers = desk.deliver_all(lines.as_slice())?;
     let said = complaints_of(alloc, answers.as_slice())?;
     say(said.as_str(), err)
 }
 
-/// The host's file over the policy that a text spells and the messages of the input's lines.
+/// The host's file, over the desk that the files make and the messages of the input's lines.
 ///
 /// A line that the desk does not take is named on `err`, as `line 3: M2 NotCanonical`, and has no other effect. It is
-/// refused where the text spells no policy or is past the desk's limits, where the input cannot be read or `err` not be
-/// written, where the file would have too many lines, and where memory runs out.
+/// refused where the files make no desk, where the input cannot be read or `err` not be written, where the file would have
+/// too many lines, and where memory runs out.
 pub fn print_host<R: Read, E: Write>(
     alloc: Global,
-    file: &[u8],
+    roster: &[u8],
+    base: &[u8],
     host: &HostName,
     input: &mut R,
     err: &mut E,
 ) -> Result<String, Refusal>
-    ensures printed { IfOk result (λ s. (said : List ℕ) × PrintsHost file.now host.now (R.remaining input.old) Done (string_bytes s) said
+    ensures printed { IfOk result (λ s. (said : List ℕ)
+        × PrintsHost roster.now base.now host.now (R.remaining input.old) Done (string_bytes s) said
         × Appends (E.contents err.old) (E.contents err.new) said) }
-    ensures err { IfErr result (EndsPrinting file.now host.now (R.remaining input.old)) }
+    ensures err { IfErr result (EndsPrinting roster.now base.now host.now (R.remaining input.old)) }
 {
-    let base = read_policy(alloc, file)?;
-    let mut desk = Desk::open(alloc, base)?;
+    let mut desk = open(alloc, roster, base)?;
     take_lines(alloc, &mut desk, input, err)?;
-    Ok(desk.host_file(host)?)
+    match desk.host_file(host) {
+        Ok(text) => Ok(text),
+        Err(refusal) => Err(Refusal::Desk(refusal)),
+    }
 }

@@ -2,14 +2,15 @@
 
 ghost use Rattle.std.specs.Prelude.{◌≡◌};
 
+use roster::RosterFault;
 use std::alloc::{AllocError, AllocFailed};
 use std::fmt;
 use sudo_syntax::{NoMemory, ReadFault};
 
 /// Why the program refuses what it is told to do.
 ///
-/// It is printed as its code and name, as `F1 FileFailed`; a policy's fault as its own text, as `S5 UnknownAlias line 3`,
-/// and the desk's as its own, as `K6 BaseTooLarge`.
+/// It is printed as its code and name, as `F1 FileFailed`; a roster's fault and the desk's as their own, as `O1 NotToml` and
+/// `K6 BaseTooLarge`, and a policy's with its line, as `S5 UnknownAlias line 3`.
 #[derive(Clone, Copy, Debug, PartialEq, Eq)]
 pub enum Refusal {
     /// A file could not be read, or an answer not be written.
@@ -18,6 +19,8 @@ pub enum Refusal {
     BadWord,
     /// Memory ran out.
     NoMemory,
+    /// A file's text is no roster.
+    Roster(RosterFault),
     /// A file's text is no policy.
     Policy(ReadFault),
     /// The desk refuses.
@@ -35,9 +38,20 @@ impl fmt::Display for Refusal {
             Refusal::FileFailed => f.write_str("F1 FileFailed"),
             Refusal::BadWord => f.write_str("F2 BadWord"),
             Refusal::NoMemory => f.write_str("NoMemory"),
+            Refusal::Roster(fault) => write!(f, "{fault}"),
             Refusal::Policy(fault) => write!(f, "{fault}"),
             Refusal::Desk(refusal) => write!(f, "{refusal}"),
         }
+    }
+}
+
+impl From<RosterFault> for Refusal {
+    ghost use Rattle.desk_cli.specs.declared.refusal.Refusal.TheVariants.{Roster};
+
+    ghost from_gives = { λ f e. e ≡ Roster f };
+
+    fn from(e: RosterFault) -> Refusal {
+        Refusal::Roster(e)
     }
 }
 

@@ -1,11 +1,14 @@
 //! Doing a job. Its answer is made whole before any of it is written.
 
-ghost use Rattle.std.specs.Prelude.{◌≡◌, ◌≢◌, ◌⊎◌, ℕ, List, [], IfErr, IfOk, map, string_bytes};
+ghost use Rattle.std.specs.Prelude.{◌≡◌, ◌≢◌, ◌⊎◌, ℕ, List, [], Option, IfErr, IfOk, map, string_bytes};
 ghost use Rattle.std.specs.Io.Buffered.{writer_buffer, writer_contents};
 ghost use Rattle.std.specs.Io.KnownBytes.{Appends, Keeps};
-ghost use Rattle.desk_cli.specs.Printing.{EndsPrinting, PrintsHost};
 ghost use Rattle.desk_cli.specs.Answers.{ChecksFile, DecidesByFile, EndsReading, HasAnswer, IsAnswer, IsCause, IsDecided, status_of};
+ghost use Rattle.desk_cli.specs.declared.task.Job.TheVariants as jobs;
+ghost use Rattle.desk_cli.specs.declared.task.Places.{Places as Parts};
 
+use crate::answer::Answer;
+use crate::delivering::deliver_lines;
 use crate::printing::print_host;
 use crate::refusal::Refusal;
 use crate::status::Status;
@@ -15,13 +18,6 @@ use std::io::{BufWriter, Read, Write};
 use sudo_decide::{Decision, Invocation, decide};
 use sudo_syntax::{print_policy, read_policy};
 use sudo_words::HostName;
-
-/// What a job answers.
-#[derive(Drop)]
-struct Answer {
-    text: String,
-    status: Status,
-}
 
 fn status_of(decision: Decision) -> Status
     ensures { result ≡ status_of decision }
@@ -61,21 +57,73 @@ fn decided(alloc: Global, file: &[u8], invocation: &Invocation) -> Result<Answer
     Ok(decision_line(alloc, decide(&policy, invocation))?)
 }
 
+fn check_first(alloc: Global, files: &[Vec<u8>]) -> Result<Answer, Refusal>
+    ensures cause { (name : List ℕ) → (input : Option (List ℕ)) → IfErr result (IsCause (jobs.Check name) (map (λ f. f.items) files.now) input) }
+    ensures found { (name : List ℕ) → (input : Option (List ℕ)) → IfOk result (λ a.
+        IsAnswer (jobs.Check name) (map (λ f. f.items) files.now) input a.status (string_bytes a.text) []) }
+{
+    match files {
+        [file, ..] => check(alloc, file.as_slice()),
+        _ => Err(Refusal::FileFailed),
+    }
+}
+
+fn decide_by_first(
+    alloc: Global,
+    files: &[Vec<u8>],
+    invocation: &Invocation,
+) -> Result<Answer, Refusal>
+    ensures cause { (name : List ℕ) → (input : Option (List ℕ)) → IfErr result (IsCause (jobs.Decide name invocation.now) (map (λ f. f.items) files.now) input) }
+    ensures found { (name : List ℕ) → (input : Option (List ℕ)) → IfOk result (λ a.
+        IsAnswer (jobs.Decide name invocation.now) (map (λ f. f.items) files.now) input a.status (string_bytes a.text) []) }
+{
+    match files {
+        [file, ..] => decided(alloc, file.as_slice(), invocation),
+        _ => Err(Refusal::FileFailed),
+    }
+}
+
+fn delivered<R: Read>(
+    alloc: Global,
+    files: &[Vec<u8>],
+    relay: &str,
+    input: &mut R,
+) -> Result<Answer, Refusal>
+    ensures cause { (places : Parts) → IfErr result (IsCause (jobs.Deliver places relay.now) (map (λ f. f.items) files.now) (R.remaining input.old)) }
+    ensures found { (places : Parts) → IfOk result (λ a.
+        IsAnswer (jobs.Deliver places relay.now) (map (λ f. f.items) files.now) (R.remaining input.old) a.status (string_bytes a.text) []) }
+{
+    match files {
+        [roster, base, ..] => deliver_lines(
+            alloc,
+            roster.as_slice(),
+            base.as_slice(),
+            relay,
+            input,
+        ),
+        _ => Err(Refusal::FileFailed),
+    }
+}
+
 fn printed<R: Read, E: Write>(
     alloc: Global,
-    file: &[u8],
+    files: &[Vec<u8>],
     host: &HostName,
     input: &mut R,
     err: &mut E,
 ) -> Result<Answer, Refusal>
-    ensures err { IfErr result (EndsPrinting file.now host.now (R.remaining input.old)) }
-    ensures found { IfOk result (λ a. (said : List ℕ) × PrintsHost file.now host.now (R.remaining input.old) a.status (string_bytes a.text) said
+    ensures cause { (places : Parts) → IfErr result (IsCause (jobs.Print places host.now) (map (λ f. f.items) files.now) (R.remaining input.old)) }
+    ensures found { (places : Parts) → IfOk result (λ a. (said : List ℕ)
+        × IsAnswer (jobs.Print places host.now) (map (λ f. f.items) files.now) (R.remaining input.old) a.status (string_bytes a.text) said
         × Appends (E.contents err.old) (E.contents err.new) said) }
 {
-    Ok(Answer {
-        text: print_host(alloc, file, host, input, err)?,
-        status: Status::Done,
-    })
+    match files {
+        [roster, base, ..] => Ok(Answer {
+            text: print_host(alloc, roster.as_slice(), base.as_slice(), host, input, err)?,
+            status: Status::Done,
+        }),
+        _ => Err(Refusal::FileFailed),
+    }
 }
 
 /// What the job answers, or why it is refused. What else there is to say is said on `err`.
@@ -91,13 +139,11 @@ fn answered<R: Read, E: Write>(
         × IsAnswer job.now (map (λ f. f.items) files.now) (R.remaining input.old) a.status (string_bytes a.text) said
         × Appends (E.contents err.old) (E.contents err.new) said) }
 {
-    let Some(file) = files.first() else {
-        return Err(Refusal::FileFailed);
-    };
     match job {
-        Job::Check { .. } => check(alloc, file.as_slice()),
-        Job::Decide { invocation, .. } => decided(alloc, file.as_slice(), invocation),
-        Job::Print { host, .. } => printed(alloc, file.as_slice(), host, input, err),
+        Job::Check { .. } => check_first(alloc, files),
+        Job::Decide { invocation, .. } => decide_by_first(alloc, files, invocation),
+        Job::Deliver { relay, .. } => delivered(alloc, files, relay.as_str(), input),
+        Job::Print { host, .. } => printed(alloc, files, host, input, err),
     }
 }
 
@@ -110,7 +156,7 @@ pub fn refuse<E: Write>(refusal: Refusal, err: &mut E) -> Status
     Status::Refused
 }
 
-fn deliver<W: Write, E: Write>(answer: &Answer, out: &mut W, err: &mut E) -> Status
+fn write_answer<W: Write, E: Write>(answer: &Answer, out: &mut W, err: &mut E) -> Status
     ensures status { result ≢ Status.Refused → result ≡ answer.now.status }
     ensures written { result ≢ Status.Refused → Appends (W.contents out.old) (W.contents out.new) (string_bytes answer.now.text) }
     ensures quiet { result ≢ Status.Refused → E.contents err.new ≡ E.contents err.old }
@@ -143,7 +189,7 @@ pub fn run<R: Read, W: Write, E: Write>(
         ⊎ HasAnswer job.now (map (λ f. f.items) files.now) (R.remaining input.old) }
 {
     match answered(alloc, job, files, input, err) {
-        Ok(answer) => deliver(&answer, out, err),
+        Ok(answer) => write_answer(&answer, out, err),
         Err(refusal) => refuse(refusal, err),
     }
 }

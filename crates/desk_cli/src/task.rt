@@ -4,6 +4,15 @@ use crate::text::Text;
 use sudo_decide::Invocation;
 use sudo_words::HostName;
 
+/// Where the parts of a desk stand. It keeps its messages in memory alone.
+#[derive(Drop)]
+pub struct Places {
+    /// The path of the roster's file.
+    pub roster: Text,
+    /// The path of the base policy's file.
+    pub base: Text,
+}
+
 /// What the command line says to do.
 #[derive(Drop)]
 pub enum Job {
@@ -19,10 +28,17 @@ pub enum Job {
         /// The run.
         invocation: Invocation,
     },
-    /// Deliver the lines of the input to a desk over a base policy, and print a host's file.
+    /// Deliver the lines of the input to a desk, and print the answer to each.
+    Deliver {
+        /// The desk's files.
+        places: Places,
+        /// The relay that the lines come from, which the roster may lack.
+        relay: Text,
+    },
+    /// Deliver the lines of the input to a desk, and print a host's file.
     Print {
-        /// The path of the base policy's file.
-        base: Text,
+        /// The desk's files.
+        places: Places,
         /// The host.
         host: HostName,
     },

@@ -12,7 +12,7 @@ use Rattle.messages.specs.declared.message.Message.TheVariants.{Request}
 use Rattle.roster.specs.Fields.{CeilingFields, RosterFields}
 use Rattle.roster.specs.Relations.{ceiling_at, has_person, holds}
 use Rattle.roster.specs.Rules.{is_among}
-use Rattle.grants.specs.Forms.{is_inside}
+use Rattle.grants.specs.private.Forms.{is_inside}
 use Rattle.grants.specs.Denials.{number}
 use Rattle.grants.specs.Admission.{LiesInsideOne, IsWithin, MayAskUnder, AdmitsRequest, UnderCeiling, HasHostOutside, HasCommandOutside, DeniesRequest, IsDenial}
 use Rattle.grants.specs.declared.denial.Denial.{Denial}

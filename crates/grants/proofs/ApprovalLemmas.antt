@@ -10,7 +10,8 @@ use Rattle.messages.specs.Names.{IsAbout}
 use Rattle.messages.specs.declared.message.Message.{Message}
 use Rattle.messages.specs.declared.message.Message.TheVariants.{Verdict}
 use Rattle.messages.specs.declared.kind.VerdictKind.TheVariants.{Approve}
-use Rattle.grants.specs.Marks.{AreOfDifferent, Keep, shown, verdict_of}
+use Rattle.grants.specs.Marks.{AreOfDifferent, Keep, verdict_of}
+use Rattle.grants.specs.private.Noting.{shown}
 use Rattle.grants.specs.Summaries.{AreApprovals, IsEarliest, approval_cmp}
 use Rattle.grants.specs.declared.marks.Mark.{Mark}
 use Rattle.grants.proofs.CountLemmas.{Has, has_weaker, has_from_any}

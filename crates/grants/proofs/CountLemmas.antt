@@ -19,6 +19,11 @@ has_weaker P Q [] f h = h
 has_weaker P Q (r ∷ rs) f (inl h) = inl (f r h)
 has_weaker P Q (r ∷ rs) f (inr h) = inr (has_weaker P Q rs f h)
 
+pub has_each : (P Q : Mark → Type 0) (marks : List Mark) → Has P marks → AllByRecursion Q marks → (r : Mark) × P r × Q r
+has_each P Q [] h all = absurd h
+has_each P Q (r ∷ rs) (inl h) all = (r, h, all.0)
+has_each P Q (r ∷ rs) (inr h) all = has_each P Q rs h all.1
+
 pub has_from_any : (f : Mark → Bool) (marks : List Mark) → list_any f marks ≡ true → Has (λ r. f r ≡ true) marks
 has_from_any f [] h = absurd (both_ways _ refl h)
 has_from_any f (r ∷ rs) h =
@@ -84,11 +89,11 @@ at_most (suc n) test marks P f h =
     (λ r s. (s.0, and_from (test r) _ s.1 (not_from_false _ (false_from_ne_true _ (λ e. p.1 (sym s.0 ∙ (bytes_eq-Decides r.person h.0).0 e)))))) (f person p.0)) h.2 in
     omega (arith, out, rest)
 
-both_each : (P Q : Mark → Type 0) (marks : List Mark) → AllByRecursion P marks → AllByRecursion Q marks → AllByRecursion (λ r. P r × Q r) marks
+pub both_each : (P Q : Mark → Type 0) (marks : List Mark) → AllByRecursion P marks → AllByRecursion Q marks → AllByRecursion (λ r. P r × Q r) marks
 both_each P Q [] a b = tt
 both_each P Q (r ∷ rs) a b = ((a.0, b.0), both_each P Q rs a.1 b.1)
 
-each_weaker : (P Q : Mark → Type 0) (marks : List Mark) → ((r : Mark) → P r → Q r) → AllByRecursion P marks → AllByRecursion Q marks
+pub each_weaker : (P Q : Mark → Type 0) (marks : List Mark) → ((r : Mark) → P r → Q r) → AllByRecursion P marks → AllByRecursion Q marks
 each_weaker P Q [] f all = tt
 each_weaker P Q (r ∷ marks) f all = (f r all.0, each_weaker P Q marks f all.1)
 

@@ -25,11 +25,11 @@ one_verdict v w e = cc
 
 -- ---- a verdict that never counts
 
-asked_before : (set : List Message) (v : VerdictFields) (q : RequestFields) → Contains (set ++ Verdict v ∷ []) (Request q) → Contains set (Request q)
+pub asked_before : (set : List Message) (v : VerdictFields) (q : RequestFields) → Contains (set ++ Verdict v ∷ []) (Request q) → Contains set (Request q)
 asked_before set v q h =
     elim (Contains-push_cases set (Verdict v) (Request q) h) as (λ _. Contains set (Request q)) [ inl old ↦ old | inr new ↦ absurd cc ]
 
-given_after : (f : RosterFields Cmnd) (set : List Message) (v w : VerdictFields) (q : RequestFields) (kind : VerdictKind) → IsGiven f set q kind w → IsGiven f (set ++ Verdict v ∷ []) q kind w
+pub given_after : (f : RosterFields Cmnd) (set : List Message) (v w : VerdictFields) (q : RequestFields) (kind : VerdictKind) → IsGiven f set q kind w → IsGiven f (set ++ Verdict v ∷ []) q kind w
 given_after f set v w q kind g = record {
   given = Contains-append_left set (Verdict v ∷ []) (Verdict w) g.given;
   about = g.about;
@@ -39,7 +39,7 @@ given_after f set v w q kind g = record {
   counts_is = g.counts_is;
 }
 
-given_before : (f : RosterFields Cmnd) (set : List Message) (v w : VerdictFields) (q : RequestFields) (kind : VerdictKind) → NeverCounts f set v → Contains set (Request q) → IsGiven f (set ++ Verdict v ∷ []) q kind w → IsGiven f set q kind w
+pub given_before : (f : RosterFields Cmnd) (set : List Message) (v w : VerdictFields) (q : RequestFields) (kind : VerdictKind) → NeverCounts f set v → Contains set (Request q) → IsGiven f (set ++ Verdict v ∷ []) q kind w → IsGiven f set q kind w
 given_before f set v w q kind never asked g = record {
   given = elim (Contains-push_cases set (Verdict v) (Verdict w) g.given) as (λ _. Contains set (Verdict w)) [
     | inl old ↦ old

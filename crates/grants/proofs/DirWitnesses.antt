@@ -12,7 +12,7 @@ use Rattle.sudo_words.specs.Command.{is_directly_in, IsLawful}
 use Rattle.sudo_words.specs.declared.cmnd.Cmnd.TheVariants.{Path, Dir}
 use Rattle.sudo_words.specs.declared.cmnd.ArgRule.{ArgRule}
 use Rattle.grants.specs.Reach.{Reaches, ReachesBeyond}
-use Rattle.grants.specs.Forms.{is_inside}
+use Rattle.grants.specs.private.Forms.{is_inside}
 use Rattle.grants.proofs.DirLemmas.{absolute_joined}
 
 same_bytes : (f g : List ℕ) → bytes_eq f g ≡ true → f ≡ g

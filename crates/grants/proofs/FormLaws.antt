@@ -7,7 +7,7 @@ use Rattle.sudo_words.specs.Command.{IsLawful, matches, is_directly_in}
 use Rattle.sudo_words.specs.declared.cmnd.ArgRule.{ArgRule}
 use Rattle.sudo_words.specs.declared.cmnd.Cmnd.{Cmnd}
 use Rattle.sudo_words.specs.declared.cmnd.Cmnd.TheVariants.{All, Path, Dir}
-use Rattle.grants.specs.Forms.{is_inside, rule_inside}
+use Rattle.grants.specs.private.Forms.{is_inside, rule_inside}
 use Rattle.grants.specs.Reach.{LiesInside, Reaches}
 use Rattle.grants.proofs.Inclusion.{exact}
 use Rattle.grants.proofs.Witnesses.{inside}

@@ -5,7 +5,7 @@ use Rattle.sudo_words.specs.Command.{IsLawful}
 use Rattle.sudo_words.specs.declared.cmnd.Cmnd.{Cmnd}
 use Rattle.sudo_words.specs.declared.cmnd.Cmnd.TheVariants.{All, Path, Dir}
 use Rattle.grants.specs.Reach.{LiesInside, ReachesBeyond}
-use Rattle.grants.specs.Forms.{is_inside}
+use Rattle.grants.specs.private.Forms.{is_inside}
 use Rattle.grants.proofs.Witnesses.{inside, beyond_file, beyond_dir, all_beyond_file, all_beyond_dir}
 use Rattle.grants.proofs.DirWitnesses.{dir_beyond_file, dir_beyond_dir}
 

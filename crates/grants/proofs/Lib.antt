@@ -9,10 +9,10 @@ pub mod FormLaws
 pub mod Privileges
 pub mod SomeAnswer
 pub mod WorkedSite
-pub mod NthSteps
 pub mod MarkLemmas
 pub mod StandLemmas
 pub mod CountLemmas
+pub mod LeastLemmas
 pub mod NthLemmas
 pub mod StatusLemmas
 pub mod StatusLaws

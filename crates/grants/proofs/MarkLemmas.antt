@@ -11,7 +11,8 @@ use Rattle.messages.specs.declared.message.Message.TheVariants.{Verdict}
 use Rattle.messages.specs.declared.kind.VerdictKind.{VerdictKind}
 use Rattle.grants.specs.declared.marks.Mark.{Mark}
 use Rattle.messages.specs.Names.{IsAbout}
-use Rattle.grants.specs.Marks.{is_among, lowered, noted, verdict_of, Covers, AreOfDifferent, Keep}
+use Rattle.grants.specs.Marks.{verdict_of, Covers, AreOfDifferent, Keep}
+use Rattle.grants.specs.private.Noting.{is_among, lowered, noted}
 
 abbrev new_mark : List ℕ → ℕ → Mark
 new_mark person moment = record { person = person; at = moment }

@@ -1,12 +1,13 @@
 -- The least moment by which n marks that count have come.
-use Rattle.std.proofs.Common.{◌≡◌, ℕ, zero, suc, ◌+◌, ◌≤◌, ◌⊎◌, Bool, true, cond, ◌&&◌, nat_le, nat_lt, List, [], ◌∷◌, Option, Some, None, refl, sym, ap, ◌∙◌, subst, inl, inr, arith}
-use Rattle.std.specs.List.{count_by}
+use Rattle.std.proofs.Common.{◌≡◌, ℕ, zero, suc, ◌+◌, ◌≤◌, ◌<◌, ◌⊎◌, Bool, true, false, cond, ◌&&◌, nat_le, List, [], ◌∷◌, Option, Some, None, refl, sym, ap, ◌∙◌, subst, inl, inr, arith}
+use Rattle.std.specs.List.{count_by, AllByRecursion}
 use Rattle.std.specs.Option.{MatchOption}
-use Rattle.std.proofs.lemmas.Bool.{cases_Bool, cases_eq, and_parts, and_from, and_left, cond_both, cond-true, cond-false, leb-true, leb-false, le-leb, lt-leb, ltb-true, ltb-false}
+use Rattle.std.proofs.lemmas.Bool.{cases_Bool, cases_eq, and_parts, and_from, and_left, both_ways, false_from_ne_true, leb-true, leb-false, le-leb, lt-leb, ltb-true, lt-ltb}
 use Rattle.std.proofs.lemmas.List.Sums.{sum_by-cons}
 use Rattle.grants.specs.declared.marks.Mark.{Mark}
-use Rattle.grants.specs.Ranks.{rank, is_enough, earlier, nth_of}
-use Rattle.grants.proofs.CountLemmas.{Has, has_weaker, count_not}
+use Rattle.grants.specs.private.Ranks.{rank, is_after, is_enough, least_from, nth_of}
+use Rattle.grants.proofs.CountLemmas.{Has, has_weaker, has_each, both_each, each_weaker, count_not}
+use Rattle.grants.proofs.LeastLemmas.{IsLeast, Passes, is_least, one_least}
 
 abbrev by : (Mark → Bool) → ℕ → Mark → Bool
 by who moment r = who r && nat_le r.at moment
@@ -73,67 +74,84 @@ descend who all n some (suc moment) h =
 
 -- ---- the least of the marks that are enough
 
-earlier_has : (P : ℕ → Type 0) (moment : ℕ) (o : Option ℕ) → P moment → ((other : ℕ) → o ≡ Some other → P other) → P (earlier moment o)
-earlier_has P moment None here rest = here
-earlier_has P moment (Some other) here rest = cond_both (nat_lt other moment) other moment P (λ _. rest other refl) (λ _. here)
+enough_by : (test : Mark → Bool) (n : ℕ) (all : List Mark) → 1 ≤ n → (moment : ℕ) → n ≤ rank test all moment → Has (λ r. (is_enough test n all r ≡ true) × (r.at ≤ moment)) all
+enough_by test n all some moment h =
+    has_weaker _ (λ r. (is_enough test n all r ≡ true) × (r.at ≤ moment)) all (λ r s. (and_from (test r) _ s.0 (le-leb n _ s.2), s.1))
+    (descend test all n some moment h)
 
-earlier_low : (moment : ℕ) (o : Option ℕ) → earlier moment o ≤ moment
-earlier_low moment None = omega arith
-earlier_low moment (Some other) =
-    cond_both (nat_lt other moment) other moment (λ t. t ≤ moment) (λ e. omega (arith, ltb-true other moment e)) (λ _. omega arith)
-
-earlier_other : (moment other : ℕ) → earlier moment (Some other) ≤ other
-earlier_other moment other =
-    cond_both (nat_lt other moment) other moment (λ t. t ≤ other) (λ _. omega arith) (λ e. omega (arith, ltb-false other moment e))
-
-one_moment : (a b : ℕ) → ◌≡◌ {A = Option ℕ} (Some a) (Some b) → a ≡ b
-one_moment a b e = cc
-
-nth_sound : (test : Mark → Bool) (n : ℕ) (all marks : List Mark) (moment : ℕ) → nth_of test n all marks ≡ Some moment → n ≤ rank test all moment
-nth_sound test n all [] moment e = absurd cc
-nth_sound test n all (r ∷ rs) moment e =
-    let rest = nth_of test n all rs in
-    elim (cases_Bool (is_enough test n all r)) as (λ _. n ≤ rank test all moment) [
-      | inl enough ↦
-          let is : earlier r.at rest ≡ moment = one_moment _ _ (sym (cond-true _ (Some (earlier r.at rest)) rest enough) ∙ e) in
-          subst (λ t. n ≤ rank test all t) is
-          (earlier_has (λ t. n ≤ rank test all t) r.at rest
-          (leb-true n _ (and_parts (test r) _ enough).1)
-          (λ other found. nth_sound test n all rs other found))
-      | inr few ↦ nth_sound test n all rs moment (sym (cond-false _ (Some (earlier r.at rest)) rest few) ∙ e)
-    ]
-
-nth_low : (test : Mark → Bool) (n : ℕ) (all marks : List Mark) (bound : ℕ) → Has (λ r. (is_enough test n all r ≡ true) × (r.at ≤ bound)) marks → (moment : ℕ) × (nth_of test n all marks ≡ Some moment) × (moment ≤ bound)
-nth_low test n all [] bound h = absurd h
-nth_low test n all (r ∷ rs) bound (inl h) =
-    let rest = nth_of test n all rs in
-    (earlier r.at rest, cond-true _ (Some (earlier r.at rest)) rest h.0, omega (arith, earlier_low r.at rest, h.1))
-nth_low test n all (r ∷ rs) bound (inr h) =
-    let rest = nth_of test n all rs in
-    let low = nth_low test n all rs bound h in
-    elim (cases_Bool (is_enough test n all r)) as (λ _. (moment : ℕ) × (nth_of test n all (r ∷ rs) ≡ Some moment) × (moment ≤ bound)) [
-      | inl enough ↦
-          let is : earlier r.at rest ≡ earlier r.at (Some low.0) = ap (earlier r.at) low.1 in
-          (earlier r.at rest, cond-true _ (Some (earlier r.at rest)) rest enough, omega (arith, is, earlier_other r.at low.0, low.2))
-      | inr few ↦ (low.0, cond-false _ (Some (earlier r.at rest)) rest few ∙ low.1, low.2)
-    ]
-
-found : (test : Mark → Bool) (n : ℕ) (all : List Mark) → 1 ≤ n → (bound : ℕ) → n ≤ rank test all bound → (moment : ℕ) × (nth_of test n all all ≡ Some moment) × (moment ≤ bound)
-found test n all some bound h =
-    nth_low test n all all bound
-    (has_weaker _ (λ r. (is_enough test n all r ≡ true) × (r.at ≤ bound)) all
-    (λ r s. (and_from (test r) _ s.0 (le-leb n _ s.2), s.1))
-    (descend test all n some bound h))
+is_nth : (test : Mark → Bool) (n : ℕ) (all : List Mark) (o : Option ℕ) → nth_of test n all ≡ o → IsLeast (is_enough test n all) all o
+is_nth test n all o e = subst (IsLeast (is_enough test n all) all) e (is_least (is_enough test n all) all)
 
 -- The law: the n-th smallest is the least moment by which n have come, and there is none where there is no such moment.
-pub nth_is : (test : Mark → Bool) (n : ℕ) (all : List Mark) → 1 ≤ n → (o : Option ℕ) → nth_of test n all all ≡ o → MatchOption o ((moment : ℕ) → n ≤ rank test all moment → ⊥) (λ moment. (n ≤ rank test all moment) × ((other : ℕ) → n ≤ rank test all other → moment ≤ other))
+pub nth_is : (test : Mark → Bool) (n : ℕ) (all : List Mark) → 1 ≤ n → (o : Option ℕ) → nth_of test n all ≡ o → MatchOption o ((moment : ℕ) → n ≤ rank test all moment → ⊥) (λ moment. (n ≤ rank test all moment) × ((other : ℕ) → n ≤ rank test all other → moment ≤ other))
 nth_is test n all some None e = λ moment h.
-    let low = found test n all some moment h in
-    let wrong : ◌≡◌ {A = Option ℕ} None (Some low.0) = sym e ∙ low.1 in
-    absurd cc
-nth_is test n all some (Some moment) e = (
-  nth_sound test n all all moment e,
-  λ other h.
-      let low = found test n all some other h in
-      omega (arith, low.2, one_moment moment low.0 (sym e ∙ low.1)),
-)
+    let found = has_each _ (λ r. is_enough test n all r ≡ false) all (enough_by test n all some moment h) (is_nth test n all None e) in
+    both_ways _ found.2 found.1.0
+nth_is test n all some (Some moment) e =
+    let is = is_nth test n all (Some moment) e in
+    let at = has_each _ (λ r. is_enough test n all r ≡ true → moment ≤ r.at) all is.0 is.1 in (
+      subst (λ (t : ℕ). n ≤ rank test all t) at.1.1 (leb-true n _ (and_parts (test at.0) _ at.1.0).1),
+      λ other h.
+          let found = has_each _ (λ r. is_enough test n all r ≡ true → moment ≤ r.at) all (enough_by test n all some other h) is.1 in
+          omega (arith, found.2 found.1.0, found.1.1),
+    )
+
+-- ---- as the code finds it: from one moment of a mark to the next
+
+-- a mark has the moment, and no mark that is enough has an earlier one
+pub record Reached (test : Mark → Bool) (n : ℕ) (all : List Mark) (moment : ℕ) : Type 0 where
+  pub has : Has (Passes test moment) all
+  pub below : AllByRecursion (λ r. is_enough test n all r ≡ true → moment ≤ r.at) all
+
+pub first_reached : (test : Mark → Bool) (n : ℕ) (all : List Mark) (moment : ℕ) → least_from None (is_after test None) all ≡ Some moment → Reached test n all moment
+first_reached test n all moment e =
+    let is : IsLeast (is_after test None) all (Some moment) = subst (IsLeast (is_after test None) all) e (is_least (is_after test None) all) in
+    record {
+      has = is.0;
+      below = each_weaker (λ r. test r ≡ true → moment ≤ r.at) (λ r. is_enough test n all r ≡ true → moment ≤ r.at) all (λ r low enough. low (and_parts (test r) _ enough).0) is.1;
+    }
+
+none_reached : (test : Mark → Bool) (n : ℕ) (all : List Mark) → AllByRecursion (λ r. is_enough test n all r ≡ false) all → nth_of test n all ≡ None
+none_reached test n all none = one_least (is_enough test n all) all (nth_of test n all) None (is_least (is_enough test n all) all) none
+
+pub first_none : (test : Mark → Bool) (n : ℕ) (all : List Mark) → least_from None (is_after test None) all ≡ None → nth_of test n all ≡ None
+first_none test n all e =
+    let is : IsLeast (is_after test None) all None = subst (IsLeast (is_after test None) all) e (is_least (is_after test None) all) in
+    none_reached test n all (each_weaker (λ r. test r ≡ false) (λ r. is_enough test n all r ≡ false) all (λ r out. and_left (test r) _ out) is)
+
+-- a mark that is enough is later than a moment by which too few have come
+later_enough : (test : Mark → Bool) (n : ℕ) (all : List Mark) (moment : ℕ) (r : Mark) → rank test all moment < n → (is_enough test n all r ≡ true → moment ≤ r.at) → is_enough test n all r ≡ true → is_after test (Some moment) r ≡ true
+later_enough test n all moment r few low enough =
+    let parts = and_parts (test r) _ enough in
+    let many : n ≤ rank test all r.at = leb-true n _ parts.1 in
+    elim (cases_eq r.at moment) as (λ _. is_after test (Some moment) r ≡ true) [
+      | inl same ↦
+          let many : n ≤ rank test all moment = subst (λ (t : ℕ). n ≤ rank test all t) same many in
+          absurd (omega (arith, few, many))
+      | inr differ ↦ and_from (test r) _ parts.0 (lt-ltb moment r.at (omega (arith, low enough, differ)))
+    ]
+
+pub next_reached : (test : Mark → Bool) (n : ℕ) (all : List Mark) (moment next : ℕ) → Reached test n all moment → rank test all moment < n → least_from None (is_after test (Some moment)) all ≡ Some next → Reached test n all next × (moment < next)
+next_reached test n all moment next at few e =
+    let is : IsLeast (is_after test (Some moment)) all (Some next) = subst (IsLeast (is_after test (Some moment)) all) e (is_least (is_after test (Some moment)) all) in
+    let found = has_each _ (λ r. is_after test (Some moment) r ≡ true → next ≤ r.at) all is.0 is.1 in
+    let above : moment < found.0.at = ltb-true moment found.0.at (and_parts (test found.0) _ found.1.0).1 in (
+      record {
+        has = has_weaker (Passes (is_after test (Some moment)) next) (Passes test next) all (λ r s. ((and_parts (test r) _ s.0).0, s.1)) is.0;
+        below = each_weaker (λ r. (is_after test (Some moment) r ≡ true → next ≤ r.at) × (is_enough test n all r ≡ true → moment ≤ r.at)) (λ r. is_enough test n all r ≡ true → next ≤ r.at) all
+            (λ r low enough. low.0 (later_enough test n all moment r few low.1 enough)) (both_each _ _ all is.1 at.below);
+      },
+      omega (arith, above, found.1.1),
+    )
+
+pub next_none : (test : Mark → Bool) (n : ℕ) (all : List Mark) (moment : ℕ) → Reached test n all moment → rank test all moment < n → least_from None (is_after test (Some moment)) all ≡ None → nth_of test n all ≡ None
+next_none test n all moment at few e =
+    let is : IsLeast (is_after test (Some moment)) all None = subst (IsLeast (is_after test (Some moment)) all) e (is_least (is_after test (Some moment)) all) in
+    none_reached test n all
+    (each_weaker (λ r. (is_after test (Some moment) r ≡ false) × (is_enough test n all r ≡ true → moment ≤ r.at)) (λ r. is_enough test n all r ≡ false) all
+    (λ r out. false_from_ne_true _ (λ enough. both_ways _ out.0 (later_enough test n all moment r few out.1 enough))) (both_each _ _ all is at.below))
+
+pub reached_is : (test : Mark → Bool) (n : ℕ) (all : List Mark) (moment : ℕ) → Reached test n all moment → n ≤ rank test all moment → nth_of test n all ≡ Some moment
+reached_is test n all moment at many =
+    one_least (is_enough test n all) all (nth_of test n all) (Some moment) (is_least (is_enough test n all) all)
+    (has_weaker (Passes test moment) (Passes (is_enough test n all) moment) all (λ r s. (and_from (test r) _ s.0 (le-leb n _ (subst (λ (t : ℕ). n ≤ rank test all t) (sym s.1) many)), s.1)) at.has, at.below)

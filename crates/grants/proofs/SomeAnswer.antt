@@ -15,7 +15,7 @@ use Rattle.roster.specs.Faults.{IsRosterText}
 use Rattle.roster.specs.Fields.{CeilingFields, RosterFields}
 use Rattle.roster.specs.Relations.{ceiling_at, entry_of, has_person, holds}
 use Rattle.roster.specs.Rules.{IsNamedCeiling, is_among}
-use Rattle.grants.specs.Forms.{is_inside}
+use Rattle.grants.specs.private.Forms.{is_inside}
 use Rattle.grants.specs.Admission.{Admits, Denies, IsDenial, IsWithin, MayAskUnder}
 use Rattle.grants.specs.declared.denial.Denial.{Denial}
 use Rattle.grants.specs.declared.denial.Denial.TheVariants.{UnknownPerson, UnknownCeiling, NotAsker, HostOutside, RunasOutside, CommandOutside, WindowTooLong, WindowBackwards}

@@ -9,7 +9,8 @@ use Rattle.messages.specs.declared.kind.VerdictKind.{VerdictKind}
 use Rattle.messages.specs.declared.kind.VerdictKind.TheVariants.{Approve, Refuse, Revoke}
 use Rattle.grants.specs.declared.marks.Mark.{Mark}
 use Rattle.messages.specs.Names.{SameName, IsAbout}
-use Rattle.grants.specs.Marks.{noted, Keep}
+use Rattle.grants.specs.Marks.{Keep}
+use Rattle.grants.specs.private.Noting.{noted}
 use Rattle.grants.specs.Summaries.{Kept, StandsFor}
 use Rattle.grants.proofs.MarkLemmas.{keep_other, keep_noted}
 

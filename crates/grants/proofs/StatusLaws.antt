@@ -136,24 +136,24 @@ approved f s t q moment same a = record {
   people = at_least_more a.ceiling.needs (HasGiven f s q Approve moment) (HasGiven f t q Approve moment) (λ person h. has_given f s t q Approve moment person same h) a.people;
 }
 
-complete : (f : RosterFields Cmnd) (s t : List Message) (q : RequestFields) (moment : ℕ) → SameGiven f s t q → IsComplete f s q moment → IsComplete f t q moment
+pub complete : (f : RosterFields Cmnd) (s t : List Message) (q : RequestFields) (moment : ℕ) → SameGiven f s t q → IsComplete f s q moment → IsComplete f t q moment
 complete f s t q moment same is = record {
   approved = approved f s t q moment same is.approved;
   least = λ other a. is.least other (approved f t s q other (turned f s t q same) a);
 }
 
-refused : (f : RosterFields Cmnd) (s t : List Message) (q : RequestFields) → SameGiven f s t q → IsRefused f s q → IsRefused f t q
+pub refused : (f : RosterFields Cmnd) (s t : List Message) (q : RequestFields) → SameGiven f s t q → IsRefused f s q → IsRefused f t q
 refused f s t q same r = record {
   verdict = r.verdict;
   given = (same Refuse r.verdict).0 r.given;
   in_time = λ moment is. r.in_time moment (complete f t s q moment (turned f s t q same) is);
 }
 
-revoked : (f : RosterFields Cmnd) (s t : List Message) (q : RequestFields) (moment : ℕ) → SameGiven f s t q → RevokedBy f s q moment → RevokedBy f t q moment
+pub revoked : (f : RosterFields Cmnd) (s t : List Message) (q : RequestFields) (moment : ℕ) → SameGiven f s t q → RevokedBy f s q moment → RevokedBy f t q moment
 revoked f s t q moment same r =
     record { verdict = r.verdict; given = (same Revoke r.verdict).0 r.given; by_then = r.by_then }
 
-stands_alone : (s t : List Message) (q : RequestFields) → SameRequests s t → StandsAlone s q → StandsAlone t q
+pub stands_alone : (s t : List Message) (q : RequestFields) → SameRequests s t → StandsAlone s q → StandsAlone t q
 stands_alone s t q same alone =
     record { asked = (same q).0 alone.asked; alone = λ p asked named. alone.alone p ((same p).1 asked) named }
 
@@ -236,7 +236,7 @@ same_status f s t name (Granted w) requests verdicts x =
 
 -- ---- two lists of one set
 
-kept_given : (f : RosterFields Cmnd) (s t : List Message) (q : RequestFields) (kind : VerdictKind) (v : VerdictFields) → (Contains s (Verdict v) → Contains t (Verdict v)) → IsGiven f s q kind v → IsGiven f t q kind v
+pub kept_given : (f : RosterFields Cmnd) (s t : List Message) (q : RequestFields) (kind : VerdictKind) (v : VerdictFields) → (Contains s (Verdict v) → Contains t (Verdict v)) → IsGiven f s q kind v → IsGiven f t q kind v
 kept_given f s t q kind v keeps g = record {
   given = keeps g.given;
   about = g.about;

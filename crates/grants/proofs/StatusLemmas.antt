@@ -18,12 +18,12 @@ use Rattle.grants.specs.Admission.{AdmitsRequest}
 use Rattle.grants.specs.Verdicts.{counts, StandsAlone, IsDisputed, IsGiven, HasGiven, AtLeast, ApprovedBy, IsComplete, IsRefused, RevokedBy}
 use Rattle.grants.specs.Statuses.{IsFirstMoment, IsLastMoment, IsAdmitted, IsLapsed, IsVoid, NeverComplete, IsStatus}
 use Rattle.grants.specs.Marks.{verdict_of, Keep}
-use Rattle.grants.specs.Ranks.{has_counting, is_by, rank, nth_of}
+use Rattle.grants.specs.private.Ranks.{has_counting, is_by, rank, nth_of}
 use Rattle.grants.specs.Summaries.{Kept, StandsFor}
-use Rattle.grants.specs.Reached.{is_in_time, refuses, is_refused, before, end_of, window, from_complete, completion, revocation, admitted_status}
+use Rattle.grants.specs.private.Reached.{is_in_time, refuses, is_refused, before, end_of, window, from_complete, completion, revocation, admitted_status}
 use Rattle.grants.specs.declared.marks.Mark.{Mark}
 use Rattle.grants.specs.declared.outcome.Status.TheVariants.{Refused, Void, Granted}
-use Rattle.grants.proofs.CountLemmas.{Has, has_weaker, has_from_any, at_most, at_least}
+use Rattle.grants.proofs.CountLemmas.{Has, has_weaker, has_from_any, at_most, at_least, has_each}
 use Rattle.grants.proofs.NthLemmas.{nth_is}
 
 each_weaker : (P Q : Mark → Type 0) (marks : List Mark) → ((r : Mark) → P r → Q r) → AllByRecursion P marks → AllByRecursion Q marks
@@ -34,11 +34,6 @@ any_from_has : (f : Mark → Bool) (marks : List Mark) → Has (λ r. f r ≡ tr
 any_from_has f [] h = absurd h
 any_from_has f (r ∷ rs) (inl h) = or_left _ _ h
 any_from_has f (r ∷ rs) (inr h) = or_right _ _ (any_from_has f rs h)
-
-has_each : (P Q : Mark → Type 0) (marks : List Mark) → Has P marks → AllByRecursion Q marks → (r : Mark) × P r × Q r
-has_each P Q [] h all = absurd h
-has_each P Q (r ∷ rs) (inl h) all = (r, h, all.0)
-has_each P Q (r ∷ rs) (inr h) all = has_each P Q rs h all.1
 
 -- ---- the ceiling of a request
 
@@ -96,7 +91,7 @@ rank_to f c set q kind marks n moment at k h =
     record { verdict = verdict_of q kind r; given = given_mark f c set q kind r at asked parts.0; by_is = refl; by_then = leb-true r.at moment parts.1 }) k.each) h
 
 -- the n-th smallest moment is the least by which n different people have given a verdict that counts
-pub nth_given : (f : RosterFields Cmnd) (c : CeilingFields Cmnd) (set : List Message) (q : RequestFields) (kind : VerdictKind) (marks : List Mark) (n : ℕ) → IsUnder f q c → 1 ≤ n → Keep set q kind marks → (o : Option ℕ) → nth_of (has_counting f c kind q.by) n marks marks ≡ o → MatchOption o ((moment : ℕ) → AtLeast n (HasGiven f set q kind moment) → ⊥) (λ moment. AtLeast n (HasGiven f set q kind moment) × ((other : ℕ) → AtLeast n (HasGiven f set q kind other) → moment ≤ other))
+pub nth_given : (f : RosterFields Cmnd) (c : CeilingFields Cmnd) (set : List Message) (q : RequestFields) (kind : VerdictKind) (marks : List Mark) (n : ℕ) → IsUnder f q c → 1 ≤ n → Keep set q kind marks → (o : Option ℕ) → nth_of (has_counting f c kind q.by) n marks ≡ o → MatchOption o ((moment : ℕ) → AtLeast n (HasGiven f set q kind moment) → ⊥) (λ moment. AtLeast n (HasGiven f set q kind moment) × ((other : ℕ) → AtLeast n (HasGiven f set q kind other) → moment ≤ other))
 nth_given f c set q kind marks n at some k None e = λ moment h.
     nth_is (has_counting f c kind q.by) n marks some None e moment (rank_from f c set q kind marks n moment at k h)
 nth_given f c set q kind marks n at some k (Some moment) e =
@@ -168,7 +163,7 @@ one_of f set q moment h =
 of_one : (f : RosterFields Cmnd) (set : List Message) (q : RequestFields) (moment : ℕ) → AtLeast 1 (HasGiven f set q kinds.Revoke moment) → RevokedBy f set q moment
 of_one f set q moment h = record { verdict = h.1.verdict; given = h.1.given; by_then = h.1.by_then }
 
-revokes : (f : RosterFields Cmnd) (c : CeilingFields Cmnd) (set : List Message) (q : RequestFields) (marks : List Mark) → IsUnder f q c → Keep set q kinds.Revoke marks → (o : Option ℕ) → nth_of (has_counting f c kinds.Revoke q.by) 1 marks marks ≡ o → Revokes f set q o
+revokes : (f : RosterFields Cmnd) (c : CeilingFields Cmnd) (set : List Message) (q : RequestFields) (marks : List Mark) → IsUnder f q c → Keep set q kinds.Revoke marks → (o : Option ℕ) → nth_of (has_counting f c kinds.Revoke q.by) 1 marks ≡ o → Revokes f set q o
 revokes f c set q marks at k None e = λ moment h.
     nth_given f c set q kinds.Revoke marks 1 at (omega arith) k None e moment (one_of f set q moment h)
 revokes f c set q marks at k (Some moment) e =

@@ -13,7 +13,7 @@ use Rattle.sudo_words.specs.declared.cmnd.Cmnd.TheVariants.{All, Path, Dir}
 use Rattle.sudo_words.specs.declared.cmnd.ArgRule.{ArgRule}
 use Rattle.sudo_words.specs.declared.cmnd.ArgRule.TheVariants.{Any, Empty, Exactly}
 use Rattle.grants.specs.Reach.{AreArgs, LiesInside, ReachesBeyond}
-use Rattle.grants.specs.Forms.{rule_inside, is_inside}
+use Rattle.grants.specs.private.Forms.{rule_inside, is_inside}
 
 same_args : (a b : List (List ℕ)) → pointwise bytes_eq a b ≡ true → a ≡ b
 same_args a b h = (slice_eq-Decides bytes_eq-Decides a b (pointwise bytes_eq a b) refl).0 h

@@ -8,7 +8,7 @@ use Rattle.sudo_words.specs.Command.{IsLawful}
 use Rattle.sudo_words.specs.declared.cmnd.Cmnd.{Cmnd}
 use Rattle.sudo_words.specs.declared.cmnd.Cmnd.TheVariants.{Dir}
 use Rattle.messages.specs.declared.message.Message.TheVariants.{Request}
-use Rattle.grants.specs.Forms.{is_inside}
+use Rattle.grants.specs.private.Forms.{is_inside}
 use Rattle.grants.specs.Admission.{IsDenial}
 use Rattle.grants.specs.WorkedAdmission.{site, db_root, file, asked_for}
 use Rattle.grants.specs.declared.denial.Denial.TheVariants.{CommandOutside}

@@ -12,8 +12,8 @@ use Rattle.messages.specs.declared.kind.VerdictKind.{VerdictKind}
 use Rattle.messages.specs.declared.kind.VerdictKind.TheVariants.{Approve, Refuse, Revoke}
 use Rattle.roster.specs.Relations.{ceiling_at}
 use Rattle.grants.specs.Admission.{AdmitsRequest}
-use Rattle.grants.specs.Marks.{noted}
-use Rattle.grants.specs.Reached.{admitted_status}
+use Rattle.grants.specs.private.Noting.{noted}
+use Rattle.grants.specs.private.Reached.{admitted_status}
 use Rattle.grants.specs.Statuses.{IsStatus}
 use Rattle.grants.specs.Summaries.{Kept, StandsFor}
 use Rattle.grants.specs.WorkedAdmission.{asked, asked_from}

@@ -1,20 +1,20 @@
+-- admission: what a command reaches, what a roster admits and why it denies, and what that comes to
 pub mod Reach
 pub mod Denials
 pub mod Admission
 pub mod Privilege
 pub mod WorkedAdmission
-pub mod Forms
+-- statuses: which verdicts count, what the messages about a name come to, and laws of it
 pub mod Verdicts
 pub mod Statuses
+pub mod Completion
+pub mod Counting
+pub mod WorkedStatuses
+-- what a summary keeps of them
 pub mod Marks
 pub mod Summaries
-pub mod Ranks
-pub mod Voters
-pub mod Reached
-pub mod Counting
-pub mod Completion
-pub mod WorkedStatuses
+-- the rules of a host's file
 pub mod GrantRules
 pub mod Bases
 pub mod HostFaults
-pub mod Given
+pub mod private

@@ -1,5 +1,5 @@
 -- The marks of a summary: of each person the earliest verdict of one kind.
-use Rattle.std.specs.Prelude.{◌≡◌, ◌≢◌, ℕ, Bool, true, ◌&&◌, nat_le, nat_lt, if◌then◌else◌, List, [], ◌∷◌, ◌++◌, map, Contains}
+use Rattle.std.specs.Prelude.{◌≡◌, ◌≢◌, true, ◌&&◌, nat_le, List, [], ◌∷◌, Contains}
 use Rattle.std.specs.List.{list_any, AllByRecursion}
 use Rattle.std.specs.Str.{bytes_eq}
 use Rattle.messages.specs.Fields.{RequestFields, VerdictFields}
@@ -27,22 +27,3 @@ pub record Keep (messages : List Message) (q : RequestFields) (kind : VerdictKin
   pub each : AllByRecursion (λ mark. Contains messages (Verdict (verdict_of q kind mark))) marks
   pub all : (v : VerdictFields) → Contains messages (Verdict v) → IsAbout q v → v.kind ≡ kind → Covers v marks
   pub different : AreOfDifferent marks
-
--- ---- growth, for private clauses
-
-abbrev pub is_among : List ℕ → List Mark → Bool
-is_among person marks = list_any (λ mark. bytes_eq mark.person person) marks
-
--- the mark once the person has given one more
-abbrev pub lowered : List ℕ → ℕ → Mark → Mark
-lowered person moment mark =
-    if bytes_eq mark.person person && nat_lt moment mark.at then record { person = mark.person; at = moment } else mark
-
-abbrev pub noted : List ℕ → ℕ → List Mark → List Mark
-noted person moment marks =
-    if is_among person marks then map (lowered person moment) marks else marks ++ record { person = person; at = moment } ∷ []
-
--- ---- what a mark is shown as, for private clauses
-
-abbrev pub shown : Mark → List ℕ × ℕ
-shown mark = (mark.person, mark.at)

@@ -6,7 +6,7 @@ ghost use Rattle.sudo_words.specs.Command.{IsLawful};
 ghost use Rattle.messages.specs.declared.message.Message.TheVariants as message_of;
 ghost use Rattle.roster.specs.Rules.{is_among};
 ghost use Rattle.grants.specs.Admission.{Admits, AdmitsRequest, AdmitsVerdict, IsDenial, MayAskUnder};
-ghost use Rattle.grants.specs.Forms as forms;
+ghost use Rattle.grants.specs.private.Forms as forms;
 ghost use Rattle.grants.specs.declared.denial.Denial.{Denial as AnyDenial};
 
 use crate::denial::Denial;

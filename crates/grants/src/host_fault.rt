@@ -1,7 +1,12 @@
 //! Why a host gets no file.
 
+ghost use Rattle.std.specs.Prelude.{◌≡◌};
+ghost use Rattle.grants.specs.declared.host_fault.HostFault.TheVariants as fault;
+
+use std::alloc::AllocError;
 use std::error::Error;
 use std::fmt;
+use sudo_words::NoMemory;
 
 /// Why a base and rules of grants are no host's policy. It is shown as its code and name.
 #[derive(Clone, Copy, Debug, PartialEq, Eq)]
@@ -27,3 +32,19 @@ impl fmt::Display for HostFault {
 }
 
 impl Error for HostFault {}
+
+impl From<NoMemory> for HostFault {
+    ghost from_gives = { λ _ e. e ≡ fault.NoMemory };
+
+    fn from(_e: NoMemory) -> HostFault {
+        HostFault::NoMemory
+    }
+}
+
+impl From<AllocError> for HostFault {
+    ghost from_gives = { λ _ e. e ≡ fault.NoMemory };
+
+    fn from(_e: AllocError) -> HostFault {
+        HostFault::NoMemory
+    }
+}

@@ -1,7 +1,7 @@
 //! The earliest moment of each person's verdicts of one kind.
 
 ghost use Rattle.std.specs.Prelude.{◌≡◌, map, IfOk, IsPermutation, IsSorted, OnOk, OnErr};
-ghost use Rattle.grants.specs.Marks as spec;
+ghost use Rattle.grants.specs.private.Noting as spec;
 ghost use Rattle.grants.specs.Summaries.{approval_cmp};
 
 use std::alloc::Global;

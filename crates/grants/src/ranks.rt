@@ -1,8 +1,8 @@
 //! By which moment enough people have given a verdict that counts.
 
 ghost use Rattle.std.specs.Prelude.{◌≡◌};
-ghost use Rattle.grants.specs.Ranks as spec;
-ghost use Rattle.grants.specs.Voters.{counting};
+ghost use Rattle.grants.specs.private.Ranks as spec;
+ghost use Rattle.grants.specs.private.Voters.{counting};
 
 use crate::marks::Mark;
 use crate::voters::Voters;
@@ -25,6 +25,16 @@ fn rank(voters: &Voters, marks: &[Mark], moment: Moment) -> u64
         .count() as u64
 }
 
+/// Whether the mark counts and is later than the moment, if there is one.
+fn is_after(voters: &Voters, moment: &Option<Moment>, mark: &Mark) -> bool
+    ensures { result ≡ spec.is_after (counting voters.now) moment.now mark.now }
+{
+    match moment {
+        None => voters.count(mark),
+        Some(moment) => voters.count(mark) && *moment < mark.at,
+    }
+}
+
 fn earlier(moment: Moment, other: Option<Moment>) -> Moment
     ensures { result ≡ spec.earlier moment other }
 {
@@ -34,25 +44,26 @@ fn earlier(moment: Moment, other: Option<Moment>) -> Moment
     }
 }
 
-fn is_enough(voters: &Voters, n: u64, all: &[Mark], mark: &Mark) -> bool
-    ensures { result ≡ spec.is_enough (counting voters.now) n all.now mark.now }
+/// The first moment of the marks that count and are later than this one, if there is one.
+fn first_after(voters: &Voters, marks: &[Mark], moment: &Option<Moment>) -> Option<Moment>
+    ensures { result ≡ spec.least_from None (spec.is_after (counting voters.now) moment.now) marks.now }
 {
-    voters.count(mark) && n <= rank(voters, all, mark.at)
-}
-
-/// The n-th smallest moment of those marks of `all` that count, where it is among these marks.
-pub(crate) fn nth(voters: &Voters, n: u64, all: &[Mark], marks: &[Mark]) -> Option<Moment>
-    ensures { result ≡ spec.nth_of (counting voters.now) n all.now marks.now }
-{
-    match marks {
-        [] => None,
-        [mark, more @ ..] => {
-            let later = nth(voters, n, all, more);
-            if is_enough(voters, n, all, mark) {
-                Some(earlier(mark.at, later))
-            } else {
-                later
-            }
+    let mut first = None;
+    for mark in marks {
+        if is_after(voters, moment, mark) {
+            first = Some(earlier(mark.at, first));
         }
     }
+    first
+}
+
+/// The n-th smallest moment of the marks that count. It goes through them twice for each moment up to that one.
+pub(crate) fn nth(voters: &Voters, n: u64, marks: &[Mark]) -> Option<Moment>
+    ensures { result ≡ spec.nth_of (counting voters.now) n marks.now }
+{
+    let mut moment = first_after(voters, marks, &None)?;
+    while rank(voters, marks, moment) < n {
+        moment = first_after(voters, marks, &Some(moment))?;
+    }
+    Some(moment)
 }

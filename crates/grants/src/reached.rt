@@ -5,12 +5,12 @@ ghost use Rattle.messages.specs.Names.{name_of};
 ghost use Rattle.messages.specs.declared.message.Message.{Message as AnyMessage};
 ghost use Rattle.messages.specs.declared.kind.VerdictKind.TheVariants as kinds;
 ghost use Rattle.grants.specs.Admission.{AdmitsRequest};
-ghost use Rattle.grants.specs.Ranks.{has_counting};
-ghost use Rattle.grants.specs.Reached as reached;
-ghost use Rattle.grants.specs.Reached.{IsAdmittedUnder};
+ghost use Rattle.grants.specs.private.Ranks.{has_counting};
+ghost use Rattle.grants.specs.private.Reached as reached;
+ghost use Rattle.grants.specs.private.Reached.{IsAdmittedUnder};
 ghost use Rattle.grants.specs.Statuses.{IsStatus};
 ghost use Rattle.grants.specs.Summaries.{StandsFor};
-ghost use Rattle.grants.specs.Voters.{counting};
+ghost use Rattle.grants.specs.private.Voters.{counting};
 
 use crate::admission::admit_request;
 use crate::marks::Mark;
@@ -99,7 +99,7 @@ fn completion(roster: &Roster, ceiling: &Ceiling, s: &Summary) -> Option<Moment>
     ensures { result ≡ reached.completion roster.now.says ceiling.now s.now }
 {
     let approvers = voters(roster, ceiling, s, VerdictKind::Approve);
-    nth(&approvers, ceiling.needs(), &s.approvals, &s.approvals)
+    nth(&approvers, ceiling.needs(), &s.approvals)
 }
 
 /// When it is revoked first.
@@ -107,7 +107,7 @@ fn revocation(roster: &Roster, ceiling: &Ceiling, s: &Summary) -> Option<Moment>
     ensures { result ≡ reached.revocation roster.now.says ceiling.now s.now }
 {
     let revokers = voters(roster, ceiling, s, VerdictKind::Revoke);
-    nth(&revokers, 1, &s.revocations, &s.revocations)
+    nth(&revokers, 1, &s.revocations)
 }
 
 fn is_refused_by(roster: &Roster, ceiling: &Ceiling, s: &Summary, complete: Option<Moment>) -> bool

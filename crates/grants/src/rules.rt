@@ -5,7 +5,7 @@ ghost use Rattle.std.specs.List.{AllByRecursion};
 ghost use Rattle.sudo_syntax.specs.declared.entry.Item.TheVariants as items;
 ghost use Rattle.sudo_syntax.specs.declared.entry.CmndItem.TheVariants as cmnds;
 ghost use Rattle.messages.specs.declared.message.Message.{Message as AnyMessage};
-ghost use Rattle.grants.specs.Given as given;
+ghost use Rattle.grants.specs.private.Given as given;
 ghost use Rattle.grants.specs.GrantRules.{AreRules, IsGrantRule, grant_rule, one};
 ghost use Rattle.grants.specs.Summaries.{StandsFor};
 
@@ -114,6 +114,8 @@ pub fn rules_of(
 ) -> Result<Vec<Rule>, NoMemory>
     // They are those of each set that the summary stands for.
     ensures rules { (set : List AnyMessage) → StandsFor set s.now → IfOk result (λ v. AreRules roster.now.says set s.now.request host.now v.items) }
+    // They come from what its messages come to.
+    ensures given { (set : List AnyMessage) → StandsFor set s.now → IfOk result (λ v. given.AreGiven roster.now.says set s.now.request host.now v.items) }
     // And they may stand behind a base.
     ensures grants { (set : List AnyMessage) → StandsFor set s.now → IfOk result (λ v. AllByRecursion IsGrantRule v.items) }
 {

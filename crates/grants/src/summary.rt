@@ -78,7 +78,9 @@ pub fn ask(alloc: Global, request: &Request) -> Result<Summary, NoMemory>
 pub fn ask_again(s: &mut Summary, request: &Request)
     requires { SameName request.now s.old.request }
     // Where it stood for a set, it stands for the set with the request.
-    ensures { (set : List AnyMessage) → StandsFor set s.old → StandsFor (set ++ message_of.Request request.now ∷ []) s.new }
+    ensures stands { (set : List AnyMessage) → StandsFor set s.old → StandsFor (set ++ message_of.Request request.now ∷ []) s.new }
+    // It stays that of the name.
+    ensures same_request { s.new.request ≡ s.old.request }
 {
     if !s.request.is_same(request) {
         s.is_disputed = true;
@@ -90,6 +92,8 @@ pub fn apply(s: &mut Summary, verdict: &Verdict) -> Result<(), NoMemory>
     requires { IsAbout s.old.request verdict.now }
     // Where it stood for a set, it stands for the set with the verdict.
     ensures ok { (set : List AnyMessage) → StandsFor set s.old → OnOk result (StandsFor (set ++ message_of.Verdict verdict.now ∷ []) s.new) }
+    // It stays that of the name.
+    ensures same_request { s.new.request ≡ s.old.request }
     // A refusal of memory changes nothing.
     ensures err { OnErr result (s.new ≡ s.old) }
 {

@@ -1,7 +1,7 @@
 //! Whose verdicts of a kind count.
 
 ghost use Rattle.std.specs.Prelude.{◌≡◌};
-ghost use Rattle.grants.specs.Voters.{counting};
+ghost use Rattle.grants.specs.private.Voters.{counting};
 
 use crate::marks::Mark;
 use messages::VerdictKind;

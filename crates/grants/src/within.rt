@@ -4,7 +4,7 @@ ghost use Rattle.std.specs.Prelude.{◌≡◌, ◌↔◌, IsTrue, false};
 ghost use Rattle.std.specs.Str.{bytes_eq};
 ghost use Rattle.std.specs.Cmp.Lexicographic.{pointwise};
 ghost use Rattle.sudo_words.specs.Command.{IsLawful};
-ghost use Rattle.grants.specs.Forms as forms;
+ghost use Rattle.grants.specs.private.Forms as forms;
 ghost use Rattle.grants.specs.Reach.{LiesInside, ReachesBeyond};
 
 use sudo_words::{Arg, ArgRule, Cmnd};

@@ -1,5 +1,5 @@
--- The member `kind` tells requests and approvals apart.
-use Rattle.std.proofs.Common.{◌≡◌, ◌≢◌, ℕ, ◌∙◌, List, true, false, Some, not, bytes_eq, true≢false, refl, sym, ap}
+-- The member `kind` tells requests and the kinds of verdicts apart.
+use Rattle.std.proofs.Common.{◌≡◌, ℕ, ◌∙◌, List, Bool, true, false, Some, not, bytes_eq, true≢false, refl, sym, ap}
 use Rattle.std.specs.Prelude.{codes}
 use Rattle.std.proofs.lemmas.Slice.Eq.{bytes_eq-Decides}
 use Rattle.serde_json.specs.Data.{Data, string}
@@ -7,6 +7,8 @@ use Rattle.serde_json.specs.Find.{get}
 use Rattle.messages.specs.Fields.{RequestFields, VerdictFields, IsRequest, IsVerdict}
 use Rattle.messages.specs.Members.{request_value, verdict_value, value_of}
 use Rattle.messages.specs.Wire.{kind_text, IsMessage}
+use Rattle.messages.specs.declared.kind.VerdictKind.{VerdictKind}
+use Rattle.messages.specs.declared.kind.VerdictKind.TheVariants.{Approve, Refuse, Revoke}
 use Rattle.messages.specs.declared.message.Message.{Message}
 use Rattle.messages.specs.declared.message.Message.TheVariants.{Request, Verdict}
 
@@ -24,31 +26,57 @@ pub record IsAsked (m : Message) : Type 0 where
   pub message : m ≡ Request fields
   pub value : value_of m ≡ request_value fields
 
-pub record IsApproval (m : Message) : Type 0 where
+pub record IsAnswered (m : Message) : Type 0 where
   pub fields : VerdictFields
   pub valid : IsVerdict fields
   pub message : m ≡ Verdict fields
   pub value : value_of m ≡ verdict_value fields
+  pub kind : kind_of m ≡ kind_text fields.kind
 
-approves : (v : VerdictFields) → IsVerdict v → kind_text v.kind ≡ codes "approve"
-approves v h = ap kind_text h.kind
+-- ---- names of kinds
 
-other : (a b : List ℕ) → bytes_eq a b ≡ false → a ≢ b
-other a b e same = true≢false (sym ((bytes_eq-Decides a b).1 same) ∙ e)
+-- a name that is another literal
+unlike : (a b : List ℕ) → bytes_eq a b ≡ false → a ≡ b → ⊥
+unlike a b e same = true≢false (sym ((bytes_eq-Decides a b).1 same) ∙ e)
+
+pub one_kind : (j k : VerdictKind) → kind_text j ≡ kind_text k → j ≡ k
+one_kind Approve Approve e = refl
+one_kind Approve Refuse e = absurd (unlike (codes "approve") (codes "refuse") refl e)
+one_kind Approve Revoke e = absurd (unlike (codes "approve") (codes "revoke") refl e)
+one_kind Refuse Approve e = absurd (unlike (codes "refuse") (codes "approve") refl e)
+one_kind Refuse Refuse e = refl
+one_kind Refuse Revoke e = absurd (unlike (codes "refuse") (codes "revoke") refl e)
+one_kind Revoke Approve e = absurd (unlike (codes "revoke") (codes "approve") refl e)
+one_kind Revoke Refuse e = absurd (unlike (codes "revoke") (codes "refuse") refl e)
+one_kind Revoke Revoke e = refl
+
+-- no kind of verdict is named as requests are
+not_asked : (k : VerdictKind) → kind_text k ≡ codes "request" → ⊥
+not_asked Approve e = unlike (codes "approve") (codes "request") refl e
+not_asked Refuse e = unlike (codes "refuse") (codes "request") refl e
+not_asked Revoke e = unlike (codes "revoke") (codes "request") refl e
+
+-- the name that a comparison found
+pub same_name : (name w : List ℕ) (k : VerdictKind) → name ≡ kind_text k → bytes_eq name w ≡ true → kind_text k ≡ w
+same_name name w k n e = sym n ∙ (bytes_eq-Decides name w).0 e
+
+-- ---- messages by their kind
 
 pub asked_from : (m : Message) (kind : List ℕ) → IsMessage m → kind ≡ kind_of m → bytes_eq kind (codes "request") ≡ true → IsAsked m
 asked_from (Request r) kind h k e = record { fields = r; valid = h; message = refl; value = refl }
-asked_from (Verdict v) kind h k e =
-    let both : bytes_eq (codes "approve") (codes "request") ≡ true = sym (ap (λ (w : List ℕ). bytes_eq w (codes "request")) (k ∙ approves v h)) ∙ e in
-    absurd (true≢false (sym both))
+asked_from (Verdict v) kind h k e = absurd (not_asked v.kind (same_name kind (codes "request") v.kind k e))
 
-pub approval_from : (m : Message) (kind : List ℕ) → IsMessage m → kind ≡ kind_of m → bytes_eq kind (codes "request") ≡ false → IsApproval m
-approval_from (Request r) kind h k e = absurd (other kind (codes "request") e k)
-approval_from (Verdict v) kind h k e = record { fields = v; valid = h; message = refl; value = refl }
+pub answered_from : (m : Message) (kind : List ℕ) → IsMessage m → kind ≡ kind_of m → bytes_eq kind (codes "request") ≡ false → IsAnswered m
+answered_from (Request r) kind h k e = absurd (unlike kind (codes "request") e k)
+answered_from (Verdict v) kind h k e = record { fields = v; valid = h; message = refl; value = refl; kind = refl }
 
-pub some_kind : (m : Message) (kind : List ℕ) → IsMessage m → kind ≡ kind_of m → bytes_eq kind (codes "request") ≡ false → bytes_eq kind (codes "approve") ≡ false → ⊥
-some_kind (Request r) kind h k e f = other kind (codes "request") e k
-some_kind (Verdict v) kind h k e f = other kind (codes "approve") f (k ∙ approves v h)
+turned : (x : Bool) → false ≡ not x → x ≡ true
+turned true e = refl
+turned false e = absurd (true≢false (sym e))
+
+-- texts that do not differ are equal
+pub no_change : (a b : List ℕ) → false ≡ not (bytes_eq a b) → a ≡ b
+no_change a b e = (bytes_eq-Decides a b).0 (turned (bytes_eq a b) e)
 
 -- equal texts do not differ
 pub no_difference : (a b : List ℕ) → a ≡ b → true ≡ not (bytes_eq a b) → ⊥

@@ -12,9 +12,10 @@ use Rattle.sudo_words.proofs.CommandLemmas.{one_command}
 use Rattle.sudo_words.proofs.MomentTexts.{one_spelled}
 use Rattle.messages.specs.Fields.{RequestFields, VerdictFields, IsRequest, IsVerdict}
 use Rattle.messages.specs.Members.{strings, request_value, verdict_value, value_of}
-use Rattle.messages.specs.Wire.{moment_text, wire, IsMessage}
+use Rattle.messages.specs.Wire.{kind_text, moment_text, wire, IsMessage}
 use Rattle.messages.specs.declared.message.Message.{Message}
 use Rattle.messages.specs.declared.message.Message.TheVariants.{Request, Verdict}
+use Rattle.messages.proofs.KindLemmas.{one_kind}
 use Rattle.messages.proofs.PlainTexts.{moment_spelled}
 use Rattle.messages.proofs.Readings.{text_of_message}
 
@@ -69,7 +70,8 @@ one_verdict v w a b e =
     let number : v.no ≡ w.no = cc in
     let asker : v.of ≡ w.of = cc in
     let at = one_moment v.at w.at a.at b.at at_text in
-    let kind = a.kind ∙ sym b.kind in
+    let kind_name : kind_text v.kind ≡ kind_text w.kind = cc in
+    let kind = one_kind v.kind w.kind kind_name in
     λ i. record { at = at i; by = by i; kind = kind i; no = number i; of = asker i }
 
 -- a value is one message's: only requests have a ceiling

@@ -6,7 +6,6 @@ use Rattle.sudo_words.specs.Command.{IsLawful, cmnd_text}
 use Rattle.sudo_words.specs.declared.cmnd.Cmnd.{Cmnd}
 use Rattle.messages.specs.Order.{IsRising}
 use Rattle.messages.specs.declared.kind.VerdictKind.{VerdictKind}
-use Rattle.messages.specs.declared.kind.VerdictKind.TheVariants.{Approve}
 
 -- Someone asks, at a moment, for commands on hosts as a target, within a window of time and under a ceiling.
 pub record RequestFields : Type 0 where
@@ -56,10 +55,9 @@ pub record IsRequest (r : RequestFields) : Type 0 where
   pub runas : is_name r.runas ≡ true
   pub until : IsMoment r.until
 
--- What holds of every verdict. Approvals are the only ones so far.
+-- What holds of every verdict.
 pub record IsVerdict (v : VerdictFields) : Type 0 where
   pub at : IsMoment v.at
   pub by : is_name v.by ≡ true
-  pub kind : v.kind ≡ Approve
   pub no : IsNumbered v.no
   pub of : is_name v.of ≡ true

@@ -1,6 +1,6 @@
 //! The kinds of verdicts.
 
-/// What a verdict does to a request. So far only approvals are messages.
+/// What a verdict does to a request.
 #[derive(Clone, Copy, Debug, PartialEq, Eq)]
 pub enum VerdictKind {
     /// It approves the request, which other approvals may have to join.

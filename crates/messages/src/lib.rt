@@ -1,4 +1,4 @@
-//! Messages that ask for, and approve, time-boxed sudo rights.
+//! Messages that ask for time-boxed sudo rights, and verdicts that approve, refuse or revoke them.
 #![tactic(auto)]
 
 mod canonical_json;

@@ -1,11 +1,12 @@
 //! Messages read from bytes.
 
-ghost use Rattle.std.specs.Prelude.{◌≡◌, ◌⊎◌, ◌<◌, ◌≤◌, length, IfOk, IfErr, IsErrOf, MatchResult};
+ghost use Rattle.std.specs.Prelude.{◌≡◌, ◌⊎◌, ◌<◌, ◌≤◌, length, IfOk, IfErr, IsErrOf, IsOkAnd, MatchResult};
 ghost use Rattle.serde_json.specs.View.{view};
 ghost use Rattle.messages.specs.Canonical.{IsCanonicalText};
 ghost use Rattle.messages.specs.Fields.{RequestFields, VerdictFields, IsRequest, IsVerdict};
 ghost use Rattle.messages.specs.Members.{request_value, verdict_value, value_of};
-ghost use Rattle.messages.specs.Wire.{wire, IsMessage};
+ghost use Rattle.messages.specs.Wire.{kind_text, wire, IsMessage};
+ghost use Rattle.messages.specs.declared.kind.VerdictKind.{VerdictKind as AnyKind};
 ghost use Rattle.messages.specs.declared.message.Message.{Message as AnyMessage};
 ghost use Rattle.messages.specs.declared.fault.MessageFault.TheVariants.{TooLong, NotCanonical, BadField, NoMemory};
 
@@ -43,16 +44,33 @@ fn request_of(alloc: Global, value: &Value) -> Result<Request, MessageFault>
     })
 }
 
-fn approval_of(alloc: Global, value: &Value) -> Result<Verdict, MessageFault>
+/// The kind of verdict that has this name.
+fn kind_named(name: &str) -> Result<VerdictKind, MessageFault>
+    ensures only { (k : AnyKind) → name.now ≡ kind_text k → IsOkAnd result (λ found. found ≡ k) }
+    ensures err { IfErr result (λ e. e ≡ BadField) }
+{
+    if name == "approve" {
+        return Ok(VerdictKind::Approve);
+    }
+    if name == "refuse" {
+        return Ok(VerdictKind::Refuse);
+    }
+    if name == "revoke" {
+        return Ok(VerdictKind::Revoke);
+    }
+    Err(MessageFault::BadField)
+}
+
+fn verdict_of(alloc: Global, value: &Value, kind: VerdictKind) -> Result<Verdict, MessageFault>
     ensures found { IfOk result IsVerdict }
-    ensures only { (v : VerdictFields) → IsVerdict v → view value.now ≡ verdict_value v
+    ensures only { (v : VerdictFields) → IsVerdict v → v.kind ≡ kind → view value.now ≡ verdict_value v
         → MatchResult result (λ w. w ≡ v) (λ e. e ≡ NoMemory) }
     ensures err { IfErr result (λ e. (e ≡ BadField) ⊎ (e ≡ NoMemory)) }
 {
     Ok(Verdict {
         at: moment_member(value, "at")?,
         by: word_member(alloc, value, "by")?,
-        kind: VerdictKind::Approve,
+        kind,
         no: number_member(value)?,
         of: word_member(alloc, value, "of")?,
     })
@@ -65,14 +83,12 @@ fn message_of(alloc: Global, value: &Value) -> Result<Message, MessageFault>
         → MatchResult result (λ n. n ≡ m) (λ e. e ≡ NoMemory) }
     ensures err { IfErr result (λ e. (e ≡ BadField) ⊎ (e ≡ NoMemory)) }
 {
-    let kind = text_member(value, "kind")?;
-    if kind == "request" {
+    let name = text_member(value, "kind")?;
+    if name == "request" {
         return Ok(Message::Request(request_of(alloc, value)?));
     }
-    if kind == "approve" {
-        return Ok(Message::Verdict(approval_of(alloc, value)?));
-    }
-    Err(MessageFault::BadField)
+    let kind = kind_named(name)?;
+    Ok(Message::Verdict(verdict_of(alloc, value, kind)?))
 }
 
 /// The message that the bytes are the text of.

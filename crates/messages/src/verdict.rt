@@ -1,15 +1,16 @@
 //! Verdicts.
 
-ghost use Rattle.std.specs.Prelude.{◌≡◌};
+ghost use Rattle.std.specs.Prelude.{◌≡◌, ◌↔◌, IsTrue};
 ghost use Rattle.messages.specs.Fields.{IsVerdict};
 
 use crate::kind::VerdictKind;
+use std::alloc::AllocError;
 use std::marker::Model;
 use sudo_words::{Moment, Name};
 
 /// A verdict on the request with a number of an asker, who is called `of`.
 ///
-/// The number is at most 999,999,999. So far every verdict is an approval.
+/// The number is at most 999,999,999.
 #[derive(Debug, Drop)]
 pub struct Verdict {
     pub(crate) at: Moment,
@@ -70,5 +71,30 @@ impl Verdict {
         ensures verdict { IsVerdict self.now }
     {
         &self.of
+    }
+
+    /// Whether the other verdict says the same. It takes no memory.
+    pub fn is_same(&self, other: &Verdict) -> bool
+        ensures { IsTrue result ↔ (self.now ≡ other.now) }
+    {
+        self.no() == other.no()
+            && self.at() == other.at()
+            && self.kind() == other.kind()
+            && self.by() == other.by()
+            && self.of() == other.of()
+    }
+}
+
+impl Clone for Verdict {
+    ghost is_clone = { λ verdict copy. copy ≡ verdict };
+
+    fn clone(&self) -> Result<Verdict, AllocError> {
+        Ok(Verdict {
+            at: self.at,
+            by: self.by.clone()?,
+            kind: self.kind,
+            no: self.no,
+            of: self.of.clone()?,
+        })
     }
 }

@@ -4,3 +4,5 @@ pub mod WantedLemmas
 pub mod SettleLemmas
 pub mod LawLemmas
 pub mod WorkedLemmas
+pub mod ReadingLemmas
+pub mod SentLemmas

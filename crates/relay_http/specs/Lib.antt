@@ -5,6 +5,8 @@ pub mod Fields
 pub mod Content
 pub mod Wanted
 pub mod Reply
+pub mod Counting
+pub mod Sent
 pub mod Seen
 pub mod Settled
 pub mod Worked

@@ -1,6 +1,7 @@
--- When the content is not there yet. Of the program alone: no promise cites it.
-use Rattle.std.specs.Prelude.{Bool, true, false}
+-- When the content is not there yet, and how many bytes may count. Of the program alone: no promise cites it.
+use Rattle.std.specs.Prelude.{◌++◌, ℕ, List, Bool, true, false}
 use Rattle.relay_http.specs.Asked.{Asked, Request, deliver, grants, parked, host_file, refused}
+use Rattle.relay_http.specs.Wanted.{Asks}
 use Rattle.relay_http.specs.declared.fault.RequestFault.{RequestFault}
 use Rattle.relay_http.specs.declared.fault.RequestFault.TheVariants.{BadHead, BadTarget, NoRoute, BadMethod, LengthRequired, BadLength, TooLong, ShortBody, BadMoment}
 
@@ -24,3 +25,11 @@ lacks_content (refused fault) = is_short_body fault
 
 abbrev pub is_short : {At : Type 0} → Request At → Bool
 is_short request = lacks_content request.asked
+
+-- a longest head and a longest content
+abbrev pub most_read : ℕ
+most_read = 24_576
+
+-- no bytes that follow change what these ask
+abbrev pub IsSettled : List ℕ → Type 0
+IsSettled bytes = (request : Request ℕ) → Asks bytes request → (more : List ℕ) → Asks (bytes ++ more) request

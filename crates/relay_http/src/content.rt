@@ -55,6 +55,14 @@ fn by_lengths<'b>(lengths: Values<'_>, rest: &'b [u8]) -> Result<&'b [u8], Reque
     }
 }
 
+/// How many bytes of the content are missing, where so many have come.
+pub fn lacking(lengths: Values<'_>, come: usize) -> usize {
+    match lengths {
+        Values::One(value) => length_of(value).map_or(0, |n| (n as usize).saturating_sub(come)),
+        _ => 0,
+    }
+}
+
 /// The content, by the values of Transfer-Encoding and Content-Length and the bytes that follow the head.
 pub fn content<'b>(
     codings: Values<'_>,

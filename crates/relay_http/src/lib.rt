@@ -1,32 +1,38 @@
 //! The desk's HTTP interface: what a request asks for, and the bytes of the reply.
 //!
-//! Nothing here reads from a connection or writes to one.
+//! A request is read in pieces, and a reply written without memory.
 #![tactic(auto)]
 
 mod asked;
 mod content;
+mod counted;
 mod fault;
 mod fields;
 mod laws;
+mod line;
 mod methods;
 mod moment;
+mod page;
 mod place;
+mod reading;
 mod reply;
 mod request;
 mod routes;
+mod sending;
 mod status;
 mod target;
 mod values;
 mod worked;
 
 pub use asked::{Ask, Wanted};
+pub use counted::Counted;
 pub use fault::RequestFault;
 pub use laws::{
     first_bytes_decide, head_is_get, one_head, one_request, only_post_delivers, rest_ignored,
 };
 pub use place::Methods;
 pub use reply::{refused, written};
-pub use request::{SoFar, wanted, wanted_so_far};
+pub use request::{More, SoFar, wanted, wanted_so_far};
 pub use routes::Routes;
 pub use status::Status;
 pub use worked::{worked_refusals, worked_replies, worked_requests};

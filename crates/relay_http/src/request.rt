@@ -1,15 +1,16 @@
 //! What the bytes of a connection ask for.
 
-ghost use Rattle.std.specs.Prelude.{◌≡◌, ◌++◌, ℕ, List, length, map, All, IsTrue};
+ghost use Rattle.std.specs.Prelude.{◌≡◌, ◌≤◌, ◌++◌, ℕ, List, length, map, All, false};
 ghost use Rattle.httparse.specs.Spans.{IsHeaderWithin, header_bytes};
 ghost use Rattle.relay_http.specs.Asked.{Asked, Request, asked_of, grants, request_of};
 ghost use Rattle.relay_http.specs.Content.{content_of};
 ghost use Rattle.relay_http.specs.Routes.{parameter};
 ghost use Rattle.relay_http.specs.Settled.{is_short};
+ghost use Rattle.relay_http.specs.declared.request.More.TheVariants as more;
 ghost use Rattle.relay_http.specs.Wanted.{Asks, Dates, DatesRequest, asked_by, at_place, delivered, request_by};
 
 use crate::asked::{Ask, Wanted};
-use crate::content::content;
+use crate::content::{content, lacking};
 use crate::fault::RequestFault;
 use crate::fields::is_bad_host;
 use crate::methods::{allow, is_head};
@@ -23,7 +24,7 @@ use httparse::spans::{EMPTY_HEADER_SPAN, HeaderSpan, parse_request};
 use std::str::from_utf8;
 
 /// The most bytes of a head.
-const MOST_HEAD_BYTES: usize = 8192;
+pub(crate) const MOST_HEAD_BYTES: usize = 8192;
 
 /// The most fields of a head.
 const MOST_FIELDS: usize = 32;
@@ -132,49 +133,83 @@ fn is_short(wanted: &Wanted<'_>) -> bool
     matches!(wanted.ask, Ask::Refused(RequestFault::ShortBody))
 }
 
+/// What may still change what is wanted, where the head is there and so many bytes behind it.
+fn more_after(wanted: &Wanted<'_>, buf: &[u8], headers: &[HeaderSpan], come: usize) -> More
+    requires { All (IsHeaderWithin (length buf.now)) headers.now }
+    ensures { result ≡ more.Nothing → is_short (request_of wanted.now) ≡ false }
+{
+    if !is_short(wanted) {
+        return More::Nothing;
+    }
+    More::Content(lacking(values_of(buf, headers, b"content-length"), come))
+}
+
 /// What the first bytes of a connection ask for, as far as they have come.
 #[derive(Clone, Copy, Debug)]
 pub struct SoFar<'b> {
     /// What they ask for if the stream ends here.
     pub wanted: Wanted<'b>,
-    /// Whether no bytes that follow change that.
-    pub is_settled: bool,
+    /// What may still change that.
+    pub more: More,
 }
 
-/// What the bytes ask for, and whether no bytes that follow change that. It takes no memory.
+/// What may still change what the bytes of a connection ask for.
+#[derive(Clone, Copy, Debug, PartialEq, Eq)]
+pub enum More {
+    /// No bytes that follow.
+    Nothing,
+    /// The rest of the head.
+    Head,
+    /// So many more bytes of the content.
+    Content(usize),
+}
+
+/// What may still change what is wanted, where so many bytes have no head and may begin one.
+fn head_awaited(come: usize) -> More
+    ensures { result ≡ more.Nothing → 8192 ≤ come }
+{
+    if come >= MOST_HEAD_BYTES {
+        return More::Nothing;
+    }
+    More::Head
+}
+
+/// What the bytes ask for, and what may still change that. It takes no memory.
 pub fn wanted_so_far<'b>(routes: &Routes, bytes: &'b [u8]) -> SoFar<'b>
     ensures asks { Asks bytes.now (request_of result.wanted) }
-    ensures settled { IsTrue result.is_settled → (more : List ℕ) → Asks (bytes.now ++ more) (request_of result.wanted) }
+    ensures settled { result.more ≡ more.Nothing → (behind : List ℕ) → Asks (bytes.now ++ behind) (request_of result.wanted) }
 {
     let front = &bytes[..bytes.len().min(MOST_HEAD_BYTES)];
     let mut headers = [EMPTY_HEADER_SPAN; MOST_FIELDS];
     match parse_request(front, &mut headers) {
         Ok(Status::Complete(head)) => match from_utf8(head.path.of(front)) {
             Ok(target) => {
+                let fields = &headers[..head.headers];
+                let rest = &bytes[head.len..];
                 let wanted = wanted_by(
                     routes,
                     head.method.of(front),
                     target,
                     head.version,
                     front,
-                    &headers[..head.headers],
-                    &bytes[head.len..],
+                    fields,
+                    rest,
                 );
-                let is_settled = !is_short(&wanted);
-                SoFar { wanted, is_settled }
+                let more = more_after(&wanted, front, fields, rest.len());
+                SoFar { wanted, more }
             }
             Err(_) => SoFar {
                 wanted: NO_HEAD,
-                is_settled: false,
+                more: More::Head,
             },
         },
         Ok(Status::Partial) => SoFar {
             wanted: NO_HEAD,
-            is_settled: bytes.len() >= MOST_HEAD_BYTES,
+            more: head_awaited(bytes.len()),
         },
         Err(_) => SoFar {
             wanted: NO_HEAD,
-            is_settled: true,
+            more: More::Nothing,
         },
     }
 }

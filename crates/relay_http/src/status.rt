@@ -1,6 +1,6 @@
 //! The statuses of replies.
 
-ghost use Rattle.std.specs.Prelude.{◌≡◌};
+ghost use Rattle.std.specs.Prelude.{◌≡◌, ◌≤◌, length};
 ghost use Rattle.relay_http.specs.Reply.{allow_line, status_text};
 
 use crate::place::Methods;
@@ -28,7 +28,8 @@ pub enum Status {
 
 /// The code of a status and its phrase.
 pub(crate) fn status_text(status: Status) -> &'static [u8]
-    ensures { result.now ≡ status_text status }
+    ensures text { result.now ≡ status_text status }
+    ensures short { length result.now ≤ 40 }
 {
     match status {
         Status::Done => b"200 OK",
@@ -44,7 +45,8 @@ pub(crate) fn status_text(status: Status) -> &'static [u8]
 
 /// The line that names the methods of the route, where another was used.
 pub(crate) fn allow_line(status: Status) -> &'static [u8]
-    ensures { result.now ≡ allow_line status }
+    ensures text { result.now ≡ allow_line status }
+    ensures short { length result.now ≤ 40 }
 {
     match status {
         Status::MethodNotAllowed(Methods::Post) => b"Allow: POST\r\n",

@@ -55,6 +55,7 @@ fn invocation_of(
     })
 }
 
+/// One invocation serves all moments of a path with its arguments.
 fn of_run(
     a: &Policy,
     b: &Policy,
@@ -66,8 +67,12 @@ fn of_run(
 ) -> Result<Option<Invocation>, NoMemory>
     ensures { IfOk result (FirstOf (IsGap a.now b.now) (specs.of_run cases.now user.now host.now runas.now run.now)) }
 {
+    let Some(first) = cases.moments.as_slice().first() else {
+        return Ok(None);
+    };
+    let mut i = invocation_of(user, host, runas, run, *first)?;
     for at in cases.moments.as_slice() {
-        let i = invocation_of(user, host, runas, run, *at)?;
+        i.at = *at;
         if is_gap(a, b, &i) {
             return Ok(Some(i));
         }

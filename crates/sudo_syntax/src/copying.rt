@@ -6,7 +6,10 @@ use crate::entry::{CmndItem, Entry, Item, Rule, Signed};
 use std::alloc::AllocError;
 use sudo_words::{HostName, Items, Name};
 
-fn copied_names(list: &Items<Signed<Item<Name>>>) -> Result<Items<Signed<Item<Name>>>, AllocError>
+/// A list of users or of targets, copied.
+pub(crate) fn copied_names(
+    list: &Items<Signed<Item<Name>>>,
+) -> Result<Items<Signed<Item<Name>>>, AllocError>
     ensures { IfOk result (λ x. x ≡ list.now) }
 {
     list.clone()

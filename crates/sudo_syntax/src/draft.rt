@@ -76,9 +76,7 @@ impl Draft {
     {
         let place = self.entries.len();
         let more = self.scope.enter(alloc, place, entry)?;
-        let Ok(len) = line_len(alloc, entry) else {
-            return Err(LineFault::NoMemory);
-        };
+        let len = line_len(entry);
         if place >= MOST_ENTRIES
             || more > MOST_WEIGHT - self.weight
             || len > MOST_TEXT - self.text_len

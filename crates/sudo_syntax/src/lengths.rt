@@ -1,15 +1,14 @@
 //! How long the lines of a policy's canonical text are, as sums of their parts.
 
-ghost use Rattle.std.specs.Prelude.{◌≡◌, ◌≤◌, ◌+◌, ◌++◌, IfOk, codes, length};
+ghost use Rattle.std.specs.Prelude.{◌≡◌, ◌≤◌, ◌+◌, ◌++◌, List, ℕ, codes, length};
+ghost use Rattle.std.specs.List.{AllByRecursion};
 ghost use Rattle.sudo_syntax.specs.declared.entry.Entry.TheVariants as entries;
 ghost use Rattle.sudo_syntax.specs.Lengths.{stopped};
-ghost use Rattle.sudo_syntax.specs.Policy.{IsEntry, IsRule};
-ghost use Rattle.sudo_syntax.specs.Printing.{alias_text, date_text, item_text, line_text, names_text, signed_text, tail_text, who_text};
+ghost use Rattle.sudo_syntax.specs.Policy.{IsCmndItem, IsEntry, IsItem, IsRule};
+ghost use Rattle.sudo_syntax.specs.Printing.{alias_text, cmnd_item_text, date_text, item_text, line_text, list_text, signed_text, tail_text, who_text};
 
-use crate::entry::{Entry, Item, Rule, Signed};
-use crate::printing::{printed_cmnd_len, printed_line_len};
-use std::alloc::Global;
-use sudo_words::{AliasName, Form, Moment, NoMemory, Word};
+use crate::entry::{CmndItem, Entry, Item, Rule, Signed};
+use sudo_words::{AliasName, Form, Moment, Word, cmnd_len};
 
 /// One more than the most bytes that a policy's text has: a greater length is counted as this.
 const TOO_LONG: usize = 16_777_217;
@@ -21,27 +20,59 @@ fn plus(first: usize, second: usize) -> usize
     first.saturating_add(second).min(TOO_LONG)
 }
 
-fn item_len<F: Form>(item: &Item<Word<F>>) -> usize
-    ensures { result ≡ length (item_text item.now) }
-{
-    match item {
-        Item::All => 3,
-        Item::Name(name) => name.as_str().len(),
-        Item::Alias(name) => name.as_str().len(),
+/// What has a text of its own in a list: an item of users, hosts or targets, or a command.
+pub(crate) trait Lengthy: Sized {
+    ghost text: { Self → List ℕ };
+
+    /// What is known of one.
+    ghost holds: { Self → Type 0 };
+
+    /// How long its text is.
+    fn text_len(&self) -> usize
+        requires { holds self.now }
+        ensures { result ≡ length (text self.now) };
+}
+
+impl<F: Form> Lengthy for Item<Word<F>> {
+    ghost text = { item_text };
+
+    ghost holds = { IsItem F.has };
+
+    fn text_len(&self) -> usize {
+        match self {
+            Item::All => 3,
+            Item::Name(name) => name.as_str().len(),
+            Item::Alias(name) => name.as_str().len(),
+        }
+    }
+}
+
+impl Lengthy for CmndItem {
+    ghost text = { cmnd_item_text };
+
+    ghost holds = { IsCmndItem };
+
+    fn text_len(&self) -> usize {
+        match self {
+            CmndItem::Alias(name) => name.as_str().len(),
+            CmndItem::Cmnd(cmnd) => cmnd_len(cmnd),
+        }
     }
 }
 
 /// An item, and the `!` before one that is negated.
-fn signed_len<F: Form>(signed: &Signed<Item<Word<F>>>) -> usize
-    ensures { result ≡ stopped (length (signed_text item_text signed.now)) }
+fn signed_len<T: Lengthy>(signed: &Signed<T>) -> usize
+    requires { T.holds signed.now.item }
+    ensures { result ≡ stopped (length (signed_text T.text signed.now)) }
 {
     let bang = if signed.negated { 1 } else { 0 };
-    plus(bang, item_len(&signed.item))
+    plus(bang, signed.item.text_len())
 }
 
 /// The items behind the first, with a comma and a space before each.
-fn tail_len<F: Form>(items: &[Signed<Item<Word<F>>>]) -> usize
-    ensures { result ≡ stopped (length (tail_text (signed_text item_text) items.now)) }
+fn tail_len<T: Lengthy>(items: &[Signed<T>]) -> usize
+    requires { AllByRecursion (λ s. T.holds s.item) items.now }
+    ensures { result ≡ stopped (length (tail_text (signed_text T.text) items.now)) }
 {
     let mut len = 0;
     for item in items {
@@ -50,8 +81,9 @@ fn tail_len<F: Form>(items: &[Signed<Item<Word<F>>>]) -> usize
     len
 }
 
-fn names_len<F: Form>(items: &[Signed<Item<Word<F>>>]) -> usize
-    ensures { result ≡ stopped (length (names_text items.now)) }
+fn list_len<T: Lengthy>(items: &[Signed<T>]) -> usize
+    requires { AllByRecursion (λ s. T.holds s.item) items.now }
+    ensures { result ≡ stopped (length (list_text (signed_text T.text) items.now)) }
 {
     match items {
         [] => 0,
@@ -61,11 +93,12 @@ fn names_len<F: Form>(items: &[Signed<Item<Word<F>>>]) -> usize
 
 /// What stands before the dates and the command: the three lists, ` `, ` = (` and `) `.
 fn who_len(rule: &Rule) -> usize
+    requires { IsRule rule.now }
     ensures { result ≡ stopped (length (who_text rule.now)) }
 {
-    let users = names_len(rule.users.as_slice());
-    let hosts = names_len(rule.hosts.as_slice());
-    let runas = names_len(rule.runas.as_slice());
+    let users = list_len(rule.users.as_slice());
+    let hosts = list_len(rule.hosts.as_slice());
+    let runas = list_len(rule.runas.as_slice());
     plus(plus(users, hosts), plus(runas, 7))
 }
 
@@ -81,36 +114,38 @@ fn date_len(option: &str, date: Option<Moment>) -> usize
     }
 }
 
-/// The line of a rule.
-fn rule_line_len(alloc: Global, rule: &Rule) -> Result<usize, NoMemory>
+/// The line of a rule, with its newline.
+fn rule_line_len(rule: &Rule) -> usize
     requires { IsRule rule.now }
-    ensures { IfOk result (λ n. n ≡ stopped (length (line_text (entries.Rule rule.now)))) }
+    ensures { result ≡ stopped (length (line_text (entries.Rule rule.now))) }
 {
     let dates = date_len("NOTBEFORE", rule.not_before) + date_len("NOTAFTER", rule.not_after);
     let tag = if rule.nopasswd { 10 } else { 0 };
-    let cmnd = printed_cmnd_len(alloc, &rule.cmnd)?;
-    Ok(plus(plus(who_len(rule), dates + tag), cmnd))
+    plus(
+        plus(who_len(rule), dates + tag),
+        plus(signed_len(&rule.cmnd), 1),
+    )
 }
 
-/// The line of an alias that is no command's: behind the kind a blank, behind the name ` = `, and a newline.
-fn alias_line_len<F: Form>(kind: &str, name: &AliasName, list: &[Signed<Item<Word<F>>>]) -> usize
-    requires { length kind.now ≤ 16 }
-    ensures { result ≡ stopped (length (alias_text kind.now name.now (names_text list.now) ++ codes "\n")) }
+/// The line of an alias: behind the kind a blank, behind the name ` = `, and a newline.
+fn alias_line_len<T: Lengthy>(kind: &str, name: &AliasName, list: &[Signed<T>]) -> usize
+    requires kind { length kind.now ≤ 16 }
+    requires list { AllByRecursion (λ s. T.holds s.item) list.now }
+    ensures { result ≡ stopped (length (alias_text kind.now name.now (list_text (signed_text T.text) list.now) ++ codes "\n")) }
 {
-    plus(plus(kind.len() + 5, name.as_str().len()), names_len(list))
+    plus(plus(kind.len() + 5, name.as_str().len()), list_len(list))
 }
 
 /// The line of an entry, with its newline. A length past the limit of a policy's text is counted as one past it.
-pub(crate) fn line_len(alloc: Global, entry: &Entry) -> Result<usize, NoMemory>
+pub(crate) fn line_len(entry: &Entry) -> usize
     requires { IsEntry entry.now }
-    ensures { IfOk result (λ n. n ≡ stopped (length (line_text entry.now))) }
+    ensures { result ≡ stopped (length (line_text entry.now)) }
 {
-    let len = match entry {
+    match entry {
         Entry::UserAlias(name, list) => alias_line_len("User_Alias", name, list.as_slice()),
         Entry::RunasAlias(name, list) => alias_line_len("Runas_Alias", name, list.as_slice()),
         Entry::HostAlias(name, list) => alias_line_len("Host_Alias", name, list.as_slice()),
-        Entry::CmndAlias(_, _) => printed_line_len(alloc, entry)?,
-        Entry::Rule(rule) => rule_line_len(alloc, rule)?,
-    };
-    Ok(len.min(TOO_LONG))
+        Entry::CmndAlias(name, list) => alias_line_len("Cmnd_Alias", name, list.as_slice()),
+        Entry::Rule(rule) => rule_line_len(rule),
+    }
 }

@@ -8,7 +8,7 @@ ghost use Rattle.sudo_syntax.specs.Inheritance as inheritance;
 ghost use Rattle.sudo_syntax.specs.Policy.{IsEntry, IsPolicy};
 ghost use Rattle.sudo_syntax.specs.Scope.{Adds, IsDraft};
 
-use crate::copying::copied_lists;
+use crate::copying::{copied_lists, copied_names};
 use crate::draft::Draft;
 use crate::entry::{CmndItem, Entry, Item, Rule, Signed};
 use crate::fault::LineFault;
@@ -60,8 +60,8 @@ fn with_spec(held: Settings, spec: Spec) -> (Settings, Signed<CmndItem>)
     (settings, spec.cmnd)
 }
 
-/// The rule of a command, where these settings hold.
-fn rule_with(
+/// The rule of a command, where these settings hold: the lists are copied.
+fn copied_rule(
     users: &Items<Signed<Item<Name>>>,
     hosts: &Items<Signed<Item<HostName>>>,
     held: &Settings,
@@ -81,46 +81,85 @@ fn rule_with(
     })
 }
 
-/// Adds one rule for each command. Each is added before the next is made, so that the limits of a policy bound what is copied.
+/// The rule of a command, where these settings hold: the lists are its own.
+fn rule_with(
+    users: Items<Signed<Item<Name>>>,
+    hosts: Items<Signed<Item<HostName>>>,
+    held: Settings,
+    cmnd: Signed<CmndItem>,
+) -> Rule
+    ensures { result ≡ inheritance.rule_with users hosts held cmnd }
+{
+    Rule {
+        users,
+        hosts,
+        runas: held.runas,
+        not_before: held.not_before,
+        not_after: held.not_after,
+        nopasswd: held.nopasswd,
+        cmnd,
+    }
+}
+
+/// Adds one rule for each command, the last of which takes the lists. Each is added before the next is made, so that the limits of
+/// a policy bound what is copied.
 fn add_specs(
     alloc: Global,
     draft: &mut Draft,
-    users: &Items<Signed<Item<Name>>>,
-    hosts: &Items<Signed<Item<HostName>>>,
+    users: Items<Signed<Item<Name>>>,
+    hosts: Items<Signed<Item<HostName>>>,
     specs: Vec<Spec>,
 ) -> Result<(), LineFault>
     requires draft { IsDraft draft.old }
-    requires entries { AllByRecursion IsEntry (inheritance.rules_of users.now hosts.now inheritance.first_settings specs.items) }
-    ensures found { OnOk result (Adds draft.old draft.new (inheritance.rules_of users.now hosts.now inheritance.first_settings specs.items)) }
-    ensures only { IsPolicy (draft.old.entries.items ++ inheritance.rules_of users.now hosts.now inheritance.first_settings specs.items) → IfErr result (λ e. e ≡ fault.NoMemory) }
+    requires entries { AllByRecursion IsEntry (inheritance.rules_of users hosts inheritance.first_settings specs.items) }
+    ensures found { OnOk result (Adds draft.old draft.new (inheritance.rules_of users hosts inheritance.first_settings specs.items)) }
+    ensures only { IsPolicy (draft.old.entries.items ++ inheritance.rules_of users hosts inheritance.first_settings specs.items) → IfErr result (λ e. e ≡ fault.NoMemory) }
 {
+    let mut front = specs;
+    let Some(last) = front.pop() else {
+        return Ok(());
+    };
     let mut held = first_settings(alloc)?;
-    for spec in specs {
+    let (of_users, of_hosts) = (&users, &hosts);
+    for spec in front {
         let (settings, cmnd) = with_spec(held, spec);
         held = settings;
-        let rule = rule_with(users, hosts, &held, cmnd)?;
+        let rule = copied_rule(of_users, of_hosts, &held, cmnd)?;
         draft.add(alloc, Entry::Rule(rule))?;
     }
-    Ok(())
+    let (settings, cmnd) = with_spec(held, last);
+    draft.add(alloc, Entry::Rule(rule_with(users, hosts, settings, cmnd)))
 }
 
-/// Adds the rules of each part.
+/// Adds the rules of each part, the last of which takes the users.
 fn add_parts(
     alloc: Global,
     draft: &mut Draft,
-    users: &Items<Signed<Item<Name>>>,
+    users: Items<Signed<Item<Name>>>,
     parts: Vec<Part>,
 ) -> Result<(), LineFault>
     requires draft { IsDraft draft.old }
-    requires entries { AllByRecursion IsEntry (flat_map (inheritance.part_rules users.now) parts.items) }
-    ensures found { OnOk result (Adds draft.old draft.new (flat_map (inheritance.part_rules users.now) parts.items)) }
-    ensures only { IsPolicy (draft.old.entries.items ++ flat_map (inheritance.part_rules users.now) parts.items) → IfErr result (λ e. e ≡ fault.NoMemory) }
+    requires entries { AllByRecursion IsEntry (flat_map (inheritance.part_rules users) parts.items) }
+    ensures found { OnOk result (Adds draft.old draft.new (flat_map (inheritance.part_rules users) parts.items)) }
+    ensures only { IsPolicy (draft.old.entries.items ++ flat_map (inheritance.part_rules users) parts.items) → IfErr result (λ e. e ≡ fault.NoMemory) }
 {
-    for part in parts {
+    let mut front = parts;
+    let Some(last) = front.pop() else {
+        return Ok(());
+    };
+    let of_users = &users;
+    for part in front {
         let Part { hosts, specs } = part;
-        add_specs(alloc, draft, users, &hosts, specs.into_vec())?;
+        add_specs(
+            alloc,
+            draft,
+            copied_names(of_users)?,
+            hosts,
+            specs.into_vec(),
+        )?;
     }
-    Ok(())
+    let Part { hosts, specs } = last;
+    add_specs(alloc, draft, users, hosts, specs.into_vec())
 }
 
 /// Adds the definitions of users' aliases.
@@ -203,6 +242,6 @@ pub(crate) fn add_line(alloc: Global, draft: &mut Draft, line: Line) -> Result<(
         Line::Runas(defs) => add_runas(alloc, draft, defs.into_vec()),
         Line::Hosts(defs) => add_hosts(alloc, draft, defs.into_vec()),
         Line::Cmnds(defs) => add_cmnds(alloc, draft, defs.into_vec()),
-        Line::Rights(users, parts) => add_parts(alloc, draft, &users, parts.into_vec()),
+        Line::Rights(users, parts) => add_parts(alloc, draft, users, parts.into_vec()),
     }
 }

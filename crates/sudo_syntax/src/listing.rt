@@ -43,7 +43,8 @@ pub(crate) fn list_at<'a, 'b, T: Spelled>(
     ensures only { (xs : List T) (rest : List Tok) → T.follows rest → NoMark byte rest → Listed byte T.spells (toks tokens.now) xs rest
         → MatchResult result (λ x. (x.0 ≡ xs) × (toks x.1.now ≡ rest)) (λ e. e ≡ NoMemory) }
 {
-    let mut items = Vec::new(alloc);
+    // Most lists have one item.
+    let mut items = Vec::with_capacity(alloc, 1)?;
     let (first, mut rest) = T::at(alloc, tokens)?;
     items.push(first)?;
     while let Some(others) = behind_mark(byte, rest) {

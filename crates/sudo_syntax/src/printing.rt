@@ -215,27 +215,6 @@ fn push_line(alloc: Global, out: &mut String, entry: &Entry) -> Result<(), NoMem
     Ok(())
 }
 
-/// How many bytes the line that is printed for an entry has.
-pub(crate) fn printed_line_len(alloc: Global, entry: &Entry) -> Result<usize, NoMemory>
-    requires { IsEntry entry.now }
-    ensures { IfOk result (λ n. n ≡ length (line_text entry.now)) }
-{
-    let mut line = String::new(alloc);
-    push_line(alloc, &mut line, entry)?;
-    Ok(line.len())
-}
-
-/// How many bytes are printed for a command, and a newline behind it.
-pub(crate) fn printed_cmnd_len(alloc: Global, cmnd: &Signed<CmndItem>) -> Result<usize, NoMemory>
-    requires { IsCmndItem cmnd.now.item }
-    ensures { IfOk result (λ n. n ≡ length (signed_text cmnd_item_text cmnd.now ++ codes "\n")) }
-{
-    let mut text = String::new(alloc);
-    push_cmnd(alloc, &mut text, cmnd)?;
-    text.push_str("\n")?;
-    Ok(text.len())
-}
-
 /// All entries, one a line.
 fn printed(alloc: Global, entries: &[Entry]) -> Result<String, NoMemory>
     requires { AllByRecursion IsEntry entries.now }

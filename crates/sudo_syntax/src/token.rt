@@ -39,14 +39,11 @@ fn is_mark(b: u8) -> bool
 fn is_word_byte(b: u8) -> bool
     ensures { result ≡ lex.is_word_byte b }
 {
-    b.is_ascii_alphanumeric()
-        || b == b'.'
-        || b == b'_'
-        || b == b'/'
-        || b == b'+'
-        || b == b'-'
-        || b == b'@'
-        || b == b'%'
+    match b {
+        b'a'..=b'z' | b'A'..=b'Z' | b'0'..=b'9' => true,
+        b'.' | b'_' | b'/' | b'+' | b'-' | b'@' | b'%' => true,
+        _ => false,
+    }
 }
 
 /// A byte that a word has behind a backslash alone.
@@ -185,7 +182,7 @@ pub(crate) fn tokens(alloc: Global, line: &[u8]) -> Result<Vec<Token<'_>>, LineF
     ensures found { IfOk result (λ v. lex.Lexes line.now (lex.toks v.items)) }
     ensures only { (ts : List lex.Tok) → lex.Lexes line.now ts → MatchResult result (λ v. lex.toks v.items ≡ ts) (λ e. e ≡ NoMemory) }
 {
-    let mut out = Vec::new(alloc);
+    let mut out = Vec::with_capacity(alloc, line.len() / 4)?;
     let mut rest = line;
     while let Some((token, after)) = next_token(rest)? {
         out.push(token)?;

@@ -4,7 +4,7 @@ ghost use Rattle.std.specs.Prelude.{◌≡◌, ◌↔◌, ◌≤◌, IsTrue, Mat
 ghost use Rattle.std.specs.List.{AllByRecursion, flat_map};
 ghost use Rattle.sudo_words.specs.Word.{is_arg};
 ghost use Rattle.sudo_words.specs.Command as command;
-ghost use Rattle.sudo_words.specs.Command.{IsArgRule, IsLawful, arg_text, rule_text, spaced_arg};
+ghost use Rattle.sudo_words.specs.Command.{IsArgRule, IsLawful, arg_text, cmnd_text, rule_text, spaced_arg};
 
 use crate::arg::Arg;
 use crate::arg_text::is_escaped;
@@ -82,5 +82,21 @@ pub fn is_lawful(cmnd: &Cmnd) -> bool
             }
         }
         Cmnd::Dir(dir) => dir.as_str().len() <= LONGEST_PATH,
+    }
+}
+
+/// The length of the text that `print_cmnd` prints for the command. It takes no memory.
+pub fn cmnd_len(cmnd: &Cmnd) -> usize
+    requires { IsLawful cmnd.now }
+    ensures { result ≡ length (cmnd_text cmnd.now) }
+{
+    match cmnd {
+        Cmnd::All => 3,
+        Cmnd::Path(file, rule) => match rule_length(rule) {
+            Some(args) => file.as_str().len() + args,
+            // A lawful command's rule has a length.
+            None => 0,
+        },
+        Cmnd::Dir(dir) => dir.as_str().len(),
     }
 }

@@ -1,12 +1,12 @@
 //! Moments of time, as texts and as counts of seconds.
 
-ghost use Rattle.std.specs.Prelude.{◌≡◌, ℕ, ◌<◌, ◌≤◌, IfSome, Some};
+ghost use Rattle.std.specs.Prelude.{◌≡◌, ℕ, ◌<◌, ◌≤◌, ◌+◌, IfSome, Some};
+ghost use Rattle.sudo_words.specs.Moment.{stamp};
 
 use crate::civil::date_at;
-use crate::pair::Pair;
 use crate::parts::{clock, date};
-use std::fmt;
 use std::marker::Model;
+use std::{fmt, str};
 
 /// The last second of 2099.
 const LAST: u64 = 4_102_444_799;
@@ -73,6 +73,44 @@ impl Moment {
     }
 }
 
+/// The digit of a number below 10.
+fn digit(number: u8) -> u8
+    requires { number < 10 }
+    ensures { result ≡ 48 + number }
+{
+    b'0' + number
+}
+
+/// The bytes of the canonical text: a date's and a time of day's numbers in two digits each, and `Z`.
+fn stamp_bytes(moment: Moment) -> [u8; 15]
+    ensures { result ≡ stamp moment }
+{
+    let secs = moment.secs;
+    let civil = date_at((secs / 86_400) as u32);
+    let century = (civil.year / 100) as u8;
+    let year = (civil.year % 100) as u8;
+    let hour = (secs % 86_400 / 3600) as u8;
+    let minute = (secs % 3600 / 60) as u8;
+    let second = (secs % 60) as u8;
+    [
+        digit(century / 10),
+        digit(century % 10),
+        digit(year / 10),
+        digit(year % 10),
+        digit(civil.month / 10),
+        digit(civil.month % 10),
+        digit(civil.day / 10),
+        digit(civil.day % 10),
+        digit(hour / 10),
+        digit(hour % 10),
+        digit(minute / 10),
+        digit(minute % 10),
+        digit(second / 10),
+        digit(second % 10),
+        b'Z',
+    ]
+}
+
 /// Prints the canonical text, `yyyymmddHHMMSSZ`, of 15 bytes.
 impl fmt::Display for Moment {
     ghost use Rattle.std.specs.Prelude.{Some};
@@ -81,28 +119,10 @@ impl fmt::Display for Moment {
     ghost output = { λ t. Some (stamp t) };
 
     fn fmt<W: fmt::Write>(&self, f: &mut fmt::Formatter<W>) -> fmt::Result {
-        let secs = self.secs;
-        let civil = date_at((secs / 86_400) as u32);
-        let century = Pair {
-            number: (civil.year / 100) as u8,
-        };
-        let year = Pair {
-            number: (civil.year % 100) as u8,
-        };
-        let month = Pair {
-            number: civil.month,
-        };
-        let day = Pair { number: civil.day };
-        write!(f, "{century}{year}{month}{day}")?;
-        let hour = Pair {
-            number: (secs % 86_400 / 3600) as u8,
-        };
-        let minute = Pair {
-            number: (secs % 3600 / 60) as u8,
-        };
-        let second = Pair {
-            number: (secs % 60) as u8,
-        };
-        write!(f, "{hour}{minute}{second}Z")
+        match str::from_utf8(stamp_bytes(*self).as_slice()) {
+            Ok(text) => f.write_str(text),
+            // Digits and `Z` are ASCII.
+            Err(_) => Err(fmt::Error),
+        }
     }
 }

@@ -2,7 +2,7 @@
 
 use crate::running::{finish, run};
 use crate::status::code;
-use crate::task::Job;
+use crate::task::{Job, Places};
 use crate::text::Text;
 use std::alloc::Global;
 use std::io::{BufWriter, Read, Write};
@@ -67,6 +67,9 @@ enum Wrong {
 
 const BASE: &str = "bob db1 = ALL\n";
 
+const ROSTER: &str =
+    "relays = [\"web\"]\nhosts = [\"db1\"]\nduties = []\nconflicts = []\n[people]\n[ceilings]\n";
+
 /// A line, and the beginning of another.
 const GIVEN: &str = "{}\n{\"at\"";
 
@@ -105,17 +108,27 @@ fn error_of(alloc: Global, wrong: Wrong) -> Output {
     }
 }
 
-fn files_of(alloc: Global, wrong: Wrong) -> Result<Vec<Vec<u8>>, Fail> {
+fn files_of(alloc: Global, texts: &[&str], wrong: Wrong) -> Result<Vec<Vec<u8>>, Fail> {
     let mut files = Vec::new(alloc);
-    if !matches!(wrong, Wrong::NoFile) {
-        files.push(Vec::from_slice(alloc, BASE.as_bytes())?)?;
+    for text in texts {
+        files.push(Vec::from_slice(alloc, text.as_bytes())?)?;
+    }
+    if matches!(wrong, Wrong::NoFile) {
+        let _ = files.pop();
     }
     Ok(files)
 }
 
+fn places(alloc: Global) -> Result<Places, Fail> {
+    Ok(Places {
+        roster: Text::copied(alloc, "roster.toml")?,
+        base: Text::copied(alloc, "base.sudo")?,
+    })
+}
+
 /// The exit status, what stands on the output, and what on the standard error.
-fn ended(alloc: Global, job: &Job, wrong: Wrong) -> Result<String, Fail> {
-    let files = files_of(alloc, wrong)?;
+fn ended(alloc: Global, job: &Job, texts: &[&str], wrong: Wrong) -> Result<String, Fail> {
+    let files = files_of(alloc, texts, wrong)?;
     let mut input = input_of(wrong);
     let mut out = BufWriter::new(alloc, output_of(alloc, wrong))?;
     let mut err = error_of(alloc, wrong);
@@ -127,10 +140,10 @@ fn ended(alloc: Global, job: &Job, wrong: Wrong) -> Result<String, Fail> {
 }
 
 /// The same of each thing that goes wrong, one after the other.
-fn all_ended(alloc: Global, job: &Job, wrongs: &[Wrong]) -> Result<String, Fail> {
+fn all_ended(alloc: Global, job: &Job, texts: &[&str], wrongs: &[Wrong]) -> Result<String, Fail> {
     let mut said = String::new(alloc);
     for wrong in wrongs {
-        said.push_str(ended(alloc, job, *wrong)?.as_str())?;
+        said.push_str(ended(alloc, job, texts, *wrong)?.as_str())?;
     }
     Ok(said)
 }
@@ -147,7 +160,7 @@ fn checks_that_fail(rt: HostRuntime) -> Result<(), Fail> {
         Wrong::OutputBehind(3),
         Wrong::OutputsFlush,
     ];
-    let said = all_ended(rt.alloc(), &check, &wrongs)?;
+    let said = all_ended(rt.alloc(), &check, &[BASE], &wrongs)?;
     assert_eq!(rt;
         said.as_str(),
         "0|bob db1 = (root) ALL\n|.2||F1 FileFailed\n.2||F1 FileFailed\n.2|bob|F1 FileFailed\n.2|bob db1 = (root) ALL\n|F1 FileFailed\n."
@@ -158,20 +171,42 @@ fn checks_that_fail(rt: HostRuntime) -> Result<(), Fail> {
 #[test]
 fn prints_that_fail(rt: HostRuntime) -> Result<(), Fail> {
     let print = Job::Print {
-        base: Text::copied(rt.alloc(), "base.sudo")?,
+        places: places(rt.alloc())?,
         host: HostName::read(rt.alloc(), "db1")?,
     };
     // the input after its line, and in the middle of the next
     let wrongs = [
+        Wrong::NoFile,
         Wrong::InputBehind(3),
         Wrong::InputBehind(8),
         Wrong::ErrorBehind(3),
         Wrong::ErrorsFlush,
     ];
-    let said = all_ended(rt.alloc(), &print, &wrongs)?;
+    let said = all_ended(rt.alloc(), &print, &[ROSTER, BASE], &wrongs)?;
     assert_eq!(rt;
         said.as_str(),
-        "2||F1 FileFailed\n.2||F1 FileFailed\n.2||lin.2||line 1: M3 BadField\nline 2: M2 NotCanonical\nF1 FileFailed\n."
+        "2||F1 FileFailed\n.2||F1 FileFailed\n.2||F1 FileFailed\n.2||lin.2||line 1: M3 BadField\nline 2: M2 NotCanonical\nF1 FileFailed\n."
+    );
+    Ok(())
+}
+
+#[test]
+fn deliveries_that_fail(rt: HostRuntime) -> Result<(), Fail> {
+    let deliver = Job::Deliver {
+        places: places(rt.alloc())?,
+        relay: Text::copied(rt.alloc(), "web")?,
+    };
+    let wrongs = [
+        Wrong::Nothing,
+        Wrong::NoFile,
+        Wrong::InputBehind(3),
+        Wrong::OutputBehind(5),
+        Wrong::OutputsFlush,
+    ];
+    let said = all_ended(rt.alloc(), &deliver, &[ROSTER, BASE], &wrongs)?;
+    assert_eq!(rt;
+        said.as_str(),
+        "2|M3 BadField\nM2 NotCanonical\n|.2||F1 FileFailed\n.2||F1 FileFailed\n.2|M3 Ba|F1 FileFailed\n.2|M3 BadField\nM2 NotCanonical\n|F1 FileFailed\n."
     );
     Ok(())
 }

@@ -1,11 +1,44 @@
-use Rattle.std.proofs.lemmas.Result.{IfOk-weaker, IfErr-weaker}
-use Rattle.desk.proofs.FileLemmas.{lines_found, too_many}
+use Rattle.std.proofs.Common.{[], ◌∷◌, ◌++◌, ◌<◌, length, refl, inr, arith, rules}
+use Rattle.std.specs.BTreeMap.{values}
+use Rattle.grants.specs.private.Given.{rules_for}
+use Rattle.desk.proofs.GivenLists.{is_roll, kept_stands, one_given, turn_among, turn_split}
+use Rattle.desk.proofs.HostLines.{some_lines}
 use Rattle.desk.proofs.host_file.lines.Goals as goal
 
-pub returns-clause-lines : goal.returns-clause-lines
-returns-clause-lines c =
-    IfOk-weaker c.rules_for.result _ _ (λ v e. lines_found c.args.set.now c.args.host.now c.in_ok-asked.asked c.in_ok-approved.approved c.in_ok-asked.ensures.asked c.in_ok-approved.ensures.approved v.items e) c.rules_for.ensures.rules
+pub returns-then-len-gt-MOST_LINES-clause-err : goal.returns-then-len-gt-MOST_LINES-clause-err
+returns-then-len-gt-MOST_LINES-clause-err c = λ set g.
+    let l = c.loop-summary in
+    let f = c.args.roster.now.says in
+    let host = c.args.host.now in
+    let m = c.args.summaries.now in
+    let k = c.in-Some.summary.now in
+    let steps = c.in-Some.ensures.steps in
+    let found = c.push_rules.new.rules.items in
+    let seen = l.invariant.seen in
+    let split = turn_split seen l.summary-iterator c.next.new.self (values m) k l.invariant.split steps in
+    let stands = kept_stands set m g k (turn_among seen l.summary-iterator c.next.new.self (values m) k l.invariant.split steps) in
+    let given = one_given f set (rules_for host) seen k l.rules.items found (l.invariant.given set g) (c.in_ok-push_rules.ensures.rules set stands) in
+    let past : 8_192 < length found = search rules in
+    inr (refl, λ lines are. omega (arith, past, some_lines f set host (values m) (is_roll set m g) (seen ++ k ∷ []) c.next.new.self found lines split given are))
 
-pub returns-clause-err : goal.returns-clause-err
-returns-clause-err c =
-    IfErr-weaker c.rules_for.result _ _ (λ e h. too_many c.args.set.now c.args.host.now c.in_ok-asked.asked c.in_ok-approved.approved c.in_ok-asked.ensures.asked c.in_ok-approved.ensures.approved e h) c.rules_for.ensures.err
+pub loop-summary-preserved : goal.loop-summary-preserved
+loop-summary-preserved c =
+    let l = c.loop-summary in
+    let f = c.args.roster.now.says in
+    let host = c.args.host.now in
+    let m = c.args.summaries.now in
+    let k = c.in-Some.summary.now in
+    let steps = c.in-Some.ensures.steps in
+    let found = c.push_rules.new.rules.items in
+    let seen = l.invariant.seen in
+    record {
+      seen = seen ++ k ∷ [];
+      split = turn_split seen l.summary-iterator c.next.new.self (values m) k l.invariant.split steps;
+      given = λ set g.
+          let stands = kept_stands set m g k (turn_among seen l.summary-iterator c.next.new.self (values m) k l.invariant.split steps) in
+          one_given f set (rules_for host) seen k l.rules.items found (l.invariant.given set g) (c.in_ok-push_rules.ensures.rules set stands);
+      grants = λ set g.
+          let stands = kept_stands set m g k (turn_among seen l.summary-iterator c.next.new.self (values m) k l.invariant.split steps) in
+          c.in_ok-push_rules.ensures.grants set stands (l.invariant.grants set g);
+      few = search rules;
+    }

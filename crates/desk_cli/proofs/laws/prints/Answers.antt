@@ -6,5 +6,5 @@ pub returns : goal.returns
 unfolding clap_on_literals
 returns c = record {
   faultless = refl;
-  says = (refl, record { roster = refl; base_is = refl; store = refl; host_is = (refl, refl) });
+  says = (refl, record { roster = refl; base = refl; store = refl }, (refl, refl));
 }

@@ -1,5 +1,6 @@
-use Rattle.std.proofs.Common.{OnOk, Result, Ok, Err, ap, map, string_bytes}
-use Rattle.desk_cli.specs.Printing.{IsTaken}
+use Rattle.std.proofs.Common.{ap, OnOk, Result, Ok, Err, map, string_bytes}
+use Rattle.desk_store.specs.Memory.{Holds}
+use Rattle.desk.specs.Delivery.{delivery_of}
 use Rattle.desk_cli.proofs.BroughtLemmas.{taken}
 use Rattle.desk_cli.proofs.printing.take_lines.Goals as goal
 
@@ -9,8 +10,9 @@ on_ok (Err e) f p = tt
 
 pub returns-clause-taken : goal.returns-clause-taken
 returns-clause-taken g c =
-    let is : IsTaken (g.R.Read.remaining c.args.input.now) c.deliver_all.new.self.messages c.as_str.result.now =
-    taken (g.R.Read.remaining c.args.input.now) c.args.desk.now.messages c.deliver_all.new.self.messages _ _ c.in_ok-answers.answers.items
-    c.as_slice-2.result.now (string_bytes c.in_ok-said.said) c.as_str.result.now c.in_ok-lines.ensures.lines (ap (map (λ l. l.items)) c.as_slice.ensures.value) c.as_slice-2.ensures.value c.requires
-    c.in_ok-answers.ensures.delivered c.in_ok-said.ensures.memory c.in_ok-said.ensures.said c.as_str.ensures.value in
-    on_ok c.say.result (λ said. (c.as_str.result.now, is, said)) c.say.ensures.said
+    let is = taken c.args.desk.now.roster.says c.as_str.result.now (g.R.Read.remaining c.args.input.now) (map delivery_of c.in_ok-lines.lines.items) _
+    c.in_ok-answers.answers.items c.as_slice-2.result.now (Holds c.args.desk.now.keeper) (Holds c.deliver_all.new.self.keeper) (string_bytes c.in_ok-said.said)
+    c.as_str-2.result.now (rw (c.as_str.ensures.value, ← c.roster.ensures) c.first_relay.ensures) c.in_ok-lines.ensures.read
+    (ap (map delivery_of) c.as_slice.ensures.value) c.as_slice-2.ensures.value c.requires c.in_ok-answers.ensures.answers (c.in_ok-answers.ensures.held _)
+    c.in_ok-said.ensures.memory c.in_ok-said.ensures.said c.as_str-2.ensures.value in
+    on_ok c.say.result (λ said. (is.0, c.as_str-2.result.now, is.1, is.2, said)) c.say.ensures.said

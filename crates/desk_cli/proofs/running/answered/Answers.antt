@@ -1,41 +1,33 @@
-use Rattle.std.proofs.Common.{List, ℕ, map, string_bytes}
-use Rattle.std.proofs.lemmas.Result.{IfErr-weaker}
-use Rattle.desk_cli.specs.Answers.{ChecksFile, DecidesByFile, EndsReading, IsAnswer, IsCause}
-use Rattle.desk_cli.specs.declared.running.Answer.{Answer}
-use Rattle.desk_cli.proofs.AnswerLemmas.{check_cause, checks_first, decide_cause, decides_first, quietly}
+use Rattle.std.proofs.Common.{◌≡◌, ◌∙◌, List, ℕ, ap, map, string_bytes, sym}
+use Rattle.desk_cli.specs.Answers.{IsAnswer}
+use Rattle.desk_cli.specs.declared.answer.Answer.{Answer}
+use Rattle.desk_cli.specs.declared.task.Job.{Job}
+use Rattle.desk_cli.specs.declared.task.Job.TheVariants.{Deliver}
+use Rattle.desk_cli.proofs.AnswerLemmas.{of_job, quietly}
 use Rattle.desk_cli.proofs.running.answered.Goals as goal
 
 pub returns-in-Check-clause-found : goal.returns-in-Check-clause-found
 returns-in-Check-clause-found g c =
-    let files = map (λ f. f.items) c.args.files.now in
     let input = g.R.Read.remaining c.args.input.now in
-    let answers : Answer → List ℕ → Type 0 = λ a said. IsAnswer c.args.job.now files input a.status (string_bytes a.text) said in
-    quietly c.check.result (λ a. ChecksFile c.as_slice.result.now a.status (string_bytes a.text)) answers (g.E.Write.contents c.args.err.now)
-    (λ a checks. checks_first (λ f. f.items) input a.status (string_bytes a.text) c.args.job.now _ c.args.files.now c.in-Some.file.now _ c.in-Check.is
-    c.in-Some.ensures.value c.as_slice.ensures.value checks) c.check.ensures.found
+    let answers : Job → Answer → List ℕ → Type 0 = λ j a said. IsAnswer j (map (λ f. f.items) c.args.files.now) input a.status (string_bytes a.text) said in
+    quietly c.check_first.result c.args.job.now _ answers (g.E.Write.contents c.args.err.now) c.in-Check.is (c.check_first.ensures.found c.in-Check.file input)
 
 pub returns-in-Decide-clause-found : goal.returns-in-Decide-clause-found
 returns-in-Decide-clause-found g c =
-    let files = map (λ f. f.items) c.args.files.now in
     let input = g.R.Read.remaining c.args.input.now in
-    let answers : Answer → List ℕ → Type 0 = λ a said. IsAnswer c.args.job.now files input a.status (string_bytes a.text) said in
-    quietly c.decided.result (λ a. DecidesByFile c.as_slice-in-Decide.result.now c.in-Decide.invocation a.status (string_bytes a.text)) answers
-    (g.E.Write.contents c.args.err.now)
-    (λ a decides. decides_first (λ f. f.items) input a.status (string_bytes a.text) c.args.job.now _ c.in-Decide.invocation c.args.files.now c.in-Some.file.now _
-    c.in-Decide.is c.in-Some.ensures.value c.as_slice-in-Decide.ensures.value decides) c.decided.ensures.found
+    let answers : Job → Answer → List ℕ → Type 0 = λ j a said. IsAnswer j (map (λ f. f.items) c.args.files.now) input a.status (string_bytes a.text) said in
+    quietly c.decide_by_first.result c.args.job.now _ answers (g.E.Write.contents c.args.err.now) c.in-Decide.is (c.decide_by_first.ensures.found c.in-Decide.file input)
 
-pub returns-in-Check-clause-cause : goal.returns-in-Check-clause-cause
-returns-in-Check-clause-cause g c =
-    let files = map (λ f. f.items) c.args.files.now in
+pub returns-in-Deliver-clause-found : goal.returns-in-Deliver-clause-found
+returns-in-Deliver-clause-found g c =
     let input = g.R.Read.remaining c.args.input.now in
-    IfErr-weaker c.check.result (EndsReading c.as_slice.result.now) (IsCause c.args.job.now files input)
-    (λ reason ends. check_cause (λ f. f.items) input reason c.args.job.now _ c.args.files.now c.in-Some.file.now _ c.in-Check.is c.in-Some.ensures.value
-    c.as_slice.ensures.value ends) c.check.ensures.err
+    let answers : Job → Answer → List ℕ → Type 0 = λ j a said. IsAnswer j (map (λ f. f.items) c.args.files.now) input a.status (string_bytes a.text) said in
+    let places = c.in-Deliver.places in
+    let is : c.args.job.now ≡ Deliver places c.as_str.result.now = c.in-Deliver.is ∙ ap (Deliver places) (sym c.as_str.ensures) in
+    quietly c.delivered.result c.args.job.now _ answers (g.E.Write.contents c.args.err.now) is (c.delivered.ensures.found places)
 
-pub returns-in-Decide-clause-cause : goal.returns-in-Decide-clause-cause
-returns-in-Decide-clause-cause g c =
-    let files = map (λ f. f.items) c.args.files.now in
+pub returns-in-Print-clause-found : goal.returns-in-Print-clause-found
+returns-in-Print-clause-found g c =
     let input = g.R.Read.remaining c.args.input.now in
-    IfErr-weaker c.decided.result (EndsReading c.as_slice-in-Decide.result.now) (IsCause c.args.job.now files input)
-    (λ reason ends. decide_cause (λ f. f.items) input reason c.args.job.now _ c.in-Decide.invocation c.args.files.now c.in-Some.file.now _ c.in-Decide.is
-    c.in-Some.ensures.value c.as_slice-in-Decide.ensures.value ends) c.decided.ensures.err
+    let answers : Job → Answer → List ℕ → Type 0 = λ j a said. IsAnswer j (map (λ f. f.items) c.args.files.now) input a.status (string_bytes a.text) said in
+    of_job c.printed.result c.args.job.now _ answers _ _ c.in-Print.is (c.printed.ensures.found c.in-Print.places)

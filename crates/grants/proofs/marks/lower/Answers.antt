@@ -1,7 +1,7 @@
 use Rattle.std.proofs.Common.{arith}
 use Rattle.std.proofs.lemmas.Grind.{common_steps}
 use Rattle.std.proofs.lemmas.List.Edits.{map_over_more}
-use Rattle.grants.specs.Marks.{lowered}
+use Rattle.grants.specs.private.Noting.{lowered}
 use Rattle.grants.proofs.marks.lower.Goals as goal
 
 pub loop-mark-preserved : goal.loop-mark-preserved

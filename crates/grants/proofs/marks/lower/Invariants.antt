@@ -1,5 +1,5 @@
 use Rattle.std.proofs.Common.{◌≡◌, ◌++◌, take, drop, map}
-use Rattle.grants.specs.Marks.{lowered}
+use Rattle.grants.specs.private.Noting.{lowered}
 use Rattle.grants.proofs.marks.lower.Given as goal
 
 abbrev pub invariant-loop-mark : goal.invariant-loop-mark

@@ -1,5 +1,5 @@
 use Rattle.std.proofs.Common.{◌≡◌, map, take}
-use Rattle.grants.specs.Marks.{shown}
+use Rattle.grants.specs.private.Noting.{shown}
 use Rattle.grants.proofs.marks.shown.Given as goal
 
 abbrev pub invariant-loop-mark : goal.invariant-loop-mark

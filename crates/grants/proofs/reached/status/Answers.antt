@@ -1,7 +1,7 @@
 use Rattle.std.proofs.Common.{sym, ap, subst, ◌∙◌}
 use Rattle.messages.specs.Names.{name_of}
 use Rattle.grants.specs.Admission.{AdmitsRequest}
-use Rattle.grants.specs.Reached.{IsAdmittedUnder}
+use Rattle.grants.specs.private.Reached.{IsAdmittedUnder}
 use Rattle.grants.specs.Statuses.{IsStatus}
 use Rattle.grants.specs.Summaries.{Kept}
 use Rattle.grants.specs.declared.outcome.Status.{Status}

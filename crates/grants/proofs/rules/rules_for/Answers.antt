@@ -2,7 +2,7 @@ use Rattle.std.proofs.Common.{◌≡◌, ℕ, List, true, sym, ap, subst, ◌∙
 use Rattle.std.proofs.lemmas.Result.{IfOk-weaker}
 use Rattle.std.specs.List.{list_any}
 use Rattle.std.specs.Str.{bytes_eq}
-use Rattle.grants.specs.Given.{EndsInTime}
+use Rattle.grants.specs.private.Given.{EndsInTime}
 use Rattle.grants.specs.declared.outcome.Status.{Status}
 use Rattle.grants.proofs.RuleLemmas.{request_grants}
 use Rattle.grants.proofs.rules.rules_for.Goals as goal

@@ -1,4 +1,4 @@
-use Rattle.std.proofs.Common.{◌≡◌, ◌-◌, ℕ, List, sym, subst, refl, ap, ◌∙◌, inl, inr, take, length, map, drop, Bool, true, false, not, leb-true}
+use Rattle.std.proofs.Common.{◌≡◌, ◌-◌, ℕ, List, sym, subst, refl, ap, ◌∙◌, inl, inr, take, length, map, drop, Bool, true, false, not}
 use Rattle.httparse.specs.Spans.{IsRequestAt, IsRequestOf, span_bytes, header_bytes}
 use Rattle.httparse.specs.Grammar.{RequestHead, ReadsRequest}
 use Rattle.relay_http.specs.Asked.{Request, request_of}
@@ -11,7 +11,7 @@ not_true : (b : Bool) → not b ≡ true → b ≡ false
 not_true true h = sym h
 not_true false h = refl
 
-none_yet : (c : goal.In-Ok-Partial) (h : RequestHead) → HasHead c.args.bytes.now h → ⊥
+none_yet : (c : goal.After-head_awaited) (h : RequestHead) → HasHead c.args.bytes.now h → ⊥
 none_yet c h k =
     incomplete (λ spans. IsRequestAt (take c.min.result c.args.bytes.now) c.parse_request.new.headers spans h) _ c.in-Ok-Partial.field-0-is
     (c.in-Ok-Partial.ensures.found h k.0.0 (subst (λ (f : List ℕ). ReadsRequest f h k.0.0) (sym (take_front c.args.bytes.now _ c.min.ensures)) k.0.1) k.1)
@@ -19,7 +19,7 @@ none_yet c h k =
 pub returns-in-Ok-Partial : goal.returns-in-Ok-Partial
 returns-in-Ok-Partial c = record {
   asks = inr (none_yet c, refl);
-  settled = λ full more. inr (headless_more c.args.bytes.now more (leb-true _ _ full) (none_yet c), refl);
+  settled = λ full more. inr (headless_more c.args.bytes.now more (c.head_awaited.ensures full) (none_yet c), refl);
 }
 
 pub returns-in-Err : goal.returns-in-Err
@@ -33,7 +33,7 @@ returns-in-Err c = record {
       λ _ more. inr (overflow_more c.args.bytes.now more (take c.min.result c.args.bytes.now) (take_front c.args.bytes.now _ c.min.ensures) c.in-Err.ensures.no_room, refl);
 }
 
-found : (c : goal.After-is_short-is_settled) → AsksByHead c.args.bytes.now (request_of c.wanted_by-wanted.result)
+found : (c : goal.After-more_after-more) → AsksByHead c.args.bytes.now (request_of c.wanted_by-wanted.result)
 found c =
     let buf = c.args.bytes.now in
     let found = take c.min.result c.args.bytes.now in
@@ -51,5 +51,5 @@ found c =
 pub returns-in-Ok : goal.returns-in-Ok
 returns-in-Ok c = record {
   asks = inl (found c);
-  settled = λ whole more. whole_more c.args.bytes.now more (request_of c.wanted_by-wanted.result) (found c) (sym c.is_short-is_settled.ensures ∙ not_true c.is_short-is_settled.result whole);
+  settled = λ whole more. whole_more c.args.bytes.now more (request_of c.wanted_by-wanted.result) (found c) (c.more_after-more.ensures whole);
 }

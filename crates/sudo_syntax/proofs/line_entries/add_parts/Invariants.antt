@@ -1,4 +1,4 @@
-use Rattle.std.proofs.Common.{◌≡◌, ◌++◌, length}
+use Rattle.std.proofs.Common.{◌≡◌, ◌++◌, ◌∷◌, [], length}
 use Rattle.std.specs.List.{AllByRecursion, flat_map}
 use Rattle.std.specs.Vec.Iter.{into_iter_items, into_iter_len}
 use Rattle.sudo_syntax.specs.Inheritance.{part_rules}
@@ -9,7 +9,7 @@ use Rattle.sudo_syntax.proofs.line_entries.add_parts.Given as goal
 abbrev pub invariant-loop-part : goal.invariant-loop-part
 invariant-loop-part l = record {
   draft : IsDraft l.draft;
-  whole : l.draft.entries.items ++ flat_map (part_rules l.users) (into_iter_items l.part-iterator) ≡ l.fn.draft.entries.items ++ flat_map (part_rules l.users) l.fn.parts.items;
-  are : AllByRecursion IsEntry (flat_map (part_rules l.users) (into_iter_items l.part-iterator));
+  whole : l.draft.entries.items ++ flat_map (part_rules l.of_users) (into_iter_items l.part-iterator ++ l.last ∷ []) ≡ l.fn.draft.entries.items ++ flat_map (part_rules l.fn.users) l.fn.parts.items;
+  are : AllByRecursion IsEntry (flat_map (part_rules l.of_users) (into_iter_items l.part-iterator ++ l.last ∷ []));
   rest : into_iter_len l.part-iterator ≡ length (into_iter_items l.part-iterator);
 }

@@ -1,4 +1,4 @@
-use Rattle.std.proofs.Common.{◌≡◌, ◌++◌, length}
+use Rattle.std.proofs.Common.{◌≡◌, ◌++◌, ◌∷◌, [], length}
 use Rattle.std.specs.List.{AllByRecursion}
 use Rattle.std.specs.Vec.Iter.{into_iter_items, into_iter_len}
 use Rattle.sudo_syntax.specs.Inheritance.{rules_of, first_settings}
@@ -9,7 +9,7 @@ use Rattle.sudo_syntax.proofs.line_entries.add_specs.Given as goal
 abbrev pub invariant-loop-spec : goal.invariant-loop-spec
 invariant-loop-spec l = record {
   draft : IsDraft l.draft;
-  whole : l.draft.entries.items ++ rules_of l.users l.hosts l.held (into_iter_items l.spec-iterator) ≡ l.fn.draft.entries.items ++ rules_of l.users l.hosts first_settings l.fn.specs.items;
-  are : AllByRecursion IsEntry (rules_of l.users l.hosts l.held (into_iter_items l.spec-iterator));
+  whole : l.draft.entries.items ++ rules_of l.of_users l.of_hosts l.held (into_iter_items l.spec-iterator ++ l.last ∷ []) ≡ l.fn.draft.entries.items ++ rules_of l.fn.users l.fn.hosts first_settings l.fn.specs.items;
+  are : AllByRecursion IsEntry (rules_of l.of_users l.of_hosts l.held (into_iter_items l.spec-iterator ++ l.last ∷ []));
   rest : into_iter_len l.spec-iterator ≡ length (into_iter_items l.spec-iterator);
 }

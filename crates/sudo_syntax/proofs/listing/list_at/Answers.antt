@@ -8,12 +8,12 @@ use Rattle.sudo_syntax.proofs.listing.list_at.Goals as goal
 pub returns-in_err-first-clause-only : goal.returns-in_err-first-clause-only
 returns-in_err-first-clause-only g c = λ xs r f n h.
     let y = first_of_list c.args.byte g.T.Spelled.spells g.T.Spelled.follows c.requires (toks c.args.tokens.now) xs r f h in
-    let p = err_from_is_err_and c.from_residual.result c.from_residual.ensures.1 in
+    let p = err_from_is_err_and c.from_residual-in_err-first.result c.from_residual-in_err-first.ensures.1 in
     rw (p.1, p.2) (c.in_err-first.ensures.only y.0 y.1 y.2 y.3)
 
 pub loop-others-init : goal.loop-others-init
 loop-others-init g c = record {
-  leads = rw (c.in_ok-push.ensures.items, c.new-items.ensures.items) (first_read c.args.byte g.T.Spelled.spells g.T.Spelled.follows c.requires (toks c.args.tokens.now) c.in_ok-first.first (toks c.in_ok-first.rest.now) c.in_ok-first.ensures.found c.in_ok-first.ensures.only);
+  leads = rw (c.in_ok-push.ensures.items, c.in_ok-items.ensures.items) (first_read c.args.byte g.T.Spelled.spells g.T.Spelled.follows c.requires (toks c.args.tokens.now) c.in_ok-first.first (toks c.in_ok-first.rest.now) c.in_ok-first.ensures.found c.in_ok-first.ensures.only);
   shorter = c.in_ok-first.ensures.shorter;
 }
 

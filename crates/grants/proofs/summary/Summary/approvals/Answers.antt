@@ -1,6 +1,6 @@
 use Rattle.std.proofs.Common.{List, map, IsPermutation, sym, subst}
 use Rattle.std.proofs.lemmas.Result.{IfOk-weaker}
-use Rattle.grants.specs.Marks.{shown}
+use Rattle.grants.specs.private.Noting.{shown}
 use Rattle.grants.specs.Summaries.{AreApprovals, Kept, StandsFor}
 use Rattle.grants.specs.declared.marks.Mark.{Mark}
 use Rattle.grants.proofs.ApprovalLemmas.{are_approvals}

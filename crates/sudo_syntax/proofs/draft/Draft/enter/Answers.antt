@@ -21,7 +21,7 @@ returns-then-place-ge-MOST_ENTRIES-clause-only c = λ one.
     let place : c.len-place.result ≡ length d.entries.items = search rules in
     let entered = c.in_ok-more.ensures.found d.entries.items c.requires.draft.scope place in
     let limits = limits_hold d.entries.items c.args.entry.now d.scope c.enter.new.self d.weight c.in_ok-more.more d.text_len (length (line_text c.args.entry.now)) c.requires.draft entered refl one in
-    let stops : c.in-Ok.len ≡ stopped (length (line_text c.args.entry.now)) = c.in-Ok.ensures in
+    let stops : c.line_len-len.result ≡ stopped (length (line_text c.args.entry.now)) = c.line_len-len.ensures in
     absurd (elim c.then-place-ge-MOST_ENTRIES.branch [
       | then-place-ge-MOST_ENTRIES-via-then-place-ge-MOST_ENTRIES w ↦ omega arith
       | then-place-ge-MOST_ENTRIES-via-else-place-ge-MOST_ENTRIES+then-more-self w ↦ omega arith
@@ -33,7 +33,7 @@ returns-clause-found c =
     let d = c.args.self.now in
     let place : c.len-place.result ≡ length d.entries.items = search rules in
     let entered = c.in_ok-more.ensures.found d.entries.items c.requires.draft.scope place in
-    let stops : c.in-Ok.len ≡ stopped (length (line_text c.args.entry.now)) = c.in-Ok.ensures in
-    let len : c.in-Ok.len ≡ length (line_text c.args.entry.now) = omega (arith, stops) in
-    whole_push d.entries.items c.args.entry.now d.scope c.enter.new.self d.weight c.in_ok-more.more d.text_len c.in-Ok.len c.requires.draft c.requires.entry entered len
+    let stops : c.line_len-len.result ≡ stopped (length (line_text c.args.entry.now)) = c.line_len-len.ensures in
+    let len : c.line_len-len.result ≡ length (line_text c.args.entry.now) = omega (arith, stops) in
+    whole_push d.entries.items c.args.entry.now d.scope c.enter.new.self d.weight c.in_ok-more.more d.text_len c.line_len-len.result c.requires.draft c.requires.entry entered len
     (omega arith) (omega arith) (omega arith)

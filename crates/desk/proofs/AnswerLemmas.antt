@@ -1,0 +1,37 @@
+-- What is answered behind two runs that acknowledge the same.
+use Rattle.std.proofs.Common.{◌≡◌, ℕ, List, Option, length, ap}
+use Rattle.sudo_words.specs.declared.cmnd.Cmnd.{Cmnd}
+use Rattle.sudo_syntax.specs.declared.entry.Entry.{Entry}
+use Rattle.messages.specs.Names.{RequestName, SameMessages}
+use Rattle.messages.specs.declared.message.Message.{Message}
+use Rattle.roster.specs.Fields.{RosterFields}
+use Rattle.grants.specs.declared.outcome.Status.{Status}
+use Rattle.desk.specs.HostFile.{Line, AreLines, IsHostFile}
+use Rattle.desk.specs.Outcomes.{AreLive, ComesTo, LiveGrant}
+use Rattle.desk.specs.Parked.{AreParked}
+use Rattle.desk.specs.Runs.{Event, IsRun, SameAcked}
+use Rattle.desk.proofs.FileLemmas.{one_file, one_lines}
+use Rattle.desk.proofs.RunLemmas.{runs_agree}
+use Rattle.desk.proofs.SetLemmas.{Alike, alike_sets, file_alike, lines_alike, live_alike, one_live, one_outcome, one_parked, outcome_alike, parked_of_set}
+
+module _ (f : RosterFields Cmnd) (old s t : List Message) (r u : List Event) (acked : SameAcked r u) (first : IsRun f old r s) (second : IsRun f old u t) where
+  same_left : SameMessages s t
+  same_left = runs_agree f old s t r u acked first second
+
+  left_alike : Alike f s t
+  left_alike = alike_sets f s t same_left
+
+  pub same_status : (name : RequestName) (a b : Option Status) → ComesTo f s name a → ComesTo f t name b → a ≡ b
+  same_status name a b x y = one_outcome f t name a b (outcome_alike f s t left_alike name a x) y
+
+  pub same_live : (moment : ℕ) (a b : List LiveGrant) → AreLive f s moment a → AreLive f t moment b → a ≡ b
+  same_live moment a b x y = one_live f t moment a b (live_alike f s t left_alike moment a x) y
+
+  pub same_parked : (a b : List (List ℕ)) → AreParked s a → AreParked t b → a ≡ b
+  same_parked a b x y = one_parked t a b (parked_of_set s t a same_left x) y
+
+  pub same_file : (base : List Entry) (host a b : List ℕ) → IsHostFile f base s host a → IsHostFile f base t host b → a ≡ b
+  same_file base host a b x y = one_file f base t host a b (file_alike f s t left_alike base host a x) y
+
+  pub same_count : (host : List ℕ) (a b : List Line) → AreLines f s host a → AreLines f t host b → length a ≡ length b
+  same_count host a b x y = ap length (one_lines f t host a b (lines_alike f s t left_alike host a x) y)

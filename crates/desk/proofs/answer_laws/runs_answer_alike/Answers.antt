@@ -1,0 +1,17 @@
+use Rattle.desk.proofs.AnswerLemmas.{same_count, same_file, same_live, same_parked, same_status}
+use Rattle.desk.proofs.answer_laws.runs_answer_alike.Goals as goal
+
+pub returns-clause-status : goal.returns-clause-status
+returns-clause-status c = same_status
+
+pub returns-clause-live : goal.returns-clause-live
+returns-clause-live c = same_live
+
+pub returns-clause-parked : goal.returns-clause-parked
+returns-clause-parked c = same_parked
+
+pub returns-clause-file : goal.returns-clause-file
+returns-clause-file c = same_file
+
+pub returns-clause-count : goal.returns-clause-count
+returns-clause-count c = same_count

@@ -1,0 +1,31 @@
+use Rattle.std.proofs.Common.{◌≡◌, Ok, true, rules}
+use Rattle.std.proofs.lemmas.Result.{err_from_is_err_and}
+use Rattle.roster.specs.Rules.{is_among}
+use Rattle.desk.specs.Delivery.{Delivery, IsAnswer}
+use Rattle.desk.proofs.DeliveryLemmas.{acknowledged, held_at_ok, refused}
+use Rattle.desk.proofs.desk.Desk.deliver.Goals as goal
+
+pub returns-in_err-message-clause-answer : goal.returns-in_err-message-clause-answer
+returns-in_err-message-clause-answer g c =
+    let p = err_from_is_err_and c.from_residual.result c.from_residual.ensures.1 in
+    let d : Delivery = record { relay = c.args.relay.now; body = c.args.body.now } in
+    let f = c.self.inside.roster.says in
+    let known : is_among f.relays d.relay ≡ true = search rules in
+    let answer : IsAnswer f d c.from_residual.result = rw (p.1, p.2) (refused f d c.in_err-message.field-0.0 known c.in_err-message.ensures.err) in
+    rw (← c.self.view_is) answer
+
+pub returns-clause-answer : goal.returns-clause-answer
+returns-clause-answer g c =
+    let d : Delivery = record { relay = c.args.relay.now; body = c.args.body.now } in
+    let f = c.self.inside.roster.says in
+    let known : is_among f.relays d.relay ≡ true = search rules in
+    let found = c.in_ok-message.ensures.found in
+    let answer : IsAnswer f d (Ok (record {})) = acknowledged f d (record {}) c.in_ok-message.message known found.0 found.1 in
+    rw (← c.self.view_is) answer
+
+pub returns-clause-held : goal.returns-clause-held
+returns-clause-held g c = λ up.
+    let d : Delivery = record { relay = c.args.relay.now; body = c.args.body.now } in
+    let K = g.K.Keeper in
+    let held = held_at_ok (K.holds c.self.inside.keeper) (K.holds c.add.new.self) d (record {}) c.in_ok-message.message c.in_ok-message.ensures.found.0 (c.in_ok-add.ensures.added up) in
+    rw (← c.self.view_is) held

@@ -1,0 +1,19 @@
+use Rattle.std.proofs.Common.{◌≡◌, ◌≤◌, length, map, take, vec_len, vec_capacity, Err}
+use Rattle.std.specs.List.{Contains}
+use Rattle.desk_store.specs.Keeping.{HasFailed}
+use Rattle.desk.specs.Delivery.{AreAnswers, HeldAfterAll, delivery_of}
+use Rattle.desk.specs.Serving.{IsServed}
+use Rattle.desk.specs.declared.refusal.Refusal.TheVariants.{Storage}
+use Rattle.desk.proofs.desk.Desk.deliver_each.Given as goal
+
+abbrev pub invariant-loop-relay : goal.invariant-loop-relay
+invariant-loop-relay g l = record {
+  answered : AreAnswers l.fn.self.roster.says (map delivery_of (take l.relay-index l.list)) l.answers.items;
+  held : g.K.Keeper.is_up l.self.keeper → HeldAfterAll (g.K.Keeper.holds l.fn.self.keeper) (map delivery_of (take l.relay-index l.list)) l.answers.items (g.K.Keeper.holds l.self.keeper);
+  roster : l.self.roster ≡ l.fn.self.roster;
+  base : l.self.base ≡ l.fn.self.base;
+  served : IsServed (g.K.Keeper.is_up l.fn.self.keeper) (g.K.Keeper.is_clean l.fn.self.keeper) (g.K.Keeper.is_up l.self.keeper) (g.K.Keeper.is_clean l.self.keeper) (g.K.Keeper.failures l.fn.self.keeper) (g.K.Keeper.failures l.self.keeper);
+  cause : Contains l.answers.items (Err Storage) → HasFailed (g.K.Keeper.failures l.fn.self.keeper) (g.K.Keeper.failures l.self.keeper);
+  count : vec_len l.answers ≡ l.relay-index;
+  room : length l.list ≤ vec_capacity l.answers;
+}

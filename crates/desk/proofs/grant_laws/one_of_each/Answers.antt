@@ -1,0 +1,15 @@
+use Rattle.desk.proofs.FileLemmas.{one_file}
+use Rattle.desk.proofs.SetLemmas.{one_live, one_outcome, one_parked}
+use Rattle.desk.proofs.grant_laws.one_of_each.Goals as goal
+
+pub returns-clause-status : goal.returns-clause-status
+returns-clause-status c = one_outcome
+
+pub returns-clause-live : goal.returns-clause-live
+returns-clause-live c = one_live
+
+pub returns-clause-parked : goal.returns-clause-parked
+returns-clause-parked c = one_parked
+
+pub returns-clause-file : goal.returns-clause-file
+returns-clause-file c = one_file

@@ -1,0 +1,37 @@
+//! A desk found at its keeper's, or made there.
+
+ghost use Rattle.std.specs.Prelude.{◌≡◌, ◌≢◌, ◌⊎◌, ◌≤◌, ⊤, OnOk, OnErr, IfErr, Err};
+ghost use Rattle.desk_store.specs.Keeping.{HasFailed};
+ghost use Rattle.desk.specs.Opening.{Opens, Refuses};
+ghost use Rattle.desk.specs.Refusals.{IsWant};
+ghost use Rattle.desk.specs.declared.refusal.Refusal.TheVariants as refusal;
+
+use crate::refusal::Refusal;
+use desk_store::{Found, Keeper};
+
+/// Finds a desk of this roster's text at the keeper's, or makes one where the keeper keeps nothing of a desk's.
+pub(crate) fn find_or_make<K: Keeper>(keeper: &mut K, text: &str) -> Result<(), Refusal>
+    ensures desk { K.is_up keeper.new → OnOk result (K.is_desk keeper.new) }
+    ensures roster { K.is_up keeper.new → OnOk result (K.roster keeper.new ≡ text.now) }
+    ensures opens { K.is_up keeper.new
+        → OnOk result (Opens (K.is_empty keeper.old) (K.is_desk keeper.old) (K.roster keeper.old) text.now (K.holds keeper.old) (K.holds keeper.new)) }
+    ensures refused { K.is_up keeper.new
+        → IfErr result (λ e. IsWant e ⊎ Refuses ⊤ (K.is_empty keeper.old) (K.is_desk keeper.old) (K.roster keeper.old) text.now e) }
+    ensures fits { IfErr result (λ e. e ≢ refusal.BaseTooLarge) }
+    ensures unchanged { K.is_up keeper.new → OnErr result (K.is_same keeper.old keeper.new) }
+    ensures was_up { K.is_up keeper.new → K.is_up keeper.old }
+    ensures was_clean { K.is_clean keeper.new → K.is_clean keeper.old }
+    ensures shuts { K.is_up keeper.old → K.is_clean keeper.new → K.is_up keeper.new ⊎ HasFailed (K.failures keeper.old) (K.failures keeper.new) }
+    ensures counts { K.failures keeper.old ≤ K.failures keeper.new }
+    ensures cause { result ≡ Err refusal.Storage → HasFailed (K.failures keeper.old) (K.failures keeper.new) }
+{
+    match keeper.look()? {
+        Found::Empty => {
+            keeper.make(text)?;
+            Ok(())
+        }
+        Found::Desk(recorded) if recorded.as_str() == text => Ok(()),
+        Found::Desk(_) => Err(Refusal::RosterChanged),
+        Found::NotADesk => Err(Refusal::NotADesk),
+    }
+}

@@ -1,0 +1,131 @@
+//! What is asked of a desk. An answer is that of the set of messages that it holds, and nothing of the desk changes.
+
+ghost use Rattle.std.specs.Prelude.{◌≡◌, ◌⊎◌, ◌↔◌, ◌<◌, ◌≤◌, ℕ, List, true, false, map, length, IfOk, IfErr, MatchResult, Err, string_bytes};
+ghost use Rattle.sudo_syntax.specs.Printing.{canon};
+ghost use Rattle.messages.specs.declared.message.Message.{Message as AnyMessage};
+ghost use Rattle.roster.specs.Rules.{is_among};
+ghost use Rattle.desk_store.specs.Keeping.{HasFailed};
+ghost use Rattle.desk_store.specs.Sets.{Lists};
+ghost use Rattle.desk.specs.HostFile.{Line, AreLines, IsHostFile, with_lines};
+ghost use Rattle.desk.specs.Outcomes.{AreLive, ComesTo};
+ghost use Rattle.desk.specs.Parked.{AreParked};
+ghost use Rattle.desk.specs.Refusals.{IsWant};
+ghost use Rattle.desk.specs.Rights.{GivesRights};
+ghost use Rattle.desk.specs.declared.refusal.Refusal.TheVariants as refusal;
+
+use crate::desk::Desk;
+use crate::host_file::host_file_in;
+use crate::live::{Live, live_in};
+use crate::naming::RequestName;
+use crate::outcomes::status_in;
+use crate::parked::parked_in;
+use crate::refusal::Refusal;
+use desk_store::Keeper;
+use grants::Status;
+use sudo_words::{HostName, Moment};
+
+impl<K: Keeper> Desk<K> {
+    /// What the messages come to that are about the name: its status, none where nobody asks.
+    pub fn status_of(&mut self, name: &RequestName) -> Result<Option<Status>, Refusal>
+        ensures status { (set : List AnyMessage) → K.is_up self.new.keeper → Lists (K.holds self.old.keeper) set
+            → IfOk result (ComesTo self.old.roster.says set name.now) }
+        ensures err { IfErr result IsWant }
+        ensures unchanged { K.is_up self.new.keeper → K.is_same self.old.keeper self.new.keeper }
+        ensures roster { self.new.roster ≡ self.old.roster }
+        ensures base { self.new.base ≡ self.old.base }
+        ensures was_up { K.is_up self.new.keeper → K.is_up self.old.keeper }
+        ensures was_clean { K.is_clean self.new.keeper → K.is_clean self.old.keeper }
+        ensures shuts { K.is_up self.old.keeper → K.is_clean self.new.keeper
+            → K.is_up self.new.keeper ⊎ HasFailed (K.failures self.old.keeper) (K.failures self.new.keeper) }
+        ensures counts { K.failures self.old.keeper ≤ K.failures self.new.keeper }
+        ensures cause { result ≡ Err refusal.Storage → HasFailed (K.failures self.old.keeper) (K.failures self.new.keeper) }
+    {
+        self.keeper.load()?;
+        let set = self.keeper.messages();
+        Ok(status_in(self.alloc, &self.roster, set, name)?)
+    }
+
+    /// The grants that are in force at the moment, by the asker in byte order, then by the number.
+    pub fn live_at(&mut self, at: Moment) -> Result<Vec<Live>, Refusal>
+        ensures live { (set : List AnyMessage) → K.is_up self.new.keeper → Lists (K.holds self.old.keeper) set
+            → IfOk result (λ list. AreLive self.old.roster.says set at list.items) }
+        ensures err { IfErr result IsWant }
+        ensures unchanged { K.is_up self.new.keeper → K.is_same self.old.keeper self.new.keeper }
+        ensures roster { self.new.roster ≡ self.old.roster }
+        ensures base { self.new.base ≡ self.old.base }
+        ensures was_up { K.is_up self.new.keeper → K.is_up self.old.keeper }
+        ensures was_clean { K.is_clean self.new.keeper → K.is_clean self.old.keeper }
+        ensures shuts { K.is_up self.old.keeper → K.is_clean self.new.keeper
+            → K.is_up self.new.keeper ⊎ HasFailed (K.failures self.old.keeper) (K.failures self.new.keeper) }
+        ensures counts { K.failures self.old.keeper ≤ K.failures self.new.keeper }
+        ensures cause { result ≡ Err refusal.Storage → HasFailed (K.failures self.old.keeper) (K.failures self.new.keeper) }
+    {
+        self.keeper.load()?;
+        let set = self.keeper.messages();
+        Ok(live_in(self.alloc, &self.roster, set, at)?)
+    }
+
+    /// The texts of the verdicts that wait for their request, each once, in byte order.
+    pub fn parked(&mut self) -> Result<Vec<String>, Refusal>
+        ensures parked { (set : List AnyMessage) → K.is_up self.new.keeper → Lists (K.holds self.old.keeper) set
+            → IfOk result (λ texts. AreParked set (map string_bytes texts.items)) }
+        ensures err { IfErr result IsWant }
+        ensures unchanged { K.is_up self.new.keeper → K.is_same self.old.keeper self.new.keeper }
+        ensures roster { self.new.roster ≡ self.old.roster }
+        ensures base { self.new.base ≡ self.old.base }
+        ensures was_up { K.is_up self.new.keeper → K.is_up self.old.keeper }
+        ensures was_clean { K.is_clean self.new.keeper → K.is_clean self.old.keeper }
+        ensures shuts { K.is_up self.old.keeper → K.is_clean self.new.keeper
+            → K.is_up self.new.keeper ⊎ HasFailed (K.failures self.old.keeper) (K.failures self.new.keeper) }
+        ensures counts { K.failures self.old.keeper ≤ K.failures self.new.keeper }
+        ensures cause { result ≡ Err refusal.Storage → HasFailed (K.failures self.old.keeper) (K.failures self.new.keeper) }
+    {
+        self.keeper.load()?;
+        let set = self.keeper.messages();
+        Ok(parked_in(self.alloc, set)?)
+    }
+
+    /// The text of the host's sudoers file: the base's canonical text, and behind it a line for each command of each request
+    /// that is granted on the host, with the first and the last moment of its window.
+    ///
+    /// `UnknownHost` comes exactly where the roster has no such host, `TooManyRules` exactly where the lines behind the base are
+    /// more than 8,192.
+    pub fn host_file(&mut self, host: &HostName) -> Result<String, Refusal>
+        // It is the file, and so it gives the rights.
+        ensures file { (set : List AnyMessage) → K.is_up self.new.keeper → Lists (K.holds self.old.keeper) set
+            → IfOk result (λ s. IsHostFile self.old.roster.says self.old.base set host.now (string_bytes s)) }
+        ensures rights { (set : List AnyMessage) → K.is_up self.new.keeper → Lists (K.holds self.old.keeper) set
+            → IfOk result (λ s. GivesRights self.old.roster.says self.old.base set host.now (string_bytes s)) }
+        // A host of the roster is refused it where the lines are too many, and not where they are few.
+        ensures unknown { (result ≡ Err refusal.UnknownHost) ↔ (is_among self.old.roster.says.hosts host.now ≡ false) }
+        ensures few { (set : List AnyMessage) (ls : List Line) → K.is_up self.new.keeper → Lists (K.holds self.old.keeper) set
+            → AreLines self.old.roster.says set host.now ls → length ls ≤ 8_192
+            → IfErr result (λ e. (e ≡ refusal.UnknownHost) ⊎ IsWant e) }
+        ensures many { (set : List AnyMessage) (ls : List Line) → K.is_up self.new.keeper → Lists (K.holds self.old.keeper) set
+            → AreLines self.old.roster.says set host.now ls → 8_192 < length ls
+            → MatchResult result (λ _. ⊥) (λ e. (e ≡ refusal.UnknownHost) ⊎ (e ≡ refusal.TooManyRules) ⊎ IsWant e) }
+        ensures err { IfErr result (λ e. (e ≡ refusal.UnknownHost) ⊎ (e ≡ refusal.TooManyRules) ⊎ IsWant e) }
+        ensures unchanged { K.is_up self.new.keeper → K.is_same self.old.keeper self.new.keeper }
+        ensures roster { self.new.roster ≡ self.old.roster }
+        ensures base { self.new.base ≡ self.old.base }
+        ensures was_up { K.is_up self.new.keeper → K.is_up self.old.keeper }
+        ensures was_clean { K.is_clean self.new.keeper → K.is_clean self.old.keeper }
+        ensures shuts { K.is_up self.old.keeper → K.is_clean self.new.keeper
+            → K.is_up self.new.keeper ⊎ HasFailed (K.failures self.old.keeper) (K.failures self.new.keeper) }
+        ensures counts { K.failures self.old.keeper ≤ K.failures self.new.keeper }
+        ensures cause { result ≡ Err refusal.Storage → HasFailed (K.failures self.old.keeper) (K.failures self.new.keeper) }
+    {
+        if !self.roster.has_host(host) {
+            return Err(Refusal::UnknownHost);
+        }
+        self.keeper.load()?;
+        let set = self.keeper.messages();
+        Ok(host_file_in(
+            self.alloc,
+            &self.roster,
+            &self.base,
+            set,
+            host,
+        )?)
+    }
+}

@@ -1,0 +1,33 @@
+//! A restart.
+
+ghost use Rattle.std.specs.Prelude.{◌≡◌, ◌≢◌, ◌⊎◌, IfOk, IfErr};
+ghost use Rattle.grants.specs.Bases.{FitsBase};
+ghost use Rattle.desk_store.specs.Sets.{SameSet};
+ghost use Rattle.desk.specs.Refusals.{IsWant};
+ghost use Rattle.desk.specs.declared.refusal.Refusal.TheVariants as refusal;
+
+use crate::desk::Desk;
+use crate::refusal::Refusal;
+use desk_store::Keeper;
+use roster::Roster;
+use std::alloc::Global;
+use sudo_syntax::Policy;
+
+/// Gives the desk's keeper up, and opens a desk over it again.
+///
+/// What the desk held is what is found. Where the roster's text is the one that the desk had, and the base is within the
+/// limits, nothing is refused but for want of memory or of the storage; and a refusal leaves what was held.
+pub fn restart<K: Keeper>(
+    alloc: Global,
+    desk: Desk<K>,
+    roster: Roster,
+    base: Policy,
+) -> Result<Desk<K>, (Refusal, K)>
+    ensures held { IfOk result (λ d. K.is_up d.keeper → SameSet (K.holds desk.keeper) (K.holds d.keeper)) }
+    ensures roster { IfOk result (λ d. K.is_up d.keeper → desk.roster.text ≡ roster.text) }
+    ensures unchanged { IfErr result (λ r. K.is_up r.1 → SameSet (K.holds desk.keeper) (K.holds r.1)) }
+    ensures refused { IfErr result (λ r. K.is_up r.1
+        → IsWant r.0 ⊎ ((r.0 ≡ refusal.BaseTooLarge) × (¬ FitsBase base)) ⊎ ((r.0 ≡ refusal.RosterChanged) × (desk.roster.text ≢ roster.text))) }
+{
+    Desk::open(alloc, roster, base, desk.into_keeper())
+}

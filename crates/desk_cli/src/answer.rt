@@ -1,0 +1,12 @@
+//! Answers of jobs.
+
+use crate::status::Status;
+
+/// What a job answers.
+#[derive(Drop)]
+pub struct Answer {
+    /// What is written.
+    pub text: String,
+    /// How the job ends.
+    pub status: Status,
+}

@@ -1,0 +1,14 @@
+-- What a look at a keeper tells, and what a count of failures says.
+use Rattle.std.specs.Prelude.{◌≡◌, ◌⊎◌, ℕ, ◌<◌, ◌≤◌, ◌-◌, ◌^◌, List, string_bytes}
+use Rattle.desk_store.specs.declared.found.Found.{Found}
+use Rattle.desk_store.specs.declared.found.Found.TheVariants as found
+
+-- exactly one of the three, and a desk's roster
+abbrev pub Tells : (Empty Desk : Type 0) → (roster : List ℕ) → Found → Type 0
+Tells Empty Desk roster found.Empty = Empty × (¬ Desk)
+Tells Empty Desk roster (found.Desk text) = Desk × (¬ Empty) × (string_bytes text ≡ roster)
+Tells Empty Desk roster found.NotADesk = (¬ Empty) × (¬ Desk)
+
+-- the count of failures rose, or stands at the greatest number of 64 bits
+abbrev pub HasFailed : (before after : ℕ) → Type 0
+HasFailed before after = (before < after) ⊎ (2 ^ 64 - 1 ≤ after)

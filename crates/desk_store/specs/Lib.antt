@@ -1,0 +1,5 @@
+pub mod Sets
+pub mod Keeping
+pub mod Memory
+pub mod MemoryLaws
+pub mod Collected

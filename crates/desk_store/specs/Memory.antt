@@ -1,0 +1,17 @@
+-- What a keeper in memory keeps.
+use Rattle.std.specs.Prelude.{ℕ, List, [], Option, None, Contains}
+use Rattle.messages.specs.Wire.{IsMessage}
+use Rattle.messages.specs.declared.message.Message.{Message}
+
+-- The text of a desk's roster, and its messages. Of the list only the members mean anything.
+pub record MemoryContent : Type 0 where
+  pub roster : Option (List ℕ)
+  pub messages : List Message
+
+-- nothing of a desk's
+abbrev pub nothing : MemoryContent
+nothing = record { roster = None; messages = [] }
+
+-- the message is kept
+abbrev pub Holds : MemoryContent → Message → Type 0
+Holds k m = IsMessage m × Contains k.messages m

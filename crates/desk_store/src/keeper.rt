@@ -1,0 +1,122 @@
+//! The keeper of a desk.
+
+ghost use Rattle.std.specs.Prelude.{◌≡◌, ℕ, ◌≤◌, ◌⊎◌, List, IfOk, OnOk, OnErr, Err};
+ghost use Rattle.messages.specs.Wire.{IsMessage};
+ghost use Rattle.messages.specs.declared.message.Message.{Message as AnyMessage};
+ghost use Rattle.desk_store.specs.Sets.{IsNothing, SameSet, IsWith, Lists};
+ghost use Rattle.desk_store.specs.Keeping.{Tells, HasFailed};
+
+use crate::error::KeeperError;
+use crate::found::Found;
+use messages::Message;
+
+/// What keeps a desk: nothing of a desk's, or a desk's roster text and the set of its messages, or what is no desk.
+///
+/// Each call that changes what is kept does it whole, in one commit, or not at all, and takes the memory that it needs
+/// before. A clause of what is kept holds where the keeper is up as the call ends: its storage has been honest, and no
+/// failure has shut it. A keeper in memory is always up. `Storage` is answered only where the count of failures rose in
+/// that call, or stands at the greatest number of 64 bits.
+pub trait Keeper {
+    /// It keeps nothing of a desk's.
+    ghost is_empty: { Self → Type 0 };
+
+    /// It keeps a desk.
+    ghost is_desk: { Self → Type 0 };
+
+    /// The text of the desk's roster.
+    ghost roster: { Self → List ℕ };
+
+    /// The message is one of the desk's.
+    ghost holds: { Self → AnyMessage → Type 0 };
+
+    /// The messages were brought into memory, and nothing was added since.
+    ghost is_loaded: { Self → Type 0 };
+
+    /// The storage has been honest, and no failure has shut it.
+    ghost is_up: { Self → Type 0 };
+
+    /// The storage has been honest.
+    ghost is_clean: { Self → Type 0 };
+
+    /// How many failures were counted.
+    ghost failures: { Self → ℕ };
+
+    /// The second keeps what the first does.
+    ghost is_same: { Self → Self → Type 0 };
+
+    /// Tells what it keeps. That stays as it is.
+    fn look(&mut self) -> Result<Found, KeeperError>
+        ensures found { is_up self.new → IfOk result (Tells (is_empty self.old) (is_desk self.old) (roster self.old)) }
+        ensures same { is_up self.new → is_same self.old self.new }
+        ensures was_up { is_up self.new → is_up self.old }
+        ensures was_clean { is_clean self.new → is_clean self.old }
+        ensures shuts { is_up self.old → is_clean self.new → is_up self.new ⊎ HasFailed (failures self.old) (failures self.new) }
+        ensures counts { failures self.old ≤ failures self.new }
+        ensures cause { result ≡ Err KeeperError.Storage → HasFailed (failures self.old) (failures self.new) };
+
+    /// Makes a desk of this roster text, without messages, in one commit.
+    fn make(&mut self, text: &str) -> Result<(), KeeperError>
+        requires { is_up self.old → is_empty self.old }
+        ensures made { is_up self.new → OnOk result (is_desk self.new) }
+        ensures recorded { is_up self.new → OnOk result (roster self.new ≡ text.now) }
+        ensures nothing { is_up self.new → OnOk result (IsNothing (holds self.new)) }
+        ensures unmade { is_up self.new → OnErr result (is_same self.old self.new) }
+        ensures was_up { is_up self.new → is_up self.old }
+        ensures was_clean { is_clean self.new → is_clean self.old }
+        ensures shuts { is_up self.old → is_clean self.new → is_up self.new ⊎ HasFailed (failures self.old) (failures self.new) }
+        ensures counts { failures self.old ≤ failures self.new }
+        ensures cause { result ≡ Err KeeperError.Storage → HasFailed (failures self.old) (failures self.new) };
+
+    /// Adds the message to the desk's, in one commit. One that the desk has already changes nothing.
+    fn add(&mut self, message: Message) -> Result<(), KeeperError>
+        requires desk { is_up self.old → is_desk self.old }
+        requires message { IsMessage message }
+        ensures added { is_up self.new → OnOk result (IsWith (holds self.old) message (holds self.new)) }
+        ensures unchanged { is_up self.new → OnErr result (is_same self.old self.new) }
+        ensures desk { is_up self.new → is_desk self.new }
+        ensures roster { is_up self.new → roster self.new ≡ roster self.old }
+        ensures was_up { is_up self.new → is_up self.old }
+        ensures was_clean { is_clean self.new → is_clean self.old }
+        ensures shuts { is_up self.old → is_clean self.new → is_up self.new ⊎ HasFailed (failures self.old) (failures self.new) }
+        ensures counts { failures self.old ≤ failures self.new }
+        ensures cause { result ≡ Err KeeperError.Storage → HasFailed (failures self.old) (failures self.new) };
+
+    /// Brings the desk's messages into memory, where `messages` lends them. What is kept stays as it is.
+    fn load(&mut self) -> Result<(), KeeperError>
+        requires { is_up self.old → is_desk self.old }
+        ensures loaded { is_up self.new → OnOk result (is_loaded self.new) }
+        ensures same { is_up self.new → is_same self.old self.new }
+        ensures was_up { is_up self.new → is_up self.old }
+        ensures was_clean { is_clean self.new → is_clean self.old }
+        ensures shuts { is_up self.old → is_clean self.new → is_up self.new ⊎ HasFailed (failures self.old) (failures self.new) }
+        ensures counts { failures self.old ≤ failures self.new }
+        ensures cause { result ≡ Err KeeperError.Storage → HasFailed (failures self.old) (failures self.new) };
+
+    /// The messages that were brought into memory, each once, in an order of the keeper's own.
+    fn messages(&self) -> &[Message]
+        ensures { is_loaded self.now → Lists (holds self.now) result.now };
+
+    /// How many failures it has counted, up to the greatest number of 64 bits.
+    fn failures(&self) -> u64
+        ensures { result ≡ Self.failures self.now };
+
+    /// Each message that is held is one that a desk knows.
+    ghost holds_messages: { (k : Self) → (m : AnyMessage) → holds k m → IsMessage m };
+
+    /// What is kept is the same as itself.
+    ghost same_itself: { (a : Self) → is_same a a };
+
+    ghost same_back: { (a b : Self) → is_same a b → is_same b a };
+
+    ghost same_on: { (a b c : Self) → is_same a b → is_same b c → is_same a c };
+
+    /// Where nothing of a desk's is kept, there is none where the same is kept.
+    ghost stays_empty: { (a b : Self) → is_same a b → is_empty a → is_empty b };
+
+    /// Where a desk is kept, the same is the same desk.
+    ghost stays_desk: { (a b : Self) → is_same a b → is_desk a → is_desk b };
+
+    ghost stays_roster: { (a b : Self) → is_same a b → is_desk a → roster b ≡ roster a };
+
+    ghost stays_set: { (a b : Self) → is_same a b → is_desk a → SameSet (holds a) (holds b) };
+}

@@ -1,0 +1,117 @@
+//! A keeper in memory.
+
+ghost use Rattle.std.specs.Prelude.{◌≡◌, ◌≢◌, [], None, AllPairs};
+ghost use Rattle.desk_store.specs.Sets.{Lists};
+ghost use Rattle.desk_store.specs.Memory as memory;
+
+use crate::collected::Collected;
+use crate::error::KeeperError;
+use crate::found::Found;
+use crate::keeper::Keeper;
+use messages::Message;
+use std::alloc::Global;
+use std::marker::Model;
+
+/// A desk in memory, or nothing of a desk's. It is always up, and never answers `Storage`.
+#[derive(Drop)]
+pub struct MemoryKeeper {
+    alloc: Global,
+    roster: Option<String>,
+    messages: Collected,
+}
+
+impl Model for MemoryKeeper {
+    ghost use Rattle.std.specs.Prelude.{string_bytes, option_map};
+    ghost use Rattle.desk_store.specs.Memory.{MemoryContent};
+
+    ghost Value = { MemoryContent };
+
+    ghost view = { λ k. record { roster = option_map string_bytes k.roster; messages = k.messages } };
+}
+
+impl MemoryKeeper {
+    /// A keeper of nothing. It takes no memory.
+    pub fn new(alloc: Global) -> MemoryKeeper
+        ensures { result ≡ memory.nothing }
+    {
+        MemoryKeeper {
+            alloc,
+            roster: None,
+            messages: Collected::new(alloc),
+        }
+    }
+}
+
+impl Keeper for MemoryKeeper {
+    ghost use Rattle.std.specs.Prelude.{◌≡◌, ⊤, IsSome, unwrap_or};
+    ghost use Rattle.desk_store.specs.MemoryLaws as laws;
+
+    ghost is_empty = { λ k. k.roster ≡ None };
+
+    ghost is_desk = { λ k. IsSome k.roster };
+
+    ghost roster = { λ k. unwrap_or k.roster [] };
+
+    ghost holds = { λ k. memory.Holds k };
+
+    ghost is_loaded = { λ k. ⊤ };
+
+    ghost is_up = { λ k. ⊤ };
+
+    ghost is_clean = { λ k. ⊤ };
+
+    ghost failures = { λ k. 0 };
+
+    ghost is_same = { λ a b. b ≡ a };
+
+    ghost holds_messages = { λ k m held. held.0 };
+
+    ghost same_itself = { laws.same_itself };
+
+    ghost same_back = { laws.same_back };
+
+    ghost same_on = { laws.same_on };
+
+    ghost stays_empty = { laws.stays_empty };
+
+    ghost stays_desk = { laws.stays_desk };
+
+    ghost stays_roster = { laws.stays_roster };
+
+    ghost stays_set = { laws.stays_set };
+
+    fn look(&mut self) -> Result<Found, KeeperError> {
+        let Some(text) = &self.roster else {
+            return Ok(Found::Empty);
+        };
+        let copy = String::from_str(self.alloc, text.as_str())?;
+        Ok(Found::Desk(copy))
+    }
+
+    fn make(&mut self, text: &str) -> Result<(), KeeperError> {
+        let copy = String::from_str(self.alloc, text)?;
+        self.messages = Collected::new(self.alloc);
+        self.roster = Some(copy);
+        Ok(())
+    }
+
+    fn add(&mut self, message: Message) -> Result<(), KeeperError> {
+        self.messages.put(message)
+    }
+
+    fn load(&mut self) -> Result<(), KeeperError> {
+        Ok(())
+    }
+
+    /// The messages, each once, in the order in which they came.
+    fn messages(&self) -> &[Message]
+        ensures lists { Lists (memory.Holds self.now) result.now }
+        ensures once { AllPairs (λ m n. m ≢ n) result.now }
+    {
+        self.messages.as_slice()
+    }
+
+    fn failures(&self) -> u64 {
+        0
+    }
+}

@@ -1,8 +1,0 @@
--- Those whose verdicts of a kind count. For private clauses.
-use Rattle.std.specs.Prelude.{Bool}
-use Rattle.grants.specs.Ranks.{has_counting}
-use Rattle.grants.specs.declared.marks.Mark.{Mark}
-use Rattle.grants.specs.declared.voters.Voters.{Voters}
-
-abbrev pub counting : Voters → Mark → Bool
-counting v = has_counting v.roster.now.says v.ceiling.now v.kind v.asker.now

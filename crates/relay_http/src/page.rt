@@ -1,0 +1,49 @@
+//! The head of a reply, written without taking memory.
+
+ghost use Rattle.std.specs.Prelude.{◌≡◌, ◌≤◌, ◌+◌, ◌++◌, decimal, length, take};
+ghost use Rattle.relay_http.specs.Reply.{reply_head};
+
+use crate::status::{Status, allow_line, status_text};
+use itoa::Buffer;
+
+/// The bytes of a page, in which each head has room.
+pub const PAGE: usize = 512;
+
+/// Puts a part behind what is there, and answers where it ends.
+pub fn put(page: &mut [u8], at: usize, part: &[u8]) -> usize
+    requires { at + length part.now ≤ length page.old }
+    ensures len { length page.new ≡ length page.old }
+    ensures end { result ≡ at + length part.now }
+    ensures put { take result page.new ≡ take at page.old ++ part.now }
+{
+    let end = at + part.len();
+    page[at..end].copy_from_slice(part);
+    end
+}
+
+/// Puts a number behind what is there, in decimal digits.
+fn put_decimal(page: &mut [u8], at: usize, n: usize) -> usize
+    requires { at + 20 ≤ length page.old }
+    ensures len { length page.new ≡ length page.old }
+    ensures end { result ≤ at + 20 }
+    ensures put { take result page.new ≡ take at page.old ++ decimal n }
+{
+    let mut digits = Buffer::new();
+    put(page, at, digits.format(n).as_bytes())
+}
+
+/// Puts the head of a reply, whose body has so many bytes, at the page's beginning, and answers where it ends.
+pub fn put_head(page: &mut [u8], status: Status, size: usize) -> usize
+    requires { length page.old ≡ 512 }
+    ensures len { length page.new ≡ length page.old }
+    ensures within { result ≤ length page.new }
+    ensures head { take result page.new ≡ reply_head status size }
+{
+    let at = put(page, 0, b"HTTP/1.1 ");
+    let at = put(page, at, status_text(status));
+    let at = put(page, at, b"\r\nContent-Type: text/plain\r\n");
+    let at = put(page, at, allow_line(status));
+    let at = put(page, at, b"Content-Length: ");
+    let at = put_decimal(page, at, size);
+    put(page, at, b"\r\nConnection: close\r\n\r\n")
+}
