@@ -120,12 +120,6 @@ impl<K: Keeper> Desk<K> {
         }
         self.keeper.load()?;
         let set = self.keeper.messages();
-        Ok(host_file_in(
-            self.alloc,
-            &self.roster,
-            &self.base,
-            set,
-            host,
-        )?)
+        Ok(host_file_in(self.alloc, &self.roster, &self.base, set, host)?)
     }
 }

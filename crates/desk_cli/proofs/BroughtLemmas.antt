@@ -172,8 +172,7 @@ module _ (f : RosterFields Cmnd) where
       let same : lent ≡ from_relay relay is_read.lines = same_read ∙ is_read.deliveries_are in
       let had_memory : HadMemory answers = subst HadMemory same_answers had in
       let all = are_taken relay is_read.lines answers old new first.among nothing (subst (λ (ds : List Delivery). AreAnswers f ds answers) same are)
-      (subst (λ (ds : List Delivery). HeldAfterAll old ds answers new) same after) had_memory in
-      (
+      (subst (λ (ds : List Delivery). HeldAfterAll old ds answers new) same after) had_memory in (
         all.messages,
         all.holds,
         record {

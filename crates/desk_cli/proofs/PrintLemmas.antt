@@ -99,6 +99,6 @@ taking_ends roster_file base_file host input reasons.NoMemory ends = tt
 taking_ends roster_file base_file host input (reasons.Roster fault) ends = absurd ends
 taking_ends roster_file base_file host input (reasons.Policy fault) ends = absurd ends
 taking_ends roster_file base_file host input (reasons.Desk refusal) ends = elim ends [
-    | inl memory ↦ subst (λ (r : Refusal). EndsPrinting roster_file base_file host input (reasons.Desk r)) (sym memory) tt
-    | inr storage ↦ subst (λ (r : Refusal). EndsPrinting roster_file base_file host input (reasons.Desk r)) (sym storage) tt
-  ]
+  | inl memory ↦ subst (λ (r : Refusal). EndsPrinting roster_file base_file host input (reasons.Desk r)) (sym memory) tt
+  | inr storage ↦ subst (λ (r : Refusal). EndsPrinting roster_file base_file host input (reasons.Desk r)) (sym storage) tt
+]

@@ -24,11 +24,7 @@ fn whole<R: Read>(alloc: Global, input: &mut R) -> Result<Vec<u8>, Refusal>
 }
 
 /// The lines of a text, each as the relay's: what stands before each newline, and what stands after the last one, unless that is nothing.
-fn lines(
-    alloc: Global,
-    relay: &str,
-    bytes: &[u8],
-) -> Result<Vec<(String, Vec<u8>)>, AllocError>
+fn lines(alloc: Global, relay: &str, bytes: &[u8]) -> Result<Vec<(String, Vec<u8>)>, AllocError>
     ensures { IfOk result (λ v. map delivery_of v.items ≡ from_relay relay.now (lines_of bytes.now)) }
 {
     let mut lines = Vec::new(alloc);

@@ -17,8 +17,8 @@ loop-byte-preserved c =
       | then-byte-eq10+in_ok-name+in_ok-push w ↦
           line_ends _ c.args.bytes.now _ _ c.loop-byte.byte-index _ _ lt w.if-byte-eq10.true
           (one_more delivery_of c.loop-byte.lines.items c.if-byte-eq10.lines.items (w.in_ok-name.name, w.replace.result) _
-            (ap (λ v. v.items) w.lines-is ∙ w.in_ok-push.ensures.items)
-            (brought_is w.in_ok-name.name w.replace.result c.args.relay.now c.loop-byte.line.items w.in_ok-name.ensures.ok (ap (λ v. v.items) w.replace.ensures.value)))
+          (ap (λ v. v.items) w.lines-is ∙ w.in_ok-push.ensures.items)
+          (brought_is w.in_ok-name.name w.replace.result c.args.relay.now c.loop-byte.line.items w.in_ok-name.ensures.ok (ap (λ v. v.items) w.replace.ensures.value)))
           (ap (λ v. v.items) (w.line-is ∙ w.replace.ensures.after) ∙ w.new.ensures.items) c.loop-byte.invariant
       | else-byte-eq10+in_ok-push-2 w ↦
           line_grows _ c.args.bytes.now _ _ c.loop-byte.byte-index _ _ lt w.if-byte-eq10.false
@@ -32,8 +32,8 @@ returns c =
           last_read _ c.args.bytes.now _ _ c.loop-byte.byte-index _ c.loop-byte-test.false
           (some_bytes c.loop-byte.line.items (vec_len c.loop-byte.line) c.loop-byte.line.ok.0 (sym w.if-not-is_empty.ensures))
           (one_more delivery_of c.loop-byte.lines.items c.if-not-is_empty.lines.items (w.in_ok-from_str.field-0, c.loop-byte.line) _
-            (ap (λ v. v.items) w.lines-is ∙ w.in_ok-push-3.ensures.items)
-            (brought_is w.in_ok-from_str.field-0 c.loop-byte.line c.args.relay.now c.loop-byte.line.items w.in_ok-from_str.ensures.ok refl)) c.loop-byte.invariant
+          (ap (λ v. v.items) w.lines-is ∙ w.in_ok-push-3.ensures.items)
+          (brought_is w.in_ok-from_str.field-0 c.loop-byte.line c.args.relay.now c.loop-byte.line.items w.in_ok-from_str.ensures.ok refl)) c.loop-byte.invariant
       | else-not-is_empty w ↦ ap (λ v. map delivery_of v.items) w.lines-is
           ∙ all_read _ c.args.bytes.now _ _ c.loop-byte.byte-index c.loop-byte-test.false
           (no_bytes c.loop-byte.line.items (vec_len c.loop-byte.line) c.loop-byte.line.ok.0 (sym w.if-not-is_empty.ensures)) c.loop-byte.invariant

@@ -10,12 +10,11 @@ returns-in-Ok-clause-printed g c =
     let taking = c.in_ok-take_lines.ensures.taken in
     let made : IsDeskOf c.args.roster.now c.args.base.now c.take_lines.new.desk.roster.says c.take_lines.new.desk.base =
     rw (same_roster, same_base) c.in_ok-desk.ensures.found.0 in
-    let taken : IsTaken c.take_lines.new.desk.roster.says (g.R.Read.remaining c.args.input.now) taking.0 taking.1 = rw same_roster taking.3 in
-    (
+    let taken : IsTaken c.take_lines.new.desk.roster.says (g.R.Read.remaining c.args.input.now) taking.0 taking.1 = rw same_roster taking.3 in (
       taking.1,
       prints c.args.roster.now c.args.base.now c.args.host.now (g.R.Read.remaining c.args.input.now) c.take_lines.new.desk.roster.says
-      c.take_lines.new.desk.base taking.0 taking.1 made taken c.host_file.result c.in-Ok.text _ c.in-Ok.is c.host_file.ensures.unknown
-      (c.in-Ok.ensures.file taking.0 tt taking.2) (c.in-Ok.ensures.rights taking.0 tt taking.2),
+          c.take_lines.new.desk.base taking.0 taking.1 made taken c.host_file.result c.in-Ok.text _ c.in-Ok.is c.host_file.ensures.unknown
+          (c.in-Ok.ensures.file taking.0 tt taking.2) (c.in-Ok.ensures.rights taking.0 tt taking.2),
       taking.4,
     )
 

@@ -60,8 +60,8 @@ loop-at-preserved c =
     let moments : List ℕ = c.as_slice-at-items.result.now in
     record {
       none = subst (λ (ts : List ℕ). NoGap a b (flat_map one (take (c.loop-at.at-index + 1) ts))) c.as_slice-at-items.ensures
-    (gaps_more a b one moments c.loop-at.at-index c.at-item.result c.loop-at-test.true c.at-item.is
-    (subst (λ (ts : List ℕ). NoGap a b (flat_map one (take c.loop-at.at-index ts))) (sym c.as_slice-at-items.ensures) c.loop-at.invariant.none)
-    (λ gap. false≢true (sym c.if-is_gap.false ∙ c.is_gap.ensures.1 (subst (λ (i : Invocation). IsGap a b i) (moved c.at-item.result c.loop-at.invariant.parts) gap)), tt));
+          (gaps_more a b one moments c.loop-at.at-index c.at-item.result c.loop-at-test.true c.at-item.is
+          (subst (λ (ts : List ℕ). NoGap a b (flat_map one (take c.loop-at.at-index ts))) (sym c.as_slice-at-items.ensures) c.loop-at.invariant.none)
+          (λ gap. false≢true (sym c.if-is_gap.false ∙ c.is_gap.ensures.1 (subst (λ (i : Invocation). IsGap a b i) (moved c.at-item.result c.loop-at.invariant.parts) gap)), tt));
       parts = moved c.at-item.result c.loop-at.invariant.parts;
     }

@@ -22,12 +22,12 @@ returns-in_err-host_file_in-clause-few g c =
     let host = c.args.host.now in
     let p = err_from_is_err_and c.from_residual-in_err-host_file_in.result c.from_residual-in_err-host_file_in.ensures.1 in
     let answer : (set : List Message) (ls : List Line) → K.is_up new → Lists (K.holds old) set → AreLines f set host ls → length ls ≤ 8_192 → (p.0 ≡ UnknownHost) ⊎ IsWant p.0 = λ set ls up lists are few.
-        let done = c.in_ok-load.ensures in
-        let desk = c.self.invariant.1 (done.was_up up) in
-        let same = same_messages (K.holds old) (K.holds new) lent set (g.met.K.Keeper.stays_set old new (done.same up) desk) (c.messages-set.ensures (done.loaded up)) lists in
-        let there = lines_alike f set lent (turned f lent set (alike_sets f lent set same)) host ls are in
-        let memory = c.in_err-host_file_in.ensures.few ls there few in
-        rw (p.2, memory) (inr (inl refl)) in
+    let done = c.in_ok-load.ensures in
+    let desk = c.self.invariant.1 (done.was_up up) in
+    let same = same_messages (K.holds old) (K.holds new) lent set (g.met.K.Keeper.stays_set old new (done.same up) desk) (c.messages-set.ensures (done.loaded up)) lists in
+    let there = lines_alike f set lent (turned f lent set (alike_sets f lent set same)) host ls are in
+    let memory = c.in_err-host_file_in.ensures.few ls there few in
+    rw (p.2, memory) (inr (inl refl)) in
     rw (← c.self.view_is, p.1) answer
 
 pub returns-clause-file : goal.returns-clause-file
@@ -39,10 +39,10 @@ returns-clause-file g c =
     let f = c.self.inside.roster.says in
     let text = string_bytes c.in_ok-host_file_in.field-0 in
     let answer : (set : List Message) → K.is_up new → Lists (K.holds old) set → IsHostFile f c.self.inside.base set c.args.host.now text = λ set up lists.
-        let done = c.in_ok-load.ensures in
-        let desk = c.self.invariant.1 (done.was_up up) in
-        let same = same_messages (K.holds old) (K.holds new) lent set (g.met.K.Keeper.stays_set old new (done.same up) desk) (c.messages-set.ensures (done.loaded up)) lists in
-        file_alike f lent set (alike_sets f lent set same) c.self.inside.base c.args.host.now text c.in_ok-host_file_in.ensures.file in
+    let done = c.in_ok-load.ensures in
+    let desk = c.self.invariant.1 (done.was_up up) in
+    let same = same_messages (K.holds old) (K.holds new) lent set (g.met.K.Keeper.stays_set old new (done.same up) desk) (c.messages-set.ensures (done.loaded up)) lists in
+    file_alike f lent set (alike_sets f lent set same) c.self.inside.base c.args.host.now text c.in_ok-host_file_in.ensures.file in
     rw (← c.self.view_is) answer
 
 pub returns-clause-rights : goal.returns-clause-rights
@@ -54,10 +54,10 @@ returns-clause-rights g c =
     let f = c.self.inside.roster.says in
     let text = string_bytes c.in_ok-host_file_in.field-0 in
     let answer : (set : List Message) → K.is_up new → Lists (K.holds old) set → GivesRights f c.self.inside.base set c.args.host.now text = λ set up lists.
-        let done = c.in_ok-load.ensures in
-        let desk = c.self.invariant.1 (done.was_up up) in
-        let same = same_messages (K.holds old) (K.holds new) lent set (g.met.K.Keeper.stays_set old new (done.same up) desk) (c.messages-set.ensures (done.loaded up)) lists in
-        rights_alike f lent set (alike_sets f lent set same) c.self.inside.base c.args.host.now text c.in_ok-host_file_in.ensures.rights in
+    let done = c.in_ok-load.ensures in
+    let desk = c.self.invariant.1 (done.was_up up) in
+    let same = same_messages (K.holds old) (K.holds new) lent set (g.met.K.Keeper.stays_set old new (done.same up) desk) (c.messages-set.ensures (done.loaded up)) lists in
+    rights_alike f lent set (alike_sets f lent set same) c.self.inside.base c.args.host.now text c.in_ok-host_file_in.ensures.rights in
     rw (← c.self.view_is) answer
 
 pub returns-clause-many : goal.returns-clause-many
@@ -69,8 +69,8 @@ returns-clause-many g c =
     let f = c.self.inside.roster.says in
     let host = c.args.host.now in
     let answer : (set : List Message) (ls : List Line) → K.is_up new → Lists (K.holds old) set → AreLines f set host ls → 8_192 < length ls → ⊥ = λ set ls up lists are past.
-        let done = c.in_ok-load.ensures in
-        let desk = c.self.invariant.1 (done.was_up up) in
-        let same = same_messages (K.holds old) (K.holds new) lent set (g.met.K.Keeper.stays_set old new (done.same up) desk) (c.messages-set.ensures (done.loaded up)) lists in
-        c.in_ok-host_file_in.ensures.many ls (lines_alike f set lent (turned f lent set (alike_sets f lent set same)) host ls are) past in
+    let done = c.in_ok-load.ensures in
+    let desk = c.self.invariant.1 (done.was_up up) in
+    let same = same_messages (K.holds old) (K.holds new) lent set (g.met.K.Keeper.stays_set old new (done.same up) desk) (c.messages-set.ensures (done.loaded up)) lists in
+    c.in_ok-host_file_in.ensures.many ls (lines_alike f set lent (turned f lent set (alike_sets f lent set same)) host ls are) past in
     rw (← c.self.view_is) answer
