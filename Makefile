@@ -1,6 +1,6 @@
 # The commands of the repository. `rt` is the toolchain's command.
 
-.PHONY: all desk demo test cases gate-times edits peers bench faults clean
+.PHONY: all desk demo test quick cases gate-times edits peers bench faults clean
 
 all: desk
 
@@ -21,6 +21,10 @@ cases: desk
 # WHOLE=1 nothing may be left out. Its last line is 'N passed, 0 failed'.
 test:
 	WHOLE=$(WHOLE) bash scripts/test.sh
+
+# What can be seen in seconds, without a proof: the layout, that each edit fits its file, and what the documents say of edits.
+quick:
+	python3 scripts/quick.py
 
 # `rt ci` alone, and what it cost each crate: the table of docs/GATE.md.
 gate-times:
