@@ -5,6 +5,9 @@ The policies: 1,601 and 16,001 rules with dates; 8,000 aliases of the four kinds
 them; and one whose weight is just below the limit, by aliases that double. Then times `desk print` on 800 and 8,000 requests, each with an approval, in shuffled order and all for one host, over a roster of 501 people.
 Then rosters of 1 MiB (scripts/big_roster.py): reading one beside Python's `tomllib`, and printing over one from 8,000 messages; what it costs to
 admit a request of 16 commands under a ceiling of 256; and what it costs to say what a request comes to that thousands of people approved.
+Then `desk deliver` of 1,000, 10,000 and 100,000 shuffled messages, with the memory of a message, beside what it costs to read them alone; and a host's file of
+8,000 grants beside what it costs to print that policy alone. No command does one of these two alone: `deliver` over a roster that lists nobody
+reads each message whole and keeps none, and `check` of the file costs beyond `decide` by it what printing costs.
 Prints of each the instructions that it executes (counted by valgrind's callgrind, so that the machine's load does not matter; none where
 valgrind is missing), the best wall time of a few runs and the peak memory, and then the ratios that the desk promises. Where GNU
 time is missing, a peak below that of this script's own process, some 14 MiB, is not seen.
@@ -138,19 +141,19 @@ def roster():
     )
 
 
-def run(words, given=None):
-    """The best wall time in seconds and the peak memory in bytes of a few runs. Where GNU time is there it starts the program for the peak,
-    so that this script's own memory does not count."""
+def run(words, given=None, runs=RUNS, most=1):
+    """The best wall time in seconds and the peak memory in bytes of a few runs, whose exit status is this at most. Where GNU time is there it
+    starts the program for the peak, so that this script's own memory does not count."""
     best, peak = float("inf"), 0
     timer = shutil.which("time")
-    for _ in range(RUNS):
+    for _ in range(runs):
         with open(given or os.devnull, "rb") as source:
             start = time.perf_counter()
             child = subprocess.Popen(words, stdin=source, stdout=subprocess.DEVNULL, stderr=subprocess.DEVNULL)
             _, status, usage = os.wait4(child.pid, 0)
             best = min(best, time.perf_counter() - start)
         # the time of a refused run says nothing
-        if os.waitstatus_to_exitcode(status) > 1:
+        if os.waitstatus_to_exitcode(status) > most:
             sys.exit(f"bench: refused: {' '.join(words)}")
         peak = max(peak, usage.ru_maxrss * 1024)
     if timer:
@@ -262,6 +265,48 @@ def statuses(folder, base):
     return judged("statuses: twice the people", counts[1] / counts[0], 2.5)
 
 
+def deliveries(folder, base):
+    """The rows on deliveries; how many of them do not hold."""
+    wrong, counts = 0, []
+    people = stored(folder, "people.toml", roster())
+    nobody = stored(folder, "nobody.toml", re.sub(r"\[people\].*?(?=\[ceilings)", "[people]\n", roster(), flags=re.DOTALL))
+    for requests in (500, 5_000, 50_000):
+        given = stored(folder, "delivered", messages(requests))
+        figures = []
+        # a message by a person who is not listed is read whole, and denied then
+        for place in (people, nobody):
+            words = [DESK, "deliver", place, base, "-", "web"]
+            figures.append((instructions(words, given), *run(words, given, 5, 2), os.path.getsize(given)))
+        count = 2 * requests
+        for what, figure in zip(("deliver", "read   "), figures):
+            print(f"{what} {count:7,} messages, {shown(figure)}, {figure[2] / count:,.0f} bytes a message")
+        counts.append(figures[0][0] or figures[0][1])
+        wrong += judged(f"deliver: {count:,} messages against reading them alone", counts[-1] / (figures[1][0] or figures[1][1]), 2.0)
+    for small, large in zip(counts, counts[1:]):
+        wrong += judged("deliver: ten times the messages", large / small, 15.0)
+    return wrong
+
+
+def grants(folder, base):
+    """What a host's file of 8,000 grants costs beside printing that policy alone; 1 where that does not hold."""
+    people = stored(folder, "people.toml", roster())
+    given = stored(folder, "granted", messages(8_000))
+    with open(given, "rb") as source:
+        done = subprocess.run([DESK, "print", people, base, "-", "db1"], stdin=source, stdout=subprocess.PIPE, check=True, text=True)
+    file = stored(folder, "host.sudo", done.stdout)
+    costs = [
+        instructions([DESK, "print", people, base, "-", "db1"], given),
+        instructions([DESK, "deliver", people, base, "-", "web"], given),
+        instructions([DESK, "check", file]),
+        instructions([DESK, "decide", file, "nobody", "db1", "root", "20260601120000Z", "/bin/ls"]),
+    ]
+    if None in costs:
+        return 0
+    made, printed = costs[0] - costs[1], costs[2] - costs[3]
+    print(f"host's file of 8,000 grants: {made / 1e6:.1f} million instructions, and to print it alone {printed / 1e6:.1f}")
+    return judged("host's file: 8,000 grants against printing it alone", made / printed, 2.0)
+
+
 def main():
     visudo = shutil.which("visudo") or "/usr/sbin/visudo"
     if not os.path.exists(visudo):
@@ -303,7 +348,7 @@ def main():
             words = [DESK, "print", people, base, "-", "db1"]
             figures["print", requests] = (instructions(words, path), *run(words, path), size)
             print(f"print   {requests:6} requests, {shown(figures['print', requests])}")
-        wrong = rosters(folder)
+        wrong = rosters(folder) + deliveries(folder, base) + grants(folder, base)
     ratio = figures["print", 8_000][1] / figures["print", 800][1]
     wrong += ratio > 15
     print(f"print: ten times the messages: {ratio:.2f}, at most 15: {'holds' if ratio <= 15 else 'FAILS'}")
