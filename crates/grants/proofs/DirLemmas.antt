@@ -6,7 +6,7 @@ use Rattle.std.proofs.lemmas.List.Splits.{slice_split-cons_yes, slice_split-cons
 use Rattle.std.proofs.lemmas.List.Folds.{list_all-append}
 use Rattle.sudo_words.specs.Word.{is_component, are_components, is_absolute}
 
-abbrev is_slash : ℕ → Bool
+abbrev pub is_slash : ℕ → Bool
 is_slash b = b == 47
 
 parts_of : (xs : List ℕ) → (w : List ℕ) × (ws : List (List ℕ)) × (slice_split is_slash xs ≡ w ∷ ws)
@@ -22,7 +22,7 @@ onto_joined x xs more =
     let r = parts_of xs in
     ap (λ (z : List (List ℕ)). onto_first x (z ++ more)) r.2 ∙ sym (ap (λ (z : List (List ℕ)). onto_first x z ++ more) r.2)
 
-split_joined : (xs ys : List ℕ) → slice_split is_slash (xs ++ 47 ∷ ys) ≡ slice_split is_slash xs ++ slice_split is_slash ys
+pub split_joined : (xs ys : List ℕ) → slice_split is_slash (xs ++ 47 ∷ ys) ≡ slice_split is_slash xs ++ slice_split is_slash ys
 split_joined [] ys = slice_split-cons_yes is_slash 47 ys refl
 split_joined (x ∷ xs) ys =
     elim (cases_Bool (is_slash x)) as (λ _. slice_split is_slash ((x ∷ xs) ++ 47 ∷ ys) ≡ slice_split is_slash (x ∷ xs) ++ slice_split is_slash ys) [

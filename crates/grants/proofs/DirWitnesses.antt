@@ -15,10 +15,10 @@ use Rattle.grants.specs.Reach.{Reaches, ReachesBeyond}
 use Rattle.grants.specs.private.Forms.{is_inside}
 use Rattle.grants.proofs.DirLemmas.{absolute_joined}
 
-same_bytes : (f g : List ℕ) → bytes_eq f g ≡ true → f ≡ g
+pub same_bytes : (f g : List ℕ) → bytes_eq f g ≡ true → f ≡ g
 same_bytes f g h = (bytes_eq-Decides f g).0 h
 
-split_dir : (d : List ℕ) → is_dir_path d ≡ true → (x : List ℕ) × (d ≡ x ++ 47 ∷ []) × (is_absolute x ≡ true)
+pub split_dir : (d : List ℕ) → is_dir_path d ≡ true → (x : List ℕ) × (d ≡ x ++ 47 ∷ []) × (is_absolute x ≡ true)
 split_dir d h = let parts = dir_parts d h in (take (length d - 1) d, slash_end d parts.0, parts.1)
 
 drop_front : (d w : List ℕ) → drop (length d) (d ++ w) ≡ w
@@ -32,7 +32,7 @@ file_in d w hd comps one =
     (ap is_absolute at ∙ absolute_joined s.0 w s.2 comps)
     (le-leb (length (d ++ w)) 4096 (omega (arith, length-append d w, one, hd.head.1)))
 
-within : (d w : List ℕ) → is_component w ≡ true → is_directly_in d (d ++ w) ≡ true
+pub within : (d w : List ℕ) → is_component w ≡ true → is_directly_in d (d ++ w) ≡ true
 within d w h =
     and_from (bytes_eq (take (length d) (d ++ w)) d) _ ((bytes_eq-Decides (take (length d) (d ++ w)) d).1 (take-append_seam d w))
     (ap is_component (drop_front d w) ∙ h)
@@ -77,7 +77,7 @@ tail_same a b xs ys e = cc
 head_same : (a b : ℕ) (xs ys : List ℕ) → a ∷ xs ≡ b ∷ ys → a ≡ b
 head_same a b xs ys e = cc
 
-last_slash : (x y v w : List ℕ) → x ++ 47 ∷ v ≡ y ++ 47 ∷ w → list_all is_path_byte v ≡ true → list_all is_path_byte w ≡ true → x ≡ y
+pub last_slash : (x y v w : List ℕ) → x ++ 47 ∷ v ≡ y ++ 47 ∷ w → list_all is_path_byte v ≡ true → list_all is_path_byte w ≡ true → x ≡ y
 last_slash [] [] v w e hv hw = refl
 last_slash [] (b ∷ ys) v w e hv hw =
     absurd (no_slash_in ys w (subst (λ (z : List ℕ). list_all is_path_byte z ≡ true) (tail_same 47 b v (ys ++ 47 ∷ w) e) hv))
@@ -88,7 +88,7 @@ last_slash (a ∷ xs) (b ∷ ys) v w e hv hw =
     let rest : xs ≡ ys = last_slash xs ys v w (tail_same a b (xs ++ 47 ∷ v) (ys ++ 47 ∷ w) e) hv hw in
     cc
 
-bytes_of : (w : List ℕ) → is_component w ≡ true → list_all is_path_byte w ≡ true
+pub bytes_of : (w : List ℕ) → is_component w ≡ true → list_all is_path_byte w ≡ true
 bytes_of w h = grind (arith, and_parts)
 
 one_dir : (d e : List ℕ) → is_dir_path d ≡ true → is_dir_path e ≡ true → is_directly_in e (d ++ 97 ∷ []) ≡ true → d ≡ e

@@ -24,3 +24,4 @@ pub mod WorkedTeam
 pub mod WindowLaws
 pub mod LawfulRules
 pub mod RuleLemmas
+pub mod LookUps

@@ -1,8 +1,9 @@
 //! Admission: what the roster lets a message ask for.
 
-ghost use Rattle.std.specs.Prelude.{◌≡◌, ◌↔◌, ◌+◌, ◌<◌, ◌⊎◌, IsOk, IsTrue, MatchResult, All};
+ghost use Rattle.std.specs.Prelude.{◌≡◌, false, ◌↔◌, ◌+◌, ◌<◌, ◌⊎◌, IsOk, IsTrue, MatchResult, All};
 ghost use Rattle.std.specs.List.{list_all, list_any};
 ghost use Rattle.sudo_words.specs.Command.{IsLawful};
+ghost use Rattle.sudo_words.specs.declared.cmnd.Cmnd.TheVariants as cmnds;
 ghost use Rattle.messages.specs.declared.message.Message.TheVariants as message_of;
 ghost use Rattle.roster.specs.Rules.{is_among};
 ghost use Rattle.grants.specs.Admission.{Admits, AdmitsRequest, AdmitsVerdict, IsDenial, MayAskUnder};
@@ -10,10 +11,10 @@ ghost use Rattle.grants.specs.private.Forms as forms;
 ghost use Rattle.grants.specs.declared.denial.Denial.{Denial as AnyDenial};
 
 use crate::denial::Denial;
-use crate::within::form_inside;
+use crate::within::dir_of;
 use messages::{Message, Request, Verdict};
 use roster::{Ceiling, Roster};
-use sudo_words::Cmnd;
+use sudo_words::{ArgRule, Cmnd, FilePath};
 
 /// The ceiling that the request names, where who asks is listed and may ask under it.
 fn ceiling_for<'r>(roster: &'r Roster, request: &Request) -> Result<&'r Ceiling, Denial>
@@ -50,11 +51,45 @@ fn target_inside(request: &Request, ceiling: &Ceiling) -> bool
     ceiling.runas().contains(request.runas())
 }
 
-/// Whether the command lies inside one of these.
-fn lies_inside_one(cmnd: &Cmnd, commands: &[Cmnd]) -> bool
-    ensures { result ≡ list_any (forms.is_inside cmnd.now) commands.now }
+fn is_all(cmnd: &Cmnd) -> bool
+    ensures { result ≡ forms.is_all cmnd.now }
 {
-    commands.iter().any(|c| form_inside(cmnd, c))
+    match cmnd {
+        Cmnd::All => true,
+        _ => false,
+    }
+}
+
+/// Whether `ALL` is one of the ceiling's commands.
+fn holds_all(ceiling: &Ceiling) -> bool
+    ensures value { result ≡ list_any forms.is_all ceiling.now.commands }
+    ensures lawful { All IsLawful ceiling.now.commands }
+{
+    ceiling.commands().iter().any(|c| is_all(c))
+}
+
+/// Whether the file with the rule lies inside one of the ceiling's commands: its directory, or the file itself with any
+/// arguments or with the same.
+fn holds_file(file: &FilePath, rule: &ArgRule, ceiling: &Ceiling) -> bool
+    requires lawful { All IsLawful ceiling.now.commands }
+    requires no_all { list_any forms.is_all ceiling.now.commands ≡ false }
+    ensures { result ≡ list_any (forms.is_inside (cmnds.Path file.now rule.now)) ceiling.now.commands }
+{
+    let dir = dir_of(file.as_str().as_bytes());
+    ceiling.has_dir(dir) || ceiling.has_file(file, &ArgRule::Any) || ceiling.has_file(file, rule)
+}
+
+/// Whether the command lies inside one of the ceiling's. Each that it can lie inside is looked up.
+fn lies_inside_one(cmnd: &Cmnd, ceiling: &Ceiling) -> bool
+    requires lawful { All IsLawful ceiling.now.commands }
+    requires no_all { list_any forms.is_all ceiling.now.commands ≡ false }
+    ensures { result ≡ list_any (forms.is_inside cmnd.now) ceiling.now.commands }
+{
+    match cmnd {
+        Cmnd::All => false,
+        Cmnd::Dir(dir) => ceiling.has_dir(dir.as_str().as_bytes()),
+        Cmnd::Path(file, rule) => holds_file(file, rule, ceiling),
+    }
 }
 
 /// Whether each command lies inside one of the ceiling's.
@@ -63,11 +98,11 @@ fn commands_inside(request: &Request, ceiling: &Ceiling) -> bool
     ensures lawful { All IsLawful request.now.cmnds }
     ensures lawful_ceiling { All IsLawful ceiling.now.commands }
 {
-    let commands = ceiling.commands();
-    request
-        .cmnds()
-        .iter()
-        .all(|cmnd| lies_inside_one(cmnd, commands))
+    let cmnds = request.cmnds();
+    if holds_all(ceiling) {
+        return true;
+    }
+    cmnds.iter().all(|cmnd| lies_inside_one(cmnd, ceiling))
 }
 
 /// Whether the window is longer than the ceiling's longest.

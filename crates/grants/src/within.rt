@@ -47,6 +47,20 @@ pub(crate) fn form_inside(inner: &Cmnd, outer: &Cmnd) -> bool
     }
 }
 
+/// The path up to its last slash, which it keeps.
+pub(crate) fn dir_of(path: &[u8]) -> &[u8]
+    ensures { forms.IsDirOf path.now result.now }
+{
+    let mut end = path.len();
+    'name: while 0 < end {
+        if path[end - 1] == b'/' {
+            return &path[..end];
+        }
+        end -= 1;
+    }
+    &path[..0]
+}
+
 /// Whether all that the one command reaches is reached by the other. It takes no memory.
 #[tactic(auto, using(crate::proofs::Inclusion::exact, crate::proofs::Inclusion::beyond))]
 pub fn is_inside(inner: &Cmnd, outer: &Cmnd) -> bool

@@ -7,4 +7,5 @@ pub mod Order
 pub mod Rising
 pub mod Listed
 pub mod PairLemmas
+pub mod CommandLemmas
 pub mod Ranges

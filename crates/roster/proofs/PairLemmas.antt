@@ -23,12 +23,12 @@ pair_total = then_total (on_total (λ (p : Pair). p.0) nat_list_cmp_total) (on_t
 climbs : (ps : List Pair) → AreInOrder ps → (p : Pair) → IsNonDecreasingBy (λ q. ordering_index (pair_order q p)) ps
 climbs ps rising p = searchable_from_sorted pair_total (λ q. q) ps p rising
 
-less : (r : Ordering) → ordering_index r ≤ 0 → r ≡ Less
+pub less : (r : Ordering) → ordering_index r ≤ 0 → r ≡ Less
 less Less l = refl
 less Equal l = absurd (omega arith)
 less Greater l = absurd (omega arith)
 
-greater : (r : Ordering) → 2 ≤ ordering_index r → r ≡ Greater
+pub greater : (r : Ordering) → 2 ≤ ordering_index r → r ≡ Greater
 greater Less l = absurd (omega arith)
 greater Equal l = absurd (omega arith)
 greater Greater l = refl

@@ -3,5 +3,6 @@ pub mod Document
 pub mod Rules
 pub mod Faults
 pub mod Relations
+pub mod Commands
 pub mod Worked
 pub mod Stages

@@ -1,10 +1,13 @@
 //! Ceilings.
 
 ghost use Rattle.std.specs.Prelude.{◌≡◌, All};
+ghost use Rattle.std.specs.List.{list_any};
 ghost use Rattle.sudo_words.specs.Command.{IsLawful};
+ghost use Rattle.roster.specs.Commands as commands;
 
+use crate::commands::{has, place_of_dir, place_of_file};
 use std::marker::Model;
-use sudo_words::{Cmnd, HostName, Items, Label, Name};
+use sudo_words::{ArgRule, Cmnd, FilePath, HostName, Items, Label, Name};
 
 /// The most that a grant under it gives, who may ask for it, and who approves (NIST SP 800-53 AC-6).
 #[derive(Debug, Drop)]
@@ -16,19 +19,23 @@ pub struct Ceiling {
     pub(crate) runas: Items<Name>,
     pub(crate) commands: Items<Cmnd>,
     pub(crate) longest: u64,
+    /// The commands once more, in the order in which they are looked up.
+    pub(crate) ordered: Items<Cmnd>,
 }
 
 impl Model for Ceiling {
     ghost use Rattle.std.specs.Prelude.{All};
     ghost use Rattle.sudo_words.specs.Command.{IsLawful};
     ghost use Rattle.sudo_words.specs.declared.cmnd.Cmnd.{Cmnd};
+    ghost use Rattle.roster.specs.Commands.{cmnd_order};
     ghost use Rattle.roster.specs.Fields.{CeilingFields};
+    ghost use Rattle.roster.specs.Relations.{IsInOrder};
 
     ghost Value = { CeilingFields Cmnd };
 
     ghost view = { λ d. record { ask = d.ask; approve = d.approve; needs = d.needs; hosts = d.hosts; runas = d.runas; commands = d.commands; longest = d.longest } };
 
-    ghost invariant = { λ d. All IsLawful d.commands };
+    ghost invariant = { λ d. All IsLawful d.commands × IsInOrder cmnd_order d.commands d.ordered };
 }
 
 impl Ceiling {
@@ -73,6 +80,20 @@ impl Ceiling {
         ensures lawful { All IsLawful result.now }
     {
         self.commands.as_slice()
+    }
+
+    /// Whether a directory of this path is one of the commands. It takes no memory.
+    pub fn has_dir(&self, path: &[u8]) -> bool
+        ensures { result ≡ list_any (commands.is_dir path.now) self.now.commands }
+    {
+        has(self.ordered.as_slice(), &place_of_dir(path))
+    }
+
+    /// Whether the file is one of the commands, with this rule for its arguments. It takes no memory.
+    pub fn has_file(&self, file: &FilePath, rule: &ArgRule) -> bool
+        ensures { result ≡ list_any (commands.is_file file.now rule.now) self.now.commands }
+    {
+        has(self.ordered.as_slice(), &place_of_file(file, rule))
     }
 
     /// The longest window of a grant in seconds: 1 to 2,592,000 in each ceiling of a roster.

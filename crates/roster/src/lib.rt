@@ -2,6 +2,7 @@
 #![tactic(auto)]
 
 mod ceiling;
+mod commands;
 mod draft;
 mod fault;
 mod keys;

@@ -10,6 +10,7 @@ ghost use Rattle.roster.specs.Stages.{Checks, Meets};
 ghost use Rattle.roster.specs.declared.fault.RosterFault.TheVariants.{BadName};
 
 use crate::ceiling::Ceiling;
+use crate::commands::in_order;
 use crate::draft::{Draft, DraftCeiling};
 use crate::fault::RosterFault;
 use crate::said::Said;
@@ -109,6 +110,7 @@ fn ceiling(alloc: Global, draft: &(Text, DraftCeiling)) -> Result<(Label, Ceilin
     let hosts = words(alloc, draft.1.hosts.as_slice())?;
     let runas = words(alloc, draft.1.runas.as_slice())?;
     let commands = commands(alloc, draft.1.commands.as_slice())?;
+    let ordered = in_order(&commands)?;
     Ok((
         label,
         Ceiling {
@@ -119,6 +121,7 @@ fn ceiling(alloc: Global, draft: &(Text, DraftCeiling)) -> Result<(Label, Ceilin
             runas,
             commands,
             longest: draft.1.longest,
+            ordered,
         },
     ))
 }
