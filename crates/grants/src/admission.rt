@@ -76,7 +76,13 @@ fn holds_file(file: &FilePath, rule: &ArgRule, ceiling: &Ceiling) -> bool
     ensures { result ≡ list_any (forms.is_inside (cmnds.Path file.now rule.now)) ceiling.now.commands }
 {
     let dir = dir_of(file.as_str().as_bytes());
-    ceiling.has_dir(dir) || ceiling.has_file(file, &ArgRule::Any) || ceiling.has_file(file, rule)
+    if ceiling.has_dir(dir) {
+        return true;
+    }
+    if ceiling.has_file(file, &ArgRule::Any) {
+        return true;
+    }
+    ceiling.has_file(file, rule)
 }
 
 /// Whether the command lies inside one of the ceiling's. Each that it can lie inside is looked up.
