@@ -119,15 +119,21 @@ def approval(no, by, at="20260105083000Z", asker="ann"):
 
 
 def alike(kind, count):
-    """So many commands that are long and differ late: in their paths, or in their arguments."""
+    """So many commands that are long and differ late, in their paths or in the 15th of 16 arguments; or one directory again and again, and
+    last another far below it."""
     if kind == "paths":
         return [f"/usr/bin/{'a' * 242}{n:03}" for n in range(count)]
-    return [f"/bin/ls {' '.join(['a' * 60] * 14)} {'b' * 57}{n:03} c" for n in range(count)]
+    if kind == "arguments":
+        return [f"/bin/ls {' '.join(['a' * 60] * 14)} {'b' * 57}{n:03} c" for n in range(count)]
+    above = f"/{'a' * 120}/{'b' * 118}/"
+    return [above] * (count - 1) + [f"{above}c/c/"]
 
 
 def wanted(kind):
-    """16 commands that lie inside a ceiling of 256, whose last ones these are."""
-    return alike(kind, 256)[-16:] if kind == "paths" else [f"/bin/ls {' '.join(['a' * 60] * 14)} {'b' * 57}{n:03} c" for n in range(240, 256)]
+    """16 commands that lie inside the last ones of a ceiling of 256."""
+    if kind == "directories":
+        return [f"{alike(kind, 1)[0]}t{n:02}" for n in range(16)]
+    return alike(kind, 256)[-16:]
 
 
 def roster():
@@ -233,11 +239,11 @@ def rosters(folder):
 
 
 def admission(folder, base):
-    """What one request costs with a ceiling of 256 commands, beyond what it costs with a ceiling that has those of the request alone."""
+    """What one request costs with a ceiling of 256 commands, beyond what it costs with a ceiling of `ALL` alone."""
     wrong = 0
-    for kind in ("paths", "args"):
+    for kind in ("paths", "arguments", "directories"):
         costs = []
-        for commands in (alike(kind, 256), wanted(kind)):
+        for commands in (alike(kind, 256), ["ALL"]):
             words = [DESK, "deliver", stored(folder, "ceiling.toml", rules_roster(1, commands)), base, "-", "web"]
             counts = []
             for requests in (1, 101):
@@ -246,8 +252,7 @@ def admission(folder, base):
             if None in counts:
                 return 0
             costs.append((counts[1] - counts[0]) / 100)
-        # under the small ceiling 16 by 16 commands are compared at most
-        wrong += judged(f"admit: 16 commands against 256, {kind} alike, instructions", (costs[0] - costs[1]) * 256 / 240, 500_000)
+        wrong += judged(f"admit: 16 commands against 256, {kind} alike, instructions", costs[0] - costs[1], 500_000)
     return wrong
 
 
