@@ -7,7 +7,8 @@ Then rosters of 1 MiB (scripts/big_roster.py): reading one beside Python's `toml
 admit a request of 16 commands under a ceiling of 256; and what it costs to say what a request comes to that thousands of people approved.
 Then `desk deliver` of 1,000, 10,000 and 100,000 shuffled messages, with the memory of a message, beside what it costs to read them alone; and a host's file of
 8,000 grants beside what it costs to print that policy alone. No command does one of these two alone: `deliver` over a roster that lists nobody
-reads each message whole and keeps none, and `check` of the file costs beyond `decide` by it what printing costs.
+reads each message whole and keeps none (both also split the input into lines), and `check` of the file costs beyond `decide` by it what printing
+costs, but for the decision.
 Prints of each the instructions that it executes (counted by valgrind's callgrind, so that the machine's load does not matter; none where
 valgrind is missing), the best wall time of a few runs and the peak memory, and then the ratios that the desk promises. Where GNU
 time is missing, a peak below that of this script's own process, some 14 MiB, is not seen.
