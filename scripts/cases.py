@@ -21,13 +21,14 @@ DESK = os.path.join(ROOT, "build", "desk")
 
 
 class Run(NamedTuple):
-    """The texts of the files BASE and ROSTER, the program's words, its input, and the names of the files that take the place of its streams."""
+    """The texts of the files BASE, ROSTER and OTHER, the program's words, its input, and the names of the files that take the place of its streams."""
 
     base: bytes
     words: list
     given: bytes = b""
     streams: dict = {}
     roster: bytes = b""
+    other: bytes = b""
 
 
 def some(text):
@@ -52,8 +53,8 @@ def chained(count):
 
 
 def counted(text, count):
-    """The text so many times, with 0, 1, .. in the place of its `{}`."""
-    return "".join(text.replace("{}", str(n)) for n in range(count))
+    """The text so many times, with 0, 1, .. in the place of its `{}`, or 000, 001, .. in that of its `{:03}`."""
+    return "".join(text.replace("{}", str(n)).replace("{:03}", f"{n:03}") for n in range(count))
 
 
 def text_of(value):
@@ -122,6 +123,24 @@ def decided(table):
     for policy in table["policy"]:
         for line, decision in policy["runs"]:
             yield f"{policy['name']}: {line}", *decide(text_of(policy["text"]), line, decision)
+
+
+def compared_answer(answer):
+    """What is wanted of a run that compares: nothing found, a refusal, or a case, whose user is in small letters."""
+    if answer == "none":
+        return answer + "\n", "", 0
+    if answer[0].isupper():
+        return "", answer + "\n", 2
+    return answer + "\n", "", 1
+
+
+def beyond(table):
+    for row in table["compared"]:
+        a, b = (text_of(row.get(name, "")).encode() for name in "ab")
+        for key, first, second in (("runs", a, b), ("back", b, a)):
+            for options, answer in row.get(key, []):
+                run = Run(first, ["beyond", "BASE", "OTHER", *words_of(options)], other=second)
+                yield f"{row['name']}, {key}: {options}", run, compared_answer(answer)
 
 
 def moments(table):
@@ -438,9 +457,9 @@ def long_request(table, size):
 
 
 def answer(folder, run):
-    """What the program prints, and its status. BASE and ROSTER are the names of files that have these, NONE that of no file, FOLDER that of a folder."""
-    paths = {"BASE": os.path.join(folder, "base.sudo"), "ROSTER": os.path.join(folder, "roster.toml")}
-    for name, text in (("BASE", run.base), ("ROSTER", run.roster)):
+    """What the program prints, and its status. BASE, ROSTER and OTHER are the names of files that have these, NONE that of no file, FOLDER that of a folder."""
+    paths = {"BASE": os.path.join(folder, "base.sudo"), "ROSTER": os.path.join(folder, "roster.toml"), "OTHER": os.path.join(folder, "other.sudo")}
+    for name, text in (("BASE", run.base), ("ROSTER", run.roster), ("OTHER", run.other)):
         with open(paths[name], "wb") as file:
             file.write(text)
     names = paths | {"NONE": os.path.join(folder, "none.sudo"), "FOLDER": folder}
@@ -466,7 +485,7 @@ def short(value):
 
 
 def main():
-    kinds = [admission, checked, commands, decided, delivered, desk, limits, many, messages, moments, printed, refused, rosters, words]
+    kinds = [admission, beyond, checked, commands, decided, delivered, desk, limits, many, messages, moments, printed, refused, rosters, words]
     count = wrong = 0
     with tempfile.TemporaryDirectory() as folder:
         for kind in kinds:

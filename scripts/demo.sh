@@ -22,6 +22,9 @@ ask decide examples/team.sudo olga web1 root 20260105093000Z /usr/bin/systemctl 
 ask decide examples/team.sudo olga db1 root 20260105093000Z /usr/bin/systemctl restart postgresql
 ask decide examples/team.sudo omar db1 root 20260105093000Z /usr/bin/systemctl restart postgresql
 ask check examples/left_out.sudo
+ask beyond examples/base.sudo examples/site.sudo
+ask beyond examples/base.sudo examples/site.sudo --user backup
+ask beyond examples/site.sudo examples/base.sudo
 
 # A grant's life: approved before it is asked for, asked for, refused too late, and revoked; the host's file at each step, and what it decides.
 with_messages() {

@@ -13,7 +13,7 @@ import tempfile
 
 ROOT = os.path.dirname(os.path.dirname(os.path.abspath(__file__)))
 DESK = os.path.join(ROOT, "build", "desk")
-REFUSAL = re.compile(r"(NoMemory|O8 NoMemory|S11 NoMemory line \d+|K5 NoMemory)\n\Z")
+REFUSAL = re.compile(r"(NoMemory|B2 NoMemory|O8 NoMemory|S11 NoMemory line \d+|K5 NoMemory)\n\Z")
 
 POLICY = """# two visits
 ann db1 = NOTBEFORE=2026010509Z NOTAFTER=202601051100Z /bin/ls
@@ -56,6 +56,8 @@ def commands(folder):
         (["print", roster, base, "-", "db1"], MESSAGES),
         (["deliver", roster, base, "-", "chat"], MESSAGES),
         (["check", base], b""),
+        (["beyond", base, os.path.join(ROOT, "examples", "team.sudo")], b""),
+        (["beyond", base, base, "--user", "ann", "--host", "db1"], b""),
         (["check", os.path.join(ROOT, "examples", "team.sudo")], b""),
         (["check", os.path.join(ROOT, "examples", "peers", "layout.sudo")], b""),
         (["decide", base, "ann", "db1", "root", "20260105093000Z", "/bin/ls", "--", "-l", "x"], b""),

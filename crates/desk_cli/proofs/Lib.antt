@@ -1,5 +1,6 @@
 pub mod Rows
 pub mod Stamps
+pub mod Options
 pub mod Commands
 pub mod Args
 pub mod Runs
@@ -11,3 +12,5 @@ pub mod AnswerLines
 pub mod BroughtLemmas
 pub mod PrintLemmas
 pub mod AnswerLemmas
+pub mod CompareLemmas
+pub mod CaseLines

@@ -77,6 +77,7 @@ making_ends roster_file base_file host input reasons.BadWord ends = ends
 making_ends roster_file base_file host input reasons.NoMemory ends = ends
 making_ends roster_file base_file host input (reasons.Roster fault) ends = ends
 making_ends roster_file base_file host input (reasons.Policy fault) ends = ends
+making_ends roster_file base_file host input (reasons.Beyond fault) ends = absurd ends
 making_ends roster_file base_file host input (reasons.Desk desk.UnknownRelay) ends = ends
 making_ends roster_file base_file host input (reasons.Desk desk.UnknownHost) ends = absurd ends
 making_ends roster_file base_file host input (reasons.Desk desk.TooLong) ends = ends
@@ -98,6 +99,7 @@ taking_ends roster_file base_file host input reasons.BadWord ends = absurd ends
 taking_ends roster_file base_file host input reasons.NoMemory ends = tt
 taking_ends roster_file base_file host input (reasons.Roster fault) ends = absurd ends
 taking_ends roster_file base_file host input (reasons.Policy fault) ends = absurd ends
+taking_ends roster_file base_file host input (reasons.Beyond fault) ends = absurd ends
 taking_ends roster_file base_file host input (reasons.Desk refusal) ends = elim ends [
   | inl memory ↦ subst (λ (r : Refusal). EndsPrinting roster_file base_file host input (reasons.Desk r)) (sym memory) tt
   | inr storage ↦ subst (λ (r : Refusal). EndsPrinting roster_file base_file host input (reasons.Desk r)) (sym storage) tt

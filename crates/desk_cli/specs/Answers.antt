@@ -7,20 +7,22 @@ use Rattle.sudo_decide.specs.Decision.{Decides, decision_text}
 use Rattle.sudo_decide.specs.declared.invocation.Invocation.{Invocation}
 use Rattle.sudo_decide.specs.declared.decision.Decision.{Decision}
 use Rattle.sudo_decide.specs.declared.decision.Decision.TheVariants.{Deny, Allow, AllowNoPassword}
+use Rattle.desk_cli.specs.Comparing.{ComparesFiles, EndsComparing}
 use Rattle.desk_cli.specs.Delivering.{DeliversLines, EndsDelivering}
 use Rattle.desk_cli.specs.Files.{IsFaultOf}
 use Rattle.desk_cli.specs.Printing.{EndsPrinting, PrintsHost}
 use Rattle.desk_cli.specs.declared.refusal.Refusal.{Refusal as Reason}
-use Rattle.desk_cli.specs.declared.refusal.Refusal.TheVariants.{BadWord, Desk, FileFailed, NoMemory, Policy, Roster}
+use Rattle.desk_cli.specs.declared.refusal.Refusal.TheVariants.{BadWord, Beyond as Compared, Desk, FileFailed, NoMemory, Policy, Roster}
 use Rattle.desk_cli.specs.declared.status.Status.{Status}
-use Rattle.desk_cli.specs.declared.status.Status.TheVariants.{Denied, Done, LinesRefused, Refused}
+use Rattle.desk_cli.specs.declared.status.Status.TheVariants.{Denied, Done, Found, LinesRefused, Refused}
 use Rattle.desk_cli.specs.declared.task.Job.{Job}
-use Rattle.desk_cli.specs.declared.task.Job.TheVariants.{Check, Decide, Deliver, Print}
+use Rattle.desk_cli.specs.declared.task.Job.TheVariants.{Beyond, Check, Decide, Deliver, Print}
 
 -- the program's exit status
 abbrev pub exit_status : Status → ℕ
 exit_status Done = 0
 exit_status Denied = 1
+exit_status Found = 1
 exit_status LinesRefused = 2
 exit_status Refused = 2
 
@@ -48,6 +50,7 @@ DecidesByFile file invocation status text =
 abbrev pub IsAnswer : Job → List (List ℕ) → Option (List ℕ) → Status → List ℕ → List ℕ → Type 0
 IsAnswer (Check name) (file ∷ more) input status text said = ChecksFile file status text × (said ≡ [])
 IsAnswer (Decide name invocation) (file ∷ more) input status text said = DecidesByFile file invocation status text × (said ≡ [])
+IsAnswer (Beyond a_name b_name scope) (a ∷ b ∷ more) input status text said = ComparesFiles scope a b status text × (said ≡ [])
 IsAnswer (Deliver places relay) (roster ∷ base ∷ more) input status text said = DeliversLines roster base relay input status text × (said ≡ [])
 IsAnswer (Print places host) (roster ∷ base ∷ more) input status text said = PrintsHost roster base host input status text said
 IsAnswer job files input status text said = ⊥
@@ -65,12 +68,14 @@ EndsReading file BadWord = ⊥
 EndsReading file NoMemory = Unit {0}
 EndsReading file (Roster fault) = ⊥
 EndsReading file (Policy fault) = IsFaultOf file fault
+EndsReading file (Compared fault) = ⊥
 EndsReading file (Desk refusal) = ⊥
 
 -- The job over these files and this input may be refused for this, before its answer is written. Without its files it is.
 abbrev pub IsCause : Job → List (List ℕ) → Option (List ℕ) → Reason → Type 0
 IsCause (Check name) (file ∷ more) input reason = EndsReading file reason
 IsCause (Decide name invocation) (file ∷ more) input reason = EndsReading file reason
+IsCause (Beyond a_name b_name scope) (a ∷ b ∷ more) input reason = EndsComparing scope a b reason
 IsCause (Deliver places relay) (roster ∷ base ∷ more) input reason = EndsDelivering roster base reason
 IsCause (Print places host) (roster ∷ base ∷ more) input reason = EndsPrinting roster base host input reason
 IsCause job files input reason = reason ≡ FileFailed

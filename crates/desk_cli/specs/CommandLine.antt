@@ -6,9 +6,10 @@ use Rattle.clap.specs.declared.builder.ArgAction.TheVariants.{Set, Append}
 use Rattle.sudo_words.specs.Moment.{IsStamp}
 use Rattle.sudo_words.specs.Word.{is_arg, is_file_path, is_host_name, is_name}
 use Rattle.sudo_decide.specs.declared.invocation.Invocation.{Invocation}
+use Rattle.review.specs.declared.scope.Scope.{Scope}
 use Rattle.desk_cli.specs.declared.task.Places.{Places}
 use Rattle.desk_cli.specs.declared.task.Job.{Job}
-use Rattle.desk_cli.specs.declared.task.Job.TheVariants.{Check, Decide, Deliver, Print}
+use Rattle.desk_cli.specs.declared.task.Job.TheVariants.{Beyond, Check, Decide, Deliver, Print}
 
 -- ---- the program's commands
 
@@ -19,6 +20,10 @@ wanted id = record (new_rule id) { action = Some Set; required = true }
 -- an argument that has any number of values
 abbrev pub several : Text → Rule
 several id = record (new_rule id) { action = Some Append }
+
+-- an option with one value, which may be left out: `--long VALUE`
+abbrev pub optional : (id long : Text) → Rule
+optional id long = record (new_rule id) { long = Some long; action = Some Set }
 
 -- the command with these arguments as well, each wanted
 abbrev pub with_wanted : App → List Text → App
@@ -31,6 +36,9 @@ check_args = codes "FILE" ∷ []
 
 abbrev pub decide_args : List Text
 decide_args = codes "FILE" ∷ codes "USER" ∷ codes "HOST" ∷ codes "RUNAS" ∷ codes "AT" ∷ codes "PATH" ∷ []
+
+abbrev pub beyond_args : List Text
+beyond_args = codes "A" ∷ codes "B" ∷ []
 
 abbrev pub deliver_args : List Text
 deliver_args = codes "ROSTER" ∷ codes "BASE" ∷ codes "STORE" ∷ codes "RELAY" ∷ []
@@ -46,6 +54,15 @@ check = with_wanted (new_app (codes "check")) check_args
 abbrev pub decide : App
 decide = with_rule (with_wanted (new_app (codes "decide")) decide_args) (several (codes "ARGS"))
 
+-- `beyond A B [--user USER] [--host HOST] [--runas RUNAS]`
+abbrev pub beyond : App
+beyond =
+    with_rule
+    (with_rule
+    (with_rule (with_wanted (new_app (codes "beyond")) beyond_args) (optional (codes "USER") (codes "user")))
+    (optional (codes "HOST") (codes "host")))
+    (optional (codes "RUNAS") (codes "runas"))
+
 -- `deliver ROSTER BASE STORE RELAY`
 abbrev pub deliver : App
 deliver = with_wanted (new_app (codes "deliver")) deliver_args
@@ -59,9 +76,9 @@ abbrev pub with_subcommands : App → List App → App
 with_subcommands command [] = command
 with_subcommands command (sub ∷ more) = with_subcommands (with_subcommand command sub.top) more
 
--- the commands on one policy
+-- the commands on policies
 abbrev pub on_policies : List App
-on_policies = check ∷ decide ∷ []
+on_policies = check ∷ decide ∷ beyond ∷ []
 
 -- the commands on a desk
 abbrev pub on_desks : List App
@@ -106,6 +123,17 @@ pub record IsInvocation (rows : List Row) (run : Invocation) : Type 0 where
   pub path : HasWord is_file_path (codes "PATH") rows run.path
   pub args : HasWords is_arg 64 (codes "ARGS") rows run.args
 
+-- the option has this value, which is of the form, or it is left out
+abbrev pub HasOption : (Text → Bool) → Text → List Row → Option Text → Type 0
+HasOption form id rows None = first_of id rows ≡ None
+HasOption form id rows (Some text) = HasWord form id rows text
+
+-- the scope that the options of `beyond` say: what is left out is not fixed
+pub record IsScopeOf (rows : List Row) (scope : Scope) : Type 0 where
+  pub user : HasOption is_name (codes "USER") rows scope.user
+  pub host : HasOption is_host_name (codes "HOST") rows scope.host
+  pub runas : HasOption is_name (codes "RUNAS") rows scope.runas
+
 -- the places that the values say: the paths of the roster and of the base, and no store
 pub record ArePlaces (rows : List Row) (places : Places) : Type 0 where
   pub roster : HasValue (codes "ROSTER") rows places.roster
@@ -120,6 +148,8 @@ Says None job = ⊥
 Says (Some line) (Check file) = (line.0 ≡ codes "check") × HasValue (codes "FILE") line.1 file
 Says (Some line) (Decide file run) =
     (line.0 ≡ codes "decide") × HasValue (codes "FILE") line.1 file × IsInvocation line.1 run
+Says (Some line) (Beyond a b scope) =
+    (line.0 ≡ codes "beyond") × HasValue (codes "A") line.1 a × HasValue (codes "B") line.1 b × IsScopeOf line.1 scope
 Says (Some line) (Deliver places relay) = (line.0 ≡ codes "deliver") × ArePlaces line.1 places × HasValue (codes "RELAY") line.1 relay
 Says (Some line) (Print places host) = (line.0 ≡ codes "print") × ArePlaces line.1 places × HasWord is_host_name (codes "HOST") line.1 host
 
@@ -155,6 +185,12 @@ pub data HasBadValue (rows : List Row) : Type 0 where
   bad_path : HasBadWord is_file_path (codes "PATH") rows → HasBadValue rows
   bad_args : HasBadWords is_arg 64 (codes "ARGS") rows → HasBadValue rows
 
+-- one of the options of `beyond` has a value that is not of its form
+pub data HasBadScope (rows : List Row) : Type 0 where
+  bad_user : HasBadWord is_name (codes "USER") rows → HasBadScope rows
+  bad_host : HasBadWord is_host_name (codes "HOST") rows → HasBadScope rows
+  bad_runas : HasBadWord is_name (codes "RUNAS") rows → HasBadScope rows
+
 -- the argument has a value other than `-`
 pub record HasOther (id : Text) (rows : List Row) : Type 0 where
   pub text : Text
@@ -171,6 +207,7 @@ abbrev pub SaysBadly : Option (Text × List Row) → Type 0
 SaysBadly None = ⊥
 SaysBadly (Some line) =
     ((line.0 ≡ codes "decide") × HasBadValue line.1)
+    ⊎ ((line.0 ≡ codes "beyond") × HasBadScope line.1)
     ⊎ ((line.0 ≡ codes "deliver") × HasOther (codes "STORE") line.1)
     ⊎ ((line.0 ≡ codes "print") × HasBadPlace line.1)
 
@@ -196,5 +233,6 @@ IsComplete None = ⊥
 IsComplete (Some line) =
     ((line.0 ≡ codes "check") × HaveSome check_args line.1)
     ⊎ ((line.0 ≡ codes "decide") × HaveSome decide_args line.1)
+    ⊎ ((line.0 ≡ codes "beyond") × HaveSome beyond_args line.1)
     ⊎ ((line.0 ≡ codes "deliver") × HaveSome deliver_args line.1)
     ⊎ ((line.0 ≡ codes "print") × HaveSome print_args line.1)

@@ -60,4 +60,5 @@ EndsMaking roster_file base_file reasons.BadWord = ⊥
 EndsMaking roster_file base_file reasons.NoMemory = Unit {0}
 EndsMaking roster_file base_file (reasons.Roster fault) = IsRosterFault roster_file fault
 EndsMaking roster_file base_file (reasons.Policy fault) = HoldsRoster roster_file × IsFaultOf base_file fault
+EndsMaking roster_file base_file (reasons.Beyond fault) = ⊥
 EndsMaking roster_file base_file (reasons.Desk refusal) = EndsOpening roster_file base_file refusal

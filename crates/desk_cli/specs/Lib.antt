@@ -5,4 +5,5 @@ pub mod Files
 pub mod Lines
 pub mod Delivering
 pub mod Printing
+pub mod Comparing
 pub mod Answers

@@ -69,6 +69,7 @@ EndsTaking reasons.BadWord = ⊥
 EndsTaking reasons.NoMemory = Unit {0}
 EndsTaking (reasons.Roster fault) = ⊥
 EndsTaking (reasons.Policy fault) = ⊥
+EndsTaking (reasons.Beyond fault) = ⊥
 EndsTaking (reasons.Desk refusal) = IsWant refusal
 
 -- the files make a desk, and after its base would stand more than 8,192 lines

@@ -30,6 +30,16 @@ fn several<'a>(alloc: Global, id: &'a str, help: &'a str) -> Arg<'a>
     Arg::new(alloc, id).action(ArgAction::Append).help(help)
 }
 
+fn optional<'a>(alloc: Global, id: &'a str, long: &'a str, help: &'a str) -> Arg<'a>
+    ensures rule { rule_of result ≡ line.optional id.entry.now long.entry.now }
+    ensures global { result.global ≡ false }
+{
+    Arg::new(alloc, id)
+        .long(long)
+        .action(ArgAction::Set)
+        .help(help)
+}
+
 /// Adds arguments that have one value each and may not be left out, by their names and helps.
 fn with_wanted<'a>(
     alloc: Global,
@@ -76,6 +86,26 @@ fn decide<'a>(alloc: Global) -> Result<Command<'a>, AllocError>
     with_wanted(alloc, command, &wanted)?.arg(args)
 }
 
+fn beyond<'a>(alloc: Global) -> Result<Command<'a>, AllocError>
+    ensures app { IfOk result (λ c. app_of c ≡ line.beyond) }
+    ensures globals { IfOk result (λ c. (fields_of c).has_globals ≡ false) }
+{
+    let command = Command::new(alloc, "beyond").about(
+        "Find what one policy allows and another refuses",
+    );
+    let wanted = [
+        ("A", "The policy that may allow more"),
+        ("B", "The policy that it is compared with"),
+    ];
+    let user = optional(alloc, "USER", "user", "Look at this user alone");
+    let host = optional(alloc, "HOST", "host", "Look at this host alone");
+    let runas = optional(alloc, "RUNAS", "runas", "Look at this target alone");
+    with_wanted(alloc, command, &wanted)?
+        .arg(user)?
+        .arg(host)?
+        .arg(runas)
+}
+
 fn deliver<'a>(alloc: Global) -> Result<Command<'a>, AllocError>
     ensures app { IfOk result (λ c. app_of c ≡ line.deliver) }
     ensures globals { IfOk result (λ c. (fields_of c).has_globals ≡ false) }
@@ -108,7 +138,7 @@ fn print<'a>(alloc: Global) -> Result<Command<'a>, AllocError>
     with_wanted(alloc, command, &wanted)
 }
 
-/// Adds the commands on one policy.
+/// Adds the commands on policies.
 fn with_policies<'a>(alloc: Global, command: Command<'a>) -> Result<Command<'a>, AllocError>
     requires { (fields_of command).has_globals ≡ false }
     ensures app { IfOk result (λ c. app_of c ≡ line.with_subcommands (app_of command.entry) line.on_policies) }
@@ -116,7 +146,8 @@ fn with_policies<'a>(alloc: Global, command: Command<'a>) -> Result<Command<'a>,
 {
     command
         .subcommand(check(alloc)?)?
-        .subcommand(decide(alloc)?)
+        .subcommand(decide(alloc)?)?
+        .subcommand(beyond(alloc)?)
 }
 
 /// Adds the commands on a desk.

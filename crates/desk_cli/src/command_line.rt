@@ -3,8 +3,9 @@
 ghost use Rattle.std.specs.Prelude.{◌≡◌, ◌≢◌, IfOk, IfErr, MatchResult, Some, [], ◌∷◌, codes, map, string_bytes};
 ghost use Rattle.clap.specs.Words.{fault_of, found_of, rows_of, subcommand_rows_of};
 ghost use Rattle.sudo_decide.specs.declared.invocation.Invocation.{Invocation as Run};
+ghost use Rattle.review.specs.declared.scope.Scope.{Scope as Fixed};
 ghost use Rattle.desk_cli.specs.CommandLine as line;
-ghost use Rattle.desk_cli.specs.CommandLine.{ArePlaces, HasBadValue, HasOther, HaveSome, IsBadLine, IsCommandLine, IsComplete, IsInvocation, Says, SaysBadly, desk};
+ghost use Rattle.desk_cli.specs.CommandLine.{ArePlaces, HasBadScope, HasBadValue, HasOther, HaveSome, IsBadLine, IsCommandLine, IsComplete, IsInvocation, IsScopeOf, Says, SaysBadly, desk};
 ghost use Rattle.desk_cli.specs.Faults.{IsUsage};
 ghost use Rattle.desk_cli.specs.declared.fault.JobFault.TheVariants.{BadWord, NoMemory};
 ghost use Rattle.desk_cli.specs.declared.task.Job.{Job as Task};
@@ -13,8 +14,9 @@ ghost use Rattle.desk_cli.specs.declared.task.Places.{Places as Parts};
 use crate::command::parsed;
 use crate::fault::JobFault;
 use crate::task::{Job, Places};
-use crate::values::{args, dash, moment, text, word};
+use crate::values::{args, dash, moment, text, word, word_if_given};
 use clap::ArgMatches;
+use review::Scope;
 use std::alloc::{AllocError, Global};
 use sudo_decide::Invocation;
 
@@ -61,6 +63,32 @@ fn decide(alloc: Global, matches: &ArgMatches<'_>) -> Result<Job, JobFault>
     let file = text(alloc, matches, "FILE")?;
     let invocation = invocation(alloc, matches)?;
     Ok(Job::Decide { file, invocation })
+}
+
+/// What the options of `beyond` fix.
+fn scope_of(alloc: Global, matches: &ArgMatches<'_>) -> Result<Scope, JobFault>
+    ensures found { IfOk result (IsScopeOf (rows_of (found_of matches.now))) }
+    ensures only { (s : Fixed) → IsScopeOf (rows_of (found_of matches.now)) s → MatchResult result (λ r. r ≡ s) (λ e. e ≡ NoMemory) }
+    ensures word { IfErr result (λ e. e ≡ BadWord → HasBadScope (rows_of (found_of matches.now))) }
+    ensures usage { IfErr result (λ e. IsUsage e → ⊥) }
+{
+    let user = word_if_given(alloc, matches, "USER")?;
+    let host = word_if_given(alloc, matches, "HOST")?;
+    let runas = word_if_given(alloc, matches, "RUNAS")?;
+    Ok(Scope { user, host, runas })
+}
+
+fn beyond(alloc: Global, matches: &ArgMatches<'_>) -> Result<Job, JobFault>
+    requires { HaveSome line.beyond_args (rows_of (found_of matches.now)) }
+    ensures found { IfOk result (λ j. Says (Some (codes "beyond", rows_of (found_of matches.now))) j) }
+    ensures only { (j : Task) → Says (Some (codes "beyond", rows_of (found_of matches.now))) j → MatchResult result (λ k. k ≡ j) (λ e. e ≡ NoMemory) }
+    ensures word { IfErr result (λ e. e ≡ BadWord → SaysBadly (Some (codes "beyond", rows_of (found_of matches.now)))) }
+    ensures usage { IfErr result (λ e. IsUsage e → ⊥) }
+{
+    let a = text(alloc, matches, "A")?;
+    let b = text(alloc, matches, "B")?;
+    let scope = scope_of(alloc, matches)?;
+    Ok(Job::Beyond { a, b, scope })
 }
 
 /// The values of `ROSTER`, `BASE` and `STORE`.
@@ -112,6 +140,8 @@ fn by_name(alloc: Global, name: &str, matches: &ArgMatches<'_>) -> Result<Job, J
         Ok(check(alloc, matches)?)
     } else if name == "decide" {
         decide(alloc, matches)
+    } else if name == "beyond" {
+        beyond(alloc, matches)
     } else if name == "deliver" {
         deliver(alloc, matches)
     } else {

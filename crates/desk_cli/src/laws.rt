@@ -1,6 +1,6 @@
 //! What the rules say of command lines that are written out, each the contract of a function that does nothing.
 
-ghost use Rattle.std.specs.Prelude.{◌≡◌, List, [], ◌∷◌, codes};
+ghost use Rattle.std.specs.Prelude.{◌≡◌, List, [], ◌∷◌, None, Some, codes};
 ghost use Rattle.clap.specs.Words.{Text as Word, fault_of, subcommand_of};
 ghost use Rattle.desk_cli.specs.CommandLine.{IsCommandLine, IsComplete, desk};
 ghost use Rattle.desk_cli.specs.declared.task.Job.TheVariants as jobs;
@@ -37,6 +37,13 @@ pub fn decides_with_flag()
           args = codes "-l" ∷ codes "x" ∷ [];
           at = 1_767_605_400;
         })) }
+{}
+
+/// `desk beyond new.sudo old.sudo --host db1`
+pub fn compares()
+    ensures { IsCommandLine
+        (codes "desk" ∷ codes "beyond" ∷ codes "new.sudo" ∷ codes "old.sudo" ∷ codes "--host" ∷ codes "db1" ∷ [])
+        (jobs.Beyond (codes "new.sudo") (codes "old.sudo") (record { user = None; host = Some (codes "db1"); runas = None })) }
 {}
 
 /// `desk deliver roster.toml base.sudo - web`

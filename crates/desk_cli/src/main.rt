@@ -4,6 +4,8 @@
 mod answer;
 mod command;
 mod command_line;
+mod compare_laws;
+mod comparing;
 mod delivering;
 mod fault;
 mod laws;
@@ -52,6 +54,10 @@ fn files(rt: &HostRuntime, job: &Job) -> Result<Vec<Vec<u8>>, Refusal> {
     match job {
         Job::Check { file: path } | Job::Decide { file: path, .. } => {
             files.push(file(rt, path)?)?;
+        }
+        Job::Beyond { a, b, .. } => {
+            files.push(file(rt, a)?)?;
+            files.push(file(rt, b)?)?;
         }
         Job::Deliver { places, .. } | Job::Print { places, .. } => {
             files.push(file(rt, &places.roster)?)?;

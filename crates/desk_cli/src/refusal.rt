@@ -2,6 +2,7 @@
 
 ghost use Rattle.std.specs.Prelude.{◌≡◌};
 
+use review::BeyondFault;
 use roster::RosterFault;
 use std::alloc::{AllocError, AllocFailed};
 use std::fmt;
@@ -9,8 +10,8 @@ use sudo_syntax::{NoMemory, ReadFault};
 
 /// Why the program refuses what it is told to do.
 ///
-/// It is printed as its code and name, as `F1 FileFailed`; a roster's fault and the desk's as their own, as `O1 NotToml` and
-/// `K6 BaseTooLarge`, and a policy's with its line, as `S5 UnknownAlias line 3`.
+/// It is printed as its code and name, as `F1 FileFailed`; a roster's fault, a comparison's and the desk's as their own, as
+/// `O1 NotToml`, `B1 TooManyCases` and `K6 BaseTooLarge`, and a policy's with its line, as `S5 UnknownAlias line 3`.
 #[derive(Clone, Copy, Debug, PartialEq, Eq)]
 pub enum Refusal {
     /// A file could not be read, or an answer not be written.
@@ -23,6 +24,8 @@ pub enum Refusal {
     Roster(RosterFault),
     /// A file's text is no policy.
     Policy(ReadFault),
+    /// Two policies were not compared.
+    Beyond(BeyondFault),
     /// The desk refuses.
     Desk(desk::Refusal),
 }
@@ -40,6 +43,7 @@ impl fmt::Display for Refusal {
             Refusal::NoMemory => f.write_str("NoMemory"),
             Refusal::Roster(fault) => write!(f, "{fault}"),
             Refusal::Policy(fault) => write!(f, "{fault}"),
+            Refusal::Beyond(fault) => write!(f, "{fault}"),
             Refusal::Desk(refusal) => write!(f, "{refusal}"),
         }
     }
@@ -62,6 +66,16 @@ impl From<ReadFault> for Refusal {
 
     fn from(e: ReadFault) -> Refusal {
         Refusal::Policy(e)
+    }
+}
+
+impl From<BeyondFault> for Refusal {
+    ghost use Rattle.desk_cli.specs.declared.refusal.Refusal.TheVariants.{Beyond};
+
+    ghost from_gives = { λ f e. e ≡ Beyond f };
+
+    fn from(e: BeyondFault) -> Refusal {
+        Refusal::Beyond(e)
     }
 }
 

@@ -8,11 +8,13 @@ ghost use Rattle.desk_cli.specs.declared.task.Job.TheVariants as jobs;
 ghost use Rattle.desk_cli.specs.declared.task.Places.{Places as Parts};
 
 use crate::answer::Answer;
+use crate::comparing::compare_files;
 use crate::delivering::deliver_lines;
 use crate::printing::print_host;
 use crate::refusal::Refusal;
 use crate::status::Status;
 use crate::task::Job;
+use review::Scope;
 use std::alloc::{AllocError, Global};
 use std::io::{BufWriter, Read, Write};
 use sudo_decide::{Decision, Invocation, decide};
@@ -83,6 +85,17 @@ fn decide_by_first(
     }
 }
 
+fn compared(alloc: Global, files: &[Vec<u8>], scope: &Scope) -> Result<Answer, Refusal>
+    ensures cause { (a b : List ℕ) → (input : Option (List ℕ)) → IfErr result (IsCause (jobs.Beyond a b scope.now) (map (λ f. f.items) files.now) input) }
+    ensures found { (a b : List ℕ) → (input : Option (List ℕ)) → IfOk result (λ r.
+        IsAnswer (jobs.Beyond a b scope.now) (map (λ f. f.items) files.now) input r.status (string_bytes r.text) []) }
+{
+    match files {
+        [a, b, ..] => compare_files(alloc, a.as_slice(), b.as_slice(), scope),
+        _ => Err(Refusal::FileFailed),
+    }
+}
+
 fn delivered<R: Read>(
     alloc: Global,
     files: &[Vec<u8>],
@@ -142,6 +155,7 @@ fn answered<R: Read, E: Write>(
     match job {
         Job::Check { .. } => check_first(alloc, files),
         Job::Decide { invocation, .. } => decide_by_first(alloc, files, invocation),
+        Job::Beyond { scope, .. } => compared(alloc, files, scope),
         Job::Deliver { relay, .. } => delivered(alloc, files, relay.as_str(), input),
         Job::Print { host, .. } => printed(alloc, files, host, input, err),
     }

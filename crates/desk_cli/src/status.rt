@@ -10,6 +10,8 @@ pub enum Status {
     Done,
     /// It is done: the command is denied.
     Denied,
+    /// It is done, and what was asked for is found.
+    Found,
     /// It is done: lines of the input are refused, and the answer says why.
     LinesRefused,
     /// It is refused, and the standard error says why.
@@ -23,6 +25,7 @@ pub fn code(status: Status) -> u8
     match status {
         Status::Done => 0,
         Status::Denied => 1,
+        Status::Found => 1,
         Status::LinesRefused => 2,
         Status::Refused => 2,
     }

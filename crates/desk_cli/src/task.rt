@@ -1,6 +1,7 @@
 //! What the program is told to do.
 
 use crate::text::Text;
+use review::Scope;
 use sudo_decide::Invocation;
 use sudo_words::HostName;
 
@@ -27,6 +28,15 @@ pub enum Job {
         file: Text,
         /// The run.
         invocation: Invocation,
+    },
+    /// Find what one file's policy allows beyond another's.
+    Beyond {
+        /// The path of the file whose policy may allow more.
+        a: Text,
+        /// The path of the file whose policy it is compared with.
+        b: Text,
+        /// What is fixed of the invocations that are looked at.
+        scope: Scope,
     },
     /// Deliver the lines of the input to a desk, and print the answer to each.
     Deliver {

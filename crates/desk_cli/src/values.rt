@@ -1,11 +1,11 @@
 //! The values of a command's arguments.
 
-ghost use Rattle.std.specs.Prelude.{◌≡◌, ◌⊎◌, ◌<◌, ◌≤◌, ℕ, List, IfOk, IfErr, IfSome, IsOk, MatchResult, OnOk, None, Some, codes, map, length, true, false};
+ghost use Rattle.std.specs.Prelude.{◌≡◌, ◌⊎◌, ◌<◌, ◌≤◌, ℕ, List, IfOk, IfErr, IfSome, IsOk, MatchResult, OnOk, Option, None, Some, codes, map, length, true, false};
 ghost use Rattle.std.specs.List.{list_all};
 ghost use Rattle.clap.specs.Words.{found_of, rows_of};
 ghost use Rattle.sudo_words.specs.Moment.{IsStamp};
 ghost use Rattle.sudo_words.specs.Word.{is_arg};
-ghost use Rattle.desk_cli.specs.CommandLine.{HasBadMoment, HasBadWord, HasBadWords, HasMoment, HasOther, HasSome, HasValue, HasWord, HasWords, values};
+ghost use Rattle.desk_cli.specs.CommandLine.{HasBadMoment, HasBadWord, HasBadWords, HasMoment, HasOption, HasOther, HasSome, HasValue, HasWord, HasWords, values};
 ghost use Rattle.desk_cli.specs.Faults.{IsUsage};
 ghost use Rattle.desk_cli.specs.declared.fault.JobFault.TheVariants.{BadWord, NoMemory};
 
@@ -50,6 +50,23 @@ pub fn word<F: Form>(alloc: Global, matches: &ArgMatches<'_>, id: &str) -> Resul
     ensures usage { IfErr result (λ e. IsUsage e → ⊥) }
 {
     Ok(Word::read(alloc, value(matches, id))?)
+}
+
+/// The value of an option, a word of the form, or none where it is left out.
+pub fn word_if_given<F: Form>(
+    alloc: Global,
+    matches: &ArgMatches<'_>,
+    id: &str,
+) -> Result<Option<Word<F>>, JobFault>
+    ensures found { IfOk result (HasOption F.has id.now (rows_of (found_of matches.now))) }
+    ensures only { (w : Option (List ℕ)) → HasOption F.has id.now (rows_of (found_of matches.now)) w → MatchResult result (λ r. r ≡ w) (λ e. e ≡ NoMemory) }
+    ensures word { IfErr result (λ e. e ≡ BadWord → HasBadWord F.has id.now (rows_of (found_of matches.now))) }
+    ensures usage { IfErr result (λ e. IsUsage e → ⊥) }
+{
+    match matches.get_str(id) {
+        Some(text) => Ok(Some(Word::read(alloc, text)?)),
+        None => Ok(None),
+    }
 }
 
 /// Tests that the value of an argument that has one is `-`.

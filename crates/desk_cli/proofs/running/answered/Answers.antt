@@ -18,6 +18,12 @@ returns-in-Decide-clause-found g c =
     let answers : Job → Answer → List ℕ → Type 0 = λ j a said. IsAnswer j (map (λ f. f.items) c.args.files.now) input a.status (string_bytes a.text) said in
     quietly c.decide_by_first.result c.args.job.now _ answers (g.E.Write.contents c.args.err.now) c.in-Decide.is (c.decide_by_first.ensures.found c.in-Decide.file input)
 
+pub returns-in-Beyond-clause-found : goal.returns-in-Beyond-clause-found
+returns-in-Beyond-clause-found g c =
+    let input = g.R.Read.remaining c.args.input.now in
+    let answers : Job → Answer → List ℕ → Type 0 = λ j a said. IsAnswer j (map (λ f. f.items) c.args.files.now) input a.status (string_bytes a.text) said in
+    quietly c.compared.result c.args.job.now _ answers (g.E.Write.contents c.args.err.now) c.in-Beyond.is (c.compared.ensures.found c.in-Beyond.a c.in-Beyond.b input)
+
 pub returns-in-Deliver-clause-found : goal.returns-in-Deliver-clause-found
 returns-in-Deliver-clause-found g c =
     let input = g.R.Read.remaining c.args.input.now in
