@@ -39,7 +39,7 @@ peers: desk
 	python3 scripts/peers.py
 
 # Time and memory: `check` and `decide` beside visudo (Debian's package sudo) on up to 16,001 rules, on 8,000 aliases with 8,000 rules, and on
-# the greatest weight; `print` on 800 and 8,000 requests.
+# the greatest weight; `print` on 800 and 8,000 requests; `beyond` on 1,000,000 cases.
 bench: desk
 	python3 scripts/bench.py
 

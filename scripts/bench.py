@@ -9,6 +9,7 @@ Then `desk deliver` of 1,000, 10,000 and 100,000 shuffled messages, with the mem
 8,000 grants beside what it costs to print that policy alone. No command does one of these two alone: `deliver` over a roster that lists nobody
 reads each message whole and keeps none (both also split the input into lines), and `check` of the file costs beyond `decide` by it what printing
 costs, but for the decision.
+Then `desk beyond` on two policies with 1,000,000 cases, all of which are tried.
 Prints of each the instructions that it executes (counted by valgrind's callgrind, so that the machine's load does not matter; none where
 valgrind is missing), the best wall time of a few runs and the peak memory, and then the ratios that the desk promises. Where GNU
 time is missing, a peak below that of this script's own process, some 14 MiB, is not seen.
@@ -313,6 +314,23 @@ def grants(folder, base):
     return judged("host's file: 8,000 grants against printing it alone", made / printed, 2.0)
 
 
+def comparing(folder):
+    """What it costs to try all of 1,000,000 cases of two policies of two rules; how many rows do not hold."""
+    names = {letter: ", ".join(f"{letter}{n}" for n in range(count)) for letter, count in (("u", 24), ("h", 19), ("r", 19))}
+    directories = ", ".join(f"/d{n}/" for n in range(19))
+
+    def text(start, end):
+        # with one other name each 25 users, 20 hosts and 20 targets, 20 paths, and 5 moments at which a window begins or has ended
+        window = f"NOTBEFORE=20260105{start:02}Z NOTAFTER=20260105{end:02}Z"
+        return f"Cmnd_Alias C = {directories}\n{names['u']} {names['h']} = ({names['r']}) {window} C\nu0 h0 = (r0) {window} C\n"
+
+    new, old = text(10, 11), text(9, 12)
+    words = [DESK, "beyond", stored(folder, "new.sudo", new), stored(folder, "old.sudo", old)]
+    figure = (instructions(words), *run(words), len(new) + len(old))
+    print(f"beyond, 1,000,000 cases, {shown(figure)}")
+    return judged("beyond: 1,000,000 cases, million instructions", figure[0] / 1e6, 2_000) if figure[0] else 0
+
+
 def main():
     visudo = shutil.which("visudo") or "/usr/sbin/visudo"
     if not os.path.exists(visudo):
@@ -354,7 +372,7 @@ def main():
             words = [DESK, "print", people, base, "-", "db1"]
             figures["print", requests] = (instructions(words, path), *run(words, path), size)
             print(f"print   {requests:6} requests, {shown(figures['print', requests])}")
-        wrong = rosters(folder) + deliveries(folder, base) + grants(folder, base)
+        wrong = rosters(folder) + deliveries(folder, base) + grants(folder, base) + comparing(folder)
     ratio = figures["print", 8_000][1] / figures["print", 800][1]
     wrong += ratio > 15
     print(f"print: ten times the messages: {ratio:.2f}, at most 15: {'holds' if ratio <= 15 else 'FAILS'}")
