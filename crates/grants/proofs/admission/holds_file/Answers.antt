@@ -1,7 +1,7 @@
-use Rattle.std.proofs.Common.{◌≡◌, ◌||◌, ◌∙◌, List, ℕ, ap, ap₂, sym, subst}
+use Rattle.std.proofs.Common.{◌||◌, ◌∙◌, List, ℕ, ap, ap₂, sym, subst}
 use Rattle.std.specs.List.{list_any}
 use Rattle.sudo_words.specs.declared.cmnd.ArgRule.TheVariants.{Any}
-use Rattle.roster.specs.Commands.{is_dir, is_file}
+use Rattle.roster.specs.Commands.{is_file}
 use Rattle.grants.specs.private.Forms.{IsDirOf}
 use Rattle.grants.proofs.LookUps.{file_inside_one}
 use Rattle.grants.proofs.admission.holds_file.Goals as goal
