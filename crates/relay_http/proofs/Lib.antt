@@ -6,3 +6,5 @@ pub mod LawLemmas
 pub mod WorkedLemmas
 pub mod ReadingLemmas
 pub mod SentLemmas
+pub mod AnswerLemmas
+pub mod ReplyLemmas

@@ -5,8 +5,11 @@ pub mod Fields
 pub mod Content
 pub mod Wanted
 pub mod Reply
+pub mod Replies
+pub mod Exchange
 pub mod Counting
 pub mod Sent
 pub mod Seen
 pub mod Settled
+pub mod Prepared
 pub mod Worked

@@ -2,8 +2,13 @@
 
 ghost use Rattle.std.specs.Prelude.{◌≡◌, ◌≤◌, ◌++◌, ℕ, List, [], codes, false, length, take, true};
 ghost use Rattle.httparse.specs.Grammar.{ReadsRequest, RequestHead};
-ghost use Rattle.relay_http.specs.Asked.{Request, deliver, refused};
+ghost use Rattle.sudo_words.specs.declared.cmnd.Cmnd.{Cmnd as AnyCmnd};
+ghost use Rattle.sudo_syntax.specs.declared.entry.Entry.{Entry};
+ghost use Rattle.messages.specs.declared.message.Message.{Message};
+ghost use Rattle.roster.specs.Fields.{RosterFields};
+ghost use Rattle.relay_http.specs.Asked.{Asked, Request, deliver, refused};
 ghost use Rattle.relay_http.specs.Fields.{Fields};
+ghost use Rattle.relay_http.specs.Replies.{Reply, IsReply};
 ghost use Rattle.relay_http.specs.Reply.{written};
 ghost use Rattle.relay_http.specs.Wanted.{Asks, AsksByHead, asked_by, front};
 ghost use Rattle.relay_http.specs.declared.fault.RequestFault.TheVariants.{ShortBody};
@@ -44,4 +49,10 @@ pub fn only_post_delivers()
 /// What is asked is decided by the first 24,576 bytes, which is a longest head and a longest content.
 pub fn first_bytes_decide()
     ensures { (bytes more : List ℕ) (request : Request ℕ) → 24576 ≤ length bytes → Asks bytes request → Asks (bytes ++ more) request }
+{}
+
+/// What is asked of a roster, a base and a set of messages has at most one right reply: so requests that ask for the same get the same.
+pub fn one_reply()
+    ensures { (f : RosterFields AnyCmnd) (base : List Entry) (set : List Message) (asked : Asked ℕ) (a b : Reply)
+        → IsReply f base set asked a → IsReply f base set asked b → a ≡ b }
 {}

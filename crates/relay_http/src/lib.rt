@@ -3,7 +3,10 @@
 //! A request is read in pieces, and a reply written without memory.
 #![tactic(auto)]
 
+mod answer;
+mod answering;
 mod asked;
+mod bodies;
 mod content;
 mod counted;
 mod fault;
@@ -15,6 +18,7 @@ mod moment;
 mod page;
 mod place;
 mod reading;
+mod refusal_line;
 mod reply;
 mod request;
 mod routes;
@@ -28,7 +32,8 @@ pub use asked::{Ask, Wanted};
 pub use counted::Counted;
 pub use fault::RequestFault;
 pub use laws::{
-    first_bytes_decide, head_is_get, one_head, one_request, only_post_delivers, rest_ignored,
+    first_bytes_decide, head_is_get, one_head, one_reply, one_request, only_post_delivers,
+    rest_ignored,
 };
 pub use place::Methods;
 pub use reply::{refused, written};

@@ -1,0 +1,104 @@
+-- The desk's answers as replies.
+use Rattle.std.proofs.Common.{◌≡◌, ◌⊎◌, ◌<◌, ◌≤◌, ◌&&◌, ◌==◌, ◌∙◌, ℕ, Bool, true, false, List, [], ◌∷◌, length, nat_le, Result, Ok, Err, String, sym, ap, subst, refl, inl, inr}
+use Rattle.std.proofs.lemmas.Bool.{cases_Bool, leb-true, leb-false}
+use Rattle.std.specs.Prelude.{◌↔◌, ◌≢◌, IfOk, IfErr, MatchResult, string_bytes}
+use Rattle.std.specs.declared.alloc.Global.{Global}
+use Rattle.sudo_words.specs.Word.{is_host_name}
+use Rattle.sudo_words.specs.declared.cmnd.Cmnd.{Cmnd}
+use Rattle.sudo_syntax.specs.declared.entry.Entry.{Entry}
+use Rattle.messages.specs.declared.message.Message.{Message}
+use Rattle.roster.specs.Fields.{RosterFields}
+use Rattle.roster.specs.Rules.{is_among}
+use Rattle.grants.specs.declared.denial.Denial.{Denial}
+use Rattle.grants.specs.declared.denial.Denial.TheVariants as denials
+use Rattle.desk.specs.HostFile.{Line, AreLines, IsHostFile}
+use Rattle.desk.specs.Refusals.{IsWant}
+use Rattle.desk.specs.declared.refusal.Refusal.{Refusal}
+use Rattle.desk.specs.declared.refusal.Refusal.TheVariants.{UnknownRelay, UnknownHost, TooLong, NotCanonical, BadField, Denied, TooManyRules, RosterChanged, NotADesk, Storage, NoMemory, BaseTooLarge}
+use Rattle.relay_http.specs.Prepared.{to_question}
+use Rattle.relay_http.specs.declared.status.Status.TheVariants as status
+use Rattle.relay_http.specs.Replies.{IsFileReply, IsWanting, Reply, done, is_known_host, refusal}
+
+-- the two wants of a refusal, as replies
+wanting : (e : Refusal) → IsWant e → IsWanting (refusal e)
+wanting e (inl memory) = inl (ap refusal memory)
+wanting e (inr storage) = inr (ap refusal storage)
+
+-- ---- of all replies one says that the storage failed
+
+abbrev says_storage : List ℕ → Bool
+says_storage [] = false
+says_storage (a ∷ []) = false
+says_storage (a ∷ b ∷ more) = (a == 75) && (b == 52)
+
+other : (e : Refusal) → says_storage (refusal e).body ≡ false → refusal e ≡ refusal Storage → e ≡ Storage
+other e differs same =
+    let wrong : false ≡ true = sym differs ∙ ap (λ (r : Reply). says_storage r.body) same in
+    absurd cc
+
+pub is_storage : (e : Refusal) → refusal e ≡ refusal Storage → e ≡ Storage
+is_storage UnknownRelay same = other UnknownRelay refl same
+is_storage UnknownHost same = other UnknownHost refl same
+is_storage TooLong same = other TooLong refl same
+is_storage NotCanonical same = other NotCanonical refl same
+is_storage BadField same = other BadField refl same
+is_storage TooManyRules same = other TooManyRules refl same
+is_storage RosterChanged same = other RosterChanged refl same
+is_storage NotADesk same = other NotADesk refl same
+is_storage NoMemory same = other NoMemory refl same
+is_storage BaseTooLarge same = other BaseTooLarge refl same
+is_storage (Denied denials.UnknownPerson) same = other (Denied denials.UnknownPerson) refl same
+is_storage (Denied denials.UnknownCeiling) same = other (Denied denials.UnknownCeiling) refl same
+is_storage (Denied denials.NotAsker) same = other (Denied denials.NotAsker) refl same
+is_storage (Denied denials.HostOutside) same = other (Denied denials.HostOutside) refl same
+is_storage (Denied denials.RunasOutside) same = other (Denied denials.RunasOutside) refl same
+is_storage (Denied denials.CommandOutside) same = other (Denied denials.CommandOutside) refl same
+is_storage (Denied denials.WindowTooLong) same = other (Denied denials.WindowTooLong) refl same
+is_storage (Denied denials.WindowBackwards) same = other (Denied denials.WindowBackwards) refl same
+is_storage Storage same = refl
+
+-- no file is that reply
+pub file_cause : (r : Result (String Global) Refusal) → to_question r ≡ refusal Storage → r ≡ Err Storage
+file_cause (Ok s) same =
+    let wrong : status.Done ≡ status.ServiceUnavailable = ap (λ (r : Reply). r.status) same in
+    absurd cc
+file_cause (Err e) same = ap (λ (x : Refusal). Err x) (is_storage e same)
+
+-- ---- a host's file
+
+known_is : (f : RosterFields Cmnd) (host : List ℕ) → is_host_name host ≡ true → is_known_host f host ≡ is_among f.hosts host
+known_is f host name = ap (λ (b : Bool). b && is_among f.hosts host) name
+
+abbrev Unknown : RosterFields Cmnd → (host : List ℕ) → Result (String Global) Refusal → Type 0
+Unknown f host r = (r ≡ Err UnknownHost) ↔ (is_among f.hosts host ≡ false)
+
+among : (f : RosterFields Cmnd) (host : List ℕ) (r : Result (String Global) Refusal) → (r ≢ Err UnknownHost) → Unknown f host r → is_among f.hosts host ≡ true
+among f host r differs unknown =
+    elim (cases_Bool (is_among f.hosts host)) as (λ _. is_among f.hosts host ≡ true) [ inl there ↦ there | inr lacking ↦ absurd (differs (unknown.1 lacking)) ]
+
+pub file_right : (f : RosterFields Cmnd) (base : List Entry) (set : List Message) (host : List ℕ) (r : Result (String Global) Refusal)
+    → is_host_name host ≡ true
+    → IfOk r (λ s. IsHostFile f base set host (string_bytes s))
+    → ((ls : List Line) → AreLines f set host ls → length ls ≤ 8_192 → IfErr r (λ e. (e ≡ UnknownHost) ⊎ IsWant e))
+    → ((ls : List Line) → AreLines f set host ls → 8_192 < length ls → MatchResult r (λ _. ⊥) (λ e. (e ≡ UnknownHost) ⊎ (e ≡ TooManyRules) ⊎ IsWant e))
+    → Unknown f host r
+    → IfErr r (λ e. (e ≡ UnknownHost) ⊎ (e ≡ TooManyRules) ⊎ IsWant e)
+    → IsFileReply f base set host (to_question r) ⊎ IsWanting (to_question r)
+file_right f base set host (Ok s) name file few many unknown err =
+    let there = among f host (Ok s) (λ e. cc) unknown in
+    let short : length file.lines ≤ 8_192 = elim (cases_Bool (nat_le (length file.lines) 8_192)) as (λ _. length file.lines ≤ 8_192) [
+      | inl le ↦ leb-true (length file.lines) 8_192 le
+      | inr gt ↦ absurd (many file.lines file.lines_are (leb-false (length file.lines) 8_192 gt))
+    ] in
+    inl (inr (inl (known_is f host name ∙ there, (file.lines, file.lines_are, short, ap done file.text_is))))
+file_right f base set host (Err e) name file few many unknown (inl none) =
+    inl (inl (known_is f host name ∙ unknown.0 (ap (λ (x : Refusal). Err x) none), ap refusal none))
+file_right f base set host (Err e) name file few many unknown (inr (inl past)) =
+    let there = among f host (Err e) (λ same. let wrong : e ≡ UnknownHost = cc in absurd cc) unknown in
+    let long : (ls : List Line) → AreLines f set host ls → 8_192 < length ls = λ ls are.
+    elim (cases_Bool (nat_le (length ls) 8_192)) as (λ _. 8_192 < length ls) [
+      | inl le ↦ elim (few ls are (leb-true (length ls) 8_192 le)) as (λ _. 8_192 < length ls) [ inl x ↦ absurd cc | inr (inl x) ↦ absurd cc | inr (inr x) ↦ absurd cc ]
+      | inr gt ↦ leb-false (length ls) 8_192 gt
+    ] in
+    inl (inr (inr (known_is f host name ∙ there, long, ap refusal past)))
+file_right f base set host (Err e) name file few many unknown (inr (inr want)) = inr (wanting e want)

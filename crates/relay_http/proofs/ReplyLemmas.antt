@@ -1,0 +1,38 @@
+-- What is asked has at most one reply.
+use Rattle.std.proofs.Common.{◌≡◌, ◌∙◌, ◌<◌, ◌≤◌, ℕ, true, false, List, length, map, sym, ap, inl, inr, arith}
+use Rattle.sudo_words.specs.declared.cmnd.Cmnd.{Cmnd}
+use Rattle.sudo_syntax.specs.Printing.{canon}
+use Rattle.sudo_syntax.specs.declared.entry.Entry.{Entry}
+use Rattle.messages.specs.declared.message.Message.{Message}
+use Rattle.roster.specs.Fields.{RosterFields}
+use Rattle.desk.specs.HostFile.{Line, with_lines}
+use Rattle.desk.specs.Outcomes.{LiveGrant}
+use Rattle.desk.proofs.DeliveryLemmas.{one_answer}
+use Rattle.desk.proofs.FileLemmas.{one_lines}
+use Rattle.desk.proofs.SetLemmas.{one_live, one_parked}
+use Rattle.relay_http.specs.Asked.{Asked, deliver, grants, parked, host_file, refused}
+use Rattle.relay_http.specs.Replies.{IsFileReply, IsReply, Reply, delivery, done, is_known_host, lines_of, live_line, to_delivery}
+
+-- a host is known, or it is not
+one_known : (f : RosterFields Cmnd) (host : List ℕ) → is_known_host f host ≡ false → is_known_host f host ≡ true → ⊥
+one_known f host lacking known = let wrong : false ≡ true = sym lacking ∙ known in absurd cc
+
+one_file_reply : (f : RosterFields Cmnd) (base : List Entry) (set : List Message) (host : List ℕ) (a b : Reply) → IsFileReply f base set host a → IsFileReply f base set host b → a ≡ b
+one_file_reply f base set host a b (inl x) (inl y) = x.1 ∙ sym y.1
+one_file_reply f base set host a b (inl x) (inr (inl y)) = absurd (one_known f host x.0 y.0)
+one_file_reply f base set host a b (inl x) (inr (inr y)) = absurd (one_known f host x.0 y.0)
+one_file_reply f base set host a b (inr (inl x)) (inl y) = absurd (one_known f host y.0 x.0)
+one_file_reply f base set host a b (inr (inr x)) (inl y) = absurd (one_known f host y.0 x.0)
+one_file_reply f base set host a b (inr (inl x)) (inr (inl y)) =
+    x.1.3 ∙ ap (λ (ls : List Line). done (canon (with_lines base ls))) (one_lines f set host x.1.0 y.1.0 x.1.1 y.1.1) ∙ sym y.1.3
+one_file_reply f base set host a b (inr (inl x)) (inr (inr y)) = absurd (omega (arith, x.1.2, y.1 x.1.0 x.1.1))
+one_file_reply f base set host a b (inr (inr x)) (inr (inl y)) = absurd (omega (arith, y.1.2, x.1 y.1.0 y.1.1))
+one_file_reply f base set host a b (inr (inr x)) (inr (inr y)) = x.2 ∙ sym y.2
+
+pub one_reply : (f : RosterFields Cmnd) (base : List Entry) (set : List Message) (asked : Asked ℕ) (a b : Reply) → IsReply f base set asked a → IsReply f base set asked b → a ≡ b
+one_reply f base set (deliver relay body) a b x y = x.2 ∙ ap to_delivery (one_answer f (delivery relay body) x.0 y.0 x.1 y.1) ∙ sym y.2
+one_reply f base set (grants at) a b x y =
+    x.2 ∙ ap (λ (list : List LiveGrant). done (lines_of (map live_line list))) (one_live f set at x.0 y.0 x.1 y.1) ∙ sym y.2
+one_reply f base set parked a b x y = x.2 ∙ ap (λ (texts : List (List ℕ)). done (lines_of texts)) (one_parked set x.0 y.0 x.1 y.1) ∙ sym y.2
+one_reply f base set (host_file host) a b x y = one_file_reply f base set host a b x y
+one_reply f base set (refused fault) a b x y = x ∙ sym y

@@ -1,0 +1,131 @@
+-- What a desk replies to what is asked of it, by the set of messages that it holds, and what it holds then.
+use Rattle.std.specs.Prelude.{◌≡◌, ◌≢◌, ◌⊎◌, ◌≤◌, ◌<◌, ◌&&◌, ℕ, true, false, Bool, List, [], ◌∷◌, ◌++◌, Result, Ok, Err, codes, decimal, length, map}
+use Rattle.sudo_words.specs.Word.{is_host_name}
+use Rattle.sudo_words.specs.Moment.{stamp}
+use Rattle.sudo_words.specs.declared.cmnd.Cmnd.{Cmnd}
+use Rattle.sudo_syntax.specs.Printing.{canon}
+use Rattle.sudo_syntax.specs.declared.entry.Entry.{Entry}
+use Rattle.messages.specs.Names.{RequestName}
+use Rattle.messages.specs.Wire.{IsMessage, wire}
+use Rattle.messages.specs.declared.message.Message.{Message}
+use Rattle.roster.specs.Fields.{RosterFields}
+use Rattle.roster.specs.Rules.{is_among}
+use Rattle.grants.specs.declared.outcome.Window.{Window}
+use Rattle.desk_store.specs.Sets.{SameSet}
+use Rattle.desk.specs.Delivery.{Answers, Delivery}
+use Rattle.desk.specs.HostFile.{Line, AreLines, with_lines}
+use Rattle.desk.specs.Outcomes.{AreLive, LiveGrant}
+use Rattle.desk.specs.Parked.{AreParked}
+use Rattle.desk.specs.Refusals.{refusal_text}
+use Rattle.desk.specs.declared.ack.Ack.{Ack}
+use Rattle.desk.specs.declared.refusal.Refusal.{Refusal}
+use Rattle.desk.specs.declared.refusal.Refusal.TheVariants.{UnknownRelay, UnknownHost, TooLong, NotCanonical, BadField, Denied, TooManyRules, RosterChanged, NotADesk, Storage, NoMemory, BaseTooLarge}
+use Rattle.relay_http.specs.Asked.{Asked, deliver, grants, parked, host_file, refused}
+use Rattle.relay_http.specs.Reply.{fault_line, status_of}
+use Rattle.relay_http.specs.declared.status.Status.{Status}
+use Rattle.relay_http.specs.declared.status.Status.TheVariants as status
+
+-- a reply without its fields: its status, and its body
+pub record Reply : Type 0 where
+  pub status : Status
+  pub body : List ℕ
+
+-- ---- bodies
+
+abbrev pub newline : ℕ
+newline = 10
+
+abbrev pub space : ℕ
+space = 32
+
+-- each text on a line of its own
+abbrev pub lines_of : List (List ℕ) → List ℕ
+lines_of [] = []
+lines_of (text ∷ more) = text ++ newline ∷ [] ++ lines_of more
+
+-- a moment's canonical text
+unfoldable pub moment_text : ℕ → List ℕ
+moment_text t = stamp t
+
+-- who asked, and the number
+unfoldable pub name_text : RequestName → List ℕ
+name_text name = name.by ++ space ∷ [] ++ decimal name.no
+
+-- the first and the last moment, each behind a space
+unfoldable pub window_text : Window → List ℕ
+window_text w = space ∷ [] ++ moment_text w.start ++ space ∷ [] ++ moment_text w.end
+
+-- a grant in force: its request's name, its ceiling, and its window
+unfoldable pub live_line : LiveGrant → List ℕ
+live_line l = name_text l.name ++ space ∷ [] ++ l.ceiling ++ window_text l.window
+
+-- ---- replies
+
+abbrev pub done : List ℕ → Reply
+done body = record { status = status.Done; body = body }
+
+-- The status of a refusal of the desk (RFC 9110, section 15): of the message's form, of the message, of what is not there, or for now.
+abbrev pub refusal_status : Refusal → Status
+refusal_status UnknownRelay = status.Forbidden
+refusal_status UnknownHost = status.NotFound
+refusal_status TooLong = status.ContentTooLarge
+refusal_status NotCanonical = status.BadRequest
+refusal_status BadField = status.BadRequest
+refusal_status (Denied denial) = status.Forbidden
+refusal_status TooManyRules = status.ServiceUnavailable
+refusal_status RosterChanged = status.ServiceUnavailable
+refusal_status NotADesk = status.ServiceUnavailable
+refusal_status Storage = status.ServiceUnavailable
+refusal_status NoMemory = status.ServiceUnavailable
+refusal_status BaseTooLarge = status.ServiceUnavailable
+
+-- its body is its code and name
+abbrev pub refusal : Refusal → Reply
+refusal e = record { status = refusal_status e; body = refusal_text e ++ newline ∷ [] }
+
+abbrev pub to_delivery : Result Ack Refusal → Reply
+to_delivery (Ok ack) = done (codes "ack" ++ newline ∷ [])
+to_delivery (Err e) = refusal e
+
+-- ---- the reply to what is asked
+
+abbrev pub delivery : (relay body : List ℕ) → Delivery
+delivery relay body = record { relay = relay; body = body }
+
+-- the text is a host's name, and the roster lists it
+abbrev pub is_known_host : RosterFields Cmnd → List ℕ → Bool
+is_known_host f host = is_host_name host && is_among f.hosts host
+
+-- The reply to who asks for a host's file: the roster lacks the host; or its lines are few enough, and it is the file; or they are too many.
+abbrev pub IsFileReply : RosterFields Cmnd → (base : List Entry) → List Message → (host : List ℕ) → Reply → Type 0
+IsFileReply f base set host reply =
+    ((is_known_host f host ≡ false) × (reply ≡ refusal UnknownHost))
+    ⊎ ((is_known_host f host ≡ true) × ((lines : List Line) × AreLines f set host lines × (length lines ≤ 8192) × (reply ≡ done (canon (with_lines base lines)))))
+    ⊎ ((is_known_host f host ≡ true) × ((lines : List Line) → AreLines f set host lines → 8192 < length lines) × (reply ≡ refusal TooManyRules))
+
+-- The reply to what is asked, by a roster, a base and the messages of a set, where memory lasts and the storage holds: at most one, by a law.
+abbrev pub IsReply : RosterFields Cmnd → (base : List Entry) → List Message → Asked ℕ → Reply → Type 0
+IsReply f base set (deliver relay body) reply = (answer : Result Ack Refusal) × Answers f (delivery relay body) answer × (reply ≡ to_delivery answer)
+IsReply f base set (grants at) reply = (list : List LiveGrant) × AreLive f set at list × (reply ≡ done (lines_of (map live_line list)))
+IsReply f base set parked reply = (texts : List (List ℕ)) × AreParked set texts × (reply ≡ done (lines_of texts))
+IsReply f base set (host_file host) reply = IsFileReply f base set host reply
+IsReply f base set (refused fault) reply = reply ≡ record { status = status_of fault; body = fault_line fault }
+
+-- memory or the storage was wanting: no right reply to anything
+abbrev pub IsWanting : Reply → Type 0
+IsWanting reply = (reply ≡ refusal NoMemory) ⊎ (reply ≡ refusal Storage)
+
+-- ---- what is held then
+
+-- the body is the message's, and the reply acknowledges it
+abbrev pub Stores : (body : List ℕ) → Reply → Message → Type 0
+Stores body reply m = IsMessage m × (body ≡ wire m) × (reply.status ≡ status.Done)
+
+-- What is held then: with a delivery exactly what was held, and the message that is acknowledged; and all is kept the same but with the
+-- one reply 200 to a delivery.
+abbrev pub Leaves : (Same : Type 0) → (old new : Message → Type 0) → Asked ℕ → Reply → Type 0
+Leaves Same old new (deliver relay body) reply = SameSet (λ m. old m ⊎ Stores body reply m) new × (reply.status ≢ status.Done → Same)
+Leaves Same old new (grants at) reply = Same
+Leaves Same old new parked reply = Same
+Leaves Same old new (host_file host) reply = Same
+Leaves Same old new (refused fault) reply = Same

@@ -1,0 +1,104 @@
+//! The desk's answers to what requests ask.
+
+ghost use Rattle.std.specs.Prelude.{◌≡◌, ◌⊎◌, List, MatchResult, string_bytes};
+ghost use Rattle.messages.specs.declared.message.Message.{Message as AnyMessage};
+ghost use Rattle.desk_store.specs.Keeping.{HasFailed};
+ghost use Rattle.desk_store.specs.Sets.{Lists};
+ghost use Rattle.desk.specs.Serving.{IsServed};
+ghost use Rattle.relay_http.specs.Asked.{asked_of, deliver, grants, host_file, parked};
+ghost use Rattle.relay_http.specs.Exchange.{IsAnswered};
+ghost use Rattle.relay_http.specs.Prepared.{reply_of, to_question};
+
+use crate::answer::{Answer, to_delivery, to_fault, to_question};
+use crate::asked::Ask;
+use crate::bodies::{lines_text, live_text};
+use desk::{Desk, Keeper, Refusal};
+use std::alloc::Global;
+use sudo_words::{HostName, Moment, WordFault};
+
+/// The answer to a delivery. Once the message is acknowledged no memory is taken.
+fn delivered<K: Keeper>(desk: &mut Desk<K>, relay: &str, body: &[u8]) -> Answer
+    ensures answered { IsAnswered desk.old.roster.says desk.old.base (K.is_up desk.new.keeper) (K.holds desk.old.keeper) (K.holds desk.new.keeper)
+        (K.is_same desk.old.keeper desk.new.keeper) (HasFailed (K.failures desk.old.keeper) (K.failures desk.new.keeper))
+        (deliver relay.now body.now) (reply_of result) }
+    ensures roster { desk.new.roster ≡ desk.old.roster }
+    ensures base { desk.new.base ≡ desk.old.base }
+    ensures served { IsServed (K.is_up desk.old.keeper) (K.is_clean desk.old.keeper) (K.is_up desk.new.keeper) (K.is_clean desk.new.keeper)
+        (K.failures desk.old.keeper) (K.failures desk.new.keeper) }
+{
+    to_delivery(desk.deliver(relay, body))
+}
+
+/// The lines of the grants in force.
+fn live<K: Keeper>(alloc: Global, desk: &mut Desk<K>, at: Moment) -> Result<String, Refusal>
+    ensures answered { IsAnswered desk.old.roster.says desk.old.base (K.is_up desk.new.keeper) (K.holds desk.old.keeper) (K.holds desk.new.keeper)
+        (K.is_same desk.old.keeper desk.new.keeper) (HasFailed (K.failures desk.old.keeper) (K.failures desk.new.keeper))
+        (grants at) (to_question result) }
+    ensures roster { desk.new.roster ≡ desk.old.roster }
+    ensures base { desk.new.base ≡ desk.old.base }
+    ensures served { IsServed (K.is_up desk.old.keeper) (K.is_clean desk.old.keeper) (K.is_up desk.new.keeper) (K.is_clean desk.new.keeper)
+        (K.failures desk.old.keeper) (K.failures desk.new.keeper) }
+{
+    match desk.live_at(at) {
+        Ok(list) => match live_text(alloc, &list) {
+            Ok(text) => Ok(text),
+            Err(_) => Err(Refusal::NoMemory),
+        },
+        Err(refusal) => Err(refusal),
+    }
+}
+
+/// The lines of the parked verdicts.
+fn parked<K: Keeper>(alloc: Global, desk: &mut Desk<K>) -> Result<String, Refusal>
+    ensures answered { IsAnswered desk.old.roster.says desk.old.base (K.is_up desk.new.keeper) (K.holds desk.old.keeper) (K.holds desk.new.keeper)
+        (K.is_same desk.old.keeper desk.new.keeper) (HasFailed (K.failures desk.old.keeper) (K.failures desk.new.keeper))
+        parked (to_question result) }
+    ensures roster { desk.new.roster ≡ desk.old.roster }
+    ensures base { desk.new.base ≡ desk.old.base }
+    ensures served { IsServed (K.is_up desk.old.keeper) (K.is_clean desk.old.keeper) (K.is_up desk.new.keeper) (K.is_clean desk.new.keeper)
+        (K.failures desk.old.keeper) (K.failures desk.new.keeper) }
+{
+    match desk.parked() {
+        Ok(texts) => match lines_text(alloc, &texts) {
+            Ok(text) => Ok(text),
+            Err(_) => Err(Refusal::NoMemory),
+        },
+        Err(refusal) => Err(refusal),
+    }
+}
+
+/// The host's file. A text that is no host's name is a host that the roster lacks.
+fn host_file<K: Keeper>(alloc: Global, desk: &mut Desk<K>, host: &str) -> Result<String, Refusal>
+    ensures answered { IsAnswered desk.old.roster.says desk.old.base (K.is_up desk.new.keeper) (K.holds desk.old.keeper) (K.holds desk.new.keeper)
+        (K.is_same desk.old.keeper desk.new.keeper) (HasFailed (K.failures desk.old.keeper) (K.failures desk.new.keeper))
+        (host_file host.now) (to_question result) }
+    ensures roster { desk.new.roster ≡ desk.old.roster }
+    ensures base { desk.new.base ≡ desk.old.base }
+    ensures served { IsServed (K.is_up desk.old.keeper) (K.is_clean desk.old.keeper) (K.is_up desk.new.keeper) (K.is_clean desk.new.keeper)
+        (K.failures desk.old.keeper) (K.failures desk.new.keeper) }
+{
+    match HostName::read(alloc, host) {
+        Ok(host) => desk.host_file(&host),
+        Err(WordFault::BadWord) => Err(Refusal::UnknownHost),
+        Err(WordFault::NoMemory) => Err(Refusal::NoMemory),
+    }
+}
+
+/// The answer of the desk to what is asked.
+pub fn answered<K: Keeper>(alloc: Global, desk: &mut Desk<K>, ask: Ask<'_>) -> Answer
+    ensures answered { IsAnswered desk.old.roster.says desk.old.base (K.is_up desk.new.keeper) (K.holds desk.old.keeper) (K.holds desk.new.keeper)
+        (K.is_same desk.old.keeper desk.new.keeper) (HasFailed (K.failures desk.old.keeper) (K.failures desk.new.keeper))
+        (asked_of ask.entry) (reply_of result) }
+    ensures roster { desk.new.roster ≡ desk.old.roster }
+    ensures base { desk.new.base ≡ desk.old.base }
+    ensures served { IsServed (K.is_up desk.old.keeper) (K.is_clean desk.old.keeper) (K.is_up desk.new.keeper) (K.is_clean desk.new.keeper)
+        (K.failures desk.old.keeper) (K.failures desk.new.keeper) }
+{
+    match ask {
+        Ask::Deliver { relay, body } => delivered(desk, relay, body),
+        Ask::Grants(at) => to_question(live(alloc, desk, at)),
+        Ask::Parked => to_question(parked(alloc, desk)),
+        Ask::HostFile(host) => to_question(host_file(alloc, desk, host)),
+        Ask::Refused(fault) => to_fault(fault),
+    }
+}

@@ -1,0 +1,79 @@
+//! The bodies of replies to questions.
+
+ghost use Rattle.std.specs.Prelude.{◌≡◌, ◌++◌, ◌∷◌, [], IfOk, OnOk, map, string_bytes};
+ghost use Rattle.relay_http.specs.Replies.{lines_of, live_line, moment_text, name_text, newline, window_text};
+
+use desk::{Live, RequestName};
+use grants::Window;
+use std::alloc::{AllocError, Global};
+use std::fmt::Write;
+use sudo_words::Moment;
+
+#[tactic(auto, unfolding(crate::specs::Replies::moment_text))]
+fn push_stamp(out: &mut String, moment: Moment) -> Result<(), AllocError>
+    ensures { OnOk result (string_bytes out.new ≡ string_bytes out.old ++ moment_text moment) }
+{
+    write!(out, "{moment}")
+}
+
+/// Appends what a grant's line says of its window.
+#[tactic(auto, unfolding(crate::specs::Replies::window_text))]
+fn push_window(out: &mut String, window: Window) -> Result<(), AllocError>
+    ensures { OnOk result (string_bytes out.new ≡ string_bytes out.old ++ window_text window) }
+{
+    out.push_str(" ")?;
+    push_stamp(out, window.start)?;
+    out.push_str(" ")?;
+    push_stamp(out, window.end)
+}
+
+/// Appends the name of a grant's request.
+#[tactic(auto, unfolding(crate::specs::Replies::name_text))]
+fn push_name(out: &mut String, name: &RequestName) -> Result<(), AllocError>
+    ensures { OnOk result (string_bytes out.new ≡ string_bytes out.old ++ name_text name.now) }
+{
+    out.push_str(name.by.as_str())?;
+    out.push_str(" ")?;
+    write!(out, "{}", name.no)
+}
+
+/// Appends the line of a grant in force.
+#[tactic(auto, unfolding(crate::specs::Replies::live_line))]
+fn push_live(out: &mut String, live: &Live) -> Result<(), AllocError>
+    ensures { OnOk result (string_bytes out.new ≡ string_bytes out.old ++ live_line live.now ++ newline ∷ []) }
+{
+    push_name(out, &live.name)?;
+    out.push_str(" ")?;
+    out.push_str(live.ceiling.as_str())?;
+    push_window(out, live.window)?;
+    out.push_str("\n")
+}
+
+/// A line for each grant in force.
+pub fn live_text(alloc: Global, list: &[Live]) -> Result<String, AllocError>
+    ensures { IfOk result (λ s. string_bytes s ≡ lines_of (map live_line list.now)) }
+{
+    let mut out = String::new(alloc);
+    for live in list {
+        push_live(&mut out, live)?;
+    }
+    Ok(out)
+}
+
+fn push_line(out: &mut String, text: &str) -> Result<(), AllocError>
+    ensures { OnOk result (string_bytes out.new ≡ string_bytes out.old ++ text.now ++ newline ∷ []) }
+{
+    out.push_str(text)?;
+    out.push_str("\n")
+}
+
+/// Each text on a line of its own.
+pub fn lines_text(alloc: Global, texts: &[String]) -> Result<String, AllocError>
+    ensures { IfOk result (λ s. string_bytes s ≡ lines_of (map string_bytes texts.now)) }
+{
+    let mut out = String::new(alloc);
+    for text in texts {
+        push_line(&mut out, text.as_str())?;
+    }
+    Ok(out)
+}
