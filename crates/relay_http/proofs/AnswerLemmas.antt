@@ -1,5 +1,5 @@
 -- The desk's answers as replies.
-use Rattle.std.proofs.Common.{◌≡◌, ◌⊎◌, ◌<◌, ◌≤◌, ◌&&◌, ◌==◌, ◌∙◌, ℕ, Bool, true, false, List, [], ◌∷◌, length, nat_le, Result, Ok, Err, String, sym, ap, subst, refl, inl, inr}
+use Rattle.std.proofs.Common.{◌≡◌, ◌⊎◌, ◌<◌, ◌≤◌, ◌&&◌, ◌==◌, ◌∙◌, ℕ, Bool, true, false, List, [], ◌∷◌, length, nat_le, Result, Ok, Err, String, sym, ap, refl, inl, inr}
 use Rattle.std.proofs.lemmas.Bool.{cases_Bool, leb-true, leb-false}
 use Rattle.std.specs.Prelude.{◌↔◌, ◌≢◌, IfOk, IfErr, MatchResult, string_bytes}
 use Rattle.std.specs.declared.alloc.Global.{Global}
@@ -9,7 +9,6 @@ use Rattle.sudo_syntax.specs.declared.entry.Entry.{Entry}
 use Rattle.messages.specs.declared.message.Message.{Message}
 use Rattle.roster.specs.Fields.{RosterFields}
 use Rattle.roster.specs.Rules.{is_among}
-use Rattle.grants.specs.declared.denial.Denial.{Denial}
 use Rattle.grants.specs.declared.denial.Denial.TheVariants as denials
 use Rattle.desk.specs.HostFile.{Line, AreLines, IsHostFile}
 use Rattle.desk.specs.Refusals.{IsWant}

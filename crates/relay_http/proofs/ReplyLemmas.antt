@@ -1,5 +1,5 @@
 -- What is asked has at most one reply.
-use Rattle.std.proofs.Common.{◌≡◌, ◌∙◌, ◌<◌, ◌≤◌, ℕ, true, false, List, length, map, sym, ap, inl, inr, arith}
+use Rattle.std.proofs.Common.{◌≡◌, ◌∙◌, ℕ, true, false, List, map, sym, ap, inl, inr, arith}
 use Rattle.sudo_words.specs.declared.cmnd.Cmnd.{Cmnd}
 use Rattle.sudo_syntax.specs.Printing.{canon}
 use Rattle.sudo_syntax.specs.declared.entry.Entry.{Entry}

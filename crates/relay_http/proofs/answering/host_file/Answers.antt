@@ -1,4 +1,4 @@
-use Rattle.std.proofs.Common.{◌≡◌, ◌⊎◌, ℕ, List, true, sym, subst, ◌∙◌}
+use Rattle.std.proofs.Common.{◌≡◌, ◌⊎◌, ℕ, List, true, sym, subst}
 use Rattle.sudo_words.specs.Word.{is_host_name}
 use Rattle.relay_http.proofs.AnswerLemmas.{file_cause, file_right}
 use Rattle.relay_http.specs.Asked.{host_file}

@@ -1,5 +1,5 @@
-use Rattle.std.proofs.Common.{List, ℕ, ◌++◌, subst, sym, ap, ◌∙◌}
-use Rattle.relay_http.specs.Asked.{Request, request_of}
+use Rattle.std.proofs.Common.{ℕ, ◌++◌, subst}
+use Rattle.relay_http.specs.Asked.{Request}
 use Rattle.relay_http.specs.Wanted.{Asks}
 use Rattle.relay_http.proofs.WantedLemmas.{one_request}
 use Rattle.relay_http.proofs.reading.look.Goals as goal

@@ -1,4 +1,4 @@
-use Rattle.std.proofs.Common.{◌≡◌, ◌≤◌, ℕ, ◌+◌, ◌∙◌, List, refl, take, length, arith, subst, length-take}
+use Rattle.std.proofs.Common.{◌≡◌, ◌≤◌, ℕ, ◌+◌, ◌∙◌, refl, take, length, arith, subst, length-take}
 use Rattle.std.specs.Io.KnownBytes.{Consumes}
 use Rattle.relay_http.proofs.ReadingLemmas.{asks_all, asks_end, next_bytes}
 use Rattle.relay_http.proofs.SettleLemmas.{full_more}
