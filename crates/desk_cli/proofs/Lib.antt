@@ -6,6 +6,9 @@ pub mod Args
 pub mod Runs
 pub mod Filled
 pub mod Complete
+pub mod Placed
+pub mod ArgsPlaced
+pub mod ByPlace
 pub mod LineLemmas
 pub mod ComplaintLemmas
 pub mod AnswerLines

@@ -1,6 +1,7 @@
 pub mod Faults
 pub mod Refusals
 pub mod CommandLine
+pub mod Operands
 pub mod Files
 pub mod Lines
 pub mod Delivering
