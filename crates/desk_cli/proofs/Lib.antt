@@ -15,5 +15,6 @@ pub mod AnswerLines
 pub mod BroughtLemmas
 pub mod PrintLemmas
 pub mod AnswerLemmas
+pub mod FileLemmas
 pub mod CompareLemmas
 pub mod CaseLines

@@ -18,7 +18,14 @@ use std::fmt::Write as _;
 use std::io::{Read, Write};
 use sudo_words::HostName;
 
-/// Adds why a line is refused. Where the desk could not take the line for want of memory or storage, nothing can be printed.
+/// Adds why a line is refused.
+fn add_complaint(said: &mut String, number: usize, refusal: desk::Refusal) -> Result<(), AllocError>
+    ensures { OnOk result (string_bytes said.new ≡ string_bytes said.old ++ complaint number refusal) }
+{
+    write!(said, "line {number}: {refusal}\n")
+}
+
+/// The same, but where the desk could not take the line for want of memory or storage: then nothing can be printed.
 fn complain(said: &mut String, number: usize, refusal: desk::Refusal) -> Result<(), Refusal>
     ensures said { OnOk result (string_bytes said.new ≡ string_bytes said.old ++ complaint number refusal) }
     ensures memory { OnOk result (¬ IsWant refusal) }
@@ -26,7 +33,7 @@ fn complain(said: &mut String, number: usize, refusal: desk::Refusal) -> Result<
 {
     match refusal {
         desk::Refusal::NoMemory | desk::Refusal::Storage => Err(Refusal::Desk(refusal)),
-        _ => Ok(write!(said, "line {number}: {refusal}\n")?),
+        _ => Ok(add_complaint(said, number, refusal)?),
     }
 }
 
