@@ -1,0 +1,4 @@
+pub mod Props
+pub mod Reading
+pub mod Recognized
+pub mod Statements
