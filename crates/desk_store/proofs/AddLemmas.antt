@@ -46,7 +46,7 @@ there_already rows text there = one_more rows rows text (λ q. elim (cases_Bool 
   | inr other ↦ rw other refl
 ])
 
-either : (b : Bool) (x : Value) → cond b x x ≡ x
+pub either : (b : Bool) (x : Value) → cond b x x ≡ x
 either true x = refl
 either false x = refl
 

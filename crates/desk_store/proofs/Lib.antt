@@ -7,6 +7,7 @@ pub mod Selects
 pub mod QueriesOf
 pub mod Inserts
 pub mod Missing
+pub mod Creates
 -- what they do
 pub mod TextSets
 pub mod LookupLemmas
@@ -20,3 +21,7 @@ pub mod ReadingLemmas
 pub mod QueryLemmas
 pub mod LookLemmas
 pub mod RecognizedLemmas
+-- how a desk is made
+pub mod Grown
+pub mod Makes
+pub mod MadeLemmas

@@ -48,7 +48,7 @@ no_table o t none some = let e : ◌≡◌ {A = Option Table} None (Some t) = sy
 pub same_number : (m : ℕ) → IsTrue (m == m)
 same_number m = elim (eqb_tells m m) [ inl is ↦ is.0 | inr apart ↦ absurd (apart.1 refl) ]
 
-tree_of_found : (s : Schema) (name : List ℕ) (at : ℕ) (t : Table) → Finds s name at t → tree_of s name ≡ t.tree
+pub tree_of_found : (s : Schema) (name : List ℕ) (at : ℕ) (t : Table) → Finds s name at t → tree_of s name ≡ t.tree
 tree_of_found s name at t it = rw (it.named, it.has) refl
 
 -- the two tables are a desk's

@@ -5,6 +5,7 @@ mod collected;
 mod error;
 mod found;
 mod keeper;
+mod making;
 mod memory;
 mod reading;
 mod recognize;
