@@ -1,17 +1,19 @@
 //! A keeper over a database.
 
-ghost use Rattle.std.specs.Prelude.{◌≡◌, ◌⊎◌, ◌≤◌, false, IfOk, OnOk, OnErr, Err};
+ghost use Rattle.std.specs.Prelude.{◌≡◌, ◌≤◌, false};
 ghost use Rattle.sqlite.specs.State.{HasCleanDisk};
 ghost use Rattle.sqlite.specs.Held.{state};
-ghost use Rattle.messages.specs.Wire.{IsMessage};
-ghost use Rattle.desk_store.specs.Keeping.{HasFailed, Tells};
-ghost use Rattle.desk_store.specs.Sets.{IsWith, Lists};
+ghost use Rattle.desk_store.specs.Keeping.{HasFailed};
+ghost use Rattle.desk_store.specs.Sets.{Lists};
 ghost use Rattle.desk_store.specs.Stored.{HoldsText, IsDeskDatabase, IsFree, content_of};
 ghost use Rattle.desk_store.specs.SqliteStates.{IsUp, Rests};
 ghost use Rattle.desk_store.specs.private.Props.{Rests-prop};
+ghost use Rattle.desk_store.specs.private.SqliteLaws as laws;
 
 use crate::error::KeeperError;
 use crate::found::Found;
+use crate::keeper::Keeper;
+use crate::making::{create, lacks_sequence};
 use crate::reading::{messages_in, roster_of};
 use crate::recognize::{has_desk, is_free};
 use crate::statements::{insert, select_bodies, select_desk};
@@ -61,104 +63,6 @@ impl<S: Alter> SqliteKeeper<S> {
         } = self;
         conn
     }
-
-    /// Tells what the database keeps: exactly one of the three, and a desk's roster. That stays as it is.
-    pub fn look(&mut self) -> Result<Found, KeeperError>
-        ensures found { IsUp (state S.Store self.new.conn) → IfOk result (Tells (IsFree (state S.Store self.old.conn).now.schema) (IsDeskDatabase (state S.Store self.old.conn).now) (content_of (state S.Store self.old.conn).now).roster) }
-        ensures same { IsUp (state S.Store self.new.conn) → (state S.Store self.new.conn).now ≡ (state S.Store self.old.conn).now }
-        ensures was_up { IsUp (state S.Store self.new.conn) → IsUp (state S.Store self.old.conn) }
-        ensures was_clean { HasCleanDisk (state S.Store self.new.conn) → HasCleanDisk (state S.Store self.old.conn) }
-        ensures shuts { IsUp (state S.Store self.old.conn) → HasCleanDisk (state S.Store self.new.conn) → IsUp (state S.Store self.new.conn) ⊎ HasFailed self.old.failed self.new.failed }
-        ensures counts { self.old.failed ≤ self.new.failed }
-        ensures cause { result ≡ Err KeeperError.Storage → HasFailed self.old.failed self.new.failed }
-    {
-        let schema = self.conn.schema();
-        if is_free(schema) {
-            return Ok(Found::Empty);
-        }
-        if !has_desk(schema) {
-            return Ok(Found::NotADesk);
-        }
-        let rows = match select_desk(&mut self.conn) {
-            Ok(rows) => rows,
-            Err(error) => return Err(told(&mut self.failed, error)),
-        };
-        let Some(roster) = roster_of(self.alloc, rows.as_slice())? else {
-            return Ok(Found::NotADesk);
-        };
-        let rows = match select_bodies(&mut self.conn) {
-            Ok(rows) => rows,
-            Err(error) => return Err(told(&mut self.failed, error)),
-        };
-        match messages_in(self.alloc, rows.as_slice())? {
-            Some(_) => Ok(Found::Desk(roster)),
-            None => Ok(Found::NotADesk),
-        }
-    }
-
-    /// Adds the message to the desk's, in one commit. One that the desk has already changes nothing.
-    ///
-    /// A message whose text is longer than what is read as one is refused, as what a database refuses is.
-    pub fn add(&mut self, message: Message) -> Result<(), KeeperError>
-        requires desk { IsUp (state S.Store self.old.conn) → IsDeskDatabase (state S.Store self.old.conn).now }
-        requires message { IsMessage message }
-        ensures added { IsUp (state S.Store self.new.conn) → OnOk result (IsWith (HoldsText (state S.Store self.old.conn).now) message (HoldsText (state S.Store self.new.conn).now)) }
-        ensures unchanged { IsUp (state S.Store self.new.conn) → OnErr result ((state S.Store self.new.conn).now ≡ (state S.Store self.old.conn).now) }
-        ensures desk { IsUp (state S.Store self.new.conn) → IsDeskDatabase (state S.Store self.new.conn).now }
-        ensures roster { IsUp (state S.Store self.new.conn) → (content_of (state S.Store self.new.conn).now).roster ≡ (content_of (state S.Store self.old.conn).now).roster }
-        ensures was_up { IsUp (state S.Store self.new.conn) → IsUp (state S.Store self.old.conn) }
-        ensures was_clean { HasCleanDisk (state S.Store self.new.conn) → HasCleanDisk (state S.Store self.old.conn) }
-        ensures shuts { IsUp (state S.Store self.old.conn) → HasCleanDisk (state S.Store self.new.conn) → IsUp (state S.Store self.new.conn) ⊎ HasFailed self.old.failed self.new.failed }
-        ensures counts { self.old.failed ≤ self.new.failed }
-        ensures cause { result ≡ Err KeeperError.Storage → HasFailed self.old.failed self.new.failed }
-    {
-        let body = text(self.alloc, &message)?;
-        if body.as_bytes().len() > MOST_BYTES {
-            return Err(storage(&mut self.failed));
-        }
-        match insert(&mut self.conn, body.as_str()) {
-            Ok(_) => Ok(()),
-            Err(error) => Err(told(&mut self.failed, error)),
-        }
-    }
-
-    /// Brings the desk's messages into memory, where `messages` lends them. What is kept stays as it is.
-    pub fn load(&mut self) -> Result<(), KeeperError>
-        requires { IsUp (state S.Store self.old.conn) → IsDeskDatabase (state S.Store self.old.conn).now }
-        ensures loaded { IsUp (state S.Store self.new.conn) → OnOk result (Lists (HoldsText (state S.Store self.new.conn).now) self.new.messages.items) }
-        ensures same { IsUp (state S.Store self.new.conn) → (state S.Store self.new.conn).now ≡ (state S.Store self.old.conn).now }
-        ensures was_up { IsUp (state S.Store self.new.conn) → IsUp (state S.Store self.old.conn) }
-        ensures was_clean { HasCleanDisk (state S.Store self.new.conn) → HasCleanDisk (state S.Store self.old.conn) }
-        ensures shuts { IsUp (state S.Store self.old.conn) → HasCleanDisk (state S.Store self.new.conn) → IsUp (state S.Store self.new.conn) ⊎ HasFailed self.old.failed self.new.failed }
-        ensures counts { self.old.failed ≤ self.new.failed }
-        ensures cause { result ≡ Err KeeperError.Storage → HasFailed self.old.failed self.new.failed }
-    {
-        let rows = match select_bodies(&mut self.conn) {
-            Ok(rows) => rows,
-            Err(error) => return Err(told(&mut self.failed, error)),
-        };
-        match messages_in(self.alloc, rows.as_slice())? {
-            Some(messages) => {
-                self.messages = messages;
-                Ok(())
-            }
-            None => Err(storage(&mut self.failed)),
-        }
-    }
-
-    /// The messages that were brought into memory last.
-    pub fn messages(&self) -> &[Message]
-        ensures { result.now ≡ self.now.messages.items }
-    {
-        self.messages.as_slice()
-    }
-
-    /// How many failures it has counted, up to the greatest number of 64 bits.
-    pub fn failures(&self) -> u64
-        ensures { result ≡ self.now.failed }
-    {
-        self.failed
-    }
 }
 
 impl<S: Alter + Drop> Drop for SqliteKeeper<S> {
@@ -191,4 +95,110 @@ fn storage(failed: &mut u64) -> KeeperError
 {
     *failed = failed.saturating_add(1);
     KeeperError::Storage
+}
+
+impl<S: Alter> Keeper for SqliteKeeper<S> {
+    ghost is_empty = { λ k. IsFree (state S.Store k.conn).now.schema };
+
+    ghost is_desk = { λ k. IsDeskDatabase (state S.Store k.conn).now };
+
+    ghost roster = { λ k. (content_of (state S.Store k.conn).now).roster };
+
+    ghost holds = { λ k. HoldsText (state S.Store k.conn).now };
+
+    ghost is_loaded = { λ k. Lists (HoldsText (state S.Store k.conn).now) k.messages.items };
+
+    ghost is_up = { λ k. IsUp (state S.Store k.conn) };
+
+    ghost is_clean = { λ k. HasCleanDisk (state S.Store k.conn) };
+
+    ghost failures = { λ k. k.failed };
+
+    ghost is_same = { λ a b. (state S.Store b.conn).now ≡ (state S.Store a.conn).now };
+
+    ghost holds_messages = { λ k m held. held.0 };
+
+    ghost same_itself = { λ a. laws.same_itself _ };
+
+    ghost same_back = { λ a b same. laws.same_back _ _ same };
+
+    ghost same_on = { λ a b c first second. laws.same_on _ _ _ first second };
+
+    ghost stays_empty = { λ a b same empty. laws.stays_empty _ _ same empty };
+
+    ghost stays_desk = { λ a b same desk. laws.stays_desk _ _ same desk };
+
+    ghost stays_roster = { λ a b same desk. laws.stays_roster _ _ same };
+
+    ghost stays_set = { λ a b same desk. laws.stays_set _ _ same };
+
+    fn look(&mut self) -> Result<Found, KeeperError> {
+        let schema = self.conn.schema();
+        if is_free(schema) {
+            return Ok(Found::Empty);
+        }
+        if !has_desk(schema) {
+            return Ok(Found::NotADesk);
+        }
+        let rows = match select_desk(&mut self.conn) {
+            Ok(rows) => rows,
+            Err(error) => return Err(told(&mut self.failed, error)),
+        };
+        let Some(roster) = roster_of(self.alloc, rows.as_slice())? else {
+            return Ok(Found::NotADesk);
+        };
+        let rows = match select_bodies(&mut self.conn) {
+            Ok(rows) => rows,
+            Err(error) => return Err(told(&mut self.failed, error)),
+        };
+        match messages_in(self.alloc, rows.as_slice())? {
+            Some(_) => Ok(Found::Desk(roster)),
+            None => Ok(Found::NotADesk),
+        }
+    }
+
+    /// A database is refused, as what fails is, that counts by AUTOINCREMENT without the table of the counts.
+    fn make(&mut self, text: &str) -> Result<(), KeeperError> {
+        if !self.conn.is_autocommit() || lacks_sequence(self.conn.schema()) {
+            return Err(storage(&mut self.failed));
+        }
+        match create(&mut self.conn, text) {
+            Ok(()) => Ok(()),
+            Err(error) => Err(told(&mut self.failed, error)),
+        }
+    }
+
+    /// A message whose text is longer than what is read as one is refused, as what a database refuses is.
+    fn add(&mut self, message: Message) -> Result<(), KeeperError> {
+        let body = text(self.alloc, &message)?;
+        if body.as_bytes().len() > MOST_BYTES {
+            return Err(storage(&mut self.failed));
+        }
+        match insert(&mut self.conn, body.as_str()) {
+            Ok(_) => Ok(()),
+            Err(error) => Err(told(&mut self.failed, error)),
+        }
+    }
+
+    fn load(&mut self) -> Result<(), KeeperError> {
+        let rows = match select_bodies(&mut self.conn) {
+            Ok(rows) => rows,
+            Err(error) => return Err(told(&mut self.failed, error)),
+        };
+        match messages_in(self.alloc, rows.as_slice())? {
+            Some(messages) => {
+                self.messages = messages;
+                Ok(())
+            }
+            None => Err(storage(&mut self.failed)),
+        }
+    }
+
+    fn messages(&self) -> &[Message] {
+        self.messages.as_slice()
+    }
+
+    fn failures(&self) -> u64 {
+        self.failed
+    }
 }

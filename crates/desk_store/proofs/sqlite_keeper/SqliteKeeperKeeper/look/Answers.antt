@@ -6,7 +6,7 @@ use Rattle.desk_store.specs.Stored.{HasDesk}
 use Rattle.desk_store.specs.private.Statements.{ShowsBodies, ShowsMark, shown_mark}
 use Rattle.desk_store.specs.private.Reading.{AreBodies, HasForeign}
 use Rattle.desk_store.proofs.LookLemmas.{tells_desk, tells_foreign}
-use Rattle.desk_store.proofs.sqlite_keeper.SqliteKeeper.look.Goals as goal
+use Rattle.desk_store.proofs.sqlite_keeper.SqliteKeeperKeeper.look.Goals as goal
 
 pub returns-in-Some-2-clause-found : goal.returns-in-Some-2-clause-found
 returns-in-Some-2-clause-found g c up =

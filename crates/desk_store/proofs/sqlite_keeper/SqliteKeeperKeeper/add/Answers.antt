@@ -3,7 +3,7 @@ use Rattle.std.proofs.Common.{rules, ◌≡◌}
 use Rattle.messages.specs.Wire.{wire}
 use Rattle.desk_store.specs.Stored.{content_of, with_text}
 use Rattle.desk_store.proofs.ReadingLemmas.{with_message}
-use Rattle.desk_store.proofs.sqlite_keeper.SqliteKeeper.add.Goals as goal
+use Rattle.desk_store.proofs.sqlite_keeper.SqliteKeeperKeeper.add.Goals as goal
 
 pub returns-in-Ok-clause-added : goal.returns-in-Ok-clause-added
 returns-in-Ok-clause-added g c up =

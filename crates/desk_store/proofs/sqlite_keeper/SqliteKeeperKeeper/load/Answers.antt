@@ -7,7 +7,7 @@ use Rattle.desk_store.specs.private.Statements.{ShowsBodies}
 use Rattle.desk_store.specs.private.Reading.{AreBodies}
 use Rattle.std.proofs.Common.{◌≡◌, sym}
 use Rattle.desk_store.proofs.ReadingLemmas.{lists_all}
-use Rattle.desk_store.proofs.sqlite_keeper.SqliteKeeper.load.Goals as goal
+use Rattle.desk_store.proofs.sqlite_keeper.SqliteKeeperKeeper.load.Goals as goal
 
 pub returns-in-Some-clause-loaded : goal.returns-in-Some-clause-loaded
 returns-in-Some-clause-loaded g c up =
