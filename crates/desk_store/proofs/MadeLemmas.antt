@@ -1,5 +1,5 @@
 -- What the two CREATEs and the INSERT make of a database whose names are free: a desk with no message.
-use Rattle.std.proofs.Common.{◌≡◌, ◌≢◌, ◌==◌, ◌^◌, nat_le, ℕ, List, [], length, codes, true, false, find, Option, Some, unwrap_or, refl, sym, ap, subst, ◌∙◌, arith}
+use Rattle.std.proofs.Common.{◌≡◌, ◌≢◌, ◌==◌, ◌^◌, nat_le, ℕ, List, [], length, codes, true, false, find, Some, unwrap_or, refl, sym, ap, subst, ◌∙◌, arith}
 use Rattle.std.specs.Prelude.{IsUtf8}
 use Rattle.std.specs.List.{list_any}
 use Rattle.std.specs.FinSet as set
@@ -7,7 +7,6 @@ use Rattle.std.specs.Ordering.{nat_cmp}
 use Rattle.std.specs.Cmp.Lexicographic.{slice_cmp}
 use Rattle.sqlite.specs.Schema.{Schema}
 use Rattle.sqlite.specs.Table.{Table}
-use Rattle.sqlite.specs.Order.{Row}
 use Rattle.sqlite.specs.Change.{created, next_tree, KeepsRows}
 use Rattle.sqlite.specs.Does.{lacks_sequence}
 use Rattle.sqlite.specs.Effect.{Database}
@@ -15,9 +14,8 @@ use Rattle.sqlite.specs.State.{State}
 use Rattle.messages.specs.Wire.{wire}
 use Rattle.desk_store.specs.Sets.{IsNothing}
 use Rattle.desk_store.specs.DeskTables.{desk, desk_at, messages_at}
-use Rattle.desk_store.specs.Stored.{Finds, HasDesk, HoldsText, IsDeskDatabase, IsUnused, content_of, has, is_stray, recorded, roster_of, texts_of, tree_of}
+use Rattle.desk_store.specs.Stored.{Finds, HoldsText, IsUnused, content_of, has, is_stray, recorded, texts_of, tree_of}
 use Rattle.desk_store.specs.private.Making.{Adds, Fills, IsReady, Makes, MakesDesk, MakesMessages, PutsRoster, Records, fresh}
-use Rattle.desk_store.specs.private.Recognized.{FindsDesk, FindsMessages}
 use Rattle.desk_store.proofs.AddLemmas.{all_at}
 use Rattle.desk_store.proofs.Grown.{get_last}
 use Rattle.desk_store.proofs.Makes.{FindsBoth, finds_both, none_lacking, still_unused}

@@ -1,5 +1,5 @@
 -- What the statements that make a desk do to a database that has tables of other names.
-use Rattle.std.proofs.Common.{◌≡◌, ◌≢◌, ◌<◌, ◌^◌, ◌++◌, ◌∷◌, ◌||◌, ◌&&◌, not, nat_le, pos, ℕ, Bool, List, [], length, codes, true, false, Option, None, Some, is_some, slice_get, cond, Ok, refl, sym, ap, subst, ◌∙◌, append-nil, arith}
+use Rattle.std.proofs.Common.{◌≡◌, ◌≢◌, ◌<◌, ◌^◌, ◌++◌, ◌∷◌, ◌||◌, ◌&&◌, not, nat_le, pos, ℕ, Bool, List, [], length, codes, true, false, Option, None, Some, is_some, slice_get, Ok, refl, sym, ap, subst, ◌∙◌, append-nil, arith}
 use Rattle.std.specs.List.{list_any, filter, AllByRecursion, AllZip}
 use Rattle.std.proofs.lemmas.Bool.{lt-leb}
 use Rattle.std.proofs.lemmas.List.Folds.{list_any-append}
@@ -17,7 +17,7 @@ use Rattle.sqlite.specs.Rowids.TheVariants.{Chosen}
 use Rattle.sqlite.specs.Cast.{cast}
 use Rattle.sqlite.specs.Ops.{unary}
 use Rattle.sqlite.specs.Change.{created, next_tree, KeepsRows}
-use Rattle.sqlite.specs.Does.{Tally, Does, lacks_sequence}
+use Rattle.sqlite.specs.Does.{Tally, lacks_sequence}
 use Rattle.sqlite.specs.Rows.{Written, sequence}
 use Rattle.sqlite.specs.Listing.{understood}
 use Rattle.sqlite.specs.Effect.{Database, IsDatabase}
@@ -28,7 +28,7 @@ use Rattle.sqlite_trees.specs.Objects.{catalog_tree}
 use Rattle.sqlite_schema.specs.declared.schema.Keys.TheVariants.{Enforced}
 use Rattle.sqlite_schema.specs.Names.{index_named, same_name, table_named}
 use Rattle.desk_store.specs.DeskTables.{desk, desk_at, messages_at}
-use Rattle.desk_store.specs.Stored.{Finds, HasDesk, IsUnused, recorded, tree_of}
+use Rattle.desk_store.specs.Stored.{Finds, IsUnused, recorded}
 use Rattle.desk_store.specs.private.Making.{Adds, Records}
 use Rattle.desk_store.proofs.Steps.{went, same_value, no_works}
 use Rattle.desk_store.proofs.AddLemmas.{cast_null, either}

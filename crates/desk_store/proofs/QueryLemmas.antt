@@ -13,7 +13,7 @@ use Rattle.sqlite.proofs.Callers.{IsPlain, reads_as}
 use Rattle.desk_store.specs.Stored.{HasDesk, tree_of}
 use Rattle.desk_store.specs.SqliteStates.{IsUp, IsAtRest, Rests}
 use Rattle.desk_store.specs.private.Statements.{ShowsBodies, ShowsMark}
-use Rattle.desk_store.proofs.QueriesOf.{Means, list_text, list_means, roster_query, roster_means}
+use Rattle.desk_store.proofs.QueriesOf.{list_text, list_means, roster_query, roster_means}
 use Rattle.desk_store.proofs.ListLemmas.{lists, strays}
 use Rattle.desk_store.proofs.RosterLemmas.{marks}
 

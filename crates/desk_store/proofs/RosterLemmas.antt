@@ -1,5 +1,5 @@
 -- What the query of the desk's row shows.
-use Rattle.std.proofs.Common.{nat_le, ◌^◌, false, ◌≡◌, ℕ, ◌≤◌, List, [], ◌∷◌, length, map, None, sym, ap, subst, ◌∙◌, arith, refl}
+use Rattle.std.proofs.Common.{nat_le, ◌^◌, false, ◌≡◌, ℕ, ◌≤◌, List, [], ◌∷◌, length, map, None, ap, subst, ◌∙◌, arith, refl}
 use Rattle.std.specs.List.{flat_map}
 use Rattle.std.specs.List.Sorted.{IsPermutation}
 use Rattle.std.proofs.lemmas.List.Sorted.{length_permutation}

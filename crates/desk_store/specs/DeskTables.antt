@@ -1,5 +1,5 @@
 -- The two tables of a desk in a database, as a schema lists them.
-use Rattle.std.specs.Prelude.{◌≡◌, Bool, true, false, [], ◌∷◌, Some, None, codes, List, ℕ}
+use Rattle.std.specs.Prelude.{Bool, true, false, [], ◌∷◌, Some, None, codes, List, ℕ}
 use Rattle.sqlite.specs.Collation.TheVariants.{Binary}
 use Rattle.sqlite.specs.Kind.TheVariants.{Integer, Text}
 use Rattle.sqlite.specs.Table.{Table}

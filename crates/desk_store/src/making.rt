@@ -1,38 +1,12 @@
 //! Making a desk in a database, in one commit.
 
-ghost use Rattle.std.specs.Prelude.{◌≡◌, false, codes, is_some, OnOk, OnErr, IsTrue};
-ghost use Rattle.std.specs.List.{list_any};
+ghost use Rattle.std.specs.Prelude.{◌≡◌, false, OnOk, OnErr, IsTrue};
 ghost use Rattle.sqlite.specs.State.{HasCleanDisk, KeepsCommit, Survives};
 ghost use Rattle.sqlite.specs.Held.{state};
-ghost use Rattle.sqlite.specs.Does.{lacks_sequence};
-ghost use Rattle.sqlite.specs.Rows.{sequence};
 ghost use Rattle.desk_store.specs.SqliteStates.{IsUp, Rests};
 ghost use Rattle.desk_store.specs.private.Making.{IsReady, Makes, MakesDesk, MakesMessages, PutsRoster, Fills};
 
 use sqlite::{Alter, Connection, Error, Transaction, params};
-use sqlite_schema::schema::{Schema, Table};
-
-fn has_counted(tables: &[Table]) -> bool
-    ensures { result ≡ list_any (λ t. t.is_counted) tables.now }
-{
-    tables.iter().any(|t| t.is_counted)
-}
-
-fn has_sequence(schema: &Schema) -> bool
-    ensures { result ≡ is_some (sequence schema.now) }
-{
-    match schema.table_named(b"sqlite_sequence") {
-        Some(at) => schema.tables.as_slice().get(at).is_some(),
-        None => false,
-    }
-}
-
-/// Whether a table counts by AUTOINCREMENT, and the table of the counts is missing.
-pub(crate) fn lacks_sequence(schema: &Schema) -> bool
-    ensures { result ≡ lacks_sequence schema.now }
-{
-    has_counted(schema.tables.as_slice()) && !has_sequence(schema)
-}
 
 fn make_desk<S: Alter>(tx: &mut Transaction<'_, S>) -> Result<usize, Error>
     ensures same_reference { tx.new.conn.ghost_name ≡ tx.old.conn.ghost_name }

@@ -1,6 +1,9 @@
-//! Whether a schema has a desk's tables, or none of their names.
+//! What a schema has: a desk's tables, none of their names, or counts without their table.
 
-ghost use Rattle.std.specs.Prelude.{◌≡◌, ◌↔◌, ◌==◌, IsTrue, codes, [], ◌∷◌, Some, option_copied, find};
+ghost use Rattle.std.specs.Prelude.{◌≡◌, ◌↔◌, ◌==◌, IsTrue, codes, [], ◌∷◌, Some, option_copied, find, is_some};
+ghost use Rattle.std.specs.List.{list_any};
+ghost use Rattle.sqlite.specs.Does.{lacks_sequence};
+ghost use Rattle.sqlite.specs.Rows.{sequence};
 ghost use Rattle.sqlite_schema.specs.declared.schema.Kind.TheVariants as kind;
 ghost use Rattle.desk_store.specs.DeskTables.{column_of, desk, messages, desk_at, messages_at};
 ghost use Rattle.desk_store.specs.Stored.{HasDesk, IsFree, IsUnused};
@@ -175,4 +178,26 @@ pub(crate) fn is_free(schema: &Schema) -> bool
     ensures { IsTrue result ↔ IsFree schema.now }
 {
     is_unused(schema, b"desk") && is_unused(schema, b"messages")
+}
+
+fn has_counted(tables: &[Table]) -> bool
+    ensures { result ≡ list_any (λ t. t.is_counted) tables.now }
+{
+    tables.iter().any(|t| t.is_counted)
+}
+
+fn has_sequence(schema: &Schema) -> bool
+    ensures { result ≡ is_some (sequence schema.now) }
+{
+    match schema.table_named(b"sqlite_sequence") {
+        Some(at) => schema.tables.as_slice().get(at).is_some(),
+        None => false,
+    }
+}
+
+/// Whether a table counts by AUTOINCREMENT, and the table of the counts is missing.
+pub(crate) fn lacks_sequence(schema: &Schema) -> bool
+    ensures { result ≡ lacks_sequence schema.now }
+{
+    has_counted(schema.tables.as_slice()) && !has_sequence(schema)
 }

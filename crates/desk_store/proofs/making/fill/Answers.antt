@@ -1,4 +1,4 @@
-use Rattle.std.proofs.Common.{arith, true, ◌≡◌}
+use Rattle.std.proofs.Common.{arith}
 use Rattle.sqlite.specs.State.{HasCleanDisk}
 use Rattle.sqlite.specs.Held.{state}
 use Rattle.desk_store.proofs.MadeLemmas.{fills}

@@ -1,4 +1,4 @@
-use Rattle.std.proofs.Common.{rules, ◌≡◌, ◌++◌, ◌∷◌, [], List, subst}
+use Rattle.std.proofs.Common.{rules, ◌≡◌, List}
 use Rattle.sqlite.specs.Order.{column}
 use Rattle.messages.specs.declared.message.Message.{Message}
 use Rattle.std.proofs.Common.{take, ◌+◌}
