@@ -50,7 +50,7 @@ own_reverse Less is = cc
 own_reverse Equal is = refl
 own_reverse Greater is = cc
 
-is_itself : (t : List ℕ) → is_eq (slice_cmp nat_cmp t t) ≡ true
+pub is_itself : (t : List ℕ) → is_eq (slice_cmp nat_cmp t t) ≡ true
 is_itself t = ap is_eq (own_reverse (slice_cmp nat_cmp t t) (nat_list_cmp_total.antisymm t t))
 
 from_is_eq : (o : Ordering) → is_eq o ≡ true → o ≡ Equal

@@ -1,2 +1,27 @@
 pub mod CollectedLemmas
 pub mod MemoryLemmas
+-- what the SQL texts mean
+pub mod Layers
+pub mod Exists
+pub mod Selects
+pub mod QueriesOf
+pub mod Inserts
+pub mod Missing
+pub mod Creates
+-- what they do
+pub mod TextSets
+pub mod LookupLemmas
+pub mod Steps
+pub mod AddLemmas
+pub mod OpenLemmas
+pub mod StepLemmas
+pub mod ListLemmas
+pub mod RosterLemmas
+pub mod ReadingLemmas
+pub mod QueryLemmas
+pub mod LookLemmas
+pub mod RecognizedLemmas
+-- how a desk is made
+pub mod Grown
+pub mod Makes
+pub mod MadeLemmas

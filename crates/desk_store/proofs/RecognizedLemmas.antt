@@ -1,0 +1,68 @@
+-- A table that is found by name is the desk's, where the schema has a desk's.
+use Rattle.std.proofs.Common.{inl, inr, ◌≡◌, ◌==◌, ◌^◌, nat_le, ℕ, List, length, false, find, slice_get, option_copied, Option, Some, None, codes, refl, sym, ap, subst, ◌∙◌, IsTrue}
+use Rattle.std.proofs.lemmas.Bool.Decides.{eqb_tells}
+use Rattle.std.proofs.lemmas.Option.{slice_get_read}
+use Rattle.std.specs.Slice.{IsItemAt}
+use denote.Ref.{Bor}
+use Rattle.sqlite.specs.Schema.{Schema}
+use Rattle.sqlite.specs.Table.{Table}
+use Rattle.sqlite_schema.specs.Names.{table_named}
+use Rattle.desk_store.specs.DeskTables.{desk_at, messages_at}
+use Rattle.desk_store.specs.Stored.{Finds, HasDesk, tree_of}
+use Rattle.desk_store.specs.private.Recognized.{FindsDesk, FindsMessages}
+
+-- what a slice lends is what stands at the place
+pub lent_at : (ts all : List Table) (at : ℕ) (r : Option (Bor Table)) (t : Bor Table) → ts ≡ all → IsItemAt ts at r → r ≡ Some t → slice_get all at ≡ Some t.now
+lent_at ts all at None t same item is = let e : ◌≡◌ {A = Option (Bor Table)} None (Some t) = is in absurd cc
+lent_at ts all at (Some x) t same item is =
+    let one : x ≡ t = cc in
+    let has : slice_get ts at ≡ Some x.now = slice_get_read ts (length ts) at x.now refl item.3.0 item.1 in
+    ap (λ us. slice_get us at) (sym same) ∙ has ∙ ap (λ (y : Bor Table). Some y.now) one
+
+module _ (name : List ℕ) (made : ℕ → Table) (tree_is : (n : ℕ) → (made n).tree ≡ n) where
+  -- what is found by name is found by its tree, and is the table that it should be
+  pub the_table : (s : Schema) (at : ℕ) (t : Table) (tree there : ℕ) → Finds s name there (made tree) → table_named s name ≡ Some at → slice_get s.tables at ≡ Some t
+      → (find (λ (u : Table). u.tree == t.tree) s.tables ≡ Some t) × (t ≡ made t.tree) × (nat_le (2 ^ 31) t.tree ≡ false)
+  the_table s at t tree there it named has =
+      let both : Some there ≡ Some at = sym it.named ∙ named in
+      let place : there ≡ at = cc in
+      let two : Some (made tree) ≡ Some t = sym it.has ∙ ap (slice_get s.tables) place ∙ has in
+      let same : made tree ≡ t = cc in
+      let P : Table → Type 0 = λ x. (find (λ (u : Table). u.tree == x.tree) s.tables ≡ Some x) × (x ≡ made x.tree) × (nat_le (2 ^ 31) x.tree ≡ false) in
+      subst P same (it.by_tree, ap made (sym (tree_is tree)), it.stored)
+
+  -- the first table of that tree is then this one
+  pub the_first : (s : Schema) (ts : List Table) (at tree there : ℕ) (got : Option (Bor Table)) (t : Bor Table) (first : Option (Bor Table)) → ts ≡ s.tables → Finds s name there (made tree)
+      → table_named s name ≡ Some at → IsItemAt ts at got → got ≡ Some t → option_copied first ≡ find (λ (u : Table). u.tree == t.now.tree) ts → (option_copied first ≡ Some t.now) × (t.now ≡ made t.now.tree)
+  the_first s ts at tree there got t first same it named item is found =
+      let all = the_table s at t.now tree there it named (lent_at ts s.tables at got t same item is) in
+      (found ∙ ap (find (λ (u : Table). u.tree == t.now.tree)) same ∙ all.0, all.1)
+
+pub first_desk : (s : Schema) (ts : List Table) (at : ℕ) (got : Option (Bor Table)) (t : Bor Table) (first : Option (Bor Table)) → ts ≡ s.tables → FindsDesk s → table_named s (codes "desk") ≡ Some at
+    → IsItemAt ts at got → got ≡ Some t → option_copied first ≡ find (λ (u : Table). u.tree == t.now.tree) ts → (option_copied first ≡ Some t.now) × (t.now ≡ desk_at t.now.tree)
+first_desk s ts at got t first same it = the_first (codes "desk") desk_at (λ n. refl) s ts at it.1 it.0 got t first same it.2
+
+pub first_messages : (s : Schema) (ts : List Table) (at : ℕ) (got : Option (Bor Table)) (t : Bor Table) (first : Option (Bor Table)) → ts ≡ s.tables → FindsMessages s → table_named s (codes "messages") ≡ Some at
+    → IsItemAt ts at got → got ≡ Some t → option_copied first ≡ find (λ (u : Table). u.tree == t.now.tree) ts → (option_copied first ≡ Some t.now) × (t.now ≡ messages_at t.now.tree)
+first_messages s ts at got t first same it = the_first (codes "messages") messages_at (λ n. refl) s ts at it.1 it.0 got t first same it.2
+
+pub one_table : (a b : Table) → ◌≡◌ {A = Option Table} (Some a) (Some b) → a ≡ b
+one_table a b e = cc
+
+pub no_table : {P : Type 0} (o : Option Table) (t : Table) → o ≡ None → o ≡ Some t → P
+no_table o t none some = let e : ◌≡◌ {A = Option Table} None (Some t) = sym none ∙ some in absurd cc
+
+pub same_number : (m : ℕ) → IsTrue (m == m)
+same_number m = elim (eqb_tells m m) [ inl is ↦ is.0 | inr apart ↦ absurd (apart.1 refl) ]
+
+pub tree_of_found : (s : Schema) (name : List ℕ) (at : ℕ) (t : Table) → Finds s name at t → tree_of s name ≡ t.tree
+tree_of_found s name at t it = rw (it.named, it.has) refl
+
+-- the two tables are a desk's
+pub has_both : (s : Schema) → FindsDesk s → FindsMessages s → HasDesk s
+has_both s a b = record {
+  d = a.0;
+  m = b.0;
+  desk = subst (λ n. Finds s (codes "desk") a.0 (desk_at n)) (sym (tree_of_found s (codes "desk") a.0 (desk_at a.1) a.2)) a.2;
+  messages = subst (λ n. Finds s (codes "messages") b.0 (messages_at n)) (sym (tree_of_found s (codes "messages") b.0 (messages_at b.1) b.2)) b.2;
+}

@@ -1,0 +1,35 @@
+use Rattle.std.proofs.Common.{rules, ◌≡◌, Some, subst}
+use Rattle.std.specs.Prelude.{string_bytes}
+use Rattle.sqlite.specs.Effect.{Database}
+use Rattle.sqlite.specs.Held.{state}
+use Rattle.desk_store.specs.Stored.{HasDesk}
+use Rattle.desk_store.specs.private.Statements.{ShowsBodies, ShowsMark, shown_mark}
+use Rattle.desk_store.specs.private.Reading.{AreBodies, HasForeign}
+use Rattle.desk_store.proofs.LookLemmas.{tells_desk, tells_foreign}
+use Rattle.desk_store.proofs.sqlite_keeper.SqliteKeeperKeeper.look.Goals as goal
+
+pub returns-in-Some-2-clause-found : goal.returns-in-Some-2-clause-found
+returns-in-Some-2-clause-found g c up =
+    let db = (state g.S.Store c.args.self.now.conn).now in
+    let between = (state g.S.Store c.select_desk.new.conn).now in
+    let before = c.in-Ok-select_bodies.ensures.was_up up in
+    let has : HasDesk db.schema = search rules in
+    let same : between ≡ db = c.in-Ok.ensures.same before in
+    let mark : ShowsMark db c.in-Ok.rows.items = search rules in
+    let marked : shown_mark c.in-Ok.rows.items ≡ Some (string_bytes c.in-Some.roster) = search rules in
+    let shows : ShowsBodies between c.in-Ok-select_bodies.rows.items = search rules in
+    let P : Database → Type 0 = λ d. ShowsBodies d c.in-Ok-select_bodies.rows.items in
+    let are : AreBodies c.in-Ok-select_bodies.rows.items c.in-Some-2.field-0.items = search rules in
+    tells_desk db c.in-Ok.rows.items c.in-Ok-select_bodies.rows.items c.in-Some.roster c.in-Some-2.field-0.items has mark marked (subst P same shows) are
+
+pub returns-clause-found : goal.returns-clause-found
+returns-clause-found g c up =
+    let db = (state g.S.Store c.args.self.now.conn).now in
+    let between = (state g.S.Store c.select_desk.new.conn).now in
+    let before = c.in-Ok-select_bodies.ensures.was_up up in
+    let has : HasDesk db.schema = search rules in
+    let same : between ≡ db = c.in-Ok.ensures.same before in
+    let shows : ShowsBodies between c.in-Ok-select_bodies.rows.items = search rules in
+    let P : Database → Type 0 = λ d. ShowsBodies d c.in-Ok-select_bodies.rows.items in
+    let foreign : HasForeign c.in-Ok-select_bodies.rows.items = search rules in
+    tells_foreign db c.in-Ok-select_bodies.rows.items has (subst P same shows) foreign

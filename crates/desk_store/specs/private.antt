@@ -1,0 +1,6 @@
+pub mod Props
+pub mod Reading
+pub mod Recognized
+pub mod Statements
+pub mod Making
+pub mod SqliteLaws

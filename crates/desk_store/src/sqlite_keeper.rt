@@ -1,0 +1,204 @@
+//! A keeper over a database.
+
+ghost use Rattle.std.specs.Prelude.{◌≡◌, ◌≤◌, false};
+ghost use Rattle.sqlite.specs.State.{HasCleanDisk};
+ghost use Rattle.sqlite.specs.Held.{state};
+ghost use Rattle.desk_store.specs.Keeping.{HasFailed};
+ghost use Rattle.desk_store.specs.Sets.{Lists};
+ghost use Rattle.desk_store.specs.Stored.{HoldsText, IsDeskDatabase, IsFree, content_of};
+ghost use Rattle.desk_store.specs.SqliteStates.{IsUp, Rests};
+ghost use Rattle.desk_store.specs.private.Props.{Rests-prop};
+ghost use Rattle.desk_store.specs.private.SqliteLaws as laws;
+
+use crate::error::KeeperError;
+use crate::found::Found;
+use crate::keeper::Keeper;
+use crate::making::create;
+use crate::reading::{messages_in, roster_of};
+use crate::recognize::{has_desk, is_free, lacks_sequence};
+use crate::statements::{insert, select_bodies, select_desk};
+use messages::{Message, text};
+use sqlite::{Alter, Connection, Error, ErrorCode};
+use std::alloc::Global;
+
+/// The longest text that is read as a message again.
+const MOST_BYTES: usize = 16_384;
+
+/// A desk in a database over any store, or a database that has none. Between calls all that it shows is committed.
+///
+/// It counts a failure for each call that the database refuses, for whatever reason, and where the database holds what no desk writes.
+pub struct SqliteKeeper<S: Alter> {
+    alloc: Global,
+    conn: Connection<S>,
+    messages: Vec<Message>,
+    failed: u64,
+    ghost rests: { Rests (state S.Store conn) } by { Rests-prop (state S.Store conn) },
+}
+
+impl<S: Alter> SqliteKeeper<S> {
+    /// A keeper of what the database keeps. The connection is in no transaction. It takes no memory.
+    pub fn new(alloc: Global, conn: Connection<S>) -> SqliteKeeper<S>
+        requires { conn.in_transaction ≡ false }
+        ensures same { result.conn ≡ conn }
+    {
+        let _committed = conn.is_autocommit();
+        SqliteKeeper {
+            alloc,
+            conn,
+            messages: Vec::new(alloc),
+            failed: 0,
+        }
+    }
+
+    /// Gives the connection back, with what the database keeps.
+    pub fn into_connection(self) -> Connection<S>
+        ensures same { result ≡ self.conn }
+        ensures rests { Rests (state S.Store result) }
+    {
+        let SqliteKeeper {
+            alloc: _,
+            conn,
+            messages: _,
+            failed: _,
+        } = self;
+        conn
+    }
+}
+
+impl<S: Alter + Drop> Drop for SqliteKeeper<S> {
+    fn drop(self) {
+        let SqliteKeeper {
+            alloc: _,
+            conn: _,
+            messages: _,
+            failed: _,
+        } = self;
+    }
+}
+
+/// Counts a failure, and tells its cause.
+fn told(failed: &mut u64, error: Error) -> KeeperError
+    ensures failed { HasFailed failed.old failed.new }
+    ensures counts { failed.old ≤ failed.new }
+{
+    *failed = failed.saturating_add(1);
+    match error {
+        Error::SqliteFailure(ErrorCode::OutOfMemory) => KeeperError::NoMemory,
+        _ => KeeperError::Storage,
+    }
+}
+
+/// Counts a failure of the storage.
+fn storage(failed: &mut u64) -> KeeperError
+    ensures failed { HasFailed failed.old failed.new }
+    ensures counts { failed.old ≤ failed.new }
+{
+    *failed = failed.saturating_add(1);
+    KeeperError::Storage
+}
+
+impl<S: Alter> Keeper for SqliteKeeper<S> {
+    ghost is_empty = { λ k. IsFree (state S.Store k.conn).now.schema };
+
+    ghost is_desk = { λ k. IsDeskDatabase (state S.Store k.conn).now };
+
+    ghost roster = { λ k. (content_of (state S.Store k.conn).now).roster };
+
+    ghost holds = { λ k. HoldsText (state S.Store k.conn).now };
+
+    ghost is_loaded = { λ k. Lists (HoldsText (state S.Store k.conn).now) k.messages.items };
+
+    ghost is_up = { λ k. IsUp (state S.Store k.conn) };
+
+    ghost is_clean = { λ k. HasCleanDisk (state S.Store k.conn) };
+
+    ghost failures = { λ k. k.failed };
+
+    ghost is_same = { λ a b. (state S.Store b.conn).now ≡ (state S.Store a.conn).now };
+
+    ghost holds_messages = { λ k m held. held.0 };
+
+    ghost same_itself = { λ a. laws.same_itself _ };
+
+    ghost same_back = { λ a b same. laws.same_back _ _ same };
+
+    ghost same_on = { λ a b c first second. laws.same_on _ _ _ first second };
+
+    ghost stays_empty = { λ a b same empty. laws.stays_empty _ _ same empty };
+
+    ghost stays_desk = { λ a b same desk. laws.stays_desk _ _ same desk };
+
+    ghost stays_roster = { λ a b same desk. laws.stays_roster _ _ same };
+
+    ghost stays_set = { λ a b same desk. laws.stays_set _ _ same };
+
+    fn look(&mut self) -> Result<Found, KeeperError> {
+        let schema = self.conn.schema();
+        if is_free(schema) {
+            return Ok(Found::Empty);
+        }
+        if !has_desk(schema) {
+            return Ok(Found::NotADesk);
+        }
+        let rows = match select_desk(&mut self.conn) {
+            Ok(rows) => rows,
+            Err(error) => return Err(told(&mut self.failed, error)),
+        };
+        let Some(roster) = roster_of(self.alloc, rows.as_slice())? else {
+            return Ok(Found::NotADesk);
+        };
+        let rows = match select_bodies(&mut self.conn) {
+            Ok(rows) => rows,
+            Err(error) => return Err(told(&mut self.failed, error)),
+        };
+        match messages_in(self.alloc, rows.as_slice())? {
+            Some(_) => Ok(Found::Desk(roster)),
+            None => Ok(Found::NotADesk),
+        }
+    }
+
+    /// A database is refused, as what fails is, that counts by AUTOINCREMENT without the table of the counts.
+    fn make(&mut self, text: &str) -> Result<(), KeeperError> {
+        if !self.conn.is_autocommit() || lacks_sequence(self.conn.schema()) {
+            return Err(storage(&mut self.failed));
+        }
+        match create(&mut self.conn, text) {
+            Ok(()) => Ok(()),
+            Err(error) => Err(told(&mut self.failed, error)),
+        }
+    }
+
+    /// A message whose text is longer than what is read as one is refused, as what a database refuses is.
+    fn add(&mut self, message: Message) -> Result<(), KeeperError> {
+        let body = text(self.alloc, &message)?;
+        if body.as_bytes().len() > MOST_BYTES {
+            return Err(storage(&mut self.failed));
+        }
+        match insert(&mut self.conn, body.as_str()) {
+            Ok(_) => Ok(()),
+            Err(error) => Err(told(&mut self.failed, error)),
+        }
+    }
+
+    fn load(&mut self) -> Result<(), KeeperError> {
+        let rows = match select_bodies(&mut self.conn) {
+            Ok(rows) => rows,
+            Err(error) => return Err(told(&mut self.failed, error)),
+        };
+        match messages_in(self.alloc, rows.as_slice())? {
+            Some(messages) => {
+                self.messages = messages;
+                Ok(())
+            }
+            None => Err(storage(&mut self.failed)),
+        }
+    }
+
+    fn messages(&self) -> &[Message] {
+        self.messages.as_slice()
+    }
+
+    fn failures(&self) -> u64 {
+        self.failed
+    }
+}
