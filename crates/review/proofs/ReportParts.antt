@@ -47,24 +47,6 @@ module _ (f : RosterFields Cmnd) (set : List Message) (name : RequestName) (old 
     record { status = status; status_is = is; lines_are = subst (λ (b : Bool). BarredLines f set name b lines) (sym opened) (q, only, under) },
   )
 
--- what is in force, or open, is not disputed
-pub in_force_alone : (f : RosterFields Cmnd) (set : List Message) (name : RequestName) (at : ℕ) (w : Window) (status : Status) → IsStatus f set name status → window_at at status ≡ Some w → IsDisputed set name → ⊥
-in_force_alone f set name at w Disputed is e d = absurd cc
-in_force_alone f set name at w Lapsed is e d = absurd cc
-in_force_alone f set name at w Refused is e d = absurd cc
-in_force_alone f set name at w Waiting is e d = absurd cc
-in_force_alone f set name at w Void is e d = absurd cc
-in_force_alone f set name at w (Granted v) is e d =
-    let same : ◌≡◌ {A = Status} (Granted v) Disputed = one_status f set name (Granted v) Disputed is d in absurd cc
-
-open_differs : (a b : Status) → a ≡ b → is_open a ≡ is_open b
-open_differs a b same = ap is_open same
-
-pub open_alone : (f : RosterFields Cmnd) (set : List Message) (name : RequestName) (status : Status) → IsStatus f set name status → is_open status ≡ true → IsDisputed set name → ⊥
-open_alone f set name status is opened d =
-    let same : is_open status ≡ false = open_differs status Disputed (one_status f set name status Disputed is d) in
-    let both : true ≡ false = sym opened ∙ same in cc
-
 -- what is open has a ceiling
 admitted_ceiling : (f : RosterFields Cmnd) (q : RequestFields) → AdmitsRequest f q → ceiling_at f q.ceiling ≡ None → ⊥
 admitted_ceiling f q admits none =

@@ -10,5 +10,6 @@ pub mod Needs
 pub mod Columns
 pub mod Barred
 pub mod Report
+pub mod WorkedReport
 pub mod Gathering
 pub mod Reporting

@@ -34,6 +34,6 @@ pub use laws::{
     each_target_has_a_case, each_user_has_a_case, nothing_beyond_a_third, nothing_beyond_itself,
     one_list_of_each, wider_scope, worked_beyond,
 };
-pub use report_laws::{barred_changes_nothing, needless_gives_nothing, one_report};
+pub use report_laws::{barred_changes_nothing, needless_gives_nothing, one_report, worked_lines};
 pub use reporting::report;
 pub use scope::Scope;

@@ -1,6 +1,7 @@
 //! Laws of reports, each the contract of a function that does nothing.
 
-ghost use Rattle.std.specs.Prelude.{◌≡◌, ◌↔◌, ℕ, ◌++◌, List, [], ◌∷◌, Contains, Some, None, true, false};
+ghost use Rattle.std.specs.Prelude.{◌≡◌, ◌↔◌, ℕ, ◌++◌, List, [], ◌∷◌, Contains, Some, None, codes, map, true, false};
+ghost use Rattle.std.specs.List.{flat_map};
 ghost use Rattle.sudo_words.specs.declared.cmnd.Cmnd.{Cmnd};
 ghost use Rattle.sudo_syntax.specs.declared.entry.Entry.{Entry};
 ghost use Rattle.sudo_decide.specs.declared.invocation.Invocation.{Invocation};
@@ -17,11 +18,15 @@ ghost use Rattle.grants.specs.declared.outcome.Status.{Status};
 ghost use Rattle.grants.specs.declared.outcome.Window.{Window};
 ghost use Rattle.review.specs.declared.need.Need.{Need};
 ghost use Rattle.review.specs.declared.need.Need.TheVariants.{Needless};
+ghost use Rattle.grants.specs.WorkedAdmission.{asked};
+ghost use Rattle.grants.specs.WorkedStatuses.{by_two, team};
 ghost use Rattle.review.specs.declared.reason.Reason.{Reason};
+ghost use Rattle.review.specs.declared.reason.Reason.TheVariants.{Asker, Duty, Conflict};
 ghost use Rattle.review.specs.Barred.{reason};
 ghost use Rattle.review.specs.Beyond.{Allows, IsInvocation};
 ghost use Rattle.review.specs.Needs.{IsNeed, own_policy};
-ghost use Rattle.review.specs.Report.{IsReport};
+ghost use Rattle.review.specs.Report.{IsReport, broad_for, lesser_first};
+ghost use Rattle.review.specs.WorkedReport.{lesser_first_pairs, team_text, three_commands};
 
 /// Two lists of the same messages have one report at a moment: neither order nor repeats mean anything.
 pub fn one_report()
@@ -47,4 +52,13 @@ pub fn barred_changes_nothing()
     ensures nothing { (f : RosterFields Cmnd) (set : List Message) (q : RequestFields) (c : CeilingFields Cmnd) (v : VerdictFields) (why : Reason) (name : RequestName) (status : Status) →
         StandsAlone set q → ceiling_at f q.ceiling ≡ Some c → reason f c q.by v.by ≡ Some why → IsAbout q v → v.kind ≡ Approve →
         IsStatus f set name status ↔ IsStatus f (set ++ Verdict v ∷ []) name status }
+{}
+
+/// Worked lines: the text of a report with a grant, an approval that does not count and a holder of two conflicting duties; why
+/// four people's approvals do not count, or nothing; and which of three commands are broad.
+pub fn worked_lines()
+    ensures text { team_text ≡ codes "REVIEW 19700101093000Z\nLIVE\nann                                      7 db-root                          19700101091000Z 19700101110000Z needed\nBARRED\nann                                      7 carol                            conflict\nCONFLICTS\ncarol                            approve                          audit\nBROAD\nPARKED\n" }
+    ensures pairs { map lesser_first team.conflicts ≡ lesser_first_pairs }
+    ensures reasons { map (reason team by_two (codes "ann")) (codes "ann" ∷ codes "eve" ∷ codes "carol" ∷ codes "bob" ∷ []) ≡ Some Asker ∷ Some Duty ∷ Some Conflict ∷ None ∷ [] }
+    ensures broad { flat_map (broad_for asked) three_commands ≡ codes "ann                                      7 ALL" ∷ codes "ann                                      7 /usr/bin/" ∷ [] }
 {}
