@@ -40,6 +40,7 @@ impl<S: Alter> SqliteKeeper<S> {
     pub fn new(alloc: Global, conn: Connection<S>) -> SqliteKeeper<S>
         requires { conn.in_transaction ≡ false }
         ensures same { result.conn ≡ conn }
+        ensures none { result.failed ≡ 0 }
     {
         let _committed = conn.is_autocommit();
         SqliteKeeper {
