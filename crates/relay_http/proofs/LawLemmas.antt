@@ -6,7 +6,7 @@ use Rattle.std.proofs.lemmas.Slice.Eq.{bytes_eq-Decides}
 use Rattle.matchit.specs.Router.{RouteOf}
 use Rattle.matchit.specs.Seek.{first}
 use Rattle.relay_http.specs.Asked.{Asked, Request, deliver, grants, parked, host_file, refused}
-use Rattle.relay_http.specs.Content.{by_lengths, content, is_length, most_content, sized}
+use Rattle.relay_http.specs.Content.{by_lengths, content, content_of, is_length, most_content, sized}
 use Rattle.relay_http.specs.Fields.{Fields, values, is_bad_host}
 use Rattle.relay_http.specs.Routes.{routes, part}
 use Rattle.relay_http.specs.Target.{is_plain}
@@ -108,3 +108,43 @@ pub only_post_delivers : (method target : List ℕ) (minor : ℕ) (fields : Fiel
     → (method ≡ codes "POST") × (length body ≤ 16384) × (body ≡ take (length body) rest)
 only_post_delivers method target minor fields rest relay body e =
     subst (λ (a : Asked (List ℕ)). IsPosted method rest a) e (posted_by rest method target minor fields)
+
+-- what is said of the route of a delivery
+abbrev IsOfMessages : Option (RouteOf Place) → Asked (List ℕ) → Type 0
+IsOfMessages found (deliver relay body) = (route : RouteOf Place) × (found ≡ Some route) × (route.value ≡ Messages)
+IsOfMessages found (grants at) = Unit {0}
+IsOfMessages found parked = Unit {0}
+IsOfMessages found (host_file host) = Unit {0}
+IsOfMessages found (refused fault) = Unit {0}
+
+messages_delivered : (route : RouteOf Place) (relay : List ℕ) → route.value ≡ Messages → (found : Result (List ℕ) RequestFault)
+    → IsOfMessages (Some route) (delivered relay found)
+messages_delivered route relay is (Ok body) = (route, refl, is)
+messages_delivered route relay is (Err fault) = tt
+
+module _ (method target rest : List ℕ) (fields : Fields) where
+  messages_at : (route : RouteOf Place) (named : List ℕ → List ℕ) (place : Place) → route.value ≡ place
+      → (b : Bool) → IsOfMessages (Some route) (cond b (sought place named fields rest) (refused (BadMethod (methods_of place))))
+  messages_at route named place is false = tt
+  messages_at route named Messages is true = messages_delivered route (named (codes "relay")) is (content_of fields rest)
+  messages_at route named Grants is true = tt
+  messages_at route named Parked is true = tt
+  messages_at route named HostFile is true = tt
+
+  messages_on : (found : Option (RouteOf Place)) → IsOfMessages found (on_route found method target fields rest)
+  messages_on None = tt
+  messages_on (Some route) = messages_at route (λ name. part name route target) route.value refl (allow (methods_of route.value) method)
+
+  messages_by : (minor : ℕ) → IsOfMessages (first routes target) (asked_by method target minor fields rest)
+  messages_by minor = by (is_bad_host minor (values (codes "host") fields)) (not (is_plain target))
+    where
+      by : (a b : Bool) → IsOfMessages (first routes target) (cond a (refused BadHead) (cond b (refused BadTarget) (on_route (first routes target) method target fields rest)))
+      by true b = tt
+      by false true = tt
+      by false false = messages_on (first routes target)
+
+pub only_messages_deliver : (method target : List ℕ) (minor : ℕ) (fields : Fields) (rest relay body : List ℕ)
+    → asked_by method target minor fields rest ≡ deliver relay body
+    → (route : RouteOf Place) × (first routes target ≡ Some route) × (route.value ≡ Messages)
+only_messages_deliver method target minor fields rest relay body e =
+    subst (λ (a : Asked (List ℕ)). IsOfMessages (first routes target) a) e (messages_by method target rest fields minor)

@@ -8,3 +8,4 @@ pub mod ReadingLemmas
 pub mod SentLemmas
 pub mod AnswerLemmas
 pub mod ReplyLemmas
+pub mod ExchangeLemmas

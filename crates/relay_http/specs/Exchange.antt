@@ -1,13 +1,24 @@
--- The answer of a desk to what a request asks.
-use Rattle.std.specs.Prelude.{◌≡◌, ◌⊎◌, ℕ, List}
+-- One exchange: a request's bytes were read, a desk answered, and the reply's bytes were written.
+use Rattle.std.specs.Prelude.{◌≡◌, ◌⊎◌, ℕ, List, Some, true, Result, Ok, Err, codes}
+use Rattle.httparse.specs.Grammar.{RequestHead}
+use Rattle.matchit.specs.Router.{RouteOf}
+use Rattle.matchit.specs.Seek.{first}
 use Rattle.sudo_words.specs.declared.cmnd.Cmnd.{Cmnd}
 use Rattle.sudo_syntax.specs.declared.entry.Entry.{Entry}
 use Rattle.messages.specs.declared.message.Message.{Message}
 use Rattle.roster.specs.Fields.{RosterFields}
 use Rattle.desk_store.specs.Sets.{Lists}
 use Rattle.desk.specs.declared.refusal.Refusal.TheVariants.{Storage}
-use Rattle.relay_http.specs.Asked.{Asked}
+use Rattle.relay_http.specs.Asked.{Asked, Request}
 use Rattle.relay_http.specs.Replies.{Reply, IsReply, IsWanting, Leaves, refusal}
+use Rattle.relay_http.specs.Reply.{written}
+use Rattle.relay_http.specs.Routes.{routes}
+use Rattle.relay_http.specs.Wanted.{HasHead}
+use Rattle.relay_http.specs.declared.place.Place.{Place}
+use Rattle.relay_http.specs.declared.place.Place.TheVariants.{Messages}
+use Rattle.relay_http.specs.declared.serving.ServeFault.{ServeFault}
+use Rattle.relay_http.specs.declared.serving.ServeFault.TheVariants.{ReadFailed, WriteFailed, NoMemory}
+use Rattle.relay_http.specs.declared.status.Status.TheVariants.{Done}
 
 -- The reply of a desk of this roster and base to what is asked. `IsUp` says that the storage was honest and no failure has shut it, `old` and
 -- `new` which messages it holds before and then, `Same` that it keeps what it kept, and `Failed` that its count of failures rose.
@@ -15,3 +26,35 @@ pub record IsAnswered (f : RosterFields Cmnd) (base : List Entry) (IsUp : Type 0
   pub right : (set : List Message) → IsUp → Lists old set → IsReply f base set asked reply ⊎ IsWanting reply
   pub leaves : IsUp → Leaves Same old new asked reply
   pub cause : reply ≡ refusal Storage → Failed
+
+-- An exchange over such a desk: one reply is its answer, and that reply's bytes were written, as `Wrote` says of them.
+pub record IsExchange (f : RosterFields Cmnd) (base : List Entry) (IsUp : Type 0) (old new : Message → Type 0) (Same Failed : Type 0) (Wrote : List ℕ → Type 0) (request : Request ℕ) : Type 0 where
+  pub reply : Reply
+  pub answered : IsAnswered f base IsUp old new Same Failed request.asked reply
+  pub wrote : Wrote (written reply.status reply.body request.with_body)
+
+-- the bytes begin with the head of a POST, whose target has the route of a relay's messages
+pub record IsPost (bytes : List ℕ) : Type 0 where
+  pub head : RequestHead
+  pub has : HasHead bytes head
+  pub method : head.method ≡ codes "POST"
+  pub route : RouteOf Place
+  pub found : first routes head.target ≡ Some route
+  pub place : route.value ≡ Messages
+
+-- the bytes are such a POST's, and a reply with the status 200 was written
+abbrev pub IsAcknowledged : (bytes : List ℕ) → (Wrote : List ℕ → Type 0) → Type 0
+IsAcknowledged bytes Wrote = IsPost bytes × ((body : List ℕ) × Wrote (written Done body true))
+
+-- a reply was written, or a beginning of it
+abbrev pub HasReplied : {A : Type 0} → Result A ServeFault → Type 0
+HasReplied (Ok a) = Unit {0}
+HasReplied (Err WriteFailed) = Unit {0}
+HasReplied (Err ReadFailed) = ⊥
+HasReplied (Err NoMemory) = ⊥
+
+-- the code and name of a fault of an exchange
+abbrev pub serve_fault_text : ServeFault → List ℕ
+serve_fault_text ReadFailed = codes "H1 ReadFailed"
+serve_fault_text WriteFailed = codes "H2 WriteFailed"
+serve_fault_text NoMemory = codes "H3 NoMemory"

@@ -1,7 +1,9 @@
 //! Laws of the definitions, each the contract of a function that does nothing.
 
-ghost use Rattle.std.specs.Prelude.{◌≡◌, ◌≤◌, ◌++◌, ℕ, List, [], codes, false, length, take, true};
+ghost use Rattle.std.specs.Prelude.{◌≡◌, ◌≤◌, ◌++◌, ℕ, List, [], Some, codes, false, length, take, true};
 ghost use Rattle.httparse.specs.Grammar.{ReadsRequest, RequestHead};
+ghost use Rattle.matchit.specs.Router.{RouteOf};
+ghost use Rattle.matchit.specs.Seek.{first};
 ghost use Rattle.sudo_words.specs.declared.cmnd.Cmnd.{Cmnd as AnyCmnd};
 ghost use Rattle.sudo_syntax.specs.declared.entry.Entry.{Entry};
 ghost use Rattle.messages.specs.declared.message.Message.{Message};
@@ -10,8 +12,11 @@ ghost use Rattle.relay_http.specs.Asked.{Asked, Request, deliver, refused};
 ghost use Rattle.relay_http.specs.Fields.{Fields};
 ghost use Rattle.relay_http.specs.Replies.{Reply, IsReply};
 ghost use Rattle.relay_http.specs.Reply.{written};
+ghost use Rattle.relay_http.specs.Routes.{routes};
 ghost use Rattle.relay_http.specs.Wanted.{Asks, AsksByHead, asked_by, front};
 ghost use Rattle.relay_http.specs.declared.fault.RequestFault.TheVariants.{ShortBody};
+ghost use Rattle.relay_http.specs.declared.place.Place.{Place};
+ghost use Rattle.relay_http.specs.declared.place.Place.TheVariants.{Messages};
 ghost use Rattle.relay_http.specs.declared.status.Status.{Status};
 
 /// Bytes ask for one thing.
@@ -39,11 +44,15 @@ pub fn head_is_get()
     ensures reply { (s : Status) (body : List ℕ) → written s body true ≡ written s body false ++ body }
 {}
 
-/// Nothing but a POST delivers; and what it delivers is a beginning of the bytes after the head, of at most 16,384 bytes.
+/// Nothing but a POST to the route of a relay's messages delivers; and what it delivers is a beginning of the bytes after the head, of at
+/// most 16,384 bytes.
 pub fn only_post_delivers()
-    ensures { (method target : List ℕ) (minor : ℕ) (fields : Fields) (rest relay body : List ℕ)
+    ensures content { (method target : List ℕ) (minor : ℕ) (fields : Fields) (rest relay body : List ℕ)
         → asked_by method target minor fields rest ≡ deliver relay body
         → (method ≡ codes "POST") × (length body ≤ 16384) × (body ≡ take (length body) rest) }
+    ensures route { (method target : List ℕ) (minor : ℕ) (fields : Fields) (rest relay body : List ℕ)
+        → asked_by method target minor fields rest ≡ deliver relay body
+        → (route : RouteOf Place) × (first routes target ≡ Some route) × (route.value ≡ Messages) }
 {}
 
 /// What is asked is decided by the first 24,576 bytes, which is a longest head and a longest content.

@@ -1,5 +1,8 @@
-use Rattle.relay_http.proofs.LawLemmas.{only_post_delivers}
+use Rattle.relay_http.proofs.LawLemmas.{only_messages_deliver, only_post_delivers}
 use Rattle.relay_http.proofs.laws.only_post_delivers.Goals as goal
 
 pub returns : goal.returns
-returns c = only_post_delivers
+returns c = record {
+  content = only_post_delivers;
+  route = only_messages_deliver;
+}

@@ -1,0 +1,140 @@
+-- What an exchange leaves, by what its bytes ask for.
+use Rattle.std.proofs.Common.{◌≡◌, ◌⊎◌, ◌+◌, ◌<◌, ◌≤◌, ◌∙◌, ℕ, Bool, true, List, ◌++◌, Option, Some, None, IfSome, nat_le, not, sym, ap, subst, refl, inl, inr, drop, take, length, map, arith, codes}
+use Rattle.std.proofs.lemmas.Bool.{cases_Bool, leb-true, leb-false}
+use Rattle.std.proofs.lemmas.List.{take-append-le, take_all}
+use Rattle.std.specs.Prelude.{◌≢◌}
+use Rattle.httparse.specs.Grammar.{RequestHead, print_request}
+use Rattle.httparse.specs.Spans.{name_and_value}
+use Rattle.httparse.proofs.GrammarLemmas.{request_unique}
+use Rattle.sudo_words.specs.declared.cmnd.Cmnd.{Cmnd}
+use Rattle.sudo_syntax.specs.declared.entry.Entry.{Entry}
+use Rattle.messages.specs.declared.message.Message.{Message}
+use Rattle.roster.specs.Fields.{RosterFields}
+use Rattle.desk_store.specs.Keeping.{HasFailed}
+use Rattle.relay_http.specs.Asked.{Asked, Request, deliver, grants, parked, host_file, refused}
+use Rattle.relay_http.specs.Counting.{most_failures, one_failure}
+use Rattle.relay_http.specs.Exchange.{IsAcknowledged, IsExchange, IsPost}
+use Rattle.relay_http.specs.Replies.{Leaves, Reply}
+use Rattle.relay_http.specs.Reply.{written}
+use Rattle.relay_http.specs.Wanted.{Asks, Dates, HasHead, asks_by, front, is_head}
+use Rattle.relay_http.specs.declared.fault.RequestFault.TheVariants.{BadHead}
+use Rattle.relay_http.specs.declared.status.Status.{Status}
+use Rattle.relay_http.specs.declared.status.Status.TheVariants.{Done, BadRequest, Forbidden, NotFound, MethodNotAllowed, LengthRequired, ContentTooLarge, ServiceUnavailable}
+use Rattle.relay_http.proofs.LawLemmas.{only_messages_deliver, only_post_delivers}
+use Rattle.relay_http.proofs.WantedLemmas.{one_request}
+
+-- a failure that is counted is seen in the count
+pub failure_seen : (n : ℕ) → HasFailed n (one_failure n)
+failure_seen n = elim (cases_Bool (nat_le (n + 1) most_failures)) as (λ _. HasFailed n (one_failure n)) [
+  | inl le ↦ inl (let small : n + 1 ≤ most_failures = leb-true (n + 1) most_failures le in omega (arith, small))
+  | inr gt ↦ inr (let large : most_failures < n + 1 = leb-false (n + 1) most_failures gt in omega (arith, large))
+]
+
+-- what was written into a buffer that was lent whole, and is as long as before
+pub asks_lent : (n filled : ℕ) (new rest now : List ℕ) (request : Request ℕ) → now ≡ take n (new ++ rest) → length new ≡ n
+    → Asks (take filled now) request → Asks (take filled new) request
+asks_lent n filled new rest now request is size asks =
+    let lent : now ≡ new = is ∙ take-append-le n new rest (omega (arith, size)) ∙ take_all n new (omega (arith, size)) in
+    subst (λ (l : List ℕ). Asks (take filled l) request) lent asks
+
+-- what holds of the request of the bytes that were read holds of the request of all
+pub holds_of_all : (P : Request ℕ → Type 0) (known : Option (List ℕ)) (bytes : List ℕ) (asked : Request ℕ) → Asks bytes asked
+    → IfSome known (λ all. (request : Request ℕ) → Asks bytes request → Asks all request) → P asked
+    → IfSome known (λ all. (request : Request ℕ) → Asks all request → P request)
+holds_of_all P None bytes asked asks more here = tt
+holds_of_all P (Some all) bytes asked asks more here = λ request wanted. subst P (one_request all asked request (more asked asks) wanted) here
+
+-- ---- deliveries are POSTs to a relay's messages
+
+dated_delivery : (asked : Asked (List ℕ)) (relay body : List ℕ) → Dates asked (deliver relay body) → asked ≡ deliver relay body
+dated_delivery (deliver r b) relay body e =
+    let texts : Asked ℕ → Asked (List ℕ) = λ a. elim a [ deliver x y ↦ deliver x y | grants at ↦ parked | parked ↦ parked | host_file host ↦ parked | refused fault ↦ parked ] in
+    sym (ap texts e)
+dated_delivery (grants at) relay body (inl x) = absurd (let wrong : ◌≡◌ {A = Asked ℕ} (deliver relay body) (grants x.0) = x.2 in cc)
+dated_delivery (grants at) relay body (inr x) = absurd (let wrong = x.1 in cc)
+dated_delivery parked relay body e = absurd cc
+dated_delivery (host_file host) relay body e = absurd cc
+dated_delivery (refused fault) relay body e = absurd cc
+
+delivery_is_post : (bytes : List ℕ) (request : Request ℕ) (relay body : List ℕ) → Asks bytes request → request.asked ≡ deliver relay body
+    → IsPost bytes × (request.with_body ≡ true)
+delivery_is_post bytes request relay body (inl x) e =
+    let h = x.0 in
+    let rest = drop (length (print_request h)) bytes in
+    let fields = map name_and_value h.fields in
+    let is : (asks_by h bytes).asked ≡ deliver relay body =
+    dated_delivery (asks_by h bytes).asked relay body (subst (λ (a : Asked ℕ). Dates (asks_by h bytes).asked a) e x.2.1) in
+    let post = only_post_delivers h.method h.target h.minor fields rest relay body is in
+    let place = only_messages_deliver h.method h.target h.minor fields rest relay body is in (
+      record { head = h; has = x.1; method = post.0; route = place.0; found = place.1; place = place.2 },
+      x.2.0 ∙ ap (λ (m : List ℕ). not (is_head m)) post.0,
+    )
+delivery_is_post bytes request relay body (inr x) e =
+    let wrong : ◌≡◌ {A = Asked ℕ} (refused BadHead) (deliver relay body) = sym (ap (λ (r : Request ℕ). r.asked) x.1) ∙ e in
+    absurd cc
+
+-- ---- what an exchange leaves
+
+is_done : (s : Status) → (s ≡ Done) ⊎ (s ≢ Done)
+is_done Done = inl refl
+is_done BadRequest = inr (λ e. cc)
+is_done Forbidden = inr (λ e. cc)
+is_done NotFound = inr (λ e. cc)
+is_done (MethodNotAllowed methods) = inr (λ e. cc)
+is_done LengthRequired = inr (λ e. cc)
+is_done ContentTooLarge = inr (λ e. cc)
+is_done ServiceUnavailable = inr (λ e. cc)
+
+only_done_leaves : (Same : Type 0) (old new : Message → Type 0) (asked : Asked ℕ) (reply : Reply) → Leaves Same old new asked reply
+    → Same ⊎ ((relay body : List ℕ) × (asked ≡ deliver relay body) × (reply.status ≡ Done))
+only_done_leaves Same old new (deliver relay body) reply left =
+    elim (is_done reply.status) as (λ _. Same ⊎ ((r b : List ℕ) × ◌≡◌ {A = Asked ℕ} (deliver relay body) (deliver r b) × (reply.status ≡ Done))) [
+      | inl done ↦ inr (relay, body, refl, done)
+      | inr other ↦ inl (left.1 other)
+    ]
+only_done_leaves Same old new (grants at) reply left = inl left
+only_done_leaves Same old new parked reply left = inl left
+only_done_leaves Same old new (host_file host) reply left = inl left
+only_done_leaves Same old new (refused fault) reply left = inl left
+
+module _ (f : RosterFields Cmnd) (base : List Entry) (IsUp : Type 0) (old new : Message → Type 0) (Same Failed : Type 0) (Wrote : List ℕ → Type 0) where
+  -- an exchange changes nothing, or it is acknowledged
+  pub changes : (bytes : List ℕ) (request : Request ℕ) → Asks bytes request → IsExchange f base IsUp old new Same Failed Wrote request → IsUp
+      → Same ⊎ IsAcknowledged bytes Wrote
+  changes bytes request asks x up =
+      elim (only_done_leaves Same old new request.asked x.reply (x.answered.leaves up)) as (λ _. Same ⊎ IsAcknowledged bytes Wrote) [
+        | inl same ↦ inl same
+        | inr d ↦ let post = delivery_is_post bytes request d.0 d.1 asks d.2 in
+            inr (
+              post.0,
+              (
+                x.reply.body,
+                subst (λ (b : Bool). Wrote (written Done x.reply.body b)) post.1
+                    (subst (λ (s : Status). Wrote (written s x.reply.body request.with_body)) d.3 x.wrote),
+              ),
+            )
+      ]
+
+  -- the head of another method is none of a POST
+  pub queries : (bytes : List ℕ) (request : Request ℕ) → Asks bytes request → IsExchange f base IsUp old new Same Failed Wrote request → IsUp
+      → (head : RequestHead) → HasHead bytes head → head.method ≢ codes "POST" → Same
+  queries bytes request asks x up head has differs =
+      elim (changes bytes request asks x up) as (λ _. Same) [
+        | inl same ↦ same
+        | inr ack ↦ let one : head ≡ ack.0.head = (request_unique (front bytes) head ack.0.head has.0.0 ack.0.has.0.0 has.0.1 ack.0.has.0.1).0 in
+            absurd (differs (ap (λ (h : RequestHead). h.method) one ∙ ack.0.method))
+      ]
+
+  -- the same, of all the bytes of a stream
+  pub all_changes : (known : Option (List ℕ)) (bytes : List ℕ) (asked : Request ℕ) → Asks bytes asked
+      → IfSome known (λ all. (request : Request ℕ) → Asks bytes request → Asks all request)
+      → IsExchange f base IsUp old new Same Failed Wrote asked → IsUp → IfSome known (λ all. Same ⊎ IsAcknowledged all Wrote)
+  all_changes None bytes asked asks more x up = tt
+  all_changes (Some all) bytes asked asks more x up = changes all asked (more asked asks) x up
+
+  pub all_queries : (known : Option (List ℕ)) (bytes : List ℕ) (asked : Request ℕ) → Asks bytes asked
+      → IfSome known (λ all. (request : Request ℕ) → Asks bytes request → Asks all request)
+      → IsExchange f base IsUp old new Same Failed Wrote asked → IsUp
+      → IfSome known (λ all. (head : RequestHead) → HasHead all head → head.method ≢ codes "POST" → Same)
+  all_queries None bytes asked asks more x up = tt
+  all_queries (Some all) bytes asked asks more x up = queries all asked (more asked asks) x up

@@ -1,0 +1,127 @@
+//! One exchange.
+
+ghost use Rattle.std.specs.Prelude.{◌≡◌, ◌≢◌, ◌⊎◌, ◌≤◌, ℕ, List, Err, IfSome, MatchResult, codes};
+ghost use Rattle.httparse.specs.Grammar.{RequestHead};
+ghost use Rattle.desk.specs.Serving.{IsServed};
+ghost use Rattle.desk_store.specs.Keeping.{HasFailed};
+ghost use Rattle.relay_http.specs.Asked.{Request};
+ghost use Rattle.relay_http.specs.Counting.{one_failure};
+ghost use Rattle.relay_http.specs.Exchange.{HasReplied, IsAcknowledged, IsExchange};
+ghost use Rattle.relay_http.specs.Sent.{Sends};
+ghost use Rattle.relay_http.specs.Wanted.{Asks, HasHead};
+ghost use Rattle.relay_http.specs.declared.serving.ServeFault.TheVariants.{NoMemory, ReadFailed, WriteFailed};
+
+use crate::answering::answered;
+use crate::counted::Counted;
+use crate::reading::{MOST_READ, read_request};
+use crate::request::wanted;
+use crate::routes::Routes;
+use crate::sending::{self, send_reply};
+use desk::{Desk, Keeper};
+use std::alloc::Global;
+use std::error::Error;
+use std::fmt;
+use std::io::{Read, Write};
+
+/// Why an exchange came to no end. It is shown as its code and name.
+#[derive(Clone, Copy, Debug, PartialEq, Eq)]
+pub enum ServeFault {
+    /// A read failed: nothing was written, and nothing was asked of the desk.
+    ReadFailed,
+    /// A write failed, or took nothing: a beginning of the reply went out, and a message that was acknowledged stays.
+    WriteFailed,
+    /// Memory ran out before anything was read.
+    NoMemory,
+}
+
+impl fmt::Display for ServeFault {
+    ghost use Rattle.std.specs.Prelude.{Some};
+    ghost use Rattle.relay_http.specs.Exchange.{serve_fault_text};
+
+    ghost output = { λ e. Some (serve_fault_text e) };
+
+    fn fmt<W: fmt::Write>(&self, f: &mut fmt::Formatter<W>) -> fmt::Result {
+        f.write_str(match self {
+            ServeFault::ReadFailed => "H1 ReadFailed",
+            ServeFault::WriteFailed => "H2 WriteFailed",
+            ServeFault::NoMemory => "H3 NoMemory",
+        })
+    }
+}
+
+impl Error for ServeFault {}
+
+/// Has the desk answer what the bytes ask for, and writes the reply. Once a message is acknowledged no memory is taken.
+fn reply_to<K: Keeper, W: Write>(
+    alloc: Global,
+    routes: &Routes,
+    desk: &mut Desk<K>,
+    writer: &mut Counted<W>,
+    bytes: &[u8],
+) -> Result<(), sending::WriteFailed>
+    ensures exchange { (request : Request ℕ) × Asks bytes.now request
+        × IsExchange desk.old.roster.says desk.old.base (K.is_up desk.new.keeper) (K.holds desk.old.keeper) (K.holds desk.new.keeper)
+        (K.is_same desk.old.keeper desk.new.keeper) (HasFailed (K.failures desk.old.keeper) (K.failures desk.new.keeper))
+        (λ reply. Sends (W.contents writer.old.inner) (W.contents writer.new.inner) result reply) request }
+    ensures counted { MatchResult result (λ _. writer.new.failures ≡ writer.old.failures) (λ _. writer.new.failures ≡ one_failure writer.old.failures) }
+    ensures roster { desk.new.roster ≡ desk.old.roster }
+    ensures base { desk.new.base ≡ desk.old.base }
+    ensures served { IsServed (K.is_up desk.old.keeper) (K.is_clean desk.old.keeper) (K.is_up desk.new.keeper) (K.is_clean desk.new.keeper)
+        (K.failures desk.old.keeper) (K.failures desk.new.keeper) }
+{
+    let wanted = wanted(routes, bytes);
+    let answer = answered(alloc, desk, wanted.ask);
+    send_reply(
+        writer,
+        answer.status,
+        answer.body.as_bytes(),
+        wanted.with_body,
+    )
+}
+
+/// Reads a request, has the desk answer it, and writes the reply.
+///
+/// The buffer and the routes are made before anything is read: where memory is refused for them it is `NoMemory`, and nothing was read.
+/// Want of memory later is a reply of the desk. Once a message is acknowledged no memory is taken.
+pub fn serve_one<K: Keeper, R: Read, W: Write>(
+    alloc: Global,
+    desk: &mut Desk<K>,
+    reader: &mut Counted<R>,
+    writer: &mut Counted<W>,
+) -> Result<(), ServeFault>
+    // The bytes that the reader has left ask for one thing. The desk's reply to it was written, or where a write failed a beginning of it.
+    ensures exchange { HasReplied result → IfSome (R.remaining reader.old.inner) (λ all. (request : Request ℕ) → Asks all request
+        → IsExchange desk.old.roster.says desk.old.base (K.is_up desk.new.keeper) (K.holds desk.old.keeper) (K.holds desk.new.keeper)
+        (K.is_same desk.old.keeper desk.new.keeper) (HasFailed (K.failures desk.old.keeper) (K.failures desk.new.keeper))
+        (λ bytes. Sends (W.contents writer.old.inner) (W.contents writer.new.inner) result bytes) request) }
+    // A GET or HEAD leaves all as it was, and so does each exchange but that of a POST to a relay's messages with the status 200.
+    ensures queries { HasReplied result → K.is_up desk.new.keeper → IfSome (R.remaining reader.old.inner) (λ all. (head : RequestHead) → HasHead all head
+        → head.method ≢ codes "POST" → K.is_same desk.old.keeper desk.new.keeper) }
+    ensures changes { HasReplied result → K.is_up desk.new.keeper → IfSome (R.remaining reader.old.inner) (λ all. K.is_same desk.old.keeper desk.new.keeper
+        ⊎ IsAcknowledged all (λ bytes. Sends (W.contents writer.old.inner) (W.contents writer.new.inner) result bytes)) }
+    ensures unanswered { (result ≡ Err ReadFailed) ⊎ (result ≡ Err NoMemory) → (desk.new ≡ desk.old) × (writer.new ≡ writer.old) }
+    ensures unread { result ≡ Err NoMemory → reader.new ≡ reader.old }
+    ensures read_failed { result ≡ Err ReadFailed → HasFailed reader.old.failures reader.new.failures }
+    ensures write_failed { result ≡ Err WriteFailed → HasFailed writer.old.failures writer.new.failures }
+    ensures roster { desk.new.roster ≡ desk.old.roster }
+    ensures base { desk.new.base ≡ desk.old.base }
+    ensures was_up { K.is_up desk.new.keeper → K.is_up desk.old.keeper }
+    ensures was_clean { K.is_clean desk.new.keeper → K.is_clean desk.old.keeper }
+    ensures shuts { K.is_up desk.old.keeper → K.is_clean desk.new.keeper
+        → K.is_up desk.new.keeper ⊎ HasFailed (K.failures desk.old.keeper) (K.failures desk.new.keeper) }
+    ensures counts { K.failures desk.old.keeper ≤ K.failures desk.new.keeper }
+{
+    let Ok(mut buf) = vec![in alloc; 0; MOST_READ] else {
+        return Err(ServeFault::NoMemory);
+    };
+    let Ok(routes) = Routes::new(alloc) else {
+        return Err(ServeFault::NoMemory);
+    };
+    let Ok(filled) = read_request(&routes, reader, &mut buf) else {
+        return Err(ServeFault::ReadFailed);
+    };
+    match reply_to(alloc, &routes, desk, writer, &buf[..filled]) {
+        Ok(()) => Ok(()),
+        Err(_) => Err(ServeFault::WriteFailed),
+    }
+}
