@@ -96,3 +96,14 @@ are_approvals set q marks list k moved sorted = record {
       Contains-permutation (map shown marks) list (person, moment) moved
       (shown_of_has marks person moment (exactly set q marks marks person moment is k.each (covering set q marks v person k is.given (refl, refl) refl refl)));
 }
+
+-- who has approved has a first approval
+shown_at : (marks : List Mark) (person : List ℕ) (bound : ℕ) → Has (λ s. (s.person ≡ person) × (s.at ≤ bound)) marks → (moment : ℕ) × Has (IsShown person moment) marks
+shown_at [] person bound h = absurd h
+shown_at (r ∷ rs) person bound (inl h) = (r.at, inl (h.0, refl))
+shown_at (r ∷ rs) person bound (inr h) = let found = shown_at rs person bound h in (found.0, inr found.1)
+
+pub has_earliest : (set : List Message) (q : RequestFields) (marks : List Mark) → Keep set q Approve marks → (v : VerdictFields) → Contains set (Verdict v) → IsAbout q v → v.kind ≡ Approve → (moment : ℕ) × IsEarliest set q Approve v.by moment
+has_earliest set q marks k v given about is =
+    let found = shown_at marks v.by v.at (covering set q marks v v.by k given about is refl) in
+    (found.0, earliest set q marks v.by found.0 k found.1)

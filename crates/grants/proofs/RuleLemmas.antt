@@ -6,6 +6,7 @@ use Rattle.std.specs.Str.{bytes_eq}
 use Rattle.std.proofs.lemmas.Slice.Eq.{bytes_eq-Decides}
 use Rattle.std.proofs.lemmas.List.Elements.{All-contains, recursion_from_All}
 use Rattle.sudo_words.specs.Command.{IsLawful}
+use Rattle.sudo_words.specs.Moment.{IsMoment}
 use Rattle.sudo_words.specs.Word.{is_host_name}
 use Rattle.sudo_words.specs.declared.cmnd.Cmnd.{Cmnd}
 use Rattle.sudo_syntax.specs.declared.entry.Rule.{Rule}
@@ -83,10 +84,10 @@ module _ (f : RosterFields Cmnd) (set : List Message) (k : Kept) (stands : Stand
 
 -- ---- they may stand behind a base
 
-module _ (host : List ℕ) (q : RequestFields) (is : IsRequest q) (first last : ℕ) (first_in : first ≤ q.until) (last_in : last ≤ q.until) where
-  each_grants : is_host_name host ≡ true → (cs : List Cmnd) → AllByRecursion IsLawful cs → AllByRecursion IsGrantRule (map (grant_rule host q first last) cs)
-  each_grants named [] lawful = tt
-  each_grants named (c ∷ cs) lawful = (
+module _ (host : List ℕ) (q : RequestFields) (is : IsRequest q) (first last : ℕ) where
+  each_grants : IsMoment first → IsMoment last → is_host_name host ≡ true → (cs : List Cmnd) → AllByRecursion IsLawful cs → AllByRecursion IsGrantRule (map (grant_rule host q first last) cs)
+  each_grants starts ends named [] lawful = tt
+  each_grants starts ends named (c ∷ cs) lawful = (
     record {
       user = q.by;
       host = host;
@@ -98,16 +99,20 @@ module _ (host : List ℕ) (q : RequestFields) (is : IsRequest q) (first last : 
       user_is = is.by;
       host_is = named;
       target_is = is.runas;
-      not_before_is = omega (arith, first_in, is.until);
-      not_after_is = omega (arith, last_in, is.until);
+      not_before_is = starts;
+      not_after_is = ends;
       lawful = lawful.0;
       rule_is = refl;
     },
-    each_grants named cs lawful.1,
+    each_grants starts ends named cs lawful.1,
   )
 
-  pub request_grants : list_any (λ h. bytes_eq h host) q.hosts ≡ true → (rules : List Rule) → rules ≡ map (grant_rule host q first last) q.cmnds → AllByRecursion IsGrantRule rules
-  request_grants among rules e =
-      let named : is_host_name host ≡ true = All-contains (λ (h : List ℕ). is_host_name h ≡ true) q.hosts host is.hosts.1 (member q.hosts host among) in
+  pub span_grants : IsMoment first → IsMoment last → is_host_name host ≡ true → (rules : List Rule) → rules ≡ map (grant_rule host q first last) q.cmnds → AllByRecursion IsGrantRule rules
+  span_grants starts ends named rules e =
       let P : List Rule → Type 0 = λ x. AllByRecursion IsGrantRule x in
-      subst P (sym e) (each_grants named q.cmnds (recursion_from_All IsLawful q.cmnds is.cmnds.1))
+      subst P (sym e) (each_grants starts ends named q.cmnds (recursion_from_All IsLawful q.cmnds is.cmnds.1))
+
+  pub request_grants : first ≤ q.until → last ≤ q.until → list_any (λ h. bytes_eq h host) q.hosts ≡ true → (rules : List Rule) → rules ≡ map (grant_rule host q first last) q.cmnds → AllByRecursion IsGrantRule rules
+  request_grants first_in last_in among rules e =
+      let named : is_host_name host ≡ true = All-contains (λ (h : List ℕ). is_host_name h ≡ true) q.hosts host is.hosts.1 (member q.hosts host among) in
+      span_grants (omega (arith, first_in, is.until)) (omega (arith, last_in, is.until)) named rules e

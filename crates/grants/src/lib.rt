@@ -29,7 +29,7 @@ pub use host_file::host_policy;
 pub use marks::Mark;
 pub use outcome::{Status, Window};
 pub use reached::status;
-pub use rules::rules_of;
+pub use rules::{grant_rules, rules_of};
 pub use status_laws::{
     bounds_of_window, completion_is_nth_smallest, one_status, order_is_free,
     uncounted_changes_nothing, who_does_not_count, worked_statuses,

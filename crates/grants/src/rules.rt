@@ -70,8 +70,8 @@ fn rule_of(
     })
 }
 
-/// The rules of a request's commands, in order.
-fn rules_in(
+/// The rules that a request gives a host while it is in force within the window: one for each of its commands, in order.
+pub fn grant_rules(
     alloc: Global,
     host: &HostName,
     request: &Request,
@@ -98,7 +98,7 @@ fn rules_for(
 {
     match status {
         Status::Granted(window) if request.hosts().contains(host) => {
-            rules_in(alloc, host, request, window)
+            grant_rules(alloc, host, request, window)
         }
         _ => Ok(Vec::new(alloc)),
     }

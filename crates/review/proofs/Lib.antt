@@ -18,3 +18,9 @@ pub mod Theorem
 pub mod OneList
 pub mod PolicyLaws
 pub mod HasCase
+pub mod ReportLists
+pub mod NeedLemmas
+pub mod ReportLaws
+pub mod ReportOne
+pub mod ReportParts
+pub mod Approvers

@@ -73,7 +73,7 @@ each_once {X} {R} total {E} ties equivalence exact standing sorted kept permuted
 pub take_next : {X : Type 0} (xs : List X) (k : ℕ) (x : X) → k < length xs → x ≡ get_or xs k x → take (k + 1) xs ≡ take k xs ++ x ∷ []
 take_next xs k x below is = take_more xs k x below ∙ ap (λ y. take k xs ++ y ∷ []) (sym is)
 
-parts_more : {X Y : Type 0} (IsPart : X → List Y → Type 0) (xs : List X) (x : X) (ys part : List Y) → AreParts IsPart xs ys → IsPart x part → AreParts IsPart (xs ++ x ∷ []) (ys ++ part)
+pub parts_more : {X Y : Type 0} (IsPart : X → List Y → Type 0) (xs : List X) (x : X) (ys part : List Y) → AreParts IsPart xs ys → IsPart x part → AreParts IsPart (xs ++ x ∷ []) (ys ++ part)
 parts_more {X} {Y} IsPart [] x ys part are is = (part, [], ap (λ (zs : List Y). zs ++ part) are ∙ sym (append-nil part), is, refl)
 parts_more {X} {Y} IsPart (y ∷ xs) x ys part are is = (
   are.0,

@@ -23,10 +23,10 @@ use Rattle.review.proofs.Others.{one_first}
 
 -- ---- sorted lists with the same elements
 
-no_element : {X : Type 0} (z : X) → Contains [] z → ⊥
+pub no_element : {X : Type 0} (z : X) → Contains [] z → ⊥
 no_element z none = let low = none.1 in absurd (omega arith)
 
-cons_cases : {X : Type 0} (x : X) (xs : List X) (z : X) → Contains (x ∷ xs) z → (x ≡ z) ⊎ Contains xs z
+pub cons_cases : {X : Type 0} (x : X) (xs : List X) (z : X) → Contains (x ∷ xs) z → (x ≡ z) ⊎ Contains xs z
 cons_cases x xs z there =
     elim (Contains-append_cases (x ∷ []) xs z there) [
       | inl first ↦ elim (Contains-push_cases [] x z first) [ inl none ↦ absurd (no_element z none) | inr same ↦ inl same ]
@@ -40,7 +40,7 @@ module _ {X : Type 0} (R : X → X → Ordering) (total : IsTotalOrder R) where
   below_all : (x : X) (xs : List X) (z : X) → IsStrictlySortedBy R (x ∷ xs) → Contains xs z → R x z ≡ Less
   below_all x xs z sorted there = All-contains (λ y. R x y ≡ Less) xs z (All-from_recursion (λ y. R x y ≡ Less) xs (sorted_head R x xs sorted)) there
 
-  one_sorted : (xs ys : List X) → IsStrictlySortedBy R xs → IsStrictlySortedBy R ys → ((z : X) → Contains xs z → Contains ys z) → ((z : X) → Contains ys z → Contains xs z) → xs ≡ ys
+  pub one_sorted : (xs ys : List X) → IsStrictlySortedBy R xs → IsStrictlySortedBy R ys → ((z : X) → Contains xs z → Contains ys z) → ((z : X) → Contains ys z → Contains xs z) → xs ≡ ys
   one_sorted [] [] sx sy there back = refl
   one_sorted [] (y ∷ ys) sx sy there back = absurd (no_element y (back y (contains_head y ys)))
   one_sorted (x ∷ xs) [] sx sy there back = absurd (no_element x (there x (contains_head x xs)))
@@ -71,7 +71,7 @@ module _ {X : Type 0} (R : X → X → Ordering) (total : IsTotalOrder R) where
       itself : (x z : X) → x ≡ z → R x z ≡ Less → ⊥
       itself x z same low = let own : R z z ≡ Less = subst (λ (w : X). R w z ≡ Less) same low in not_both_below z z own own
 
-  one_once : (standing xs ys : List X) → IsEachOnce R standing xs → IsEachOnce R standing ys → xs ≡ ys
+  pub one_once : (standing xs ys : List X) → IsEachOnce R standing xs → IsEachOnce R standing ys → xs ≡ ys
   one_once standing xs ys once also =
       one_sorted xs ys once.in_order also.in_order (λ z there. also.each z (once.only z there)) (λ z there. once.each z (also.only z there))
 
@@ -89,7 +89,7 @@ one_names None standing xs ys are also =
 
 -- ---- paths with arguments
 
-one_parts : {X Y : Type 0} (IsPart : X → List Y → Type 0) → ((x : X) (ys zs : List Y) → IsPart x ys → IsPart x zs → ys ≡ zs) → (xs : List X) (ys zs : List Y)
+pub one_parts : {X Y : Type 0} (IsPart : X → List Y → Type 0) → ((x : X) (ys zs : List Y) → IsPart x ys → IsPart x zs → ys ≡ zs) → (xs : List X) (ys zs : List Y)
     → AreParts IsPart xs ys → AreParts IsPart xs zs → ys ≡ zs
 one_parts IsPart one [] ys zs are also = are ∙ sym also
 one_parts {X} {Y} IsPart one (x ∷ xs) ys zs are also =

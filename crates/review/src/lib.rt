@@ -1,16 +1,25 @@
-//! Reviews: what one policy allows beyond another.
+//! Reviews: what one policy allows beyond another, and the report of what a set of messages has granted.
 #![tactic(auto)]
 
+mod barred;
+mod broad;
 mod cases;
+mod columns;
 mod commands;
 mod compare;
+mod conflicts;
 mod decided;
 mod fault;
 mod laws;
+mod live;
 mod moments;
 mod names;
+mod need;
 mod order;
 mod other;
+mod reason;
+mod report_laws;
+mod reporting;
 mod run;
 mod runs;
 mod scope;
@@ -25,4 +34,6 @@ pub use laws::{
     each_target_has_a_case, each_user_has_a_case, nothing_beyond_a_third, nothing_beyond_itself,
     one_list_of_each, wider_scope, worked_beyond,
 };
+pub use report_laws::{barred_changes_nothing, needless_gives_nothing, one_report, worked_lines};
+pub use reporting::report;
 pub use scope::Scope;

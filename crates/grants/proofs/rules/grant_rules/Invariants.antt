@@ -1,6 +1,6 @@
 use Rattle.std.proofs.Common.{◌≡◌, map, take}
 use Rattle.grants.specs.GrantRules.{grant_rule}
-use Rattle.grants.proofs.rules.rules_in.Given as goal
+use Rattle.grants.proofs.rules.grant_rules.Given as goal
 
 abbrev pub invariant-loop-cmnd : goal.invariant-loop-cmnd
 invariant-loop-cmnd l =

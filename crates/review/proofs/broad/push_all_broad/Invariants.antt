@@ -1,0 +1,13 @@
+use Rattle.std.proofs.Common.{List, string_bytes, take}
+use Rattle.std.specs.List.{AllByRecursion}
+use Rattle.messages.specs.declared.message.Message.{Message}
+use Rattle.grants.specs.Summaries.{StandsFor}
+use Rattle.review.specs.Cases.{AreParts}
+use Rattle.review.specs.Report.{AreInForce, AreBroadLines}
+use Rattle.review.specs.Reporting.{AddsLines, kept_name}
+use Rattle.review.proofs.broad.push_all_broad.Given as goal
+
+abbrev pub invariant-loop-summary : goal.invariant-loop-summary
+invariant-loop-summary l =
+    (set : List Message) → AllByRecursion (StandsFor set) l.summaries
+    → AddsLines (AreParts (λ k. AreInForce l.roster.says set l.at AreBroadLines (kept_name k)) (take l.summary-index l.summaries)) (string_bytes l.fn.out) (string_bytes l.out)

@@ -1,0 +1,23 @@
+-- The columns of a report's lines, and its lines as one text.
+use Rattle.std.specs.Prelude.{ℕ, ◌-◌, List, ◌++◌, length, replicate, codes, decimal}
+use Rattle.std.specs.List.{flat_map}
+use Rattle.messages.specs.Names.{RequestName}
+
+abbrev pub spaces : ℕ → List ℕ
+spaces count = replicate count 32
+
+-- a word, left in 32 places
+abbrev pub left : List ℕ → List ℕ
+left word = word ++ spaces (32 - length word)
+
+-- a number, right in 9 places
+abbrev pub right : ℕ → List ℕ
+right number = spaces (9 - length (decimal number)) ++ decimal number
+
+-- who asked, and the number of the request
+abbrev pub name_columns : RequestName → List ℕ
+name_columns name = left name.by ++ codes " " ++ right name.no
+
+-- each line with its newline
+abbrev pub lines_text : List (List ℕ) → List ℕ
+lines_text lines = flat_map (λ line. line ++ codes "\n") lines

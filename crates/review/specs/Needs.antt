@@ -1,0 +1,56 @@
+-- What a grant gives beyond the base, on the hosts that it names (least privilege, NIST SP 800-53 AC-6(7)).
+use Rattle.std.specs.Prelude.{ℕ, ◌≤◌, List, Contains, Some, map, codes}
+use Rattle.sudo_syntax.specs.declared.entry.Entry.{Entry}
+use Rattle.sudo_syntax.specs.declared.entry.Entry.TheVariants as entries
+use Rattle.messages.specs.Fields.{RequestFields}
+use Rattle.grants.specs.GrantRules.{grant_rule}
+use Rattle.grants.specs.declared.outcome.Window.{Window}
+use Rattle.review.specs.declared.cases.Cases.{Cases}
+use Rattle.review.specs.declared.need.Need.{Need}
+use Rattle.review.specs.declared.need.Need.TheVariants.{Needed, Needless, Unknown}
+use Rattle.review.specs.declared.scope.Scope.{Scope}
+use Rattle.review.specs.Answer.{AreTooMany, most_cases}
+use Rattle.review.specs.Beyond.{SomethingBeyond}
+use Rattle.review.specs.Cases.{AreCases, product}
+
+-- the rules of a grant on one host, as a policy of their own
+abbrev pub own_policy : RequestFields → Window → (host : List ℕ) → List Entry
+own_policy q w host = map entries.Rule (map (grant_rule host q w.start w.end) q.cmnds)
+
+-- the grant's user, the host and the grant's target are fixed
+abbrev pub grant_scope : RequestFields → (host : List ℕ) → Scope
+grant_scope q host = record { user = Some q.by; host = Some host; runas = Some q.runas }
+
+-- so few cases stand for all invocations that they are tried
+pub record AreFew (s : Scope) (a b : List Entry) : Type 0 where
+  pub cases : Cases
+  pub are_cases : AreCases s a b cases
+  pub few : product cases ≤ most_cases
+
+-- What the first policy is beyond the second: needed where it allows something more, needless where it allows nothing more, and
+-- unknown where there are too many cases to tell.
+abbrev pub IsNeedBeyond : Scope → (a b : List Entry) → Need → Type 0
+IsNeedBeyond s a b Needed = AreFew s a b × SomethingBeyond s a b
+IsNeedBeyond s a b Needless = AreFew s a b × ¬ SomethingBeyond s a b
+IsNeedBeyond s a b Unknown = AreTooMany s a b
+
+-- so it is of the grant on one host, against the base
+abbrev pub IsNeedOn : (base : List Entry) → RequestFields → Window → (host : List ℕ) → Need → Type 0
+IsNeedOn base q w host need = IsNeedBeyond (grant_scope q host) (own_policy q w host) base need
+
+-- Needed where it is so on some host, needless where it is so on each; and else unknown on some.
+abbrev pub IsNeedOver : (On : List ℕ → Need → Type 0) → (hosts : List (List ℕ)) → Need → Type 0
+IsNeedOver On hosts Needed = (host : List ℕ) × Contains hosts host × On host Needed
+IsNeedOver On hosts Needless = (host : List ℕ) → Contains hosts host → On host Needless
+IsNeedOver On hosts Unknown =
+    ((host : List ℕ) × Contains hosts host × On host Unknown) × ((host : List ℕ) → Contains hosts host → ¬ On host Needed)
+
+-- whether the grant is needed, beside the base
+abbrev pub IsNeed : (base : List Entry) → RequestFields → Window → Need → Type 0
+IsNeed base q w need = IsNeedOver (IsNeedOn base q w) q.hosts need
+
+-- how it is written
+abbrev pub need_text : Need → List ℕ
+need_text Needed = codes "needed"
+need_text Needless = codes "needless"
+need_text Unknown = codes "unknown"

@@ -1,0 +1,188 @@
+-- The report of a set of messages at a moment: who holds what, whose approvals did not count and why, who holds conflicting duties,
+-- which grants are broad, and which verdicts wait for their request (NIST SP 800-53 AC-5, AC-6(7)).
+use Rattle.std.specs.Prelude.{◌≡◌, ℕ, ◌&&◌, nat_le, Bool, true, false, List, [], ◌∷◌, ◌++◌, Contains, Option, Some, None, map, if◌then◌else◌, codes}
+use Rattle.std.specs.List.{AllByRecursion, flat_map}
+use Rattle.std.specs.List.Sorted.{IsStrictlySortedBy}
+use Rattle.std.specs.Ordering.{nat_cmp, ordering_then}
+use Rattle.std.specs.declared.cmp.Ordering.{Ordering}
+use Rattle.sudo_words.specs.Command.{cmnd_text}
+use Rattle.sudo_words.specs.Moment.{stamp}
+use Rattle.sudo_words.specs.declared.cmnd.Cmnd.{Cmnd}
+use Rattle.sudo_words.specs.declared.cmnd.Cmnd.TheVariants.{All, Path, Dir}
+use Rattle.sudo_syntax.specs.declared.entry.Entry.{Entry}
+use Rattle.messages.specs.Fields.{RequestFields, VerdictFields}
+use Rattle.messages.specs.Names.{RequestName, IsNamed, IsAbout, name_of}
+use Rattle.messages.specs.Wire.{wire}
+use Rattle.messages.specs.declared.message.Message.{Message}
+use Rattle.messages.specs.declared.message.Message.TheVariants.{Request, Verdict}
+use Rattle.roster.specs.Fields.{CeilingFields, RosterFields}
+use Rattle.roster.specs.Relations.{ceiling_at, holds, is_before, pair_order}
+use Rattle.grants.specs.Statuses.{IsStatus}
+use Rattle.grants.specs.Summaries.{Kept, StandsFor}
+use Rattle.grants.specs.Verdicts.{StandsAlone}
+use Rattle.grants.specs.declared.outcome.Status.{Status}
+use Rattle.grants.specs.declared.outcome.Status.TheVariants.{Disputed, Lapsed, Refused, Waiting, Void, Granted}
+use Rattle.grants.specs.declared.outcome.Window.{Window}
+use Rattle.review.specs.declared.need.Need.{Need}
+use Rattle.review.specs.Barred.{HasApproved, barred_lines}
+use Rattle.review.specs.Cases.{AreParts, IsEachOnce, text_order}
+use Rattle.review.specs.Columns.{left, name_columns, lines_text}
+use Rattle.review.specs.Needs.{IsNeed, need_text}
+
+-- ---- whole lists
+
+-- everything that is so, each once, in order, and nothing else
+pub record AreAll {X : Type 0} (order : X → X → Ordering) (Is : X → Type 0) (list : List X) : Type 0 where
+  pub in_order : IsStrictlySortedBy order list
+  pub each : (x : X) → Contains list x → Is x
+  pub all : (x : X) → Is x → Contains list x
+
+-- names by the asker in byte order, then by number
+abbrev pub name_order : RequestName → RequestName → Ordering
+name_order a b = ordering_then (text_order a.by b.by) (nat_cmp a.no b.no)
+
+-- somebody asks under the name
+pub record IsAsked (messages : List Message) (name : RequestName) : Type 0 where
+  pub request : RequestFields
+  pub asked : Contains messages (Request request)
+  pub named : IsNamed request name
+
+-- ---- what a name comes to has lines or none
+
+-- this is the only request of the name
+pub record IsOnlyRequest (messages : List Message) (name : RequestName) (q : RequestFields) : Type 0 where
+  pub named : IsNamed q name
+  pub alone : StandsAlone messages q
+
+-- the window of what is granted, where it holds the moment
+abbrev pub window_at : ℕ → Status → Option Window
+window_at at Disputed = None
+window_at at Lapsed = None
+window_at at Refused = None
+window_at at Waiting = None
+window_at at Void = None
+window_at at (Granted w) = if nat_le w.start at && nat_le at w.end then Some w else None
+
+-- the lines of a grant that is in force, and none elsewhere
+abbrev pub LinesInForce : (RequestFields → Window → List (List ℕ) → Type 0) → List Message → RequestName → Option Window → List (List ℕ) → Type 0
+LinesInForce Of messages name None lines = lines ≡ []
+LinesInForce Of messages name (Some w) lines = (q : RequestFields) × IsOnlyRequest messages name q × Of q w lines
+
+pub record AreInForce (f : RosterFields Cmnd) (messages : List Message) (at : ℕ) (Of : RequestFields → Window → List (List ℕ) → Type 0) (name : RequestName) (lines : List (List ℕ)) : Type 0 where
+  pub status : Status
+  pub status_is : IsStatus f messages name status
+  pub lines_are : LinesInForce Of messages name (window_at at status) lines
+
+-- ---- LIVE: who asked, the number, the ceiling, the first and the last moment, and whether the grant is needed beside the base
+
+abbrev pub grant_columns : RequestFields → List ℕ
+grant_columns q = name_columns (name_of q) ++ codes " " ++ left q.ceiling
+
+abbrev pub span_columns : Window → List ℕ
+span_columns w = codes " " ++ stamp w.start ++ codes " " ++ stamp w.end ++ codes " "
+
+abbrev pub live_line : RequestFields → Window → Need → List ℕ
+live_line q w need = grant_columns q ++ span_columns w ++ need_text need
+
+abbrev pub IsLiveLine : (base : List Entry) → RequestFields → Window → List (List ℕ) → Type 0
+IsLiveLine base q w lines = (need : Need) × IsNeed base q w need × (lines ≡ live_line q w need ∷ [])
+
+-- ---- BROAD: each command of a grant in force that is ALL or a directory
+
+abbrev pub broad_line : RequestFields → Cmnd → List ℕ
+broad_line q cmnd = name_columns (name_of q) ++ codes " " ++ cmnd_text cmnd
+
+abbrev pub broad_for : RequestFields → Cmnd → List (List ℕ)
+broad_for q All = broad_line q All ∷ []
+broad_for q (Path file rule) = []
+broad_for q (Dir dir) = broad_line q (Dir dir) ∷ []
+
+abbrev pub AreBroadLines : RequestFields → Window → List (List ℕ) → Type 0
+AreBroadLines q w lines = lines ≡ flat_map (broad_for q) q.cmnds
+
+-- ---- BARRED: of a name that is neither disputed nor lapsed, each person who approved and is not eligible, and why
+
+abbrev pub is_open : Status → Bool
+is_open Disputed = false
+is_open Lapsed = false
+is_open Refused = true
+is_open Waiting = true
+is_open Void = true
+is_open (Granted w) = true
+
+pub record AreBarredUnder (f : RosterFields Cmnd) (messages : List Message) (q : RequestFields) (lines : List (List ℕ)) : Type 0 where
+  pub ceiling : CeilingFields Cmnd
+  pub people : List (List ℕ)
+  pub ceiling_is : ceiling_at f q.ceiling ≡ Some ceiling
+  pub people_are : AreAll text_order (HasApproved messages q) people
+  pub lines_are : lines ≡ flat_map (barred_lines f ceiling q) people
+
+abbrev pub BarredLines : RosterFields Cmnd → List Message → RequestName → Bool → List (List ℕ) → Type 0
+BarredLines f messages name false lines = lines ≡ []
+BarredLines f messages name true lines = (q : RequestFields) × IsOnlyRequest messages name q × AreBarredUnder f messages q lines
+
+pub record AreBarred (f : RosterFields Cmnd) (messages : List Message) (name : RequestName) (lines : List (List ℕ)) : Type 0 where
+  pub status : Status
+  pub status_is : IsStatus f messages name status
+  pub lines_are : BarredLines f messages name (is_open status) lines
+
+-- ---- CONFLICTS: each conflicting pair of duties that a person holds, the lesser duty first
+
+abbrev pub lesser_first : List ℕ × List ℕ → List ℕ × List ℕ
+lesser_first pair = if is_before pair.1 pair.0 then (pair.1, pair.0) else pair
+
+abbrev pub ArePairs : RosterFields Cmnd → List (List ℕ × List ℕ) → Type 0
+ArePairs f pairs = IsEachOnce pair_order (map lesser_first f.conflicts) pairs
+
+abbrev pub holds_both : RosterFields Cmnd → (person : List ℕ) → List ℕ × List ℕ → Bool
+holds_both f person pair = holds f person pair.0 && holds f person pair.1
+
+abbrev pub conflict_line : (person : List ℕ) → List ℕ × List ℕ → List ℕ
+conflict_line person pair = left person ++ codes " " ++ left pair.0 ++ codes " " ++ pair.1
+
+abbrev pub conflict_for : RosterFields Cmnd → (person : List ℕ) → List ℕ × List ℕ → List (List ℕ)
+conflict_for f person pair = if holds_both f person pair then conflict_line person pair ∷ [] else []
+
+abbrev pub conflicts_of : RosterFields Cmnd → List (List ℕ × List ℕ) → List ℕ × List (List ℕ) → List (List ℕ)
+conflicts_of f pairs person = flat_map (conflict_for f person.0) pairs
+
+-- ---- PARKED: the texts of the verdicts whose request is not among the messages
+
+pub record IsParkedText (messages : List Message) (text : List ℕ) : Type 0 where
+  pub verdict : VerdictFields
+  pub given : Contains messages (Verdict verdict)
+  pub waits : (q : RequestFields) → Contains messages (Request q) → ¬ IsAbout q verdict
+  pub text_is : text ≡ wire (Verdict verdict)
+
+-- ---- the whole
+
+abbrev pub report_lines : ℕ → (live barred conflicts broad parked : List (List ℕ)) → List (List ℕ)
+report_lines at live barred conflicts broad parked =
+    (codes "REVIEW " ++ stamp at) ∷ codes "LIVE" ∷ live
+    ++ codes "BARRED" ∷ barred
+    ++ codes "CONFLICTS" ∷ conflicts
+    ++ codes "BROAD" ∷ broad
+    ++ codes "PARKED" ∷ parked
+
+-- The report's text. Each part goes over the names that somebody asks under, in their order.
+pub record IsReport (f : RosterFields Cmnd) (base : List Entry) (messages : List Message) (at : ℕ) (text : List ℕ) : Type 0 where
+  pub names : List RequestName
+  pub pairs : List (List ℕ × List ℕ)
+  pub live : List (List ℕ)
+  pub barred : List (List ℕ)
+  pub broad : List (List ℕ)
+  pub parked : List (List ℕ)
+  pub names_are : AreAll name_order (IsAsked messages) names
+  pub pairs_are : ArePairs f pairs
+  pub live_are : AreParts (AreInForce f messages at (IsLiveLine base)) names live
+  pub barred_are : AreParts (AreBarred f messages) names barred
+  pub broad_are : AreParts (AreInForce f messages at AreBroadLines) names broad
+  pub parked_are : AreAll text_order (IsParkedText messages) parked
+  pub text_is : text ≡ lines_text (report_lines at live barred (flat_map (conflicts_of f pairs) f.people) broad parked)
+
+-- ---- what a report is made from
+
+-- The summaries stand for the set: one for each name that somebody asks under, in the order of the names.
+pub record AreSummaries (messages : List Message) (summaries : List Kept) : Type 0 where
+  pub names : AreAll name_order (IsAsked messages) (map (λ k. name_of k.request) summaries)
+  pub stand : AllByRecursion (StandsFor messages) summaries

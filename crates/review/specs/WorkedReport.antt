@@ -1,0 +1,28 @@
+-- Worked lines of a report: of what ann asked of the small team, which is in force from ten past nine to eleven.
+use Rattle.std.specs.Prelude.{ℕ, List, [], ◌∷◌, codes}
+use Rattle.std.specs.List.{flat_map}
+use Rattle.sudo_words.specs.declared.cmnd.Cmnd.{Cmnd}
+use Rattle.sudo_words.specs.declared.cmnd.Cmnd.TheVariants.{All, Dir}
+use Rattle.grants.specs.WorkedAdmission.{asked, file}
+use Rattle.grants.specs.WorkedStatuses.{by_two, team}
+use Rattle.grants.specs.declared.outcome.Window.{Window}
+use Rattle.review.specs.declared.need.Need.TheVariants.{Needed}
+use Rattle.review.specs.Barred.{barred_lines}
+use Rattle.review.specs.Columns.{lines_text}
+use Rattle.review.specs.Report.{conflicts_of, live_line, report_lines}
+
+abbrev pub held : Window
+held = record { start = 33_000; end = 39_600 }
+
+-- the team's pair of conflicting duties, the lesser first
+abbrev pub lesser_first_pairs : List (List ℕ × List ℕ)
+lesser_first_pairs = (codes "approve", codes "audit") ∷ []
+
+-- the grant's line, carol's approval, who may not approve, and her duties
+abbrev pub team_text : List ℕ
+team_text =
+    lines_text (report_lines 34_200 (live_line asked held Needed ∷ []) (barred_lines team by_two asked (codes "carol")) (flat_map (conflicts_of team lesser_first_pairs) team.people) [] [])
+
+-- a command of each kind
+abbrev pub three_commands : List Cmnd
+three_commands = All ∷ file (codes "/bin/ls") ∷ Dir (codes "/usr/bin/") ∷ []

@@ -1,0 +1,94 @@
+//! The commands of grants in force that are ALL or a directory: a report's lines under BROAD.
+
+ghost use Rattle.std.specs.Prelude.{◌≡◌, List, ◌++◌, OnOk, codes, string_bytes};
+ghost use Rattle.std.specs.List.{AllByRecursion, flat_map};
+ghost use Rattle.messages.specs.Names.{name_of};
+ghost use Rattle.messages.specs.declared.message.Message.{Message as AnyMessage};
+ghost use Rattle.grants.specs.Summaries.{StandsFor};
+ghost use Rattle.review.specs.Cases.{AreParts};
+ghost use Rattle.review.specs.Columns.{lines_text, name_columns};
+ghost use Rattle.review.specs.Report as report;
+ghost use Rattle.review.specs.Reporting.{AddsLines, kept_name};
+
+use crate::columns::push_name;
+use crate::live::in_force;
+use grants::Summary;
+use messages::Request;
+use roster::Roster;
+use std::alloc::Global;
+use sudo_words::{Cmnd, Moment, NoMemory};
+
+/// Adds the line of a command of this text.
+fn push_broad_text(
+    alloc: Global,
+    out: &mut String,
+    request: &Request,
+    text: &str,
+) -> Result<(), NoMemory>
+    ensures { OnOk result (string_bytes out.new ≡ string_bytes out.old ++ (name_columns (name_of request.now) ++ codes " " ++ text.now) ++ codes "\n") }
+{
+    push_name(alloc, out, request)?;
+    out.push_str(text)?;
+    out.push_str("\n")?;
+    Ok(())
+}
+
+/// Adds the line of a command, where it is ALL or a directory.
+fn push_broad_line(
+    alloc: Global,
+    out: &mut String,
+    request: &Request,
+    cmnd: &Cmnd,
+) -> Result<(), NoMemory>
+    ensures { OnOk result (string_bytes out.new ≡ string_bytes out.old ++ lines_text (report.broad_for request.now cmnd.now)) }
+{
+    match cmnd {
+        Cmnd::All => push_broad_text(alloc, out, request, "ALL"),
+        Cmnd::Dir(dir) => push_broad_text(alloc, out, request, dir.as_str()),
+        Cmnd::Path(_, _) => Ok(()),
+    }
+}
+
+/// Adds those of a request's commands.
+fn push_broad_lines(alloc: Global, out: &mut String, request: &Request) -> Result<(), NoMemory>
+    ensures { OnOk result (string_bytes out.new ≡ string_bytes out.old ++ lines_text (flat_map (report.broad_for request.now) request.now.cmnds)) }
+{
+    for cmnd in request.cmnds() {
+        push_broad_line(alloc, out, request, cmnd)?;
+    }
+    Ok(())
+}
+
+/// Adds those of a summary's request, where it is in force.
+fn push_broad(
+    alloc: Global,
+    out: &mut String,
+    roster: &Roster,
+    summary: &Summary,
+    at: Moment,
+) -> Result<(), NoMemory>
+    ensures { (set : List AnyMessage) → StandsFor set summary.now
+        → OnOk result (AddsLines (report.AreInForce roster.now.says set at report.AreBroadLines (kept_name summary.now)) (string_bytes out.old) (string_bytes out.new)) }
+{
+    let Some(grant) = in_force(roster, summary, at) else {
+        return Ok(());
+    };
+    push_broad_lines(alloc, out, grant.request)
+}
+
+/// Adds the lines under BROAD.
+pub(crate) fn push_all_broad(
+    alloc: Global,
+    out: &mut String,
+    roster: &Roster,
+    summaries: &[Summary],
+    at: Moment,
+) -> Result<(), NoMemory>
+    ensures { (set : List AnyMessage) → AllByRecursion (StandsFor set) summaries.now
+        → OnOk result (AddsLines (AreParts (λ k. report.AreInForce roster.now.says set at report.AreBroadLines (kept_name k)) summaries.now) (string_bytes out.old) (string_bytes out.new)) }
+{
+    for summary in summaries {
+        push_broad(alloc, out, roster, summary, at)?;
+    }
+    Ok(())
+}

@@ -1,0 +1,101 @@
+//! Who holds duties that conflict: a report's lines under CONFLICTS.
+
+ghost use Rattle.std.specs.Prelude.{◌≡◌, ℕ, List, ◌++◌, IfOk, OnOk, codes, map, string_bytes};
+ghost use Rattle.std.specs.List.{flat_map};
+ghost use Rattle.review.specs.Columns.{lines_text};
+ghost use Rattle.review.specs.Report as report;
+
+use crate::columns::push_left;
+use crate::order::in_order;
+use roster::Roster;
+use std::alloc::Global;
+use sudo_words::{Label, Name, NoMemory};
+
+/// The two duties, the lesser first.
+fn lesser_first(one: &Label, other: &Label) -> Result<(Label, Label), NoMemory>
+    ensures { IfOk result (λ pair. pair ≡ report.lesser_first (one.now, other.now)) }
+{
+    if other < one {
+        Ok((other.clone()?, one.clone()?))
+    } else {
+        Ok((one.clone()?, other.clone()?))
+    }
+}
+
+/// The pairs as they are listed, each with the lesser duty first.
+fn turned(alloc: Global, conflicts: &[(Label, Label)]) -> Result<Vec<(Label, Label)>, NoMemory>
+    ensures { IfOk result (λ pairs. pairs.items ≡ map report.lesser_first conflicts.now) }
+{
+    let mut pairs = Vec::new(alloc);
+    for (one, other) in conflicts {
+        pairs.push(lesser_first(one, other)?)?;
+    }
+    Ok(pairs)
+}
+
+/// Whether the person holds both duties.
+fn holds_both(roster: &Roster, person: &Name, pair: &(Label, Label)) -> bool
+    ensures { result ≡ report.holds_both roster.now.says person.now pair.now }
+{
+    roster.holds(person, &pair.0) && roster.holds(person, &pair.1)
+}
+
+/// Adds the line of a pair.
+fn push_pair(out: &mut String, person: &Name, pair: &(Label, Label)) -> Result<(), NoMemory>
+    ensures { OnOk result (string_bytes out.new ≡ string_bytes out.old ++ report.conflict_line person.now pair.now ++ codes "\n") }
+{
+    let (lesser, greater) = pair;
+    push_left(out, person.as_str())?;
+    out.push_str(" ")?;
+    push_left(out, lesser.as_str())?;
+    out.push_str(" ")?;
+    out.push_str(greater.as_str())?;
+    out.push_str("\n")?;
+    Ok(())
+}
+
+/// The same, where the person holds both.
+fn push_conflict(
+    out: &mut String,
+    roster: &Roster,
+    person: &Name,
+    pair: &(Label, Label),
+) -> Result<(), NoMemory>
+    ensures { OnOk result (string_bytes out.new ≡ string_bytes out.old ++ lines_text (report.conflict_for roster.now.says person.now pair.now)) }
+{
+    if !holds_both(roster, person, pair) {
+        return Ok(());
+    }
+    push_pair(out, person, pair)
+}
+
+/// Adds the lines of a person.
+fn push_conflicts(
+    out: &mut String,
+    roster: &Roster,
+    person: &Name,
+    pairs: &[(Label, Label)],
+) -> Result<(), NoMemory>
+    ensures { OnOk result (string_bytes out.new ≡ string_bytes out.old ++ lines_text (flat_map (report.conflict_for roster.now.says person.now) pairs.now)) }
+{
+    for pair in pairs {
+        push_conflict(out, roster, person, pair)?;
+    }
+    Ok(())
+}
+
+/// Adds the lines under CONFLICTS.
+pub(crate) fn push_all_conflicts(
+    alloc: Global,
+    out: &mut String,
+    roster: &Roster,
+) -> Result<(), NoMemory>
+    ensures { OnOk result ((pairs : List (List ℕ × List ℕ)) × report.ArePairs roster.now.says pairs
+        × (string_bytes out.new ≡ string_bytes out.old ++ lines_text (flat_map (report.conflicts_of roster.now.says pairs) roster.now.says.people))) }
+{
+    let pairs = in_order(turned(alloc, roster.conflicts())?);
+    for entry in roster.people() {
+        push_conflicts(out, roster, &entry.0, &pairs)?;
+    }
+    Ok(())
+}

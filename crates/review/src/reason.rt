@@ -1,0 +1,51 @@
+//! Why an approval does not count.
+
+ghost use Rattle.std.specs.Prelude.{◌≡◌};
+ghost use Rattle.review.specs.Barred as barred;
+
+use roster::{Ceiling, Roster};
+use sudo_words::Name;
+
+/// Why a person is not eligible to approve: the first of these that applies.
+#[derive(Clone, Copy, Debug, PartialEq, Eq)]
+pub(crate) enum Reason {
+    /// The person asked.
+    Asker,
+    /// The person does not hold the approving duty.
+    Duty,
+    /// The person holds a duty that conflicts with it.
+    Conflict,
+}
+
+impl Reason {
+    /// How it is written.
+    pub(crate) fn text(self) -> &'static str
+        ensures { result.now ≡ barred.reason_text self }
+    {
+        match self {
+            Reason::Asker => "asker",
+            Reason::Duty => "duty",
+            Reason::Conflict => "conflict",
+        }
+    }
+}
+
+/// Why the person may not approve what the asker asked for under the ceiling (NIST SP 800-53 AC-5).
+pub(crate) fn why_barred(
+    roster: &Roster,
+    ceiling: &Ceiling,
+    asker: &Name,
+    person: &Name,
+) -> Option<Reason>
+    ensures { result ≡ barred.reason roster.now.says ceiling.now asker.now person.now }
+{
+    if roster.eligible(person, asker, ceiling) {
+        None
+    } else if person == asker {
+        Some(Reason::Asker)
+    } else if !roster.holds(person, ceiling.approve()) {
+        Some(Reason::Duty)
+    } else {
+        Some(Reason::Conflict)
+    }
+}
