@@ -16,8 +16,9 @@ use Rattle.std.proofs.lemmas.Map.Keys.{sorted_head, sorted_tail}
 use Rattle.std.proofs.lemmas.Map.Lookups.{exact_bytes}
 use Rattle.sudo_words.specs.declared.cmnd.Cmnd.{Cmnd}
 use Rattle.messages.specs.Fields.{RequestFields}
-use Rattle.messages.specs.Names.{RequestName, name_of}
+use Rattle.messages.specs.Names.{IsNamed, RequestName, name_of}
 use Rattle.messages.specs.declared.message.Message.{Message}
+use Rattle.messages.specs.declared.message.Message.TheVariants.{Request}
 use Rattle.roster.specs.Fields.{RosterFields}
 use Rattle.grants.specs.Statuses.{IsStatus}
 use Rattle.grants.specs.Summaries.{Kept, StandsFor}
@@ -104,18 +105,21 @@ module _ (set : List Message) (m : BTreeMap NameKey Kept) (g : Gathers set m) wh
       let found = value_from_entry m.entries k among in
       subst (StandsFor set) found.2 (entry_kept found.0 found.1).stands
 
+  -- a name that somebody asks under has a summary
+  pub kept_asked : (q : RequestFields) → Contains set (Request q) → (k : Kept) × Contains (values m) k × IsNamed k.request (name_of q)
+  kept_asked q asked = at (at_name m (name_of q)) refl (g.each (name_of q))
+    where
+      at : (o : Option Kept) → at_name m (name_of q) ≡ o → IsAt set (name_of q) o → (k : Kept) × Contains (values m) k × IsNamed k.request (name_of q)
+      at None was nobody = absurd (nobody q asked (refl, refl))
+      at (Some k) was is =
+          let place = place_from_lookup (is_at (λ (x : NameKey). ordering_then (slice_cmp nat_cmp q.by x.by.now) (nat_cmp q.no x.no))) m.entries k was in
+          (k, entry_value m.entries (place.1, k) (Contains-from_get m.entries place.0 (place.1, k) place.2), is.named)
+
   -- a request that stands alone is that of a summary
   pub kept_alone : (q : RequestFields) → StandsAlone set q → (k : Kept) × Contains (values m) k × (k.request ≡ q)
-  kept_alone q alone = at (at_name m (name_of q)) refl (g.each (name_of q))
-    where
-      at : (o : Option Kept) → at_name m (name_of q) ≡ o → IsAt set (name_of q) o → (k : Kept) × Contains (values m) k × (k.request ≡ q)
-      at None was nobody = absurd (nobody q alone.asked (refl, refl))
-      at (Some k) was is =
-          let place = place_from_lookup (is_at (λ (x : NameKey). ordering_then (slice_cmp nat_cmp q.by x.by.now) (nat_cmp q.no x.no))) m.entries k was in (
-            k,
-            entry_value m.entries (place.1, k) (Contains-from_get m.entries place.0 (place.1, k) place.2),
-            alone.alone k.request is.stands.asked is.named,
-          )
+  kept_alone q alone =
+      let found = kept_asked q alone.asked in
+      (found.0, found.1, alone.alone found.0.request (kept_stands found.0 found.1).asked found.2)
 
 -- Summaries of the set, in the order of their names; a request that stands alone is that of one of them.
 pub record IsRoll (set : List Message) (ks : List Kept) : Type 0 where

@@ -20,3 +20,4 @@ pub mod ServingLemmas
 pub mod RunLemmas
 pub mod QueryLemmas
 pub mod AnswerLemmas
+pub mod SummaryLemmas

@@ -10,6 +10,7 @@ pub mod HostFile
 pub mod Rights
 pub mod Outcomes
 pub mod Parked
+pub mod Summaries
 -- laws: runs, sets that are the same, and verdicts that count for nothing
 pub mod Runs
 pub mod Same

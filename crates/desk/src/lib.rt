@@ -18,6 +18,7 @@ mod queries;
 mod refusal;
 mod reopening;
 mod run_laws;
+mod summaries;
 
 pub use ack::Ack;
 pub use answer_laws::runs_answer_alike;

@@ -11,6 +11,7 @@ ghost use Rattle.desk.specs.Outcomes.{AreLive, ComesTo};
 ghost use Rattle.desk.specs.Parked.{AreParked};
 ghost use Rattle.desk.specs.Refusals.{IsWant};
 ghost use Rattle.desk.specs.Rights.{GivesRights};
+ghost use Rattle.desk.specs.Summaries.{AreSummaries};
 ghost use Rattle.desk.specs.declared.refusal.Refusal.TheVariants as refusal;
 
 use crate::desk::Desk;
@@ -20,8 +21,9 @@ use crate::naming::RequestName;
 use crate::outcomes::status_in;
 use crate::parked::parked_in;
 use crate::refusal::Refusal;
+use crate::summaries::summaries_in;
 use desk_store::Keeper;
-use grants::Status;
+use grants::{Status, Summary};
 use sudo_words::{HostName, Moment};
 
 impl<K: Keeper> Desk<K> {
@@ -83,6 +85,26 @@ impl<K: Keeper> Desk<K> {
         self.keeper.load()?;
         let set = self.keeper.messages();
         Ok(parked_in(self.alloc, set)?)
+    }
+
+    /// The summaries of what is asked, by the asker in byte order, then by the number: what a report is made from.
+    pub fn summaries(&mut self) -> Result<Vec<Summary>, Refusal>
+        ensures summaries { (set : List AnyMessage) → K.is_up self.new.keeper → Lists (K.holds self.old.keeper) set
+            → IfOk result (λ list. AreSummaries set list.items) }
+        ensures err { IfErr result IsWant }
+        ensures unchanged { K.is_up self.new.keeper → K.is_same self.old.keeper self.new.keeper }
+        ensures roster { self.new.roster ≡ self.old.roster }
+        ensures base { self.new.base ≡ self.old.base }
+        ensures was_up { K.is_up self.new.keeper → K.is_up self.old.keeper }
+        ensures was_clean { K.is_clean self.new.keeper → K.is_clean self.old.keeper }
+        ensures shuts { K.is_up self.old.keeper → K.is_clean self.new.keeper
+            → K.is_up self.new.keeper ⊎ HasFailed (K.failures self.old.keeper) (K.failures self.new.keeper) }
+        ensures counts { K.failures self.old.keeper ≤ K.failures self.new.keeper }
+        ensures cause { result ≡ Err refusal.Storage → HasFailed (K.failures self.old.keeper) (K.failures self.new.keeper) }
+    {
+        self.keeper.load()?;
+        let set = self.keeper.messages();
+        Ok(summaries_in(self.alloc, set)?)
     }
 
     /// The text of the host's sudoers file: the base's canonical text, and behind it a line for each command of each request
