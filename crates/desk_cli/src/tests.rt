@@ -6,7 +6,6 @@ use std::fmt::Write as _;
 use std::test::Fail;
 use sudo_words::{AliasName, ArgRule, Items, Moment, command_of, read_cmnd};
 
-mod desks;
 mod streams;
 
 /// Texts of moments, with a space between.
