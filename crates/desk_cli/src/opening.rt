@@ -13,6 +13,7 @@ use std::str;
 use sudo_syntax::read_policy;
 
 /// The roster of a file. Bytes that are not UTF-8 are no TOML.
+#[tactic(auto, using(crate::proofs::FileLemmas::no_text))]
 fn roster_of(alloc: Global, file: &[u8]) -> Result<Roster, RosterFault>
     ensures found { IfOk result (λ r. IsRosterFile file.now r.says) }
     ensures err { IfErr result (IsRosterFault file.now) }

@@ -1,10 +1,7 @@
-use Rattle.desk_cli.proofs.FileLemmas.{file_read, no_text}
+use Rattle.desk_cli.proofs.FileLemmas.{file_read}
 use Rattle.desk_cli.proofs.opening.roster_of.Goals as goal
 
 pub returns-in-Ok : goal.returns-in-Ok
 returns-in-Ok c =
     let both = file_read _ (λ r. r.says) c.args.file.now c.in-Ok.text.now c.read.result c.in-Ok.ensures.cases.0 c.in-Ok.ensures.cases.1 c.read.ensures.found c.read.ensures.least in
     record { found = both.0; err = both.1 }
-
-pub returns-in-Err : goal.returns-in-Err
-returns-in-Err c = record { found = tt; err = no_text c.args.file.now c.in-Err.ensures.cases.0 }
