@@ -1,12 +1,12 @@
 -- What the statements that make a desk leave of a connection.
-use Rattle.std.specs.Prelude.{◌≡◌, ◌≢◌, ◌^◌, nat_le, ℕ, true, false, List, [], Some, codes}
+use Rattle.std.specs.Prelude.{◌≡◌, ◌≢◌, ◌^◌, IsTrue, nat_le, ℕ, true, false, List, [], Some, codes}
 use Rattle.std.specs.List.{AllByRecursion}
 use Rattle.std.specs.FinSet as set
 use Rattle.sqlite.specs.Schema.{Schema}
 use Rattle.sqlite.specs.Table.{Table}
 use Rattle.sqlite.specs.Change.{created, next_tree, KeepsRows}
 use Rattle.sqlite.specs.Does.{lacks_sequence}
-use Rattle.sqlite.specs.State.{State, Shows}
+use Rattle.sqlite.specs.State.{HasCleanDisk, State, Shows}
 use Rattle.sqlite.specs.Effect.{Database}
 use Rattle.desk_store.specs.DeskTables.{desk, desk_at, messages_at}
 use Rattle.desk_store.specs.Stored.{Content, Finds, IsFree, IsUnused, IsDeskDatabase, content_of, recorded}
@@ -19,6 +19,10 @@ fresh roster = record { roster = roster; texts = set.empty }
 pub record IsReady (s : Schema) : Type 0 where
   pub free : IsFree s
   pub counted : lacks_sequence s ≡ false
+
+-- of a step of a transaction, before and after it, where the disk is honest
+abbrev pub InStep : (old new : State) → (State → State → Type 0) → Type 0
+InStep old new Does = HasCleanDisk new → IsTrue old.in_transaction → Does old new
 
 -- inside a transaction, which goes on
 abbrev pub IsInside : State → State → Type 0
