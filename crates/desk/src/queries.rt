@@ -5,7 +5,7 @@ ghost use Rattle.sudo_syntax.specs.Printing.{canon};
 ghost use Rattle.messages.specs.declared.message.Message.{Message as AnyMessage};
 ghost use Rattle.roster.specs.Rules.{is_among};
 ghost use Rattle.desk_store.specs.Keeping.{HasFailed};
-ghost use Rattle.desk_store.specs.Sets.{Lists};
+ghost use Rattle.desk_store.specs.Sets.{Lists, SameSet};
 ghost use Rattle.desk.specs.HostFile.{Line, AreLines, IsHostFile, with_lines};
 ghost use Rattle.desk.specs.Outcomes.{AreLive, ComesTo};
 ghost use Rattle.desk.specs.Parked.{AreParked};
@@ -92,6 +92,7 @@ impl<K: Keeper> Desk<K> {
         ensures summaries { (set : List AnyMessage) → K.is_up self.new.keeper → Lists (K.holds self.old.keeper) set
             → IfOk result (λ list. AreSummaries set list.items) }
         ensures err { IfErr result IsWant }
+        ensures held { K.is_up self.new.keeper → SameSet (K.holds self.old.keeper) (K.holds self.new.keeper) }
         ensures unchanged { K.is_up self.new.keeper → K.is_same self.old.keeper self.new.keeper }
         ensures roster { self.new.roster ≡ self.old.roster }
         ensures base { self.new.base ≡ self.old.base }

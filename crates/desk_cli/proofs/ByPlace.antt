@@ -8,7 +8,7 @@ use Rattle.clap.specs.Walk.{Row, Text, finished}
 use Rattle.desk_cli.specs.CommandLine.{IsCommandLine, Says, check, desk}
 use Rattle.desk_cli.specs.Operands.{SaysByPlace, is_operand}
 use Rattle.desk_cli.specs.declared.task.Job.{Job}
-use Rattle.desk_cli.specs.declared.task.Job.TheVariants.{Beyond, Check, Decide, Deliver, Print}
+use Rattle.desk_cli.specs.declared.task.Job.TheVariants.{Beyond, Check, Decide, Deliver, Print, Review}
 use Rattle.desk_cli.proofs.Placed.{Enters, entered_named, faultless_named, level_place, never_trails, placed, placed_level, rows_place}
 use Rattle.desk_cli.proofs.ArgsPlaced.{args_are, args_row, six, six_faultless, six_rows}
 
@@ -52,6 +52,10 @@ enters_print : Enters (built desk) (codes "print") (nth 4)
 unfolding clap_on_literals
 enters_print = record { walks = refl; turns = refl; finds = refl; settles = refl; defaults = refl; checks = refl }
 
+enters_review : Enters (built desk) (codes "review") (nth 5)
+unfolding clap_on_literals
+enters_review = record { walks = refl; turns = refl; finds = refl; settles = refl; defaults = refl; checks = refl }
+
 -- the command takes the words, and finds no fault in them
 abbrev Finds : Text → Shape → List Text → Type 0
 Finds name leaf rest = Takes name leaf rest (finished leaf.rules (placed leaf.rules rest).held)
@@ -73,6 +77,11 @@ prints : (roster base host : Text) → list_all is_operand (roster ∷ base ∷ 
     → Finds (codes "print") (nth 4) (roster ∷ base ∷ codes "-" ∷ host ∷ [])
 unfolding clap_on_literals
 prints roster base host all = record { enters = enters_print; operands = all; leads = refl; faultless = refl; finds = refl }
+
+reviews : (roster base at : Text) → list_all is_operand (roster ∷ base ∷ codes "-" ∷ at ∷ []) ≡ true
+    → Finds (codes "review") (nth 5) (roster ∷ base ∷ codes "-" ∷ at ∷ [])
+unfolding clap_on_literals
+reviews roster base at all = record { enters = enters_review; operands = all; leads = refl; faultless = refl; finds = refl }
 
 decides : (f u h r t p : Text) (args : List Text) → list_all is_operand (f ∷ u ∷ h ∷ r ∷ t ∷ p ∷ args) ≡ true
     → Takes (codes "decide") (nth 1) (f ∷ u ∷ h ∷ r ∷ t ∷ p ∷ args) (six f u h r t p (args_row args))
@@ -118,3 +127,8 @@ said program words (Print places host) all is =
     subst (λ ws. list_all is_operand ws ≡ true → IsCommandLine (program ∷ ws) (Print places host)) (sym is.0)
     (λ operands. line program (codes "print") (nth 4) (places.roster ∷ places.base ∷ codes "-" ∷ host ∷ []) _ (Print places host)
     (prints places.roster places.base host operands) (refl, record { roster = refl; base = refl; store = refl }, (refl, is.1))) all
+said program words (Review places at) all is =
+    let (text, stamp, same) = is in
+    subst (λ ws. list_all is_operand ws ≡ true → IsCommandLine (program ∷ ws) (Review places at)) (sym same)
+    (λ operands. line program (codes "review") (nth 5) (places.roster ∷ places.base ∷ codes "-" ∷ text ∷ []) _ (Review places at)
+    (reviews places.roster places.base text operands) (refl, record { roster = refl; base = refl; store = refl }, (text, refl, stamp))) all

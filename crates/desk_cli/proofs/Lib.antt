@@ -6,6 +6,7 @@ pub mod Args
 pub mod Runs
 pub mod Filled
 pub mod Complete
+pub mod ReviewWords
 pub mod Placed
 pub mod ArgsPlaced
 pub mod ByPlace

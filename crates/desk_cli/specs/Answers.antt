@@ -11,12 +11,13 @@ use Rattle.desk_cli.specs.Comparing.{ComparesFiles, EndsComparing}
 use Rattle.desk_cli.specs.Delivering.{DeliversLines, EndsDelivering}
 use Rattle.desk_cli.specs.Files.{IsFaultOf}
 use Rattle.desk_cli.specs.Printing.{EndsPrinting, PrintsHost}
+use Rattle.desk_cli.specs.Reviewing.{EndsReviewing, ReviewsDesk}
 use Rattle.desk_cli.specs.declared.refusal.Refusal.{Refusal as Reason}
 use Rattle.desk_cli.specs.declared.refusal.Refusal.TheVariants.{BadWord, Beyond as Compared, Desk, FileFailed, NoMemory, Policy, Roster}
 use Rattle.desk_cli.specs.declared.status.Status.{Status}
 use Rattle.desk_cli.specs.declared.status.Status.TheVariants.{Denied, Done, Found, LinesRefused, Refused}
 use Rattle.desk_cli.specs.declared.task.Job.{Job}
-use Rattle.desk_cli.specs.declared.task.Job.TheVariants.{Beyond, Check, Decide, Deliver, Print}
+use Rattle.desk_cli.specs.declared.task.Job.TheVariants.{Beyond, Check, Decide, Deliver, Print, Review}
 
 -- the program's exit status
 abbrev pub exit_status : Status → ℕ
@@ -53,6 +54,7 @@ IsAnswer (Decide name invocation) (file ∷ more) input status text said = Decid
 IsAnswer (Beyond a_name b_name scope) (a ∷ b ∷ more) input status text said = ComparesFiles scope a b status text × (said ≡ [])
 IsAnswer (Deliver places relay) (roster ∷ base ∷ more) input status text said = DeliversLines roster base relay input status text × (said ≡ [])
 IsAnswer (Print places host) (roster ∷ base ∷ more) input status text said = PrintsHost roster base host input status text said
+IsAnswer (Review places at) (roster ∷ base ∷ more) input status text said = ReviewsDesk roster base at input status text said
 IsAnswer job files input status text said = ⊥
 
 -- The job over these files and this input has an answer.
@@ -78,4 +80,5 @@ IsCause (Decide name invocation) (file ∷ more) input reason = EndsReading file
 IsCause (Beyond a_name b_name scope) (a ∷ b ∷ more) input reason = EndsComparing scope a b reason
 IsCause (Deliver places relay) (roster ∷ base ∷ more) input reason = EndsDelivering roster base reason
 IsCause (Print places host) (roster ∷ base ∷ more) input reason = EndsPrinting roster base host input reason
+IsCause (Review places at) (roster ∷ base ∷ more) input reason = EndsReviewing roster base reason
 IsCause job files input reason = reason ≡ FileFailed

@@ -9,7 +9,7 @@ use Rattle.sudo_decide.specs.declared.invocation.Invocation.{Invocation}
 use Rattle.review.specs.declared.scope.Scope.{Scope}
 use Rattle.desk_cli.specs.declared.task.Places.{Places}
 use Rattle.desk_cli.specs.declared.task.Job.{Job}
-use Rattle.desk_cli.specs.declared.task.Job.TheVariants.{Beyond, Check, Decide, Deliver, Print}
+use Rattle.desk_cli.specs.declared.task.Job.TheVariants.{Beyond, Check, Decide, Deliver, Print, Review}
 
 -- ---- the program's commands
 
@@ -46,6 +46,9 @@ deliver_args = codes "ROSTER" ∷ codes "BASE" ∷ codes "STORE" ∷ codes "RELA
 abbrev pub print_args : List Text
 print_args = codes "ROSTER" ∷ codes "BASE" ∷ codes "STORE" ∷ codes "HOST" ∷ []
 
+abbrev pub review_args : List Text
+review_args = codes "ROSTER" ∷ codes "BASE" ∷ codes "STORE" ∷ codes "AT" ∷ []
+
 -- `check FILE`
 abbrev pub check : App
 check = with_wanted (new_app (codes "check")) check_args
@@ -71,6 +74,10 @@ deliver = with_wanted (new_app (codes "deliver")) deliver_args
 abbrev pub print : App
 print = with_wanted (new_app (codes "print")) print_args
 
+-- `review ROSTER BASE STORE AT`
+abbrev pub review : App
+review = with_wanted (new_app (codes "review")) review_args
+
 -- the command with these commands under it as well
 abbrev pub with_subcommands : App → List App → App
 with_subcommands command [] = command
@@ -82,7 +89,7 @@ on_policies = check ∷ decide ∷ beyond ∷ []
 
 -- the commands on a desk
 abbrev pub on_desks : List App
-on_desks = deliver ∷ print ∷ []
+on_desks = deliver ∷ print ∷ review ∷ []
 
 -- the program, which is run by one of its commands
 abbrev pub program : App
@@ -152,6 +159,7 @@ Says (Some line) (Beyond a b scope) =
     (line.0 ≡ codes "beyond") × HasValue (codes "A") line.1 a × HasValue (codes "B") line.1 b × IsScopeOf line.1 scope
 Says (Some line) (Deliver places relay) = (line.0 ≡ codes "deliver") × ArePlaces line.1 places × HasValue (codes "RELAY") line.1 relay
 Says (Some line) (Print places host) = (line.0 ≡ codes "print") × ArePlaces line.1 places × HasWord is_host_name (codes "HOST") line.1 host
+Says (Some line) (Review places at) = (line.0 ≡ codes "review") × ArePlaces line.1 places × HasMoment (codes "AT") line.1 at
 
 -- By clap's rules the words are a command of the program, without a fault, and their values say the job.
 pub record IsCommandLine (words : List Text) (job : Job) : Type 0 where
@@ -202,6 +210,11 @@ pub data HasBadPlace (rows : List Row) : Type 0 where
   bad_store : HasOther (codes "STORE") rows → HasBadPlace rows
   bad_target : HasBadWord is_host_name (codes "HOST") rows → HasBadPlace rows
 
+-- one of the values of `review` is not of its form
+pub data HasBadReview (rows : List Row) : Type 0 where
+  bad_store : HasOther (codes "STORE") rows → HasBadReview rows
+  bad_at : HasBadMoment (codes "AT") rows → HasBadReview rows
+
 -- the command's name, with a value that is not of its form
 abbrev pub SaysBadly : Option (Text × List Row) → Type 0
 SaysBadly None = ⊥
@@ -210,6 +223,7 @@ SaysBadly (Some line) =
     ⊎ ((line.0 ≡ codes "beyond") × HasBadScope line.1)
     ⊎ ((line.0 ≡ codes "deliver") × HasOther (codes "STORE") line.1)
     ⊎ ((line.0 ≡ codes "print") × HasBadPlace line.1)
+    ⊎ ((line.0 ≡ codes "review") × HasBadReview line.1)
 
 -- By clap's rules the words are a command of the program, without a fault, but a value is not of its form.
 pub record IsBadLine (words : List Text) : Type 0 where
@@ -236,3 +250,4 @@ IsComplete (Some line) =
     ⊎ ((line.0 ≡ codes "beyond") × HaveSome beyond_args line.1)
     ⊎ ((line.0 ≡ codes "deliver") × HaveSome deliver_args line.1)
     ⊎ ((line.0 ≡ codes "print") × HaveSome print_args line.1)
+    ⊎ ((line.0 ≡ codes "review") × HaveSome review_args line.1)

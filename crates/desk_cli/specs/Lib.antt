@@ -6,5 +6,6 @@ pub mod Files
 pub mod Lines
 pub mod Delivering
 pub mod Printing
+pub mod Reviewing
 pub mod Comparing
 pub mod Answers

@@ -138,6 +138,22 @@ fn print<'a>(alloc: Global) -> Result<Command<'a>, AllocError>
     with_wanted(alloc, command, &wanted)
 }
 
+fn review<'a>(alloc: Global) -> Result<Command<'a>, AllocError>
+    ensures app { IfOk result (λ c. app_of c ≡ line.review) }
+    ensures globals { IfOk result (λ c. (fields_of c).has_globals ≡ false) }
+{
+    let command = Command::new(alloc, "review").about(
+        "Print who holds what at a moment, and which approvals do not count",
+    );
+    let wanted = [
+        ("ROSTER", "The roster"),
+        ("BASE", "The base policy"),
+        ("STORE", "`-`: the messages are the lines of standard input"),
+        ("AT", "The moment, as 20260105093000Z"),
+    ];
+    with_wanted(alloc, command, &wanted)
+}
+
 /// Adds the commands on policies.
 fn with_policies<'a>(alloc: Global, command: Command<'a>) -> Result<Command<'a>, AllocError>
     requires { (fields_of command).has_globals ≡ false }
@@ -158,7 +174,8 @@ fn with_desks<'a>(alloc: Global, command: Command<'a>) -> Result<Command<'a>, Al
 {
     command
         .subcommand(deliver(alloc)?)?
-        .subcommand(print(alloc)?)
+        .subcommand(print(alloc)?)?
+        .subcommand(review(alloc)?)
 }
 
 fn command<'a>(alloc: Global) -> Result<Command<'a>, AllocError>

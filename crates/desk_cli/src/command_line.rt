@@ -129,6 +129,18 @@ fn print(alloc: Global, matches: &ArgMatches<'_>) -> Result<Job, JobFault>
     Ok(Job::Print { places, host })
 }
 
+fn review(alloc: Global, matches: &ArgMatches<'_>) -> Result<Job, JobFault>
+    requires { HaveSome line.review_args (rows_of (found_of matches.now)) }
+    ensures found { IfOk result (λ j. Says (Some (codes "review", rows_of (found_of matches.now))) j) }
+    ensures only { (j : Task) → Says (Some (codes "review", rows_of (found_of matches.now))) j → MatchResult result (λ k. k ≡ j) (λ e. e ≡ NoMemory) }
+    ensures word { IfErr result (λ e. e ≡ BadWord → SaysBadly (Some (codes "review", rows_of (found_of matches.now)))) }
+    ensures usage { IfErr result (λ e. IsUsage e → ⊥) }
+{
+    let places = places(alloc, matches)?;
+    let at = moment(matches, "AT")?;
+    Ok(Job::Review { places, at })
+}
+
 fn by_name(alloc: Global, name: &str, matches: &ArgMatches<'_>) -> Result<Job, JobFault>
     requires { IsComplete (Some (name.now, rows_of (found_of matches.now))) }
     ensures found { IfOk result (λ j. Says (Some (name.now, rows_of (found_of matches.now))) j) }
@@ -144,8 +156,10 @@ fn by_name(alloc: Global, name: &str, matches: &ArgMatches<'_>) -> Result<Job, J
         beyond(alloc, matches)
     } else if name == "deliver" {
         deliver(alloc, matches)
-    } else {
+    } else if name == "print" {
         print(alloc, matches)
+    } else {
+        review(alloc, matches)
     }
 }
 

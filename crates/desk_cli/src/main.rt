@@ -13,6 +13,7 @@ mod lines;
 mod opening;
 mod printing;
 mod refusal;
+mod reviewing;
 mod running;
 mod status;
 mod task;
@@ -59,7 +60,7 @@ fn files(rt: &HostRuntime, job: &Job) -> Result<Vec<Vec<u8>>, Refusal> {
             files.push(file(rt, a)?)?;
             files.push(file(rt, b)?)?;
         }
-        Job::Deliver { places, .. } | Job::Print { places, .. } => {
+        Job::Deliver { places, .. } | Job::Print { places, .. } | Job::Review { places, .. } => {
             files.push(file(rt, &places.roster)?)?;
             files.push(file(rt, &places.base)?)?;
         }

@@ -68,7 +68,7 @@ fn say<E: Write>(said: &str, err: &mut E) -> Result<(), Refusal>
 
 /// Delivers the lines of the input as those of the roster's first relay in byte order, and says on `err` which the desk does
 /// not take.
-fn take_lines<R: Read, E: Write>(
+pub fn take_lines<R: Read, E: Write>(
     alloc: Global,
     desk: &mut Desk<MemoryKeeper>,
     input: &mut R,

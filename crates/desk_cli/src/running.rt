@@ -12,6 +12,7 @@ use crate::comparing::compare_files;
 use crate::delivering::deliver_lines;
 use crate::printing::print_host;
 use crate::refusal::Refusal;
+use crate::reviewing::review_desk;
 use crate::status::Status;
 use crate::task::Job;
 use review::Scope;
@@ -19,7 +20,7 @@ use std::alloc::{AllocError, Global};
 use std::io::{BufWriter, Read, Write};
 use sudo_decide::{Decision, Invocation, decide};
 use sudo_syntax::{print_policy, read_policy};
-use sudo_words::HostName;
+use sudo_words::{HostName, Moment};
 
 fn status_of(decision: Decision) -> Status
     ensures { result ≡ status_of decision }
@@ -139,6 +140,27 @@ fn printed<R: Read, E: Write>(
     }
 }
 
+fn reviewed<R: Read, E: Write>(
+    alloc: Global,
+    files: &[Vec<u8>],
+    at: Moment,
+    input: &mut R,
+    err: &mut E,
+) -> Result<Answer, Refusal>
+    ensures cause { (places : Parts) → IfErr result (IsCause (jobs.Review places at) (map (λ f. f.items) files.now) (R.remaining input.old)) }
+    ensures found { (places : Parts) → IfOk result (λ a. (said : List ℕ)
+        × IsAnswer (jobs.Review places at) (map (λ f. f.items) files.now) (R.remaining input.old) a.status (string_bytes a.text) said
+        × Appends (E.contents err.old) (E.contents err.new) said) }
+{
+    match files {
+        [roster, base, ..] => Ok(Answer {
+            text: review_desk(alloc, roster.as_slice(), base.as_slice(), at, input, err)?,
+            status: Status::Done,
+        }),
+        _ => Err(Refusal::FileFailed),
+    }
+}
+
 /// What the job answers, or why it is refused. What else there is to say is said on `err`.
 fn answered<R: Read, E: Write>(
     alloc: Global,
@@ -158,6 +180,7 @@ fn answered<R: Read, E: Write>(
         Job::Beyond { scope, .. } => compared(alloc, files, scope),
         Job::Deliver { relay, .. } => delivered(alloc, files, relay.as_str(), input),
         Job::Print { host, .. } => printed(alloc, files, host, input, err),
+        Job::Review { at, .. } => reviewed(alloc, files, *at, input, err),
     }
 }
 

@@ -3,7 +3,7 @@
 use crate::text::Text;
 use review::Scope;
 use sudo_decide::Invocation;
-use sudo_words::HostName;
+use sudo_words::{HostName, Moment};
 
 /// Where the parts of a desk stand. It keeps its messages in memory alone.
 #[derive(Drop)]
@@ -51,5 +51,12 @@ pub enum Job {
         places: Places,
         /// The host.
         host: HostName,
+    },
+    /// Deliver the lines of the input to a desk, and print its report.
+    Review {
+        /// The desk's files.
+        places: Places,
+        /// The moment that is looked at.
+        at: Moment,
     },
 }

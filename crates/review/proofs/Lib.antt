@@ -24,3 +24,4 @@ pub mod ReportLaws
 pub mod ReportOne
 pub mod ReportParts
 pub mod Approvers
+pub mod OfDesk

@@ -15,6 +15,7 @@ mod live;
 mod moments;
 mod names;
 mod need;
+mod of_desk;
 mod order;
 mod other;
 mod reason;
@@ -34,6 +35,7 @@ pub use laws::{
     each_target_has_a_case, each_user_has_a_case, nothing_beyond_a_third, nothing_beyond_itself,
     one_list_of_each, wider_scope, worked_beyond,
 };
+pub use of_desk::report;
 pub use report_laws::{barred_changes_nothing, needless_gives_nothing, one_report, worked_lines};
-pub use reporting::report;
+pub use reporting::report_of;
 pub use scope::Scope;

@@ -37,3 +37,9 @@ returns-in-Print-clause-found g c =
     let input = g.R.Read.remaining c.args.input.now in
     let answers : Job → Answer → List ℕ → Type 0 = λ j a said. IsAnswer j (map (λ f. f.items) c.args.files.now) input a.status (string_bytes a.text) said in
     of_job c.printed.result c.args.job.now _ answers _ _ c.in-Print.is (c.printed.ensures.found c.in-Print.places)
+
+pub returns-in-Review-clause-found : goal.returns-in-Review-clause-found
+returns-in-Review-clause-found g c =
+    let input = g.R.Read.remaining c.args.input.now in
+    let answers : Job → Answer → List ℕ → Type 0 = λ j a said. IsAnswer j (map (λ f. f.items) c.args.files.now) input a.status (string_bytes a.text) said in
+    of_job c.reviewed.result c.args.job.now _ answers _ _ c.in-Review.is (c.reviewed.ensures.found c.in-Review.places)

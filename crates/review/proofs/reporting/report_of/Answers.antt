@@ -5,7 +5,7 @@ use Rattle.sudo_words.specs.Moment.{stamp}
 use Rattle.review.specs.Report.{AreBarred, AreBroadLines, AreInForce, IsLiveLine, conflicts_of}
 use Rattle.review.specs.Reporting.{kept_name}
 use Rattle.review.proofs.ReportLists.{first_section, next_section, parts_mapped}
-use Rattle.review.proofs.reporting.report.Goals as goal
+use Rattle.review.proofs.reporting.report_of.Goals as goal
 
 pub returns : goal.returns
 returns c = λ set s waiting.

@@ -1,0 +1,38 @@
+//! The report of a desk.
+
+ghost use Rattle.std.specs.Prelude.{◌≡◌, ◌⊎◌, ◌≤◌, List, IfOk, IfErr, Err, string_bytes};
+ghost use Rattle.messages.specs.declared.message.Message.{Message as AnyMessage};
+ghost use Rattle.desk_store.specs.Keeping.{HasFailed};
+ghost use Rattle.desk_store.specs.Sets.{Lists};
+ghost use Rattle.desk.specs.Refusals.{IsWant};
+ghost use Rattle.desk.specs.declared.refusal.Refusal.TheVariants as refusal;
+ghost use Rattle.review.specs.Report.{IsReport};
+
+use crate::reporting::report_of;
+use desk::{Desk, Keeper, Refusal};
+use sudo_words::Moment;
+
+/// The report of what the desk holds, at the moment: which grants are in force and whether they are needed beside the base, whose
+/// approvals did not count and why, who holds conflicting duties, which grants are of ALL or of a directory, and which
+/// verdicts wait for their request (NIST SP 800-53 AC-5, AC-6(7)).
+///
+/// `Storage` and `NoMemory` come as of every question to a desk.
+pub fn report<K: Keeper>(desk: &mut Desk<K>, at: Moment) -> Result<String, Refusal>
+    ensures report { (set : List AnyMessage) → K.is_up desk.new.keeper → Lists (K.holds desk.old.keeper) set
+        → IfOk result (λ s. IsReport desk.old.roster.says desk.old.base set at (string_bytes s)) }
+    ensures err { IfErr result IsWant }
+    ensures unchanged { K.is_up desk.new.keeper → K.is_same desk.old.keeper desk.new.keeper }
+    ensures roster { desk.new.roster ≡ desk.old.roster }
+    ensures base { desk.new.base ≡ desk.old.base }
+    ensures was_up { K.is_up desk.new.keeper → K.is_up desk.old.keeper }
+    ensures was_clean { K.is_clean desk.new.keeper → K.is_clean desk.old.keeper }
+    ensures shuts { K.is_up desk.old.keeper → K.is_clean desk.new.keeper
+        → K.is_up desk.new.keeper ⊎ HasFailed (K.failures desk.old.keeper) (K.failures desk.new.keeper) }
+    ensures counts { K.failures desk.old.keeper ≤ K.failures desk.new.keeper }
+    ensures cause { result ≡ Err refusal.Storage → HasFailed (K.failures desk.old.keeper) (K.failures desk.new.keeper) }
+{
+    let summaries = desk.summaries()?;
+    let parked = desk.parked()?;
+    let alloc = *parked.allocator();
+    Ok(report_of(alloc, desk.roster(), desk.base(), &summaries, &parked, at)?)
+}
