@@ -47,7 +47,7 @@ DecidesByFile file invocation status text =
     (es : List Entry) × (decision : Decision) × Spells file es × Decides es invocation decision × IsDecided decision status text
 
 -- The job over these files, in the order in which it names them, and this input, if it is known, is answered by this text,
--- and ends so. Beside the answer this is said.
+-- and ends so. Beside the answer this is said. `serve` has no such answer: what it writes depends on who connects.
 abbrev pub IsAnswer : Job → List (List ℕ) → Option (List ℕ) → Status → List ℕ → List ℕ → Type 0
 IsAnswer (Check name) (file ∷ more) input status text said = ChecksFile file status text × (said ≡ [])
 IsAnswer (Decide name invocation) (file ∷ more) input status text said = DecidesByFile file invocation status text × (said ≡ [])
@@ -73,7 +73,8 @@ EndsReading file (Policy fault) = IsFaultOf file fault
 EndsReading file (Compared fault) = ⊥
 EndsReading file (Desk refusal) = ⊥
 
--- The job over these files and this input may be refused for this, before its answer is written. Without its files it is.
+-- The job over these files and this input may be refused for this, before its answer is written. Without its files it is, and so is
+-- `serve`, which has no answer.
 abbrev pub IsCause : Job → List (List ℕ) → Option (List ℕ) → Reason → Type 0
 IsCause (Check name) (file ∷ more) input reason = EndsReading file reason
 IsCause (Decide name invocation) (file ∷ more) input reason = EndsReading file reason

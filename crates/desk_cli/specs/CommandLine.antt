@@ -1,6 +1,8 @@
 -- The command line, and what it says to do.
-use Rattle.std.specs.Prelude.{◌≡◌, ◌≢◌, ◌⊎◌, ℕ, ◌<◌, ◌≤◌, Bool, true, false, List, [], ◌∷◌, Option, Some, None, codes, is_some, length, unwrap_or}
+use Rattle.std.specs.Prelude.{◌≡◌, ◌≢◌, ◌⊎◌, ℕ, ◌<◌, ◌≤◌, ◌&&◌, Bool, true, false, List, [], ◌∷◌, Option, Some, None, codes, is_some, length, nat_le, nat_lt, unwrap_or}
+use Rattle.std.specs.Char.{is_ascii_digit}
 use Rattle.std.specs.List.{list_all}
+use Rattle.std.specs.Str.Parse.{digits_value}
 use Rattle.clap.specs.Words.{App, Row, Rule, Text, first_of, all_of, fault_of, new_app, new_rule, subcommand_of, with_rule, with_subcommand}
 use Rattle.clap.specs.declared.builder.ArgAction.TheVariants.{Set, Append}
 use Rattle.sudo_words.specs.Moment.{IsStamp}
@@ -9,7 +11,7 @@ use Rattle.sudo_decide.specs.declared.invocation.Invocation.{Invocation}
 use Rattle.review.specs.declared.scope.Scope.{Scope}
 use Rattle.desk_cli.specs.declared.task.Places.{Places}
 use Rattle.desk_cli.specs.declared.task.Job.{Job}
-use Rattle.desk_cli.specs.declared.task.Job.TheVariants.{Beyond, Check, Decide, Deliver, Print, Review}
+use Rattle.desk_cli.specs.declared.task.Job.TheVariants.{Beyond, Check, Decide, Deliver, Print, Review, Serve}
 
 -- ---- the program's commands
 
@@ -49,6 +51,9 @@ print_args = codes "ROSTER" ∷ codes "BASE" ∷ codes "STORE" ∷ codes "HOST" 
 abbrev pub review_args : List Text
 review_args = codes "ROSTER" ∷ codes "BASE" ∷ codes "STORE" ∷ codes "AT" ∷ []
 
+abbrev pub serve_args : List Text
+serve_args = codes "ROSTER" ∷ codes "BASE" ∷ codes "STORE" ∷ codes "ADDR" ∷ []
+
 -- `check FILE`
 abbrev pub check : App
 check = with_wanted (new_app (codes "check")) check_args
@@ -78,6 +83,10 @@ print = with_wanted (new_app (codes "print")) print_args
 abbrev pub review : App
 review = with_wanted (new_app (codes "review")) review_args
 
+-- `serve ROSTER BASE STORE ADDR [--requests REQUESTS]`
+abbrev pub serve : App
+serve = with_rule (with_wanted (new_app (codes "serve")) serve_args) (optional (codes "REQUESTS") (codes "requests"))
+
 -- the command with these commands under it as well
 abbrev pub with_subcommands : App → List App → App
 with_subcommands command [] = command
@@ -89,7 +98,7 @@ on_policies = check ∷ decide ∷ beyond ∷ []
 
 -- the commands on a desk
 abbrev pub on_desks : List App
-on_desks = deliver ∷ print ∷ review ∷ []
+on_desks = deliver ∷ print ∷ review ∷ serve ∷ []
 
 -- the program, which is run by one of its commands
 abbrev pub program : App
@@ -135,6 +144,19 @@ abbrev pub HasOption : (Text → Bool) → Text → List Row → Option Text →
 HasOption form id rows None = first_of id rows ≡ None
 HasOption form id rows (Some text) = HasWord form id rows text
 
+-- 1 to 7 digits
+abbrev pub is_number : Text → Bool
+is_number text = nat_lt 0 (length text) && (nat_le (length text) 7 && list_all is_ascii_digit text)
+
+-- such a number, from 1 to 1,000,000
+abbrev pub is_count : Text → Bool
+is_count text = is_number text && (nat_lt 0 (digits_value 10 text) && nat_le (digits_value 10 text) 1_000_000)
+
+-- the option has this number as its value, or it is left out
+abbrev pub HasCount : Text → List Row → Option ℕ → Type 0
+HasCount id rows None = first_of id rows ≡ None
+HasCount id rows (Some n) = (text : Text) × HasWord is_count id rows text × (n ≡ digits_value 10 text)
+
 -- the scope that the options of `beyond` say: what is left out is not fixed
 pub record IsScopeOf (rows : List Row) (scope : Scope) : Type 0 where
   pub user : HasOption is_name (codes "USER") rows scope.user
@@ -160,6 +182,8 @@ Says (Some line) (Beyond a b scope) =
 Says (Some line) (Deliver places relay) = (line.0 ≡ codes "deliver") × ArePlaces line.1 places × HasValue (codes "RELAY") line.1 relay
 Says (Some line) (Print places host) = (line.0 ≡ codes "print") × ArePlaces line.1 places × HasWord is_host_name (codes "HOST") line.1 host
 Says (Some line) (Review places at) = (line.0 ≡ codes "review") × ArePlaces line.1 places × HasMoment (codes "AT") line.1 at
+Says (Some line) (Serve places addr requests) =
+    (line.0 ≡ codes "serve") × ArePlaces line.1 places × HasValue (codes "ADDR") line.1 addr × HasCount (codes "REQUESTS") line.1 requests
 
 -- By clap's rules the words are a command of the program, without a fault, and their values say the job.
 pub record IsCommandLine (words : List Text) (job : Job) : Type 0 where
@@ -215,6 +239,11 @@ pub data HasBadReview (rows : List Row) : Type 0 where
   bad_store : HasOther (codes "STORE") rows → HasBadReview rows
   bad_at : HasBadMoment (codes "AT") rows → HasBadReview rows
 
+-- one of the values of `serve` is not of its form
+pub data HasBadServing (rows : List Row) : Type 0 where
+  bad_kept : HasOther (codes "STORE") rows → HasBadServing rows
+  bad_count : HasBadWord is_count (codes "REQUESTS") rows → HasBadServing rows
+
 -- the command's name, with a value that is not of its form
 abbrev pub SaysBadly : Option (Text × List Row) → Type 0
 SaysBadly None = ⊥
@@ -224,6 +253,7 @@ SaysBadly (Some line) =
     ⊎ ((line.0 ≡ codes "deliver") × HasOther (codes "STORE") line.1)
     ⊎ ((line.0 ≡ codes "print") × HasBadPlace line.1)
     ⊎ ((line.0 ≡ codes "review") × HasBadReview line.1)
+    ⊎ ((line.0 ≡ codes "serve") × HasBadServing line.1)
 
 -- By clap's rules the words are a command of the program, without a fault, but a value is not of its form.
 pub record IsBadLine (words : List Text) : Type 0 where
@@ -251,3 +281,4 @@ IsComplete (Some line) =
     ⊎ ((line.0 ≡ codes "deliver") × HaveSome deliver_args line.1)
     ⊎ ((line.0 ≡ codes "print") × HaveSome print_args line.1)
     ⊎ ((line.0 ≡ codes "review") × HaveSome review_args line.1)
+    ⊎ ((line.0 ≡ codes "serve") × HaveSome serve_args line.1)

@@ -154,6 +154,26 @@ fn review<'a>(alloc: Global) -> Result<Command<'a>, AllocError>
     with_wanted(alloc, command, &wanted)
 }
 
+fn serve<'a>(alloc: Global) -> Result<Command<'a>, AllocError>
+    ensures app { IfOk result (λ c. app_of c ≡ line.serve) }
+    ensures globals { IfOk result (λ c. (fields_of c).has_globals ≡ false) }
+{
+    let command = Command::new(alloc, "serve").about("Serve a desk over HTTP");
+    let wanted = [
+        ("ROSTER", "The roster"),
+        ("BASE", "The base policy"),
+        ("STORE", "`-`: the messages are kept in memory alone"),
+        ("ADDR", "The address and port to listen at"),
+    ];
+    let requests = optional(
+        alloc,
+        "REQUESTS",
+        "requests",
+        "End after so many connections",
+    );
+    with_wanted(alloc, command, &wanted)?.arg(requests)
+}
+
 /// Adds the commands on policies.
 fn with_policies<'a>(alloc: Global, command: Command<'a>) -> Result<Command<'a>, AllocError>
     requires { (fields_of command).has_globals ≡ false }
@@ -175,7 +195,8 @@ fn with_desks<'a>(alloc: Global, command: Command<'a>) -> Result<Command<'a>, Al
     command
         .subcommand(deliver(alloc)?)?
         .subcommand(print(alloc)?)?
-        .subcommand(review(alloc)?)
+        .subcommand(review(alloc)?)?
+        .subcommand(serve(alloc)?)
 }
 
 fn command<'a>(alloc: Global) -> Result<Command<'a>, AllocError>

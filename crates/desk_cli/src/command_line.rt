@@ -14,7 +14,7 @@ ghost use Rattle.desk_cli.specs.declared.task.Places.{Places as Parts};
 use crate::command::parsed;
 use crate::fault::JobFault;
 use crate::task::{Job, Places};
-use crate::values::{args, dash, moment, text, word, word_if_given};
+use crate::values::{args, count_if_given, dash, moment, text, word, word_if_given};
 use clap::ArgMatches;
 use review::Scope;
 use std::alloc::{AllocError, Global};
@@ -141,6 +141,23 @@ fn review(alloc: Global, matches: &ArgMatches<'_>) -> Result<Job, JobFault>
     Ok(Job::Review { places, at })
 }
 
+fn serve(alloc: Global, matches: &ArgMatches<'_>) -> Result<Job, JobFault>
+    requires { HaveSome line.serve_args (rows_of (found_of matches.now)) }
+    ensures found { IfOk result (λ j. Says (Some (codes "serve", rows_of (found_of matches.now))) j) }
+    ensures only { (j : Task) → Says (Some (codes "serve", rows_of (found_of matches.now))) j → MatchResult result (λ k. k ≡ j) (λ e. e ≡ NoMemory) }
+    ensures word { IfErr result (λ e. e ≡ BadWord → SaysBadly (Some (codes "serve", rows_of (found_of matches.now)))) }
+    ensures usage { IfErr result (λ e. IsUsage e → ⊥) }
+{
+    let places = places(alloc, matches)?;
+    let addr = text(alloc, matches, "ADDR")?;
+    let requests = count_if_given(matches, "REQUESTS")?;
+    Ok(Job::Serve {
+        places,
+        addr,
+        requests,
+    })
+}
+
 fn by_name(alloc: Global, name: &str, matches: &ArgMatches<'_>) -> Result<Job, JobFault>
     requires { IsComplete (Some (name.now, rows_of (found_of matches.now))) }
     ensures found { IfOk result (λ j. Says (Some (name.now, rows_of (found_of matches.now))) j) }
@@ -158,8 +175,10 @@ fn by_name(alloc: Global, name: &str, matches: &ArgMatches<'_>) -> Result<Job, J
         deliver(alloc, matches)
     } else if name == "print" {
         print(alloc, matches)
-    } else {
+    } else if name == "review" {
         review(alloc, matches)
+    } else {
+        serve(alloc, matches)
     }
 }
 

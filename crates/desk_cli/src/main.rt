@@ -15,6 +15,7 @@ mod printing;
 mod refusal;
 mod reviewing;
 mod running;
+mod serving;
 mod status;
 mod task;
 #[cfg(test)]
@@ -26,6 +27,7 @@ use crate::command_line::job;
 use crate::fault::{JobFault, show};
 use crate::refusal::Refusal;
 use crate::running::{finish, refuse, run};
+use crate::serving::serve;
 use crate::status::{Status, code};
 use crate::task::Job;
 use crate::text::Text;
@@ -60,7 +62,10 @@ fn files(rt: &HostRuntime, job: &Job) -> Result<Vec<Vec<u8>>, Refusal> {
             files.push(file(rt, a)?)?;
             files.push(file(rt, b)?)?;
         }
-        Job::Deliver { places, .. } | Job::Print { places, .. } | Job::Review { places, .. } => {
+        Job::Deliver { places, .. }
+        | Job::Print { places, .. }
+        | Job::Review { places, .. }
+        | Job::Serve { places, .. } => {
             files.push(file(rt, &places.roster)?)?;
             files.push(file(rt, &places.base)?)?;
         }
@@ -72,6 +77,9 @@ fn files(rt: &HostRuntime, job: &Job) -> Result<Vec<Vec<u8>>, Refusal> {
 fn work(rt: &HostRuntime, job: &Job) -> Result<Status, Refusal> {
     let alloc = rt.alloc();
     let files = files(rt, job)?;
+    if let Job::Serve { addr, requests, .. } = job {
+        return serve(rt, files.as_slice(), addr.as_str(), *requests);
+    }
     let Ok(mut input) = BufReader::new(alloc, rt.stdin()) else {
         return Err(Refusal::NoMemory);
     };

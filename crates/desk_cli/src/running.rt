@@ -181,6 +181,7 @@ fn answered<R: Read, E: Write>(
         Job::Deliver { relay, .. } => delivered(alloc, files, relay.as_str(), input),
         Job::Print { host, .. } => printed(alloc, files, host, input, err),
         Job::Review { at, .. } => reviewed(alloc, files, *at, input, err),
+        Job::Serve { .. } => Err(Refusal::FileFailed),
     }
 }
 

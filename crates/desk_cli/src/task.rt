@@ -59,4 +59,13 @@ pub enum Job {
         /// The moment that is looked at.
         at: Moment,
     },
+    /// Serve a desk over HTTP.
+    Serve {
+        /// The desk's files.
+        places: Places,
+        /// The address to listen at.
+        addr: Text,
+        /// How many connections are served; as many as come, where it is left out.
+        requests: Option<u64>,
+    },
 }

@@ -1,11 +1,12 @@
 //! The values of a command's arguments.
 
-ghost use Rattle.std.specs.Prelude.{◌≡◌, ◌⊎◌, ◌<◌, ◌≤◌, ℕ, List, IfOk, IfErr, IfSome, IsOk, MatchResult, OnOk, Option, None, Some, codes, map, length, true, false};
+ghost use Rattle.std.specs.Prelude.{◌≡◌, ◌⊎◌, ◌<◌, ◌≤◌, ℕ, List, IfOk, IfErr, IfSome, IsOk, MatchResult, OnOk, Option, None, Some, codes, map, length, true, false, if◌then◌else◌};
 ghost use Rattle.std.specs.List.{list_all};
+ghost use Rattle.std.specs.Str.Parse.{digits_value};
 ghost use Rattle.clap.specs.Words.{found_of, rows_of};
 ghost use Rattle.sudo_words.specs.Moment.{IsStamp};
 ghost use Rattle.sudo_words.specs.Word.{is_arg};
-ghost use Rattle.desk_cli.specs.CommandLine.{HasBadMoment, HasBadWord, HasBadWords, HasMoment, HasOption, HasOther, HasSome, HasValue, HasWord, HasWords, values};
+ghost use Rattle.desk_cli.specs.CommandLine.{HasBadMoment, HasBadWord, HasBadWords, HasCount, HasMoment, HasOption, HasOther, HasSome, HasValue, HasWord, HasWords, is_count, is_number, values};
 ghost use Rattle.desk_cli.specs.Faults.{IsUsage};
 ghost use Rattle.desk_cli.specs.declared.fault.JobFault.TheVariants.{BadWord, NoMemory};
 
@@ -17,6 +18,12 @@ use sudo_words::{Arg, Form, Items, Moment, Word};
 
 /// The length of a moment's canonical text.
 const STAMP_LENGTH: usize = 15;
+
+/// The most digits of a count.
+const MOST_DIGITS: usize = 7;
+
+/// The greatest count.
+const MOST_COUNT: u64 = 1_000_000;
 
 /// The most arguments that a run has.
 const MOST_ARGS: usize = 64;
@@ -65,6 +72,50 @@ pub fn word_if_given<F: Form>(
 {
     match matches.get_str(id) {
         Some(text) => Ok(Some(Word::read(alloc, text)?)),
+        None => Ok(None),
+    }
+}
+
+/// The number that 1 to 7 digits write.
+fn number_of(value: &[u8]) -> Option<u64>
+    ensures { result ≡ (if is_number value.now then Some (digits_value 10 value.now) else None) }
+{
+    if value.is_empty() || value.len() > MOST_DIGITS {
+        return None;
+    }
+    let mut n: u64 = 0;
+    for b in value {
+        if !b.is_ascii_digit() {
+            return None;
+        }
+        n = n * 10 + u64::from(*b - b'0');
+    }
+    Some(n)
+}
+
+/// The number that 1 to 7 digits write, from 1 to 1,000,000.
+fn count_of(value: &[u8]) -> Option<u64>
+    ensures found { IfSome result (λ n. (is_count value.now ≡ true) × (n ≡ digits_value 10 value.now)) }
+    ensures only { is_count value.now ≡ true → result ≡ Some (digits_value 10 value.now) }
+{
+    let n = number_of(value)?;
+    if n == 0 || n > MOST_COUNT {
+        return None;
+    }
+    Some(n)
+}
+
+/// The value of an option, a number from 1 to 1,000,000, or none where it is left out.
+pub fn count_if_given(matches: &ArgMatches<'_>, id: &str) -> Result<Option<u64>, JobFault>
+    ensures found { IfOk result (HasCount id.now (rows_of (found_of matches.now))) }
+    ensures only { (n : Option ℕ) → HasCount id.now (rows_of (found_of matches.now)) n → MatchResult result (λ r. r ≡ n) (λ e. ⊥) }
+    ensures word { IfErr result (λ e. (e ≡ BadWord) × HasBadWord is_count id.now (rows_of (found_of matches.now))) }
+{
+    match matches.get_str(id) {
+        Some(text) => match count_of(text.as_bytes()) {
+            Some(n) => Ok(Some(n)),
+            None => Err(JobFault::BadWord),
+        },
         None => Ok(None),
     }
 }
