@@ -9,6 +9,7 @@ import contextlib
 import itertools
 import json
 import os
+import re
 import shlex
 import subprocess
 import sys
@@ -426,6 +427,31 @@ def second_of(hour, n):
     return f"20260105{hour + n // 3600:02}{n // 60 % 60:02}{n % 60:02}Z"
 
 
+def spaced(line):
+    """The line with n spaces in the place of each {n}."""
+    return re.sub(r"\{([0-9]+)\}", lambda found: " " * int(found[1]), line) + "\n"
+
+
+def report_of(table, row, at):
+    """The report that is wanted of a row."""
+    parts = {name: "".join(map(spaced, row.get(name, table.get(name, [])))) for name in ("live", "barred", "conflicts", "broad")}
+    parts["parked"] = lines_of(table, row.get("parked", []))
+    return f"REVIEW {at}\n" + "".join(f"{name.upper()}\n{lines}" for name, lines in parts.items())
+
+
+def reviewed(table):
+    for row in table["row"]:
+        roster, base, at = edited(table["roster"], row.get("with", [])), text_of(row.get("base", table["base"])), row.get("at", table["at"])
+        wanted = ("", row["refused"], 2) if "refused" in row else (report_of(table, row, at), row.get("err", ""), 0)
+        if "input" in row:
+            given = [text_of(row["input"])]
+        else:
+            orders = all_orders(row["messages"]) if row.get("orders", True) else [row["messages"]]
+            given = [lines_of(table, rows) for rows in orders]
+        for text in given:
+            yield row["name"], Run(base.encode(), ["review", "ROSTER", "BASE", "-", at], text.encode(), roster=roster.encode()), wanted
+
+
 def crowd(table):
     """A roster of many people who all approve."""
     made = table["crowd"]
@@ -485,7 +511,7 @@ def short(value):
 
 
 def main():
-    kinds = [admission, beyond, checked, commands, decided, delivered, desk, limits, many, messages, moments, printed, refused, rosters, words]
+    kinds = [admission, beyond, checked, commands, decided, delivered, desk, limits, many, messages, moments, printed, refused, reviewed, rosters, words]
     count = wrong = 0
     with tempfile.TemporaryDirectory() as folder:
         for kind in kinds:

@@ -8,7 +8,7 @@ use Rattle.clap.specs.Walk.{Row, Text, finished}
 use Rattle.desk_cli.specs.CommandLine.{IsCommandLine, Says, check, desk}
 use Rattle.desk_cli.specs.Operands.{SaysByPlace, is_operand}
 use Rattle.desk_cli.specs.declared.task.Job.{Job}
-use Rattle.desk_cli.specs.declared.task.Job.TheVariants.{Beyond, Check, Decide, Deliver, Print, Review}
+use Rattle.desk_cli.specs.declared.task.Job.TheVariants.{Beyond, Check, Decide, Deliver, Print, Review, Serve}
 use Rattle.desk_cli.proofs.Placed.{Enters, entered_named, faultless_named, level_place, never_trails, placed, placed_level, rows_place}
 use Rattle.desk_cli.proofs.ArgsPlaced.{args_are, args_row, six, six_faultless, six_rows}
 
@@ -56,6 +56,10 @@ enters_review : Enters (built desk) (codes "review") (nth 5)
 unfolding clap_on_literals
 enters_review = record { walks = refl; turns = refl; finds = refl; settles = refl; defaults = refl; checks = refl }
 
+enters_serve : Enters (built desk) (codes "serve") (nth 6)
+unfolding clap_on_literals
+enters_serve = record { walks = refl; turns = refl; finds = refl; settles = refl; defaults = refl; checks = refl }
+
 -- the command takes the words, and finds no fault in them
 abbrev Finds : Text → Shape → List Text → Type 0
 Finds name leaf rest = Takes name leaf rest (finished leaf.rules (placed leaf.rules rest).held)
@@ -82,6 +86,11 @@ reviews : (roster base at : Text) → list_all is_operand (roster ∷ base ∷ c
     → Finds (codes "review") (nth 5) (roster ∷ base ∷ codes "-" ∷ at ∷ [])
 unfolding clap_on_literals
 reviews roster base at all = record { enters = enters_review; operands = all; leads = refl; faultless = refl; finds = refl }
+
+serves : (roster base addr : Text) → list_all is_operand (roster ∷ base ∷ codes "-" ∷ addr ∷ []) ≡ true
+    → Finds (codes "serve") (nth 6) (roster ∷ base ∷ codes "-" ∷ addr ∷ [])
+unfolding clap_on_literals
+serves roster base addr all = record { enters = enters_serve; operands = all; leads = refl; faultless = refl; finds = refl }
 
 decides : (f u h r t p : Text) (args : List Text) → list_all is_operand (f ∷ u ∷ h ∷ r ∷ t ∷ p ∷ args) ≡ true
     → Takes (codes "decide") (nth 1) (f ∷ u ∷ h ∷ r ∷ t ∷ p ∷ args) (six f u h r t p (args_row args))
@@ -132,3 +141,8 @@ said program words (Review places at) all is =
     subst (λ ws. list_all is_operand ws ≡ true → IsCommandLine (program ∷ ws) (Review places at)) (sym same)
     (λ operands. line program (codes "review") (nth 5) (places.roster ∷ places.base ∷ codes "-" ∷ text ∷ []) _ (Review places at)
     (reviews places.roster places.base text operands) (refl, record { roster = refl; base = refl; store = refl }, (text, refl, stamp))) all
+said program words (Serve places addr requests) all is =
+    subst (λ ws. list_all is_operand ws ≡ true → IsCommandLine (program ∷ ws) (Serve places addr requests)) (sym is.0)
+    (λ operands. subst (λ r. IsCommandLine (program ∷ codes "serve" ∷ places.roster ∷ places.base ∷ codes "-" ∷ addr ∷ []) (Serve places addr r)) (sym is.1)
+    (line program (codes "serve") (nth 6) (places.roster ∷ places.base ∷ codes "-" ∷ addr ∷ []) _ (Serve places addr None)
+    (serves places.roster places.base addr operands) (refl, record { roster = refl; base = refl; store = refl }, refl, refl))) all

@@ -6,7 +6,7 @@ use Rattle.sudo_words.specs.Moment.{IsStamp}
 use Rattle.sudo_words.specs.Word.{is_arg, is_file_path, is_host_name, is_name}
 use Rattle.sudo_decide.specs.declared.invocation.Invocation.{Invocation}
 use Rattle.desk_cli.specs.declared.task.Job.{Job}
-use Rattle.desk_cli.specs.declared.task.Job.TheVariants.{Beyond, Check, Decide, Deliver, Print, Review}
+use Rattle.desk_cli.specs.declared.task.Job.TheVariants.{Beyond, Check, Decide, Deliver, Print, Review, Serve}
 
 -- A word is an operand where it does not begin with `-`, or is `-` alone (POSIX.1-2017, XBD 12.2, guidelines 4 and 13).
 abbrev pub is_operand : Text → Bool
@@ -34,3 +34,5 @@ SaysByPlace words (Deliver places relay) = words ≡ codes "deliver" ∷ places.
 SaysByPlace words (Print places host) = (words ≡ codes "print" ∷ places.roster ∷ places.base ∷ codes "-" ∷ host ∷ []) × (is_host_name host ≡ true)
 SaysByPlace words (Review places at) =
     (text : Text) × IsStamp text at × (words ≡ codes "review" ∷ places.roster ∷ places.base ∷ codes "-" ∷ text ∷ [])
+SaysByPlace words (Serve places addr requests) =
+    (words ≡ codes "serve" ∷ places.roster ∷ places.base ∷ codes "-" ∷ addr ∷ []) × (requests ≡ None)
