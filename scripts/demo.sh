@@ -45,3 +45,9 @@ build/desk print "${desk[@]}" db1 < examples/revoked.messages > build/db1.sudo
 for at in 20260105091459Z 20260105091500Z 20260105102959Z 20260105103000Z; do
     ask decide build/db1.sudo ann db1 root "$at" /usr/bin/id
 done
+
+# The review of the same messages while the grant is in force and behind its end, and of an approval that waits.
+for at in 20260105093000Z 20260105103000Z; do
+    with_messages examples/revoked.messages review "${desk[@]}" "$at"
+done
+with_messages examples/parked.messages review "${desk[@]}" 20260105093000Z

@@ -54,6 +54,7 @@ def commands(folder):
             file.write(text)
     return [
         (["print", roster, base, "-", "db1"], MESSAGES),
+        (["review", roster, base, "-", "20260105093000Z"], MESSAGES),
         (["deliver", roster, base, "-", "chat"], MESSAGES),
         (["check", base], b""),
         (["beyond", base, os.path.join(ROOT, "examples", "team.sudo")], b""),
