@@ -34,9 +34,11 @@ gate-times:
 edits:
 	python3 scripts/edits.py $(CRATES)
 
-# What the desk decides beside what sudo itself answers (as root; Debian's packages sudo and faketime). Nothing of the machine changes.
+# What the desk decides beside what sudo itself answers (as root; Debian's packages sudo and faketime), and `desk serve` asked over loopback (curl). Nothing of the
+# machine changes.
 peers: desk
 	python3 scripts/peers.py
+	python3 scripts/peers_http.py
 
 # Time and memory: `check` and `decide` beside visudo (Debian's package sudo) on up to 16,001 rules, on 8,000 aliases with 8,000 rules, and on
 # the greatest weight; `print` on 800 and 8,000 requests; `beyond` on 1,000,000 cases.

@@ -2,7 +2,7 @@
 # Fetches this host's sudoers file from the desk, checks it, and puts it in place. On any fault the old file stays, and the status is 1.
 # For a timer, as root: fetch-sudoers.sh http://127.0.0.1:8080 db1 /etc/sudoers.d/desk
 #
-# The desk does not serve yet (docs/HTTP.md). What the file grants ends by its own dates, so an old file gives nobody a right past its window;
+# What the file grants ends by its own dates, so an old file gives nobody a right past its window;
 # but a revocation, and a new grant, wait for the next fetch.
 set -eu
 umask 077

@@ -46,6 +46,37 @@ for at in 20260105091459Z 20260105091500Z 20260105102959Z 20260105103000Z; do
     ask decide build/db1.sudo ann db1 root "$at" /usr/bin/id
 done
 
+# The same over HTTP: the messages are posted, the host's file is fetched, and decides.
+post() {
+    printf '$ curl --data-binary LINE http://127.0.0.1:PORT%s < %s\n' "$1" "$2"
+    while IFS= read -r line; do
+        curl -s -m 20 --data-binary "$line" "http://$address$1"
+    done < "$2"
+    printf '\n'
+}
+
+get() {
+    printf '$ curl http://127.0.0.1:PORT%s\n' "$1"
+    curl -s -m 20 "http://$address$1"
+    printf '\n'
+}
+
+printf '$ desk serve %s 127.0.0.1:0 --requests 7\n' "${desk[*]}"
+coproc served { exec timeout 120 build/desk serve "${desk[@]}" 127.0.0.1:0 --requests 7; }
+server=$served_PID
+read -r listening address <&"${served[0]}"
+printf '%s 127.0.0.1:PORT\n\n' "$listening"
+post /v1/relays/mail/messages examples/parked.messages
+get /v1/parked
+post /v1/relays/chat/messages examples/approved.messages
+get /v1/grants/20260105093000Z
+post /v1/relays/fax/messages examples/parked.messages
+curl -s -m 20 -o build/fetched.sudo "http://$address/v1/hosts/db1/sudoers"
+wait "$server"
+printf '(status %s)\n\n' "$?"
+ask check build/fetched.sudo
+ask decide build/fetched.sudo ann db1 root 20260105093000Z /usr/bin/id
+
 # The review of the same messages while the grant is in force and behind its end, and of an approval that waits.
 for at in 20260105093000Z 20260105103000Z; do
     with_messages examples/revoked.messages review "${desk[@]}" "$at"

@@ -1,21 +1,34 @@
 #!/usr/bin/env python3
-"""Asks `desk serve` over loopback, by curl and by raw bytes, and compares each reply; the host's file must pass `visudo -c`.
+"""Asks `desk serve` over loopback, by curl, by Python's http.client and by raw bytes, and compares each reply.
 
-The server listens at port 0 and ends by itself after as many connections as are made. `peers_http.py WORDS..` runs another program
-than build/desk.
+Then peers go away at each byte of a request, one never reads, and some hundred requests are changed at random: each reply must be one
+of HTTP/1.1, and the server serves on. A host's file must pass `visudo -c`, and examples/fetch-sudoers.sh must put it in place, or keep
+the old one. The servers listen at port 0; one ends by itself after as many connections as are made, the others by SIGTERM.
+`peers_http.py WORDS..` runs another program than build/desk.
 """
 
+import contextlib
+import http.client
 import os
+import random
+import re
 import shutil
+import signal
 import socket
+import struct
 import subprocess
 import sys
 import tempfile
+import threading
+import tomllib
 
 ROOT = os.path.dirname(os.path.dirname(os.path.abspath(__file__)))
 DESK = sys.argv[1:] or [os.path.join(ROOT, "build", "desk")]
 ROSTER = os.path.join(ROOT, "examples", "roster.toml")
 BASE = os.path.join(ROOT, "examples", "site.sudo")
+CASES = os.path.join(ROOT, "cases", "delivered.toml")
+FETCH = os.path.join(ROOT, "examples", "fetch-sudoers.sh")
+CHANGED = 400
 REQUEST = (
     b'{"at":"20260105060000Z","by":"ann","ceiling":"db-care","cmnds":["/usr/bin/id"],"from":"20260105090000Z","hosts":["db1"],'
     b'"kind":"request","no":7,"runas":"root","until":"20260105110000Z"}'
@@ -25,6 +38,17 @@ GRANT = b"ann 7 db-care 20260105090000Z 20260105110000Z\n"
 LINE = b"ann db1 = (root) NOTBEFORE=20260105090000Z NOTAFTER=20260105110000Z /usr/bin/id\n"
 ACK = ("200 OK", b"ack\n")
 HOST = b"Host: desk\r\n"
+# every status that a reply may have
+STATUSES = {
+    "200 OK",
+    "400 Bad Request",
+    "403 Forbidden",
+    "404 Not Found",
+    "405 Method Not Allowed",
+    "411 Length Required",
+    "413 Content Too Large",
+    "503 Service Unavailable",
+}
 
 
 def post(relay, body, extra=()):
@@ -80,10 +104,55 @@ RAW = [
 ]
 
 
+def posted(relay, body, length=None):
+    """The bytes of a POST."""
+    length = len(body) if length is None else length
+    return b"POST /v1/relays/%s/messages HTTP/1.1\r\n%sContent-Length: %d\r\n\r\n%s" % (relay, HOST, length, body)
+
+
+def asked(method, target):
+    return b"%s %s HTTP/1.1\r\n%s\r\n" % (method, target, HOST)
+
+
+def reply(status, body, length=None, allow=b""):
+    """The bytes of a reply."""
+    length = len(body) if length is None else length
+    return b"HTTP/1.1 %s\r\nContent-Type: text/plain\r\n%sContent-Length: %d\r\nConnection: close\r\n\r\n%s" % (status, allow, length, body)
+
+
+def exchanges(request):
+    """Exchanges over a roster with the relay web, byte for byte; the request that is approved is given."""
+    spaced = APPROVAL.replace(b",", b", ", 1)
+    grants = b"/v1/grants/20260105093000Z"
+    line = b"ann 7 db-root 20260105090000Z 20260105110000Z\n"
+    bad = b"400 Bad Request"
+    return [
+        # what is refused is not stored
+        (posted(b"web", spaced), reply(bad, b"M2 NotCanonical\n")),
+        (posted(b"web", APPROVAL, 16385), reply(b"413 Content Too Large", b"M1 TooLong\n")),
+        (posted(b"fax", APPROVAL), reply(b"403 Forbidden", b"P1 UnknownRelay\n")),
+        (posted(b"web", b"", 70)[:-2], reply(bad, b"T1 BadHead\n")),
+        (asked(b"GET", b"/v1/parked"), reply(b"200 OK", b"")),
+        # an approval and its request
+        (posted(b"web", APPROVAL), reply(b"200 OK", b"ack\n")),
+        (asked(b"GET", b"/v1/parked"), reply(b"200 OK", APPROVAL + b"\n")),
+        (posted(b"web", request), reply(b"200 OK", b"ack\n")),
+        (asked(b"GET", grants), reply(b"200 OK", line)),
+        (asked(b"GET", b"/v1/parked"), reply(b"200 OK", b"")),
+        (asked(b"GET", b"/v1/hosts/db9/sudoers"), reply(b"404 Not Found", b"P2 UnknownHost\n")),
+        (asked(b"POST", b"/v1/parked"), reply(b"405 Method Not Allowed", b"T4 BadMethod\n", None, b"Allow: GET, HEAD\r\n")),
+        (asked(b"GET", b"/v1/grants/2026010509Z"), reply(bad, b"T8 BadMoment\n")),
+        (asked(b"GET", b"/v1/parked?x"), reply(bad, b"T2 BadTarget\n")),
+        (asked(b"HEAD", grants), reply(b"200 OK", b"", len(line))),
+        (asked(b"HEAD", b"/v1/relays/web/messages"), reply(b"405 Method Not Allowed", b"", 13, b"Allow: POST\r\n")),
+        (asked(b"get", b"/v1/parked"), reply(b"405 Method Not Allowed", b"T4 BadMethod\n", None, b"Allow: GET, HEAD\r\n")),
+    ]
+
+
 def reply_of(whole):
     """The status line's code and phrase, the fields and the body."""
     head, _, body = whole.partition(b"\r\n\r\n")
-    first, *fields = head.decode("ascii").split("\r\n")
+    first, *fields = head.decode("latin-1").split("\r\n")
     return first.removeprefix("HTTP/1.1 "), dict(field.split(": ", 1) for field in fields), body
 
 
@@ -97,6 +166,21 @@ def check(what, whole, wanted, is_head=False):
     return is_right
 
 
+def parses(whole):
+    """Whether the bytes are some reply of the desk."""
+    found = re.fullmatch(
+        rb"HTTP/1\.1 ([0-9A-Za-z ]+)\r\nContent-Type: text/plain\r\n(Allow: (POST|GET, HEAD)\r\n)?Content-Length: ([0-9]+)\r\nConnection: close\r\n\r\n(.*)",
+        whole,
+        re.DOTALL,
+    )
+    return found and found[1].decode() in STATUSES and len(found[5]) in (0, int(found[4]))
+
+
+def place(address):
+    host, _, port = address.rpartition(":")
+    return host, int(port)
+
+
 def by_curl(address, words):
     *given, target = words
     given = [word if isinstance(word, str) else word.decode("ascii") for word in given]
@@ -105,16 +189,56 @@ def by_curl(address, words):
 
 
 def by_bytes(address, given, one_at_a_time=False):
-    host, _, port = address.rpartition(":")
-    with socket.create_connection((host, int(port)), timeout=20) as peer:
+    with socket.create_connection(place(address), timeout=20) as peer:
         peer.setsockopt(socket.IPPROTO_TCP, socket.TCP_NODELAY, 1)
-        for piece in [given[at : at + 1] for at in range(len(given))] if one_at_a_time else [given]:
-            peer.sendall(piece)
-        peer.shutdown(socket.SHUT_WR)
         whole = b""
-        while piece := peer.recv(65536):
-            whole += piece
+        # (a server that has replied may close while bytes are still on their way)
+        with contextlib.suppress(ConnectionError):
+            for piece in [given[at : at + 1] for at in range(len(given))] if one_at_a_time else [given]:
+                peer.sendall(piece)
+            peer.shutdown(socket.SHUT_WR)
+        with contextlib.suppress(ConnectionError):
+            while piece := peer.recv(65536):
+                whole += piece
         return whole
+
+
+@contextlib.contextmanager
+def serving(roster, base, requests=None):
+    """A server's address; behind it, the server has ended: by itself after so many connections, or by SIGTERM."""
+    words = [*DESK, "serve", roster, base, "-", "127.0.0.1:0", *(["--requests", str(requests)] if requests else [])]
+    with tempfile.TemporaryFile("w+") as said, subprocess.Popen(words, stdout=subprocess.PIPE, stderr=said, text=True) as server:
+        try:
+            first = server.stdout.readline().split()
+            if len(first) != 2 or first[0] != "listening":
+                sys.exit(f"the desk does not listen: {first}")
+            yield first[1]
+            if requests is None:
+                server.send_signal(signal.SIGTERM)
+            status = server.wait(timeout=20)
+        finally:
+            server.kill()
+        said.seek(0)
+        lines = set(said.read().splitlines())
+        if status != (0 if requests else -signal.SIGTERM) or not lines <= {"H1 ReadFailed", "H2 WriteFailed"}:
+            sys.exit(f"the desk ends with status {status}: {sorted(lines)}")
+
+
+def ask_exactly():
+    """The exchanges, byte for byte, by a server that ends by itself."""
+    with open(CASES, "rb") as file:
+        cases = tomllib.load(file)
+    wrong, rows = 0, exchanges(cases["message"]["request"].encode("ascii"))
+    with tempfile.NamedTemporaryFile("w", suffix=".toml") as roster, tempfile.NamedTemporaryFile("w", suffix=".sudo") as base:
+        roster.write(cases["roster"])
+        roster.flush()
+        with serving(roster.name, base.name, len(rows)) as address:
+            for given, wanted in rows:
+                whole = by_bytes(address, given)
+                if whole != wanted:
+                    wrong += 1
+                    print(f"{given!r}: {whole!r}")
+    return len(rows), wrong
 
 
 def ask_all(address):
@@ -125,7 +249,92 @@ def ask_all(address):
         wrong += not check(given[:100], by_bytes(address, given), wanted)
     slow = b"GET /v1/grants/20260105093000Z HTTP/1.1\r\n" + HOST + b"\r\n"
     wrong += not check("byte by byte", by_bytes(address, slow, one_at_a_time=True), ("200 OK", GRANT))
-    return wrong
+    return len(ASKED) + len(RAW) + 1, wrong
+
+
+def ask_as_python(address):
+    """GET, HEAD and POST by Python's own client."""
+    wrong = 0
+    for method, target, body, wanted in [
+        ("GET", "/v1/grants/20260105093000Z", None, (200, len(GRANT), GRANT)),
+        ("HEAD", "/v1/grants/20260105093000Z", None, (200, len(GRANT), b"")),
+        ("POST", "/v1/relays/chat/messages", APPROVAL, (200, 4, b"ack\n")),
+        ("PUT", "/v1/relays/chat/messages", APPROVAL, (405, 13, b"T4 BadMethod\n")),
+    ]:
+        client = http.client.HTTPConnection(*place(address), timeout=20)
+        client.request(method, target, body)
+        got = client.getresponse()
+        answer = (got.status, int(got.headers["Content-Length"]), got.read())
+        client.close()
+        if answer != wanted:
+            wrong += 1
+            print(f"{method} {target}: {answer}")
+    return 4, wrong
+
+
+def leave(address, given, is_rude):
+    """Sends the bytes and goes away; rudely: what is on its way is dropped."""
+    with socket.create_connection(place(address), timeout=20) as peer:
+        if is_rude:
+            peer.setsockopt(socket.SOL_SOCKET, socket.SO_LINGER, struct.pack("ii", 1, 0))
+        peer.sendall(given)
+
+
+def serves_on(address):
+    return by_bytes(address, asked(b"GET", b"/v1/grants/20260105093000Z")) == reply(b"200 OK", GRANT)
+
+
+def leave_at_each_byte(address):
+    """A peer that goes away at each byte of a request, politely and rudely, and one that never reads."""
+    wrong, given = 0, posted(b"chat", APPROVAL)
+    for end in range(len(given) + 1):
+        leave(address, given[:end], end % 2 == 0)
+        if end % 16 == 0 and not serves_on(address):
+            wrong += 1
+            print(f"after a peer that leaves at byte {end} the next is not served")
+    with socket.create_connection(place(address), timeout=20) as silent:
+        silent.sendall(asked(b"GET", b"/v1/hosts/db1/sudoers"))
+        if not serves_on(address):
+            wrong += 1
+            print("after a peer that never reads the next is not served")
+    return len(given) + 2, wrong
+
+
+def changed(given, chance):
+    """The bytes with up to three changes."""
+    for _ in range(chance.randint(1, 3)):
+        at, end = sorted((chance.randint(0, len(given)), chance.randint(0, len(given))))
+        some = bytes([chance.choice([0, 9, 10, 13, 32, 37, 47, 58, 63, 128, 255, chance.randrange(256)])])
+        given = chance.choice(
+            [
+                given[:at] + some + given[at + 1 :],
+                given[:at] + some + given[at:],
+                given[:at] + given[at + 1 :],
+                given[:at] + given[at:end] * 2 + given[end:],
+                given[:at] + given[end:],
+                given[:end],
+            ]
+        )
+    return given
+
+
+def change_requests(address):
+    """Requests that are changed at random, always the same ones: each reply is a reply, and the server serves on."""
+    wrong, chance = 0, random.Random(7)
+    valid = [
+        posted(b"chat", APPROVAL),
+        posted(b"mail", REQUEST),
+        asked(b"GET", b"/v1/grants/20260105093000Z"),
+        asked(b"HEAD", b"/v1/hosts/db1/sudoers"),
+        asked(b"GET", b"/v1/parked"),
+    ]
+    for _ in range(CHANGED):
+        given = changed(chance.choice(valid), chance)
+        whole = by_bytes(address, given)
+        if not parses(whole):
+            wrong += 1
+            print(f"{given!r}: {whole!r}")
+    return CHANGED, wrong
 
 
 def check_file(address):
@@ -138,24 +347,62 @@ def check_file(address):
         checked = subprocess.run([visudo, "-cf", file.name], stdout=subprocess.PIPE, stderr=subprocess.STDOUT, check=False)
     if checked.returncode or not body.endswith(LINE):
         print(f"the host's file: {checked.stdout!r} {body!r}")
-        return 1
-    return 0
+        return 1, 1
+    return 1, 0
+
+
+def answer_once(whole):
+    """The address of a server that is no desk: it gives one peer these bytes."""
+    listener = socket.create_server(("127.0.0.1", 0))
+
+    def answer():
+        with listener, listener.accept()[0] as peer:
+            peer.recv(65536)
+            peer.sendall(whole)
+
+    threading.Thread(target=answer, daemon=True).start()
+    return "127.0.0.1:%d" % listener.getsockname()[1]
+
+
+def fetch(address, host, file):
+    path = os.environ["PATH"] + ":/usr/sbin:/sbin"
+    words = ["sh", FETCH, f"http://{address}", host, file]
+    return subprocess.run(words, stdout=subprocess.PIPE, stderr=subprocess.STDOUT, check=False, env=dict(os.environ, PATH=path)).returncode
+
+
+def fetch_files(address):
+    """examples/fetch-sudoers.sh puts the host's file in place, and on any fault keeps the old one and leaves nothing else."""
+    wrong = 0
+    with tempfile.TemporaryDirectory() as folder:
+        file = os.path.join(folder, "desk")
+        no_sudoers = answer_once(b"HTTP/1.1 200 OK\r\nContent-Length: 12\r\n\r\nann db1 = (\n")
+        cut_short = answer_once(b"HTTP/1.1 200 OK\r\nContent-Length: 99\r\n\r\nann db1 = /bin/ls\n")
+        rows = [
+            ("a host's file", address, "db1", 0),
+            ("the same again", address, "db1", 0),
+            ("a host that the roster lacks", address, "db9", 1),
+            ("what is no sudoers file", no_sudoers, "db1", 1),
+            ("a file that is cut short", cut_short, "db1", 1),
+            ("no server", "127.0.0.1:1", "db1", 1),
+        ]
+        for what, server, host, status in rows:
+            ended = fetch(server, host, file)
+            with open(file, "rb") as found:
+                is_whole = found.read().endswith(LINE)
+            if ended != status or not is_whole or os.listdir(folder) != ["desk"] or os.stat(file).st_mode & 0o777 != 0o440:
+                wrong += 1
+                print(f"fetch-sudoers.sh, {what}: status {ended}, {os.listdir(folder)}")
+    return len(rows), wrong
 
 
 def main():
-    count = len(ASKED) + len(RAW) + 2
-    words = [*DESK, "serve", ROSTER, BASE, "-", "127.0.0.1:0", "--requests", str(count)]
-    with subprocess.Popen(words, stdout=subprocess.PIPE, stderr=subprocess.PIPE, text=True) as server:
-        first = server.stdout.readline().split()
-        if len(first) != 2 or first[0] != "listening":
-            server.kill()
-            sys.exit(f"the desk does not listen: {first} {server.stderr.read()}")
-        wrong = ask_all(first[1]) + check_file(first[1])
-        status = server.wait(timeout=20)
-    if status:
-        print(f"the desk ends with status {status}")
-    print(f"over HTTP the desk was asked {count} times: {wrong} otherwise than they say")
-    sys.exit(1 if wrong or status else 0)
+    counts = [ask_exactly()]
+    with serving(ROSTER, BASE) as address:
+        for part in (ask_all, ask_as_python, check_file, fetch_files, leave_at_each_byte, change_requests):
+            counts.append(part(address))
+    asks, wrong = (sum(each) for each in zip(*counts, strict=True))
+    print(f"over HTTP the desk was asked {asks} times: {wrong} otherwise than they say")
+    sys.exit(1 if wrong else 0)
 
 
 main()

@@ -1,6 +1,6 @@
 #!/usr/bin/env bash
-# The whole gate: what can be seen without a proof; `rt ci`; and then, over the program that it left, the demo, the cases, sudo beside the desk, and each
-# request for memory refused.
+# The whole gate: what can be seen without a proof; `rt ci`; and then, over the program that it left, the demo, the cases, sudo beside the desk, the desk
+# served over loopback, and each request for memory refused.
 # With WHOLE=1 a part that cannot run here fails; without it, it is left out and named. The last line is 'N passed, M failed'.
 set -euo pipefail
 cd "$(dirname "$0")/.."
@@ -47,6 +47,10 @@ demo() {
     bash scripts/demo.sh | diff examples/demo.expected -
 }
 
+peers() {
+    python3 scripts/peers.py && python3 scripts/peers_http.py
+}
+
 bash scripts/tools.sh
 # (what is wrong here would be refused after half an hour only)
 if ! python3 scripts/quick.py; then
@@ -66,7 +70,7 @@ cp crates/desk_cli/out/desk_cli build/desk
 
 part demo demo
 part cases python3 scripts/cases.py
-part_with peers root sudo visudo faketime unshare -- python3 scripts/peers.py
+part_with peers root sudo visudo faketime unshare curl -- peers
 part_with faults cc -- python3 scripts/faults.py
 echo "$passed passed, $failed failed"
 [ "$failed" = 0 ]

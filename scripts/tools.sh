@@ -1,11 +1,12 @@
 #!/usr/bin/env bash
-# Installs what the gate asks beside the toolchain, where it is not there: sudo, with visudo, and a clock that stands still for
+# Installs what the gate asks beside the toolchain, where it is not there: sudo, with visudo, and a clock that stands still and curl for
 # `make peers`, and a C compiler for `make faults`. Where this is not root, or there is no apt-get, nothing is installed.
 set -euo pipefail
 export PATH="$PATH:/usr/sbin:/sbin"
 wanted=()
 command -v sudo >/dev/null && command -v visudo >/dev/null || wanted+=(sudo)
 command -v faketime >/dev/null || wanted+=(faketime)
+command -v curl >/dev/null || wanted+=(curl)
 command -v cc >/dev/null || wanted+=(gcc libc6-dev)
 command -v unshare >/dev/null || wanted+=(util-linux)
 if [ "${#wanted[@]}" -gt 0 ] && [ "$(id -u)" = 0 ] && command -v apt-get >/dev/null; then
