@@ -1,10 +1,10 @@
 //! A keeper over a database.
 
-ghost use Rattle.std.specs.Prelude.{◌≡◌, ◌≤◌, false};
+ghost use Rattle.std.specs.Prelude.{◌≡◌, ◌↔◌, ◌≤◌, false};
 ghost use Rattle.sqlite.specs.State.{HasCleanDisk};
 ghost use Rattle.sqlite.specs.Held.{state};
 ghost use Rattle.desk_store.specs.Keeping.{HasFailed};
-ghost use Rattle.desk_store.specs.Sets.{Lists};
+ghost use Rattle.desk_store.specs.Sets.{Lists, SameSet};
 ghost use Rattle.desk_store.specs.Stored.{HoldsText, IsDeskDatabase, IsFree, content_of};
 ghost use Rattle.desk_store.specs.SqliteStates.{IsUp, Rests};
 ghost use Rattle.desk_store.specs.private.Props.{Rests-prop};
@@ -36,9 +36,9 @@ pub struct SqliteKeeper<S: Alter> {
 }
 
 impl<S: Alter> SqliteKeeper<S> {
-    /// A keeper of what the database keeps. The connection is in no transaction. It takes no memory.
+    /// A keeper of what the database keeps. The connection is in no transaction, unless a failure has shut its store. It takes no memory.
     pub fn new(alloc: Global, conn: Connection<S>) -> SqliteKeeper<S>
-        requires { conn.in_transaction ≡ false }
+        requires { IsUp (state S.Store conn) → conn.in_transaction ≡ false }
         ensures same { result.conn ≡ conn }
         ensures none { result.failed ≡ 0 }
     {
@@ -63,6 +63,23 @@ impl<S: Alter> SqliteKeeper<S> {
             failed: _,
         } = self;
         conn
+    }
+
+    /// Gives the connection up, and makes a keeper of it anew: what another keeper finds over the same connection.
+    ///
+    /// It keeps what this one did, and is up exactly where this one was. Its count of failures begins again.
+    pub fn renewed(self) -> SqliteKeeper<S>
+        ensures database { (state S.Store result.conn).now ≡ (state S.Store self.conn).now }
+        ensures up { IsUp (state S.Store result.conn) ↔ IsUp (state S.Store self.conn) }
+        ensures clean { HasCleanDisk (state S.Store result.conn) ↔ HasCleanDisk (state S.Store self.conn) }
+        ensures empty { IsFree (state S.Store result.conn).now.schema ↔ IsFree (state S.Store self.conn).now.schema }
+        ensures desk { IsDeskDatabase (state S.Store result.conn).now ↔ IsDeskDatabase (state S.Store self.conn).now }
+        ensures roster { (content_of (state S.Store result.conn).now).roster ≡ (content_of (state S.Store self.conn).now).roster }
+        ensures set { SameSet (HoldsText (state S.Store self.conn).now) (HoldsText (state S.Store result.conn).now) }
+        ensures none { result.failed ≡ 0 }
+    {
+        let alloc = self.alloc;
+        SqliteKeeper::new(alloc, self.into_connection())
     }
 }
 
