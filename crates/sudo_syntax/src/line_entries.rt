@@ -1,6 +1,6 @@
 //! The entries of a line, added to a draft.
 
-ghost use Rattle.std.specs.Prelude.{◌≡◌, ◌++◌, ◌∷◌, [], IfOk, IfErr, OnOk, map};
+ghost use Rattle.std.specs.Prelude.{◌≡◌, ◌++◌, ◌∷◌, [], IfOk, IfErr, OnOk, map, unwrap_or};
 ghost use Rattle.std.specs.List.{AllByRecursion, flat_map};
 ghost use Rattle.sudo_syntax.specs.declared.entry.Entry.TheVariants as entries;
 ghost use Rattle.sudo_syntax.specs.declared.fault.LineFault.TheVariants as fault;
@@ -101,22 +101,39 @@ fn rule_with(
     }
 }
 
+/// The targets that a command gives, or `root` where it gives none.
+fn targets_of(
+    alloc: Global,
+    given: Option<Items<Signed<Item<Name>>>>,
+) -> Result<Items<Signed<Item<Name>>>, LineFault>
+    ensures found { IfOk result (λ x. x ≡ unwrap_or given inheritance.root) }
+    ensures only { IfErr result (λ e. e ≡ fault.NoMemory) }
+{
+    match given {
+        Some(runas) => Ok(runas),
+        None => root(alloc),
+    }
+}
+
 /// What holds behind the first command of a list, and the command. `root` is made only where the command gives no target.
 fn first_spec(alloc: Global, spec: Spec) -> Result<(Settings, Signed<CmndItem>), LineFault>
     ensures found { IfOk result (λ x. (x.0 ≡ inheritance.with_spec inheritance.first_settings spec) × (x.1 ≡ spec.cmnd)) }
     ensures only { IfErr result (λ e. e ≡ fault.NoMemory) }
 {
-    let runas = match spec.runas {
-        Some(runas) => runas,
-        None => root(alloc)?,
-    };
-    let settings = Settings {
+    let Spec {
         runas,
-        not_before: spec.not_before,
-        not_after: spec.not_after,
-        nopasswd: spec.nopasswd.unwrap_or(false),
+        not_before,
+        not_after,
+        nopasswd,
+        cmnd,
+    } = spec;
+    let settings = Settings {
+        runas: targets_of(alloc, runas)?,
+        not_before,
+        not_after,
+        nopasswd: nopasswd.unwrap_or(false),
     };
-    Ok((settings, spec.cmnd))
+    Ok((settings, cmnd))
 }
 
 /// Adds the rule of a command that stands alone in its list.
