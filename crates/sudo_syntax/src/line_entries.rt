@@ -1,6 +1,6 @@
 //! The entries of a line, added to a draft.
 
-ghost use Rattle.std.specs.Prelude.{◌≡◌, ◌++◌, IfOk, IfErr, OnOk, map};
+ghost use Rattle.std.specs.Prelude.{◌≡◌, ◌++◌, ◌∷◌, [], IfOk, IfErr, OnOk, map, unwrap_or};
 ghost use Rattle.std.specs.List.{AllByRecursion, flat_map};
 ghost use Rattle.sudo_syntax.specs.declared.entry.Entry.TheVariants as entries;
 ghost use Rattle.sudo_syntax.specs.declared.fault.LineFault.TheVariants as fault;
@@ -101,6 +101,58 @@ fn rule_with(
     }
 }
 
+/// The targets that a command gives, or `root` where it gives none.
+fn targets_of(
+    alloc: Global,
+    given: Option<Items<Signed<Item<Name>>>>,
+) -> Result<Items<Signed<Item<Name>>>, LineFault>
+    ensures found { IfOk result (λ x. x ≡ unwrap_or given inheritance.root) }
+    ensures only { IfErr result (λ e. e ≡ fault.NoMemory) }
+{
+    match given {
+        Some(runas) => Ok(runas),
+        None => root(alloc),
+    }
+}
+
+/// What holds behind the first command of a list, and the command. `root` is made only where the command gives no target.
+fn first_spec(alloc: Global, spec: Spec) -> Result<(Settings, Signed<CmndItem>), LineFault>
+    ensures found { IfOk result (λ x. (x.0 ≡ inheritance.with_spec inheritance.first_settings spec) × (x.1 ≡ spec.cmnd)) }
+    ensures only { IfErr result (λ e. e ≡ fault.NoMemory) }
+{
+    let Spec {
+        runas,
+        not_before,
+        not_after,
+        nopasswd,
+        cmnd,
+    } = spec;
+    let settings = Settings {
+        runas: targets_of(alloc, runas)?,
+        not_before,
+        not_after,
+        nopasswd: nopasswd.unwrap_or(false),
+    };
+    Ok((settings, cmnd))
+}
+
+/// Adds the rule of a command that stands alone in its list.
+fn add_only(
+    alloc: Global,
+    draft: &mut Draft,
+    users: Items<Signed<Item<Name>>>,
+    hosts: Items<Signed<Item<HostName>>>,
+    spec: Spec,
+) -> Result<(), LineFault>
+    requires draft { IsDraft draft.old }
+    requires entries { AllByRecursion IsEntry (inheritance.rules_of users hosts inheritance.first_settings (spec ∷ [])) }
+    ensures found { OnOk result (Adds draft.old draft.new (inheritance.rules_of users hosts inheritance.first_settings (spec ∷ []))) }
+    ensures only { IsPolicy (draft.old.entries.items ++ inheritance.rules_of users hosts inheritance.first_settings (spec ∷ [])) → IfErr result (λ e. e ≡ fault.NoMemory) }
+{
+    let (settings, cmnd) = first_spec(alloc, spec)?;
+    draft.add(alloc, Entry::Rule(rule_with(users, hosts, settings, cmnd)))
+}
+
 /// Adds one rule for each command, the last of which takes the lists. Each is added before the next is made, so that the limits of
 /// a policy bound what is copied.
 fn add_specs(
@@ -119,6 +171,9 @@ fn add_specs(
     let Some(last) = front.pop() else {
         return Ok(());
     };
+    if front.is_empty() {
+        return add_only(alloc, draft, users, hosts, last);
+    }
     let mut held = first_settings(alloc)?;
     let (of_users, of_hosts) = (&users, &hosts);
     for spec in front {

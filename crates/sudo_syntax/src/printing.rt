@@ -2,6 +2,7 @@
 
 ghost use Rattle.std.specs.Prelude.{◌≡◌, [], List, ℕ, IfOk, OnOk, ◌++◌, codes, length, string_bytes};
 ghost use Rattle.std.specs.List.{AllByRecursion};
+ghost use Rattle.sudo_words.specs.Command.{IsLawful, cmnd_text};
 ghost use Rattle.sudo_words.specs.Moment.{stamp};
 ghost use Rattle.sudo_syntax.specs.Spelling.{Spells};
 ghost use Rattle.sudo_syntax.specs.Policy.{IsEntry, IsRule, IsCmndItem};
@@ -10,7 +11,7 @@ ghost use Rattle.sudo_syntax.specs.Printing.{alias_text, canon, cmnds_text, date
 use crate::entry::{CmndItem, Entry, Item, Rule, Signed};
 use crate::policy::Policy;
 use std::alloc::{AllocError, Global};
-use sudo_words::{AliasName, Form, Moment, NoMemory, Word, print_cmnd};
+use sudo_words::{AliasName, ArgRule, Cmnd, Form, Moment, NoMemory, Word, print_cmnd};
 
 fn push_item<F: Form>(out: &mut String, item: &Item<Word<F>>) -> Result<(), AllocError>
     ensures { OnOk result (string_bytes out.new ≡ string_bytes out.old ++ item_text item.now) }
@@ -95,15 +96,31 @@ fn push_tag(out: &mut String, nopasswd: bool) -> Result<(), AllocError>
     Ok(())
 }
 
+/// A command's text. One without a rule for its arguments is its head, which needs no text of its own.
+fn push_command(alloc: Global, out: &mut String, cmnd: &Cmnd) -> Result<(), NoMemory>
+    requires { IsLawful cmnd.now }
+    ensures { OnOk result (string_bytes out.new ≡ string_bytes out.old ++ cmnd_text cmnd.now) }
+{
+    match cmnd {
+        Cmnd::All => out.push_str("ALL")?,
+        Cmnd::Path(file, ArgRule::Any) => out.push_str(file.as_str())?,
+        Cmnd::Path(_, _) => out.push_str(print_cmnd(alloc, cmnd)?.as_str())?,
+        Cmnd::Dir(dir) => out.push_str(dir.as_str())?,
+    }
+    Ok(())
+}
+
 fn push_cmnd_item(alloc: Global, out: &mut String, item: &CmndItem) -> Result<(), NoMemory>
     requires { IsCmndItem item.now }
     ensures { OnOk result (string_bytes out.new ≡ string_bytes out.old ++ cmnd_item_text item.now) }
 {
     match item {
-        CmndItem::Alias(name) => out.push_str(name.as_str())?,
-        CmndItem::Cmnd(cmnd) => out.push_str(print_cmnd(alloc, cmnd)?.as_str())?,
+        CmndItem::Alias(name) => {
+            out.push_str(name.as_str())?;
+            Ok(())
+        }
+        CmndItem::Cmnd(cmnd) => push_command(alloc, out, cmnd),
     }
-    Ok(())
 }
 
 fn push_cmnd(alloc: Global, out: &mut String, signed: &Signed<CmndItem>) -> Result<(), NoMemory>
@@ -215,12 +232,12 @@ fn push_line(alloc: Global, out: &mut String, entry: &Entry) -> Result<(), NoMem
     Ok(())
 }
 
-/// All entries, one a line.
-fn printed(alloc: Global, entries: &[Entry]) -> Result<String, NoMemory>
+/// All entries, one a line, in room for so many bytes at first.
+fn printed(alloc: Global, entries: &[Entry], room: usize) -> Result<String, NoMemory>
     requires { AllByRecursion IsEntry entries.now }
     ensures { IfOk result (λ s. string_bytes s ≡ canon entries.now) }
 {
-    let mut out = String::new(alloc);
+    let mut out = String::with_capacity(alloc, room)?;
     for entry in entries {
         push_line(alloc, &mut out, entry)?;
     }
@@ -232,5 +249,5 @@ pub fn print_policy(alloc: Global, policy: &Policy) -> Result<String, NoMemory>
     ensures text { IfOk result (λ s. string_bytes s ≡ canon policy.now) }
     ensures read_back { IfOk result (λ s. Spells (string_bytes s) policy.now) }
 {
-    printed(alloc, policy.entries())
+    printed(alloc, policy.entries(), policy.text_len())
 }

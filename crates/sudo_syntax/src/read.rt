@@ -18,7 +18,7 @@ use crate::fault::{FaultKind, LineFault, ReadFault};
 use crate::line_entries::add_line;
 use crate::pieces::{Piece, piece_of};
 use crate::policy::Policy;
-use crate::token::{cut_text, tokens};
+use crate::token::{cut_text, is_text, tokens};
 use crate::tree_reading::tree_of;
 use std::alloc::{AllocError, Global};
 
@@ -44,6 +44,7 @@ fn fault_behind(front: &[u8], kind: FaultKind) -> ReadFault
 }
 
 /// Tests that a text is of at most 16 MiB, and of the bytes that a text may have.
+#[tactic(auto, using(crate::proofs::Deriving::each_of))]
 fn check_bytes(text: &[u8]) -> Result<(), ReadFault>
     ensures ok { OnOk result ((length text.now ≤ 16_777_216) × Each lex.is_text_byte text.now) }
     ensures too_long { 16_777_216 < length text.now → IsErrAnd result (λ f. f.kind ≡ TooLong) }
@@ -53,6 +54,9 @@ fn check_bytes(text: &[u8]) -> Result<(), ReadFault>
     if text.len() > MOST_BYTES {
         let (front, _) = text.split_at(MOST_BYTES);
         return Err(fault_behind(front, FaultKind::TooLong));
+    }
+    if is_text(text) {
+        return Ok(());
     }
     let (front, rest) = cut_text(text);
     match rest {

@@ -1,6 +1,7 @@
 //! The words and marks of a line.
 
 ghost use Rattle.std.specs.Prelude.{◌≡◌, ◌≤◌, true, false, length, take, drop, take_while, MatchResult, MatchOption, List, IfOk, IfErr, IfSome, IsSome, None, ℕ, ◌++◌};
+ghost use Rattle.std.specs.List.{list_all};
 ghost use Rattle.sudo_syntax.specs.declared.fault.LineFault.TheVariants.{NoMemory};
 ghost use Rattle.sudo_words.specs.Command as command;
 ghost use Rattle.sudo_syntax.specs.Span.{IsCut};
@@ -72,6 +73,17 @@ fn text_len(bytes: &[u8]) -> usize
     ensures { result ≡ length (take_while lex.is_text_byte bytes.now) }
 {
     bytes.iter().take_while(|b| is_text_byte(**b)).count()
+}
+
+/// Whether a text may have each of the bytes. Each is looked at, also behind one that no text has: so many are tested at once.
+pub(crate) fn is_text(bytes: &[u8]) -> bool
+    ensures { result ≡ list_all lex.is_text_byte bytes.now }
+{
+    let mut each = true;
+    for byte in bytes {
+        each &= is_text_byte(*byte);
+    }
+    each
 }
 
 /// The bytes at the front that a text may have, and what follows them.
