@@ -1,6 +1,6 @@
 //! The program's commands, as clap reads them.
 
-ghost use Rattle.std.specs.Prelude.{◌≡◌, IfOk, IfErr, [], map, string_bytes, false};
+ghost use Rattle.std.specs.Prelude.{◌≡◌, IfOk, IfErr, [], ◌∷◌, map, string_bytes, false};
 ghost use Rattle.clap.specs.Words.{app_of, fault_of, kind_of, rule_of, subcommand_of, subcommand_rows_of};
 ghost use Rattle.clap.specs.declared.builder.Command.TheViews.{out-Command as fields_of};
 ghost use Rattle.desk_cli.specs.CommandLine as line;
@@ -186,15 +186,24 @@ fn with_policies<'a>(alloc: Global, command: Command<'a>) -> Result<Command<'a>,
         .subcommand(beyond(alloc)?)
 }
 
+/// Adds the commands that take messages, or make a host's file of them.
+fn with_messages<'a>(alloc: Global, command: Command<'a>) -> Result<Command<'a>, AllocError>
+    requires { (fields_of command).has_globals ≡ false }
+    ensures app { IfOk result (λ c. app_of c ≡ line.with_subcommands (app_of command.entry) (line.deliver ∷ line.print ∷ [])) }
+    ensures globals { IfOk result (λ c. (fields_of c).has_globals ≡ false) }
+{
+    command
+        .subcommand(deliver(alloc)?)?
+        .subcommand(print(alloc)?)
+}
+
 /// Adds the commands on a desk.
 fn with_desks<'a>(alloc: Global, command: Command<'a>) -> Result<Command<'a>, AllocError>
     requires { (fields_of command).has_globals ≡ false }
     ensures app { IfOk result (λ c. app_of c ≡ line.with_subcommands (app_of command.entry) line.on_desks) }
     ensures globals { IfOk result (λ c. (fields_of c).has_globals ≡ false) }
 {
-    command
-        .subcommand(deliver(alloc)?)?
-        .subcommand(print(alloc)?)?
+    with_messages(alloc, command)?
         .subcommand(review(alloc)?)?
         .subcommand(serve(alloc)?)
 }
