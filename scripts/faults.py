@@ -2,17 +2,20 @@
 """Runs the program with each request for memory failing in turn.
 
 Every run has to give the plain answer, or to end with status 2, nothing on the output and a refusal for want of memory. `deliver` may also answer some
-lines with that refusal, and the others as they are.
+lines with that refusal, and the others as they are. `serve` may answer a peer with that refusal and the status 503, or let it go and name `H3`; asked again it
+gives the plain reply. `faults.py WORDS..` runs another program than build/desk.
 """
 
+import contextlib
 import os
 import re
+import socket
 import subprocess
 import sys
 import tempfile
 
 ROOT = os.path.dirname(os.path.dirname(os.path.abspath(__file__)))
-DESK = os.path.join(ROOT, "build", "desk")
+DESK = sys.argv[1:] or [os.path.join(ROOT, "build", "desk")]
 REFUSAL = re.compile(r"(NoMemory|B2 NoMemory|O8 NoMemory|S11 NoMemory line \d+|K5 NoMemory)\n\Z")
 
 POLICY = """# two visits
@@ -77,8 +80,75 @@ def is_refused(words, got, plain):
 
 def run(words, given, shim, failing, count):
     environment = dict(os.environ, LD_PRELOAD=shim, FAIL_ALLOC=str(failing), COUNT_ALLOC=count)
-    done = subprocess.run([DESK, *words], input=given, capture_output=True, env=environment, timeout=60)
+    done = subprocess.run([*DESK, *words], input=given, capture_output=True, env=environment, timeout=60)
     return done.returncode, done.stdout, done.stderr
+
+
+def exchanges():
+    """What `serve` is asked, one connection each."""
+    lines = MESSAGES.splitlines()
+    posts = [b"POST /v1/relays/chat/messages HTTP/1.1\r\nHost: desk\r\nContent-Length: %d\r\n\r\n%s" % (len(line), line) for line in lines]
+    gets = [b"GET %s HTTP/1.1\r\nHost: desk\r\n\r\n" % target for target in (b"/v1/parked", b"/v1/grants/20260105093000Z", b"/v1/hosts/db1/sudoers")]
+    return [posts[0], gets[0], *posts[1:], *gets[1:], gets[0]]
+
+
+def ask(port, given):
+    whole = b""
+    # a peer that is let go with its request unread is reset
+    with contextlib.suppress(OSError), socket.create_connection(("127.0.0.1", port), timeout=20) as peer:
+        peer.sendall(given)
+        peer.shutdown(socket.SHUT_WR)
+        while piece := peer.recv(65536):
+            whole += piece
+    return whole
+
+
+def is_wanting(reply):
+    """Whether the peer was let go without a reply, or told of want of memory."""
+    return not reply or reply.startswith(b"HTTP/1.1 503 ") and reply.endswith(b"K5 NoMemory\n")
+
+
+def serve(words, shim, failing, count):
+    """The replies of a server, each asked again where it is for want of memory; and how the server ends."""
+    environment = dict(os.environ, LD_PRELOAD=shim, FAIL_ALLOC=str(failing), COUNT_ALLOC=count)
+    asked = exchanges()
+    words = [*DESK, *words, "--requests", str(len(asked) + 1)]
+    replies, wanting = [], 0
+    with subprocess.Popen(words, stdout=subprocess.PIPE, stderr=subprocess.PIPE, env=environment) as server:
+        try:
+            first = server.stdout.readline()
+            if first:
+                port = int(first.rpartition(b":")[2])
+                for given in asked:
+                    reply = ask(port, given)
+                    if is_wanting(reply) and wanting == 0:
+                        wanting += 1
+                        reply = ask(port, given)
+                    replies.append(reply)
+                if wanting == 0:
+                    # one connection is left
+                    wanting += is_wanting(ask(port, asked[0]))
+            out, err = server.communicate(timeout=20)
+        finally:
+            server.kill()
+    return server.returncode, replies, out, err.decode(), wanting
+
+
+def fail_serving(words, shim, count):
+    """How many runs of `serve` there were with a request refused, how many of them were refused by name, and how many were wrong."""
+    plain = serve(words, shim, 0, count)
+    with open(count) as file:
+        requests = int(file.read())
+    refusals = wrong = 0
+    for failing in range(1, requests + 1):
+        status, replies, out, err, wanting = serve(words, shim, failing, count)
+        is_whole = (status, replies, out) == plain[:3] and err in ("", "H3 NoMemory\n")[: 1 + wanting]
+        is_none = status == 2 and not replies and not out and REFUSAL.search(err)
+        refusals += bool(wanting or is_none)
+        if not (is_whole or is_none):
+            wrong += 1
+            print(f"desk {' '.join(words)}: request {failing} refused: {status} {replies} {out} {err}")
+    return requests, refusals, wrong
 
 
 def main():
@@ -87,7 +157,11 @@ def main():
         shim, count = os.path.join(folder, "fail_alloc.so"), os.path.join(folder, "count")
         source = os.path.join(ROOT, "scripts", "fail_alloc.c")
         subprocess.run(["cc", "-shared", "-fPIC", "-O1", "-o", shim, source, "-ldl"], check=True)
-        for words, given in commands(folder):
+        base, roster = os.path.join(folder, "base.sudo"), os.path.join(folder, "roster.toml")
+        rows = commands(folder)
+        served = fail_serving(["serve", roster, base, "-", "127.0.0.1:0"], shim, count)
+        runs, refusals, wrong = (have + more for have, more in zip((runs, refusals, wrong), served, strict=True))
+        for words, given in rows:
             plain = run(words, given, shim, 0, count)
             with open(count) as file:
                 requests = int(file.read())

@@ -1,0 +1,281 @@
+#!/usr/bin/env python3
+"""Times `desk serve` over loopback beside nginx, one connection for each exchange.
+
+A desk over memory is asked for a list of grants (GET), and takes messages that it has not seen (POST). Beside each, in turn with it, nginx (Debian's
+nginx-light: one worker, no connection kept) gives the same client a file as long as the desk's reply. Then 100,000 exchanges, before and
+behind which the memory of the desk's process is read; and a request of 24,576 bytes, read at once and one byte at a time, each counted in
+instructions (valgrind's callgrind), so that the machine's load does not matter. A part whose tools are missing is left out, and said to be.
+All of it goes to 127.0.0.1, and each loop is bounded.
+"""
+
+import json
+import os
+import re
+import shutil
+import socket
+import subprocess
+import sys
+import tempfile
+import time
+
+ROOT = os.path.dirname(os.path.dirname(os.path.abspath(__file__)))
+DESK = os.path.join(ROOT, "build", "desk")
+NGINX = shutil.which("nginx") or shutil.which("nginx", path="/usr/sbin:/sbin")
+GRANTS = b"/v1/grants/20260105093000Z"
+ROUNDS = 7
+EACH = 1_500
+MANY = 100_000
+HOST = b"Host: desk\r\n"
+ROSTER = """relays = ["web"]
+hosts = ["db1"]
+duties = ["approve", "ask"]
+conflicts = []
+
+[people]
+ann = ["ask"]
+bob = ["approve"]
+
+[ceilings.db-care]
+ask = "ask"
+approve = "approve"
+needs = 1
+hosts = ["db1"]
+runas = ["root"]
+commands = ["/usr/bin/id"]
+longest = 7200
+"""
+
+# Gives each read of a socket one byte.
+ONE_BYTE = """#define _GNU_SOURCE
+#include <dlfcn.h>
+#include <sys/socket.h>
+#include <sys/stat.h>
+#include <sys/uio.h>
+#include <unistd.h>
+
+static int is_socket(int fd) {
+    struct stat found;
+    return fstat(fd, &found) == 0 && S_ISSOCK(found.st_mode);
+}
+
+ssize_t read(int fd, void *to, size_t most) {
+    static ssize_t (*next)(int, void *, size_t);
+    if (!next) next = dlsym(RTLD_NEXT, "read");
+    return next(fd, to, most > 1 && is_socket(fd) ? 1 : most);
+}
+
+ssize_t recv(int fd, void *to, size_t most, int flags) {
+    static ssize_t (*next)(int, void *, size_t, int);
+    if (!next) next = dlsym(RTLD_NEXT, "recv");
+    return next(fd, to, most > 1 ? 1 : most, flags);
+}
+"""
+
+
+def request(number):
+    return json.dumps(
+        {
+            "at": "20260105060000Z", "by": "ann", "ceiling": "db-care", "cmnds": ["/usr/bin/id"], "from": "20260105090000Z",
+            "hosts": ["db1"], "kind": "request", "no": number, "runas": "root", "until": "20260105110000Z",
+        },
+        separators=(",", ":"),
+    ).encode()
+
+
+def approval(number):
+    return json.dumps({"at": "20260105083000Z", "by": "bob", "kind": "approve", "no": number, "of": "ann"}, separators=(",", ":")).encode()
+
+
+def get(target):
+    return b"GET " + target + b" HTTP/1.1\r\n" + HOST + b"Connection: close\r\n\r\n"
+
+
+def post(body):
+    return b"POST /v1/relays/web/messages HTTP/1.1\r\n" + HOST + b"Content-Length: %d\r\nConnection: close\r\n\r\n%s" % (len(body), body)
+
+
+def ask(port, given):
+    """The whole reply to these bytes, over a connection of their own."""
+    with socket.create_connection(("127.0.0.1", port), timeout=20) as peer:
+        peer.sendall(given)
+        whole = b""
+        while piece := peer.recv(65_536):
+            whole += piece
+    return whole
+
+
+def body_of(reply):
+    head, _, body = reply.partition(b"\r\n\r\n")
+    assert head.startswith(b"HTTP/1.1 200 "), head
+    return body
+
+
+def rate(port, requests):
+    """Exchanges a second."""
+    begun = time.perf_counter()
+    for given in requests:
+        assert ask(port, given)[9:12] == b"200"
+    return len(requests) / (time.perf_counter() - begun)
+
+
+class Serving:
+    """A program that serves on loopback, as long as the block lasts."""
+
+    def __init__(self, words, environment=None):
+        self.server = subprocess.Popen(words, stdout=subprocess.PIPE, stderr=subprocess.DEVNULL, env=environment)
+
+    def __enter__(self):
+        line = self.server.stdout.readline()
+        self.port = int(line.rpartition(b":")[2])
+        return self
+
+    def __exit__(self, *_):
+        self.server.terminate()
+        self.server.wait(20)
+
+    def memory(self):
+        """What the process has in memory, in KiB, and the most that it had."""
+        with open(f"/proc/{self.server.pid}/status") as status:
+            text = status.read()
+        return tuple(int(re.search(rf"{name}:\s+(\d+)", text).group(1)) for name in ("VmRSS", "VmHWM"))
+
+
+def desk_words(folder, *more):
+    roster, base = os.path.join(folder, "roster.toml"), os.path.join(folder, "base.sudo")
+    with open(roster, "w") as file:
+        file.write(ROSTER)
+    with open(base, "w") as file:
+        file.write("root ALL = (ALL) ALL\n")
+    return [DESK, "serve", roster, base, "-", "127.0.0.1:0", *more]
+
+
+class Files:
+    """nginx with one worker, which serves a folder's files and keeps no connection."""
+
+    def __init__(self, folder):
+        self.folder = folder
+
+    def __enter__(self):
+        with socket.socket() as free:
+            free.bind(("127.0.0.1", 0))
+            self.port = free.getsockname()[1]
+        place = os.path.join(self.folder, "nginx.conf")
+        os.chmod(self.folder, 0o755)
+        with open(place, "w") as file:
+            file.write(
+                f"worker_processes 1;\ndaemon off;\npid {self.folder}/nginx.pid;\nerror_log {self.folder}/error.log;\n"
+                "events { worker_connections 64; }\n"
+                f"http {{ access_log off; keepalive_timeout 0; client_body_temp_path {self.folder}/b; proxy_temp_path {self.folder}/p; "
+                f"fastcgi_temp_path {self.folder}/f; uwsgi_temp_path {self.folder}/u; scgi_temp_path {self.folder}/s; "
+                f"server {{ listen 127.0.0.1:{self.port}; root {self.folder}; }} }}\n"
+            )
+        self.server = subprocess.Popen([NGINX, "-c", place], stdout=subprocess.DEVNULL, stderr=subprocess.DEVNULL)
+        for _ in range(100):
+            with socket.socket() as probe:
+                if probe.connect_ex(("127.0.0.1", self.port)) == 0:
+                    return self
+            time.sleep(0.05)
+        raise RuntimeError("nginx does not listen")
+
+    def __exit__(self, *_):
+        self.server.terminate()
+        self.server.wait(20)
+
+
+def judged(what, figure, least):
+    holds = figure >= least
+    print(f"{what}: {figure:.2f}, at least {least:g}: {'holds' if holds else 'FAILS'}")
+    return int(not holds)
+
+
+def in_turn(first, second):
+    """The best rate of each, asked in turn; each is a port and, for a round, what it is asked."""
+    best = [0, 0]
+    for turn in range(ROUNDS):
+        for place, (port, asked) in enumerate((first, second)):
+            best[place] = max(best[place], rate(port, asked(turn)))
+    return best
+
+
+def beside_nginx(folder):
+    """The rates of the desk beside nginx; how many rows do not hold."""
+    if not NGINX:
+        print("rates beside nginx: left out, for nginx is not there (Debian's nginx-light)")
+        return 0
+    wrong = 0
+    with Serving(desk_words(folder)) as asked, Serving(desk_words(folder)) as told, Files(folder) as files:
+        for number in range(20):
+            ask(asked.port, post(request(number)))
+            ask(asked.port, post(approval(number)))
+        for name, body in (("grants", body_of(ask(asked.port, get(GRANTS)))), ("ack", b"ack\n")):
+            with open(os.path.join(folder, name), "wb") as file:
+                file.write(body)
+        rows = (
+            ("a GET of 20 grants", (asked.port, lambda _: [get(GRANTS)] * EACH), "grants"),
+            ("a POST of a new message", (told.port, lambda turn: [post(request(turn * EACH + n)) for n in range(EACH)]), "ack"),
+        )
+        for name, desk, file in rows:
+            served, beside = in_turn(desk, (files.port, lambda _, file=file: [get(f"/{file}".encode())] * EACH))
+            print(f"{name}: {served:,.0f} exchanges a second, nginx {beside:,.0f} of a file as long")
+            wrong += judged(f"{name}, beside nginx", served / beside, 0.8)
+        print(f"serve, {ROUNDS * EACH:,} messages: peak {told.memory()[1]:,} KiB")
+    return wrong
+
+
+def many(folder):
+    """What memory the desk has after a thousand exchanges, and after a hundred thousand; 1 where it has more."""
+    with Serving(desk_words(folder)) as desk:
+        given = [post(request(1)), post(approval(1)), get(GRANTS), get(b"/v1/hosts/db1/sudoers"), get(b"/none"), get(b"/v1/parked")]
+        for number in range(MANY):
+            ask(desk.port, given[number % len(given)])
+            if number == 1_000:
+                before = desk.memory()[0]
+        after = desk.memory()[0]
+    print(f"serve, {MANY:,} exchanges: {before:,} KiB after a thousand, {after:,} KiB at the end: {'holds' if after <= before else 'FAILS'}")
+    return int(after > before)
+
+
+def counted(folder, given, preloaded):
+    """The instructions of a server that answers one peer who sends this."""
+    out = os.path.join(folder, "counts")
+    words = ["valgrind", "--tool=callgrind", f"--callgrind-out-file={out}", *desk_words(folder, "--requests", "1")]
+    environment = dict(os.environ, LD_PRELOAD=preloaded) if preloaded else None
+    with Serving(words, environment) as desk:
+        if given:
+            assert ask(desk.port, given).endswith(b"M2 NotCanonical\n")
+        else:
+            socket.create_connection(("127.0.0.1", desk.port), timeout=20).close()
+        desk.server.wait(600)
+    with open(out) as file:
+        return int(re.search(r"^(?:summary|totals): (\d+)", file.read(), re.MULTILINE).group(1))
+
+
+def bytewise(folder):
+    """What 24,576 bytes cost that are read one by one, beside the same bytes read at once; 1 where it is more than twice as much."""
+    if not (shutil.which("valgrind") and shutil.which("cc")):
+        print("reads of one byte: left out, for valgrind or a C compiler is not there")
+        return 0
+    source, shim = os.path.join(folder, "one_byte.c"), os.path.join(folder, "one_byte.so")
+    with open(source, "w") as file:
+        file.write(ONE_BYTE)
+    subprocess.run(["cc", "-shared", "-fPIC", "-O1", "-o", shim, source, "-ldl"], check=True)
+    body = post(b"x" * 16_384)
+    head, _, rest = body.partition(b"\r\n\r\n")
+    given = head + b"\r\nA: " + b"b" * (8_192 - len(head) - 9) + b"\r\n\r\n" + rest
+    assert len(given) == 24_576
+    least = counted(folder, None, None)
+    whole, single = (counted(folder, given, preloaded) - least for preloaded in (None, shim))
+    print(f"24,576 bytes: {whole / 1e6:.2f} million instructions where they are read at once, {single / 1e6:.2f} one by one")
+    holds = single <= 2 * whole
+    print(f"reads of one byte: {single / whole:.2f}, at most 2: {'holds' if holds else 'FAILS'}")
+    return int(not holds)
+
+
+def main():
+    with tempfile.TemporaryDirectory() as folder:
+        wrong = beside_nginx(folder) + many(folder) + bytewise(folder)
+    return 1 if wrong else 0
+
+
+if __name__ == "__main__":
+    sys.exit(main())
