@@ -41,9 +41,10 @@ peers: desk
 	python3 scripts/peers_http.py
 
 # Time and memory: `check` and `decide` beside visudo (Debian's package sudo) on up to 16,001 rules, on 8,000 aliases with 8,000 rules, and on
-# the greatest weight; `print` on 800 and 8,000 requests; `beyond` on 1,000,000 cases.
+# the greatest weight; `print` on 800 and 8,000 requests; `beyond` on 1,000,000 cases; `serve` beside nginx (Debian's package nginx-light).
 bench: desk
 	python3 scripts/bench.py
+	python3 scripts/bench_http.py
 
 # The program with each request for memory refused in turn.
 faults: desk
