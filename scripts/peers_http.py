@@ -1,7 +1,7 @@
 #!/usr/bin/env python3
-"""Asks `desk serve` over loopback, by curl, by Python's http.client and by raw bytes, and compares each reply.
+"""Asks `desk serve` over loopback, by curl, by Python's http.client, and by raw bytes from here and through nc, and compares each reply.
 
-Then peers go away at each byte of a request, one never reads, and some hundred requests are changed at random: each reply must be one
+Then peers go away at each byte of a request, one never reads, and ten thousand requests are changed at random: each reply must be one
 of HTTP/1.1, and the server serves on. A host's file must pass `visudo -c`, and examples/fetch-sudoers.sh must put it in place, or keep
 the old one. The servers listen at port 0; one ends by itself after as many connections as are made, the others by SIGTERM.
 `peers_http.py WORDS..` runs another program than build/desk.
@@ -28,7 +28,7 @@ ROSTER = os.path.join(ROOT, "examples", "roster.toml")
 BASE = os.path.join(ROOT, "examples", "site.sudo")
 CASES = os.path.join(ROOT, "cases", "delivered.toml")
 FETCH = os.path.join(ROOT, "examples", "fetch-sudoers.sh")
-CHANGED = 400
+CHANGED = 10_000
 REQUEST = (
     b'{"at":"20260105060000Z","by":"ann","ceiling":"db-care","cmnds":["/usr/bin/id"],"from":"20260105090000Z","hosts":["db1"],'
     b'"kind":"request","no":7,"runas":"root","until":"20260105110000Z"}'
@@ -188,6 +188,12 @@ def by_curl(address, words):
     return ran.stdout
 
 
+def by_nc(address, given):
+    """Through Debian's netcat-openbsd, which closes its side behind the bytes."""
+    ran = subprocess.run(["nc", "-N", "-w", "20", *map(str, place(address))], input=given, stdout=subprocess.PIPE, check=False)
+    return ran.stdout
+
+
 def by_bytes(address, given, one_at_a_time=False):
     with socket.create_connection(place(address), timeout=20) as peer:
         peer.setsockopt(socket.IPPROTO_TCP, socket.TCP_NODELAY, 1)
@@ -247,9 +253,10 @@ def ask_all(address):
         wrong += not check(" ".join(map(str, words))[-100:], by_curl(address, words), wanted, "--head" in words)
     for given, wanted in RAW:
         wrong += not check(given[:100], by_bytes(address, given), wanted)
+        wrong += not check(given[:100], by_nc(address, given), wanted)
     slow = b"GET /v1/grants/20260105093000Z HTTP/1.1\r\n" + HOST + b"\r\n"
     wrong += not check("byte by byte", by_bytes(address, slow, one_at_a_time=True), ("200 OK", GRANT))
-    return len(ASKED) + len(RAW) + 1, wrong
+    return len(ASKED) + 2 * len(RAW) + 1, wrong
 
 
 def ask_as_python(address):

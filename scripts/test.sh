@@ -70,7 +70,7 @@ cp crates/desk_cli/out/desk_cli build/desk
 
 part demo demo
 part cases python3 scripts/cases.py
-part_with peers root sudo visudo faketime unshare curl -- peers
+part_with peers root sudo visudo faketime unshare curl nc -- peers
 part_with faults cc -- python3 scripts/faults.py
 echo "$passed passed, $failed failed"
 [ "$failed" = 0 ]

@@ -1,5 +1,5 @@
 #!/usr/bin/env bash
-# Installs what the gate asks beside the toolchain, where it is not there: sudo, with visudo, and a clock that stands still and curl for
+# Installs what the gate asks beside the toolchain, where it is not there: sudo, with visudo, and a clock that stands still, curl and nc for
 # `make peers`, and a C compiler for `make faults`. Where this is not root, or there is no apt-get, nothing is installed.
 set -euo pipefail
 export PATH="$PATH:/usr/sbin:/sbin"
@@ -7,6 +7,7 @@ wanted=()
 command -v sudo >/dev/null && command -v visudo >/dev/null || wanted+=(sudo)
 command -v faketime >/dev/null || wanted+=(faketime)
 command -v curl >/dev/null || wanted+=(curl)
+command -v nc >/dev/null || wanted+=(netcat-openbsd)
 command -v cc >/dev/null || wanted+=(gcc libc6-dev)
 command -v unshare >/dev/null || wanted+=(util-linux)
 if [ "${#wanted[@]}" -gt 0 ] && [ "$(id -u)" = 0 ] && command -v apt-get >/dev/null; then
