@@ -9,6 +9,7 @@ Then `desk deliver` of 1,000, 10,000 and 100,000 shuffled messages, with the mem
 8,000 grants beside what it costs to print that policy alone. No command does one of these two alone: `deliver` over a roster that lists nobody
 reads each message whole and keeps none (both also split the input into lines), and `check` of the file costs beyond `decide` by it what printing
 costs, but for the decision.
+Then `desk review` of 8,000 grants beside a base of 100 rules, and `desk print` of the same.
 Then `desk beyond` on two policies with 1,000,000 cases, all of which are tried.
 Prints of each the instructions that it executes (counted by valgrind's callgrind, so that the machine's load does not matter; none where
 valgrind is missing), the best wall time of a few runs and the peak memory, and then the ratios that the desk promises. Where GNU
@@ -331,6 +332,18 @@ def comparing(folder):
     return judged("beyond: 1,000,000 cases, million instructions", figure[0] / 1e6, 2_000) if figure[0] else 0
 
 
+def reports(folder):
+    """What the report of 8,000 grants costs, against a base of 100 rules, beside printing their host's file; 1 where that does not hold."""
+    people, base = stored(folder, "people.toml", roster()), stored(folder, "hundred.sudo", policy(100))
+    given = stored(folder, "granted", messages(8_000))
+    figures = []
+    for words in (["review", people, base, "-", "20260105093000Z"], ["print", people, base, "-", "db1"]):
+        figures.append((instructions([DESK, *words], given), *run([DESK, *words], given, 5), os.path.getsize(given)))
+        print(f"{words[0]:7} 8,000 grants beside 100 rules, {shown(figures[-1])}")
+    counted, other = figures[0][0] or figures[0][1], figures[1][0] or figures[1][1]
+    return judged("review: 8,000 grants against printing their host's file", counted / other, 20.0)
+
+
 def main():
     visudo = shutil.which("visudo") or "/usr/sbin/visudo"
     if not os.path.exists(visudo):
@@ -372,7 +385,7 @@ def main():
             words = [DESK, "print", people, base, "-", "db1"]
             figures["print", requests] = (instructions(words, path), *run(words, path), size)
             print(f"print   {requests:6} requests, {shown(figures['print', requests])}")
-        wrong = rosters(folder) + deliveries(folder, base) + grants(folder, base) + comparing(folder)
+        wrong = rosters(folder) + deliveries(folder, base) + grants(folder, base) + reports(folder) + comparing(folder)
     ratio = figures["print", 8_000][1] / figures["print", 800][1]
     wrong += ratio > 15
     print(f"print: ten times the messages: {ratio:.2f}, at most 15: {'holds' if ratio <= 15 else 'FAILS'}")
@@ -393,7 +406,7 @@ def main():
         for what in ("16001 rules", "8000 aliases", "most weight"):
             counted, other = figures[name, what][0], figures["visudo", what][0]
             if counted and other:
-                print(f"{name}: {what}, instructions against visudo's: {counted / other:.2f}")
+                wrong += judged(f"{name}: {what}, instructions against visudo's", counted / other, 0.5)
     sys.exit(1 if wrong else 0)
 
 
