@@ -1,8 +1,8 @@
 #!/usr/bin/env python3
 """Asks `desk serve` over loopback, by curl, by Python's http.client, and by raw bytes from here and through nc, and compares each reply.
 
-Then peers go away at each byte of a request, one never reads, and ten thousand requests are changed at random: each reply must be one
-of HTTP/1.1, and the server serves on. A host's file must pass `visudo -c`, and examples/fetch-sudoers.sh must put it in place, or keep
+Then peers go away at each byte of a request, one never reads, and ten thousand requests are changed at random: each reply must be
+the one that scripts/http_oracle.py says, and the server serves on. A host's file must pass `visudo -c`, and examples/fetch-sudoers.sh must put it in place, or keep
 the old one. The servers listen at port 0; one ends by itself after as many connections as are made, the others by SIGTERM.
 `peers_http.py WORDS..` runs another program than build/desk.
 """
@@ -21,6 +21,8 @@ import sys
 import tempfile
 import threading
 import tomllib
+
+import http_oracle
 
 ROOT = os.path.dirname(os.path.dirname(os.path.abspath(__file__)))
 DESK = sys.argv[1:] or [os.path.join(ROOT, "build", "desk")]
@@ -307,8 +309,19 @@ def leave_at_each_byte(address):
     return len(given) + 2, wrong
 
 
+# what may be put into a request
+PIECES = [
+    "é".encode(), b"\r\n", b"\n", b" ", b"\t", b":", b"\x00", b"\x7f", b"\xff", b"/", b"//", b"%", b"?", b"#", b"*", b"0", b"7", b"-", b"+", b"GET", b"HEAD", b"POST",
+    b"HTTP/1.0", b"HTTP/1.1", b"HTTP/2.0", b"Host: x\r\n", b"Content-Length: 70\r\n", b"Content-Length: 16385\r\n", b"Content-Length: 0000000070\r\n",
+    b"Transfer-Encoding: chunked\r\n", b"X: y\r\n" * 20,
+]
+
+
 def changed(given, chance):
-    """The bytes with up to three changes."""
+    """The bytes with up to four changes."""
+    if chance.random() < 0.5:
+        at = chance.randint(0, len(given))
+        given = given[:at] + chance.choice(PIECES) + given[at + chance.choice([0, 0, 1, 2]) :]
     for _ in range(chance.randint(1, 3)):
         at, end = sorted((chance.randint(0, len(given)), chance.randint(0, len(given))))
         some = bytes([chance.choice([0, 9, 10, 13, 32, 37, 47, 58, 63, 128, 255, chance.randrange(256)])])
@@ -325,8 +338,24 @@ def changed(given, chance):
     return given
 
 
+def is_reply_to(given, whole):
+    """Whether the reply is one to the request, as it is read a second time. Which of its own answers the desk gives is not looked at."""
+    status, fields, body = reply_of(whole)
+    asked, bare = http_oracle.asks(given)
+    if len(asked) == 3:
+        refusal = asked[1].encode("ascii") + b"\n"
+        return (status, fields.get("Allow"), fields["Content-Length"], body) == (asked[0], asked[2], str(len(refusal)), b"" if bare else refusal)
+    what, part = asked
+    if what == "deliver":
+        is_known = part in (b"chat", b"mail")
+        return (status == "200 OK" and body == b"ack\n" or re.match(rb"[APM][1-8] ", body) is not None) and is_known == (body != b"P1 UnknownRelay\n")
+    if what == "file" and part != b"db1":
+        return status in ("200 OK", "404 Not Found") and (bare or status == "200 OK" or body == b"P2 UnknownHost\n")
+    return status == "200 OK" and not (bare and body)
+
+
 def change_requests(address):
-    """Requests that are changed at random, always the same ones: each reply is a reply, and the server serves on."""
+    """Requests that are changed at random, always the same ones: each reply is one to that request, and the server serves on."""
     wrong, chance = 0, random.Random(7)
     valid = [
         posted(b"chat", APPROVAL),
@@ -334,11 +363,16 @@ def change_requests(address):
         asked(b"GET", b"/v1/grants/20260105093000Z"),
         asked(b"HEAD", b"/v1/hosts/db1/sudoers"),
         asked(b"GET", b"/v1/parked"),
+        b"POST /v1/relays/chat/messages HTTP/1.1\r\nhOST: desk\r\nA:b\r\nContent-length: \t70 \r\nTransfer-encoding: x\r\n\r\n" + APPROVAL,
+        b"\r\nHEAD /v1/relays/chat/messages HTTP/1.0\n\n",
+        b"PUT /v1/grants/20991231235959Z HTTP/1.1\nHost:\n\n",
+        b"GET //v1/parked HTTP/1.1\r\nHost: a\r\n\r\n",
+        b"GET /v1/hosts/db2/sudoers HTTP/1.1\r\nHost: a\r\n" + b"B: c\r\n" * 30 + b"\r\n",
     ]
     for _ in range(CHANGED):
         given = changed(chance.choice(valid), chance)
         whole = by_bytes(address, given)
-        if not parses(whole):
+        if not (parses(whole) and is_reply_to(given, whole)):
             wrong += 1
             print(f"{given!r}: {whole!r}")
     return CHANGED, wrong

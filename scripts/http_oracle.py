@@ -1,0 +1,97 @@
+"""What a request asks of `desk serve`, read a second time, from the rules alone and not from the desk's code.
+
+RFC 9112 says what a request's head is, as far as Rust's `httparse` takes it: empty lines may come before it, a line may end in a
+newline alone, a target is UTF-8, a field has no blank before its colon and is not folded. docs/HTTP.md says the rest.
+"""
+
+import datetime
+import re
+
+TOKEN = rb"[!#$%&'*+\-.^_`|~0-9A-Za-z]+"
+END = rb"\r?\n"
+FIRST = re.compile(rb"(?:" + END + rb")*(" + TOKEN + rb") ([\x21-\x7e\x80-\xff]+) HTTP/1\.([01])" + END)
+FIELD = re.compile(rb"(" + TOKEN + rb"):([\t\x20-\x7e\x80-\xff]*)" + END)
+LAST = re.compile(END)
+MOST_HEAD = 8_192
+MOST_FIELDS = 32
+MOST_BODY = 16_384
+
+# Each route with its method, and what it asks.
+ROUTES = (
+    (rb"/v1/relays/([^/]+)/messages", "POST", "deliver"),
+    (rb"/v1/grants/([^/]+)", "GET", "grants"),
+    (rb"/v1/parked", "GET", "parked"),
+    (rb"/v1/hosts/([^/]+)/sudoers", "GET", "file"),
+)
+
+
+def head_of(given):
+    """The method, the target, the minor version, the fields and the place behind the head; None where there is no head."""
+    given = given[:MOST_HEAD]
+    first = FIRST.match(given)
+    if not first:
+        return None
+    try:
+        first[2].decode("utf-8")
+    except UnicodeDecodeError:
+        return None
+    fields, at = [], first.end()
+    while not (last := LAST.match(given, at)):
+        field = FIELD.match(given, at)
+        if not field or len(fields) == MOST_FIELDS:
+            return None
+        fields.append((field[1].lower(), field[2].strip(b" \t")))
+        at = field.end()
+    return first[1], first[2], int(first[3]), fields, last.end()
+
+
+def is_moment(text):
+    if not re.fullmatch(rb"[0-9]{14}Z", text):
+        return False
+    try:
+        return 1970 <= datetime.datetime.strptime(text.decode(), "%Y%m%d%H%M%SZ").year <= 2099
+    except ValueError:
+        return False
+
+
+def body_fault(given, fields, at):
+    """Why the body of a POST is not read, or None; and the body."""
+    lengths = [value for name, value in fields if name == b"content-length"]
+    if any(name == b"transfer-encoding" for name, _ in fields):
+        return "400 Bad Request", "T6 BadLength"
+    if not lengths:
+        return "411 Length Required", "T5 LengthRequired"
+    if len(lengths) > 1 or not re.fullmatch(rb"[0-9]{1,9}", lengths[0]):
+        return "400 Bad Request", "T6 BadLength"
+    if int(lengths[0]) > MOST_BODY:
+        return "413 Content Too Large", "M1 TooLong"
+    if len(given) - at < int(lengths[0]):
+        return "400 Bad Request", "T7 ShortBody"
+    return None
+
+
+def asks(given):
+    """What the bytes ask: a refusal as its status, its code with its name and what `Allow` says, or what they ask of the desk, as a word
+    and what the route's `{..}` holds; and whether the reply goes without its body."""
+    head = head_of(given)
+    if not head:
+        return ("400 Bad Request", "T1 BadHead", None), False
+    method, target, minor, fields, at = head
+    bare = method == b"HEAD"
+    hosts = sum(name == b"host" for name, _ in fields)
+    if hosts > 1 or (minor == 1 and hosts == 0):
+        return ("400 Bad Request", "T1 BadHead", None), bare
+    if not target.startswith(b"/") or re.search(rb"[?#%\x80-\xff]", target):
+        return ("400 Bad Request", "T2 BadTarget", None), bare
+    for form, wanted, what in ROUTES:
+        if found := re.fullmatch(form, target):
+            break
+    else:
+        return ("404 Not Found", "T3 NoRoute", None), bare
+    if ("GET" if bare else method.decode()) != wanted:
+        return ("405 Method Not Allowed", "T4 BadMethod", "POST" if wanted == "POST" else "GET, HEAD"), bare
+    if what == "deliver" and (fault := body_fault(given, fields, at)):
+        return (*fault, None), bare
+    if what == "grants" and not is_moment(found[1]):
+        return ("400 Bad Request", "T8 BadMoment", None), bare
+    return (what, found[1] if found.groups() else None), bare
