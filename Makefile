@@ -12,9 +12,11 @@ desk:
 demo: desk
 	bash scripts/demo.sh
 
-# The program on each case of cases/: files, words and inputs, with all that it answers.
+# The program on each case of cases/: files, words and inputs, with all that it answers. Then reports of random sets of messages, beside a second
+# reading of the rules.
 cases: desk
 	python3 scripts/cases.py
+	python3 scripts/random_reports.py
 
 # The whole gate (docs/GATE.md): `rt ci`, which proves everything from nothing, tries the edits that must be refused and runs the tests; then,
 # over the program that it left at build/desk, the demo, the cases, peers and faults. What it needs of Debian is installed where this is root; with

@@ -47,6 +47,10 @@ demo() {
     bash scripts/demo.sh | diff examples/demo.expected -
 }
 
+cases() {
+    python3 scripts/cases.py && python3 scripts/random_reports.py
+}
+
 peers() {
     python3 scripts/peers.py && python3 scripts/peers_http.py
 }
@@ -69,7 +73,7 @@ mkdir -p build
 cp crates/desk_cli/out/desk_cli build/desk
 
 part demo demo
-part cases python3 scripts/cases.py
+part cases cases
 part_with peers root sudo visudo faketime unshare curl nc -- peers
 part_with faults cc -- python3 scripts/faults.py
 echo "$passed passed, $failed failed"
