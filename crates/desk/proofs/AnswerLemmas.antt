@@ -6,13 +6,13 @@ use Rattle.messages.specs.Names.{RequestName, SameMessages}
 use Rattle.messages.specs.declared.message.Message.{Message}
 use Rattle.roster.specs.Fields.{RosterFields}
 use Rattle.grants.specs.declared.outcome.Status.{Status}
-use Rattle.desk.specs.HostFile.{Line, AreLines, IsHostFile}
+use Rattle.desk.specs.HostFile.{Line, AreLines, IsHostFile, IsHostFileAfter, lines_after}
 use Rattle.desk.specs.Outcomes.{AreLive, ComesTo, LiveGrant}
 use Rattle.desk.specs.Parked.{AreParked}
 use Rattle.desk.specs.Runs.{Event, IsRun, SameAcked}
-use Rattle.desk.proofs.FileLemmas.{one_file, one_lines}
+use Rattle.desk.proofs.FileLemmas.{one_file, one_file_after, one_lines}
 use Rattle.desk.proofs.RunLemmas.{runs_agree}
-use Rattle.desk.proofs.SetLemmas.{Alike, alike_sets, file_alike, lines_alike, live_alike, one_live, one_outcome, one_parked, outcome_alike, parked_of_set}
+use Rattle.desk.proofs.SetLemmas.{Alike, alike_sets, file_after_alike, file_alike, lines_alike, live_alike, one_live, one_outcome, one_parked, outcome_alike, parked_of_set}
 
 module _ (f : RosterFields Cmnd) (old s t : List Message) (r u : List Event) (acked : SameAcked r u) (first : IsRun f old r s) (second : IsRun f old u t) where
   same_left : SameMessages s t
@@ -35,3 +35,9 @@ module _ (f : RosterFields Cmnd) (old s t : List Message) (r u : List Event) (ac
 
   pub same_count : (host : List ℕ) (a b : List Line) → AreLines f s host a → AreLines f t host b → length a ≡ length b
   same_count host a b x y = ap length (one_lines f t host a b (lines_alike f s t left_alike host a x) y)
+
+  pub same_file_after : (base : List Entry) (host : List ℕ) (moment : ℕ) (a b : List ℕ) → IsHostFileAfter f base s host moment a → IsHostFileAfter f base t host moment b → a ≡ b
+  same_file_after base host moment a b x y = one_file_after f base t host moment a b (file_after_alike f s t left_alike base host moment a x) y
+
+  pub same_count_after : (host : List ℕ) (moment : ℕ) (a b : List Line) → AreLines f s host a → AreLines f t host b → length (lines_after moment a) ≡ length (lines_after moment b)
+  same_count_after host moment a b x y = ap (λ (lines : List Line). length (lines_after moment lines)) (one_lines f t host a b (lines_alike f s t left_alike host a x) y)

@@ -37,7 +37,7 @@ use Rattle.grants.proofs.StatusLemmas.{admitted_is, disputed_is, lapsed_is}
 use Rattle.desk.specs.Gathered.{Give, live_for}
 use Rattle.sudo_syntax.specs.declared.entry.Entry.{Entry}
 use Rattle.sudo_syntax.specs.Printing.{canon}
-use Rattle.desk.specs.HostFile.{Line, AreLines, IsHostFile, with_lines}
+use Rattle.desk.specs.HostFile.{Line, AreLines, IsHostFile, IsHostFileAfter, lines_after, with_lines}
 use Rattle.desk.specs.Order.{AreInOrder, NamePrecedes, TextPrecedes}
 use Rattle.desk.specs.Outcomes.{AreLive, ComesTo, LiveGrant, NobodyAsks}
 use Rattle.desk.specs.Parked.{AreParked, IsParked, name_meant}
@@ -380,6 +380,11 @@ module _ (text : List ℕ) (f : RosterFields Cmnd) (set : List Message) (roster 
   some_file base host =
       let lines = some_lines host in
       (canon (with_lines base lines.0), record { lines = lines.0; lines_are = lines.1; text_is = refl })
+
+  pub some_file_after : (base : List Entry) (host : List ℕ) (moment : ℕ) → (file : List ℕ) × IsHostFileAfter f base set host moment file
+  some_file_after base host moment =
+      let lines = some_lines host in
+      (canon (with_lines base (lines_after moment lines.0)), record { lines = lines.0; lines_are = lines.1; text_is = refl })
 
   pub some_live : (moment : ℕ) → (list : List LiveGrant) × AreLive f set moment list
   some_live moment =

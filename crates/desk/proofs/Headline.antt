@@ -1,6 +1,7 @@
 -- What a host's file decides: it allows what a grant covers, and decides all else as the base does.
-use Rattle.std.proofs.Common.{◌≡◌, ℕ, ◌⊎◌, Bool, true, false, Option, Some, None, List, [], ◌∷◌, ◌++◌, map, reverse, refl, sym, ap, ◌∙◌, subst, inl, inr, append_assoc, max, arith}
+use Rattle.std.proofs.Common.{◌≡◌, ℕ, ◌≤◌, ◌⊎◌, Bool, true, false, Option, Some, None, List, [], ◌∷◌, ◌++◌, map, reverse, refl, sym, ap, ◌∙◌, subst, inl, inr, append_assoc, max, arith}
 use Rattle.std.specs.List.{Contains}
+use Rattle.std.proofs.lemmas.Bool.{le-leb}
 use Rattle.std.proofs.lemmas.List.{append-nil}
 use Rattle.messages.specs.declared.message.Message.{Message}
 use Rattle.sudo_syntax.specs.declared.entry.Rule.{Rule}
@@ -9,7 +10,7 @@ use Rattle.sudo_syntax.specs.declared.entry.Entry.TheVariants as entries
 use Rattle.sudo_decide.specs.declared.decision.Decision.{Decision}
 use Rattle.sudo_decide.specs.declared.decision.Decision.TheVariants.{Allow}
 use Rattle.sudo_decide.specs.declared.invocation.Invocation.{Invocation}
-use Rattle.sudo_decide.specs.Decision.{says, outcome, Decides, DecidesBy}
+use Rattle.sudo_decide.specs.Decision.{is_not_after, says, outcome, Decides, DecidesBy}
 use Rattle.sudo_decide.proofs.DecisionLemmas.{decides_silent_last, decides_rule_last, same_definitions}
 use Rattle.sudo_words.specs.declared.cmnd.Cmnd.{Cmnd}
 use Rattle.messages.specs.Names.{name_of}
@@ -17,7 +18,8 @@ use Rattle.roster.specs.Fields.{RosterFields}
 use Rattle.grants.specs.GrantRules.{grant_rule}
 use Rattle.grants.specs.Statuses.{IsLastMoment}
 use Rattle.desk.specs.Covers.{Covers}
-use Rattle.desk.specs.HostFile.{Line, IsLine, AreLines, with_lines}
+use Rattle.desk.specs.HostFile.{Line, IsLine, AreLines, lines_after, with_lines}
+use Rattle.desk.proofs.Filters.{kept, was_there}
 use Rattle.desk.proofs.Membership.{no_member, Contains-head, Contains-behind, Contains-cases, Contains-from_get, get_from_Contains}
 use Rattle.desk.proofs.Windows.{between, first_of, not_endless}
 use Rattle.desk.proofs.GrantedRules.{grant_answers, fits_from_yes, yes_from_fits}
@@ -145,19 +147,24 @@ module _ (f : RosterFields Cmnd) (defined : List Entry) (messages : List Message
 
 -- ---- the file
 
-module _ (f : RosterFields Cmnd) (base : List Entry) (messages : List Message) (i : Invocation) (lines : List Line) (are : AreLines f messages i.host lines) where
+-- Lines of the host behind the base, among them each that says yes.
+pub record SpeakFor (f : RosterFields Cmnd) (base : List Entry) (messages : List Message) (i : Invocation) (lines : List Line) : Type 0 where
+  pub each : (line : Line) → Contains lines line → IsLine f messages i.host line
+  pub yes : (line : Line) → IsLine f messages i.host line → says (reverse (with_lines base lines)) line.rule i ≡ Some true → Contains lines line
+
+module _ (f : RosterFields Cmnd) (base : List Entry) (messages : List Message) (i : Invocation) (lines : List Line) (speak : SpeakFor f base messages i lines) where
   -- the lines define nothing
   abbrev defined : List Entry
   defined = reverse (with_lines base lines)
 
   each_grants : (line : Line) → Contains lines line → Grants defined line i
-  each_grants line m = line_grants f defined messages i line (are.each line m)
+  each_grants line m = line_grants f defined messages i line (speak.each line m)
 
   not_all_quiet : Covers f messages i → ((line : Line) → Contains lines line → says defined line.rule i ≡ None) → ⊥
   not_all_quiet c quiet =
       not_endless f messages c.request i.at c.window (λ last last_is.
       let found = yes_from_covers f defined messages i c last last_is in
-      let wrong : ◌≡◌ {A = Option Bool} (Some true) None = sym found.says_yes ∙ quiet found.line (are.all found.line found.is_line) in
+      let wrong : ◌≡◌ {A = Option Bool} (Some true) None = sym found.says_yes ∙ quiet found.line (speak.yes found.line found.is_line found.says_yes) in
       absurd cc)
 
   pub covered_allowed : Covers f messages i → Decides (with_lines base lines) i Allow
@@ -170,7 +177,7 @@ module _ (f : RosterFields Cmnd) (base : List Entry) (messages : List Message) (
   quiet_line : (Covers f messages i → ⊥) → (line : Line) → Contains lines line → says defined line.rule i ≡ None
   quiet_line bare line m =
       elim (each_grants line m).1 as (λ _. says defined line.rule i ≡ None) [
-        | inl says_yes ↦ absurd (bare (covers_from_yes f defined messages i line (are.each line m) says_yes))
+        | inl says_yes ↦ absurd (bare (covers_from_yes f defined messages i line (speak.each line m) says_yes))
         | inr quiet ↦ quiet
       ]
 
@@ -181,3 +188,25 @@ module _ (f : RosterFields Cmnd) (base : List Entry) (messages : List Message) (
 
   pub bare_as_base : (Covers f messages i → ⊥) → (d : Decision) → Decides base i d → Decides (with_lines base lines) i d
   bare_as_base bare d by = silent_lines defined base lines i d (quiet_line bare) (base_decides d by)
+
+-- ---- all lines of the host, and those that end at a moment or later
+
+module _ (f : RosterFields Cmnd) (base : List Entry) (messages : List Message) (i : Invocation) (lines : List Line) (are : AreLines f messages i.host lines) where
+  pub all_speak : SpeakFor f base messages i lines
+  all_speak = record { each = are.each; yes = λ line l says_yes. are.all line l }
+
+  -- a line that says yes at the moment or later has not ended before it
+  not_ended : (defined : List Entry) (moment : ℕ) (line : Line) → moment ≤ i.at → IsLine f messages i.host line → says defined line.rule i ≡ Some true → is_not_after line.rule.not_after moment ≡ true
+  not_ended defined moment line later l says_yes =
+      let P : Rule → Type 0 = λ r. says defined r i ≡ Some true in
+      let fits = fits_from_yes defined i.host l.request l.first l.last l.cmnd i (subst P l.rule_is says_yes) in
+      let Lasts : Rule → Type 0 = λ r. is_not_after r.not_after moment ≡ true in
+      subst Lasts (sym l.rule_is) (le-leb moment l.last (omega (arith, later, fits.lasts)))
+
+  pub left_speak : (moment : ℕ) → moment ≤ i.at → SpeakFor f base messages i (lines_after moment lines)
+  left_speak moment later =
+      let p : Line → Bool = λ line. is_not_after line.rule.not_after moment in
+      record {
+        each = λ line m. are.each line (was_there p lines line m);
+        yes = λ line l says_yes. kept p lines line (are.all line l) (not_ended (reverse (with_lines base (lines_after moment lines))) moment line later l says_yes);
+      }

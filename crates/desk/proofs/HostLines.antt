@@ -1,6 +1,6 @@
 -- The rules that the summaries of a set give a host are those of its lines.
-use Rattle.std.proofs.Common.{◌≡◌, ℕ, zero, suc, ◌+◌, ◌<◌, ◌≤◌, Bool, true, false, cond, List, [], ◌∷◌, ◌++◌, map, length, Some, refl, sym, ap, ◌∙◌, subst, inl, inr, arith}
-use Rattle.std.specs.List.{Contains, list_any, slice_get}
+use Rattle.std.proofs.Common.{◌≡◌, ℕ, zero, suc, ◌+◌, ◌<◌, ◌≤◌, Bool, true, false, cond, List, [], ◌∷◌, ◌++◌, map, length, Option, Some, refl, sym, ap, ◌∙◌, subst, inl, inr, arith}
+use Rattle.std.specs.List.{Contains, filter, list_any, slice_get}
 use Rattle.std.specs.Str.{bytes_eq}
 use Rattle.std.proofs.lemmas.List.{length-map, map-append}
 use Rattle.std.proofs.lemmas.List.Elements.{Contains-append_left}
@@ -19,7 +19,9 @@ use Rattle.grants.specs.declared.outcome.Status.TheVariants.{Disputed, Lapsed, R
 use Rattle.grants.specs.declared.outcome.Window.{Window}
 use Rattle.desk.specs.Gathered.{Give}
 use Rattle.desk.specs.HostFile.{Line, IsLine, LinePrecedes, AreLines}
+use Rattle.desk.specs.LinesLeft.{lines_left, rules_left, stays}
 use Rattle.desk.specs.Order.{AllBehind, AreInOrder}
+use Rattle.desk.proofs.Filters.{kept, left_in_order, left_of_given, left_of_map, passes, was_there}
 use Rattle.desk.proofs.GivenLists.{IsRoll, KeptPrecedes, given_by, given_in_order, gives}
 use Rattle.desk.proofs.Membership.{no_member, Contains-head, Contains-behind, Contains-cases, member_from_test, test_from_member}
 use Rattle.desk.proofs.Orders.{lines_strict, no_longer, ordered_front}
@@ -76,6 +78,13 @@ lines_given f set host (k ∷ ks) rules g =
           ∙ ap (λ (rs : List Rule). map rule_in (lines_for host k.request g.1) ++ rs) more.2
           ∙ sym (map-append rule_in (lines_for host k.request g.1) more.0),
     )
+
+-- and where only some are left, of what is left of these
+pub left_given : (f : RosterFields Cmnd) (set : List Message) (host : List ℕ) (after : Option ℕ) (ks : List Kept) (rules : List Rule) → Give f set (rules_left after host) ks rules → (lines : List Line) × Give f set (lines_for host) ks lines × (rules ≡ map rule_in (lines_left after lines))
+left_given f set host after ks rules g =
+    let all = left_of_given f set (rules_for host) (stays after) ks rules g in
+    let found = lines_given f set host ks all.0 all.1 in
+    (found.0, found.1, all.2 ∙ ap (filter (stays after)) found.2 ∙ left_of_map (stays after) rule_in found.0)
 
 -- ---- the line of a command, by its place
 
@@ -239,11 +248,13 @@ module _ (f : RosterFields Cmnd) (set : List Message) (host : List ℕ) where
     are_lines lines given =
         record { in_order = lines_ordered ks lines roll.in_order given; each = each_line ks lines roll.stands given; all = all_lines lines given }
 
-    -- some first summaries give no more lines than the set has
-    pub some_lines : (seen rest : List Kept) (rules : List Rule) (all : List Line) → seen ++ rest ≡ ks → Give f set (rules_for host) seen rules → AreLines f set host all → length rules ≤ length all
-    some_lines seen rest rules all split given are =
-        let found = lines_given f set host seen rules given in
+    -- some first summaries leave no more lines than the set does
+    pub some_lines : (after : Option ℕ) (seen rest : List Kept) (rules : List Rule) (all : List Line) → seen ++ rest ≡ ks → Give f set (rules_left after host) seen rules → AreLines f set host all → length rules ≤ length (lines_left after all)
+    some_lines after seen rest rules all split given are =
+        let found = left_given f set host after seen rules given in
         let ordered = ordered_front KeptPrecedes seen rest (subst (AreInOrder KeptPrecedes) (sym split) roll.in_order) in
         let stands : (k : Kept) → Contains seen k → StandsFor set k = λ k h. roll.stands k (subst (λ (l : List Kept). Contains l k) split (Contains-append_left seen rest k h)) in
-        let fewer = no_longer LinePrecedes lines_strict found.0 all (lines_ordered seen found.0 ordered found.1) are.in_order (λ line h. are.all line (each_line seen found.0 stands found.1 line h)) in
-        omega (arith, fewer, ap length found.2, length-map found.0 rule_in)
+        let p : Line → Bool = λ line. stays after line.rule in
+        let inside : (line : Line) → Contains (lines_left after found.0) line → Contains (lines_left after all) line = λ line h. kept p all line (are.all line (each_line seen found.0 stands found.1 line (was_there p found.0 line h))) (passes p found.0 line h) in
+        let fewer = no_longer LinePrecedes lines_strict (lines_left after found.0) (lines_left after all) (left_in_order p LinePrecedes found.0 (lines_ordered seen found.0 ordered found.1)) (left_in_order p LinePrecedes all are.in_order) inside in
+        omega (arith, fewer, ap length found.2, length-map (lines_left after found.0) rule_in)

@@ -24,7 +24,7 @@ use Rattle.desk.specs.Outcomes.{NobodyAsks}
 use Rattle.desk.specs.Parked.{AreParked, name_meant}
 use Rattle.desk.specs.Same.{GrantTheSame}
 use Rattle.desk.specs.Uncounted.{HoldsConflicting, MayNotRevoke}
-use Rattle.desk.proofs.SetLemmas.{Alike, alike_from_given, alike_sets, covers_alike, file_alike, live_alike, outcome_alike, turned, window_alike}
+use Rattle.desk.proofs.SetLemmas.{Alike, alike_from_given, alike_sets, covers_alike, file_after_alike, file_alike, live_alike, outcome_alike, turned, window_alike}
 
 pub grant_the_same : (f : RosterFields Cmnd) (s t : List Message) → Alike f s t → GrantTheSame f s t
 grant_the_same f s t a =
@@ -35,6 +35,8 @@ grant_the_same f s t a =
       covers = λ i. (covers_alike f s t a i, covers_alike f t s b i);
       live = λ moment list. (live_alike f s t a moment list, live_alike f t s b moment list);
       files = λ base host text. (file_alike f s t a base host text, file_alike f t s b base host text);
+      files_after = λ base host moment text.
+          (file_after_alike f s t a base host moment text, file_after_alike f t s b base host moment text);
     }
 
 pub order_free : (f : RosterFields Cmnd) (s t : List Message) → SameMessages s t → GrantTheSame f s t

@@ -4,6 +4,7 @@ pub mod NameMaps
 pub mod Standing
 pub mod GatherLemmas
 pub mod GivenLists
+pub mod Filters
 pub mod Windows
 pub mod HostLines
 pub mod GrantedRules

@@ -16,7 +16,8 @@ use Rattle.grants.specs.declared.outcome.Status.{Status}
 use Rattle.grants.specs.declared.outcome.Status.TheVariants.{Disputed, Lapsed, Refused, Waiting, Void, Granted}
 use Rattle.grants.proofs.StatusLaws as statuses
 use Rattle.desk.specs.Covers.{Covers}
-use Rattle.desk.specs.HostFile.{Line, IsLine, AreLines, IsHostFile}
+use Rattle.desk.specs.HostFile.{Line, IsLine, AreLines, IsHostFile, IsHostFileAfter}
+use Rattle.desk.specs.LinesLeft.{IsFileLeft}
 use Rattle.desk.specs.Outcomes.{AreLive, ComesTo, IsLive, LiveGrant, LivePrecedes, NobodyAsks}
 use Rattle.desk.specs.Parked.{AreParked, IsParked}
 use Rattle.desk.specs.Order.{TextPrecedes}
@@ -178,6 +179,14 @@ module _ (f : RosterFields Cmnd) (s t : List Message) (a : Alike f s t) where
   pub file_alike : (base : List Entry) (host text : List ℕ) → IsHostFile f base s host text → IsHostFile f base t host text
   file_alike base host text file =
       record { lines = file.lines; lines_are = lines_alike host file.lines file.lines_are; text_is = file.text_is }
+
+  pub file_after_alike : (base : List Entry) (host : List ℕ) (moment : ℕ) (text : List ℕ) → IsHostFileAfter f base s host moment text → IsHostFileAfter f base t host moment text
+  file_after_alike base host moment text file =
+      record { lines = file.lines; lines_are = lines_alike host file.lines file.lines_are; text_is = file.text_is }
+
+  pub left_alike : (base : List Entry) (host : List ℕ) (after : Option ℕ) (text : List ℕ) → IsFileLeft f base s host after text → IsFileLeft f base t host after text
+  left_alike base host after text left =
+      record { lines = left.lines; lines_are = lines_alike host left.lines left.lines_are; text_is = left.text_is; spelled = left.spelled }
 
   pub live_alike : (moment : ℕ) (list : List LiveGrant) → AreLive f s moment list → AreLive f t moment list
   live_alike moment list are = record {

@@ -1,5 +1,5 @@
 -- The summaries of a set of messages, by name. For private clauses.
-use Rattle.std.specs.Prelude.{◌≡◌, ◌⊎◌, ℕ, ◌<◌, nat_le, ◌&&◌, if◌then◌else◌, List, [], ◌∷◌, ◌++◌, length, Contains, Option, Some, None, MatchOption, IfSome, is_some}
+use Rattle.std.specs.Prelude.{◌≡◌, ℕ, nat_le, ◌&&◌, if◌then◌else◌, List, [], ◌∷◌, ◌++◌, Contains, Option, Some, None, MatchOption, IfSome, is_some}
 use Rattle.std.specs.BTreeMap.{BTreeMap, IsOrdered}
 use Rattle.sudo_words.specs.declared.cmnd.Cmnd.{Cmnd}
 use Rattle.messages.specs.Fields.{RequestFields, VerdictFields}
@@ -10,14 +10,11 @@ use Rattle.messages.specs.declared.message.Message.TheVariants.{Request, Verdict
 use Rattle.roster.specs.Fields.{RosterFields}
 use Rattle.grants.specs.Statuses.{IsStatus}
 use Rattle.grants.specs.Summaries.{Kept, StandsFor}
-use Rattle.grants.specs.declared.host_fault.HostFault.{HostFault}
-use Rattle.grants.specs.declared.host_fault.HostFault.TheVariants.{TooManyRules, NoMemory}
 use Rattle.grants.specs.declared.outcome.Status.{Status}
 use Rattle.grants.specs.declared.outcome.Status.TheVariants.{Disputed, Lapsed, Refused, Waiting, Void, Granted}
 use Rattle.grants.specs.declared.outcome.Window.{Window}
 use Rattle.desk.specs.declared.naming.NameKey.{NameKey}
 use Rattle.desk.specs.Names.{key_cmp, at_name}
-use Rattle.desk.specs.HostFile.{Line, AreLines}
 use Rattle.desk.specs.Outcomes.{LiveGrant, NobodyAsks}
 use Rattle.desk.specs.Parked.{name_meant}
 
@@ -93,10 +90,3 @@ grants_of q (Some w) = grant_of q w ∷ []
 
 abbrev pub live_for : ℕ → RequestFields → Status → List LiveGrant
 live_for at q status = grants_of q (window_at at status)
-
--- ---- why there are no lines
-
--- want of memory, or the lines are too many
-abbrev pub IsPast : RosterFields Cmnd → List Message → List ℕ → HostFault → Type 0
-IsPast f messages host e =
-    (e ≡ NoMemory) ⊎ ((e ≡ TooManyRules) × ((lines : List Line) → AreLines f messages host lines → 8_192 < length lines))

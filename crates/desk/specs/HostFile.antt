@@ -1,11 +1,12 @@
 -- A host's file: the base's canonical text, and behind it one line for each command of each request that names the host
 -- and whose window is not empty, with the window's first and last moment as dates (sudoers(5), "NOTBEFORE").
-use Rattle.std.specs.Prelude.{◌≡◌, ℕ, ◌<◌, ◌⊎◌, List, ◌++◌, Contains, Some, map, slice_get}
+use Rattle.std.specs.Prelude.{◌≡◌, ℕ, ◌<◌, ◌⊎◌, List, ◌++◌, Contains, Some, filter, map, slice_get}
 use Rattle.sudo_words.specs.declared.cmnd.Cmnd.{Cmnd}
 use Rattle.sudo_syntax.specs.declared.entry.Rule.{Rule}
 use Rattle.sudo_syntax.specs.declared.entry.Entry.{Entry}
 use Rattle.sudo_syntax.specs.declared.entry.Entry.TheVariants as entries
 use Rattle.sudo_syntax.specs.Printing.{canon}
+use Rattle.sudo_decide.specs.Decision.{is_not_after}
 use Rattle.messages.specs.Fields.{RequestFields}
 use Rattle.messages.specs.Names.{RequestName, name_of}
 use Rattle.messages.specs.declared.message.Message.{Message}
@@ -51,3 +52,15 @@ pub record IsHostFile (f : RosterFields Cmnd) (base : List Entry) (messages : Li
   pub lines : List Line
   pub lines_are : AreLines f messages host lines
   pub text_is : text ≡ canon (with_lines base lines)
+
+-- ---- without the lines that have ended
+
+-- the lines that end at the moment or later
+abbrev pub lines_after : ℕ → List Line → List Line
+lines_after moment lines = filter (λ line. is_not_after line.rule.not_after moment) lines
+
+-- the text of the host's file without the lines that end before the moment
+pub record IsHostFileAfter (f : RosterFields Cmnd) (base : List Entry) (messages : List Message) (host : List ℕ) (moment : ℕ) (text : List ℕ) : Type 0 where
+  pub lines : List Line
+  pub lines_are : AreLines f messages host lines
+  pub text_is : text ≡ canon (with_lines base (lines_after moment lines))

@@ -19,3 +19,4 @@ pub mod Uncounted
 pub mod Serving
 pub mod Names
 pub mod Gathered
+pub mod LinesLeft

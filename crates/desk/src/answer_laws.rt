@@ -7,13 +7,14 @@ ghost use Rattle.messages.specs.Names.{RequestName as AnyName};
 ghost use Rattle.messages.specs.declared.message.Message.{Message as AnyMessage};
 ghost use Rattle.roster.specs.Fields.{RosterFields};
 ghost use Rattle.grants.specs.declared.outcome.Status.{Status as AnyStatus};
-ghost use Rattle.desk.specs.HostFile.{Line, AreLines, IsHostFile};
+ghost use Rattle.desk.specs.HostFile.{Line, AreLines, IsHostFile, IsHostFileAfter, lines_after};
 ghost use Rattle.desk.specs.Outcomes.{AreLive, ComesTo, LiveGrant};
 ghost use Rattle.desk.specs.Parked.{AreParked};
 ghost use Rattle.desk.specs.Runs.{Event, IsRun, SameAcked};
 
 /// Behind two runs that begin with the same messages and acknowledge the same, every question is answered alike: each name's status,
-/// the grants of each moment, what is parked, each host's file, and how many lines it has, so whether these are too many.
+/// the grants of each moment, what is parked, each host's file, the whole and that after each moment, and how many lines it has, so whether these
+/// are too many.
 pub fn runs_answer_alike()
     ensures status { (f : RosterFields AnyCmnd) (old s t : List AnyMessage) (r u : List Event) → SameAcked r u → IsRun f old r s → IsRun f old u t →
         (name : AnyName) (a b : Option AnyStatus) → ComesTo f s name a → ComesTo f t name b → a ≡ b }
@@ -25,4 +26,9 @@ pub fn runs_answer_alike()
         (base : List Entry) (host a b : List ℕ) → IsHostFile f base s host a → IsHostFile f base t host b → a ≡ b }
     ensures count { (f : RosterFields AnyCmnd) (old s t : List AnyMessage) (r u : List Event) → SameAcked r u → IsRun f old r s → IsRun f old u t →
         (host : List ℕ) (a b : List Line) → AreLines f s host a → AreLines f t host b → length a ≡ length b }
+    ensures file_after { (f : RosterFields AnyCmnd) (old s t : List AnyMessage) (r u : List Event) → SameAcked r u → IsRun f old r s → IsRun f old u t →
+        (base : List Entry) (host : List ℕ) (moment : ℕ) (a b : List ℕ) → IsHostFileAfter f base s host moment a → IsHostFileAfter f base t host moment b → a ≡ b }
+    ensures count_after { (f : RosterFields AnyCmnd) (old s t : List AnyMessage) (r u : List Event) → SameAcked r u → IsRun f old r s → IsRun f old u t →
+        (host : List ℕ) (moment : ℕ) (a b : List Line) → AreLines f s host a → AreLines f t host b →
+        length (lines_after moment a) ≡ length (lines_after moment b) }
 {}

@@ -1,6 +1,6 @@
 //! Laws of what a set of messages grants, each the contract of a function that does nothing.
 
-ghost use Rattle.std.specs.Prelude.{◌≡◌, ◌≢◌, ◌<◌, ◌≤◌, ℕ, List, [], ◌∷◌, ◌++◌, Contains, Option, length};
+ghost use Rattle.std.specs.Prelude.{◌≡◌, ◌≢◌, ◌↔◌, ◌<◌, ◌≤◌, ℕ, List, [], ◌∷◌, ◌++◌, Contains, Option, length};
 ghost use Rattle.sudo_words.specs.declared.cmnd.Cmnd.{Cmnd};
 ghost use Rattle.sudo_syntax.specs.declared.entry.Entry.{Entry};
 ghost use Rattle.messages.specs.Fields.{RequestFields, VerdictFields};
@@ -18,10 +18,10 @@ ghost use Rattle.grants.specs.Statuses.{InWindow, IsStatus};
 ghost use Rattle.grants.specs.Verdicts.{IsComplete, IsGiven, StandsAlone};
 ghost use Rattle.grants.specs.declared.outcome.Status.{Status};
 ghost use Rattle.grants.specs.declared.outcome.Status.TheVariants.{Disputed, Refused};
-ghost use Rattle.desk.specs.HostFile.{IsHostFile};
+ghost use Rattle.desk.specs.HostFile.{IsHostFile, IsHostFileAfter, Line, IsLine, lines_after};
 ghost use Rattle.desk.specs.Outcomes.{AreLive, ComesTo, LiveGrant, NobodyAsks};
 ghost use Rattle.desk.specs.Parked.{AreParked, name_meant};
-ghost use Rattle.desk.specs.Rights.{GivesRights};
+ghost use Rattle.desk.specs.Rights.{GivesRights, GivesRightsAfter};
 ghost use Rattle.desk.specs.Same.{GrantTheSame};
 ghost use Rattle.desk.specs.Uncounted.{HoldsConflicting, MayNotRevoke};
 
@@ -32,7 +32,7 @@ pub fn order_free()
 {}
 
 /// A set of messages gives a name one status, or none; a moment one list of grants; one list of parked texts; and a host one file
-/// behind each base.
+/// behind each base, and one after each moment.
 pub fn one_of_each()
     ensures status { (f : RosterFields Cmnd) (set : List Message) (name : AnyName) (a b : Option Status) →
         ComesTo f set name a → ComesTo f set name b → a ≡ b }
@@ -41,10 +41,12 @@ pub fn one_of_each()
     ensures parked { (set : List Message) (a b : List (List ℕ)) → AreParked set a → AreParked set b → a ≡ b }
     ensures file { (f : RosterFields Cmnd) (base : List Entry) (set : List Message) (host a b : List ℕ) →
         IsHostFile f base set host a → IsHostFile f base set host b → a ≡ b }
+    ensures file_after { (f : RosterFields Cmnd) (base : List Entry) (set : List Message) (host : List ℕ) (moment : ℕ) (a b : List ℕ) →
+        IsHostFileAfter f base set host moment a → IsHostFileAfter f base set host moment b → a ≡ b }
 {}
 
 /// Each set of messages has them all, where a roster's text says who may do what: a name its status or none, a moment its grants,
-/// a host its lines and so its file behind each base; and it has its parked texts.
+/// a host its lines and so its file behind each base, the whole and that after each moment; and it has its parked texts.
 pub fn each_has_one()
     ensures status { (text : List ℕ) (f : RosterFields Cmnd) (set : List Message) (name : AnyName) →
         IsRosterText text f → ((m : Message) → Contains set m → IsMessage m) → (o : Option Status) × ComesTo f set name o }
@@ -52,6 +54,8 @@ pub fn each_has_one()
         IsRosterText text f → ((m : Message) → Contains set m → IsMessage m) → (list : List LiveGrant) × AreLive f set moment list }
     ensures file { (text : List ℕ) (f : RosterFields Cmnd) (base : List Entry) (set : List Message) (host : List ℕ) →
         IsRosterText text f → ((m : Message) → Contains set m → IsMessage m) → (file : List ℕ) × IsHostFile f base set host file }
+    ensures file_after { (text : List ℕ) (f : RosterFields Cmnd) (base : List Entry) (set : List Message) (host : List ℕ) (moment : ℕ) →
+        IsRosterText text f → ((m : Message) → Contains set m → IsMessage m) → (file : List ℕ) × IsHostFileAfter f base set host moment file }
     ensures parked { (set : List Message) → (texts : List (List ℕ)) × AreParked set texts }
 {}
 
@@ -61,6 +65,17 @@ pub fn file_gives_rights()
     ensures { (f : RosterFields Cmnd) (base : List Entry) (set : List Message) (host text : List ℕ) →
         FitsBase base → ((m : Message) → Contains set m → IsMessage m) →
         (file : IsHostFile f base set host text) → length file.lines ≤ 8_192 → GivesRights f base set host text }
+{}
+
+/// A line is left after a moment exactly where it is one of the host's and the last moment of its window is not before that one; and
+/// what is the file after a moment gives the rights from then on, whatever lines were left out.
+pub fn ended_lines_give_nothing()
+    ensures left { (f : RosterFields Cmnd) (set : List Message) (host : List ℕ) (moment : ℕ) (lines : List Line) (line : Line) →
+        (is : IsLine f set host line) → Contains (lines_after moment lines) line ↔ (Contains lines line × (moment ≤ is.last)) }
+    ensures rights { (f : RosterFields Cmnd) (base : List Entry) (set : List Message) (host : List ℕ) (moment : ℕ) (text : List ℕ) →
+        FitsBase base → ((m : Message) → Contains set m → IsMessage m) →
+        (file : IsHostFileAfter f base set host moment text) → length (lines_after moment file.lines) ≤ 8_192 →
+        GivesRightsAfter f base set host moment text }
 {}
 
 /// Two different requests of one name dispute it, and neither is ever granted.

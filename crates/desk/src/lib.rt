@@ -25,8 +25,8 @@ pub use answer_laws::runs_answer_alike;
 pub use desk::Desk;
 pub use desk_store::{Keeper, MemoryKeeper};
 pub use grant_laws::{
-    disputed_gives_nothing, each_has_one, file_gives_rights, one_of_each, order_free,
-    parked_until_asked, refusal_in_time, revocation_ends, who_changes_nothing,
+    disputed_gives_nothing, each_has_one, ended_lines_give_nothing, file_gives_rights, one_of_each,
+    order_free, parked_until_asked, refusal_in_time, revocation_ends, who_changes_nothing,
 };
 pub use live::Live;
 pub use naming::RequestName;

@@ -1,16 +1,16 @@
 //! What is asked of a desk. An answer is that of the set of messages that it holds, and nothing of the desk changes.
 
 ghost use Rattle.std.specs.Prelude.{◌≡◌, ◌⊎◌, ◌↔◌, ◌<◌, ◌≤◌, ℕ, List, true, false, map, length, IfOk, IfErr, MatchResult, Err, string_bytes};
-ghost use Rattle.sudo_syntax.specs.Printing.{canon};
 ghost use Rattle.messages.specs.declared.message.Message.{Message as AnyMessage};
 ghost use Rattle.roster.specs.Rules.{is_among};
 ghost use Rattle.desk_store.specs.Keeping.{HasFailed};
 ghost use Rattle.desk_store.specs.Sets.{Lists, SameSet};
-ghost use Rattle.desk.specs.HostFile.{Line, AreLines, IsHostFile, with_lines};
+ghost use Rattle.desk.specs.HostFile.{Line, AreLines, IsHostFile, IsHostFileAfter, lines_after};
+ghost use Rattle.desk.specs.LinesLeft as left;
 ghost use Rattle.desk.specs.Outcomes.{AreLive, ComesTo};
 ghost use Rattle.desk.specs.Parked.{AreParked};
 ghost use Rattle.desk.specs.Refusals.{IsWant};
-ghost use Rattle.desk.specs.Rights.{GivesRights};
+ghost use Rattle.desk.specs.Rights.{GivesRights, GivesRightsAfter};
 ghost use Rattle.desk.specs.Summaries.{AreSummaries};
 ghost use Rattle.desk.specs.declared.refusal.Refusal.TheVariants as refusal;
 
@@ -138,11 +138,68 @@ impl<K: Keeper> Desk<K> {
         ensures counts { K.failures self.old.keeper ≤ K.failures self.new.keeper }
         ensures cause { result ≡ Err refusal.Storage → HasFailed (K.failures self.old.keeper) (K.failures self.new.keeper) }
     {
+        self.file_of(host, None)
+    }
+
+    /// The same text without the lines that end before the moment; one that ends at the moment stays.
+    ///
+    /// `UnknownHost` comes exactly where the roster has no such host, `TooManyRules` exactly where the lines that are left are
+    /// more than 8,192.
+    pub fn host_file_after(&mut self, host: &HostName, moment: Moment) -> Result<String, Refusal>
+        // It is that file, and so it gives the rights from the moment on.
+        ensures file { (set : List AnyMessage) → K.is_up self.new.keeper → Lists (K.holds self.old.keeper) set
+            → IfOk result (λ s. IsHostFileAfter self.old.roster.says self.old.base set host.now moment (string_bytes s)) }
+        ensures rights { (set : List AnyMessage) → K.is_up self.new.keeper → Lists (K.holds self.old.keeper) set
+            → IfOk result (λ s. GivesRightsAfter self.old.roster.says self.old.base set host.now moment (string_bytes s)) }
+        // A host of the roster is refused it where too many lines are left, and not where few are.
+        ensures unknown { (result ≡ Err refusal.UnknownHost) ↔ (is_among self.old.roster.says.hosts host.now ≡ false) }
+        ensures few { (set : List AnyMessage) (ls : List Line) → K.is_up self.new.keeper → Lists (K.holds self.old.keeper) set
+            → AreLines self.old.roster.says set host.now ls → length (lines_after moment ls) ≤ 8_192
+            → IfErr result (λ e. (e ≡ refusal.UnknownHost) ⊎ IsWant e) }
+        ensures many { (set : List AnyMessage) (ls : List Line) → K.is_up self.new.keeper → Lists (K.holds self.old.keeper) set
+            → AreLines self.old.roster.says set host.now ls → 8_192 < length (lines_after moment ls)
+            → MatchResult result (λ _. ⊥) (λ e. (e ≡ refusal.UnknownHost) ⊎ (e ≡ refusal.TooManyRules) ⊎ IsWant e) }
+        ensures err { IfErr result (λ e. (e ≡ refusal.UnknownHost) ⊎ (e ≡ refusal.TooManyRules) ⊎ IsWant e) }
+        ensures unchanged { K.is_up self.new.keeper → K.is_same self.old.keeper self.new.keeper }
+        ensures roster { self.new.roster ≡ self.old.roster }
+        ensures base { self.new.base ≡ self.old.base }
+        ensures was_up { K.is_up self.new.keeper → K.is_up self.old.keeper }
+        ensures was_clean { K.is_clean self.new.keeper → K.is_clean self.old.keeper }
+        ensures shuts { K.is_up self.old.keeper → K.is_clean self.new.keeper
+            → K.is_up self.new.keeper ⊎ HasFailed (K.failures self.old.keeper) (K.failures self.new.keeper) }
+        ensures counts { K.failures self.old.keeper ≤ K.failures self.new.keeper }
+        ensures cause { result ≡ Err refusal.Storage → HasFailed (K.failures self.old.keeper) (K.failures self.new.keeper) }
+    {
+        self.file_of(host, Some(moment))
+    }
+
+    /// The host's file with the lines that are left: each without a moment, and with one each that ends then or later.
+    fn file_of(&mut self, host: &HostName, after: Option<Moment>) -> Result<String, Refusal>
+        ensures file { (set : List AnyMessage) → K.is_up self.new.keeper → Lists (K.holds self.old.keeper) set
+            → IfOk result (λ s. left.IsFileLeft self.old.roster.says self.old.base set host.now after (string_bytes s)) }
+        ensures unknown { (result ≡ Err refusal.UnknownHost) ↔ (is_among self.old.roster.says.hosts host.now ≡ false) }
+        ensures few { (set : List AnyMessage) (ls : List Line) → K.is_up self.new.keeper → Lists (K.holds self.old.keeper) set
+            → AreLines self.old.roster.says set host.now ls → length (left.lines_left after ls) ≤ 8_192
+            → IfErr result (λ e. (e ≡ refusal.UnknownHost) ⊎ IsWant e) }
+        ensures many { (set : List AnyMessage) (ls : List Line) → K.is_up self.new.keeper → Lists (K.holds self.old.keeper) set
+            → AreLines self.old.roster.says set host.now ls → 8_192 < length (left.lines_left after ls)
+            → MatchResult result (λ _. ⊥) (λ e. (e ≡ refusal.UnknownHost) ⊎ (e ≡ refusal.TooManyRules) ⊎ IsWant e) }
+        ensures err { IfErr result (λ e. (e ≡ refusal.UnknownHost) ⊎ (e ≡ refusal.TooManyRules) ⊎ IsWant e) }
+        ensures unchanged { K.is_up self.new.keeper → K.is_same self.old.keeper self.new.keeper }
+        ensures roster { self.new.roster ≡ self.old.roster }
+        ensures base { self.new.base ≡ self.old.base }
+        ensures was_up { K.is_up self.new.keeper → K.is_up self.old.keeper }
+        ensures was_clean { K.is_clean self.new.keeper → K.is_clean self.old.keeper }
+        ensures shuts { K.is_up self.old.keeper → K.is_clean self.new.keeper
+            → K.is_up self.new.keeper ⊎ HasFailed (K.failures self.old.keeper) (K.failures self.new.keeper) }
+        ensures counts { K.failures self.old.keeper ≤ K.failures self.new.keeper }
+        ensures cause { result ≡ Err refusal.Storage → HasFailed (K.failures self.old.keeper) (K.failures self.new.keeper) }
+    {
         if !self.roster.has_host(host) {
             return Err(Refusal::UnknownHost);
         }
         self.keeper.load()?;
         let set = self.keeper.messages();
-        Ok(host_file_in(self.alloc, &self.roster, &self.base, set, host)?)
+        Ok(host_file_in(self.alloc, &self.roster, &self.base, set, host, after)?)
     }
 }

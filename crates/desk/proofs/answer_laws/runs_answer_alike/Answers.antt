@@ -1,4 +1,4 @@
-use Rattle.desk.proofs.AnswerLemmas.{same_count, same_file, same_live, same_parked, same_status}
+use Rattle.desk.proofs.AnswerLemmas.{same_count, same_count_after, same_file, same_file_after, same_live, same_parked, same_status}
 use Rattle.desk.proofs.answer_laws.runs_answer_alike.Goals as goal
 
 pub returns-clause-status : goal.returns-clause-status
@@ -15,3 +15,9 @@ returns-clause-file c = same_file
 
 pub returns-clause-count : goal.returns-clause-count
 returns-clause-count c = same_count
+
+pub returns-clause-file_after : goal.returns-clause-file_after
+returns-clause-file_after c = same_file_after
+
+pub returns-clause-count_after : goal.returns-clause-count_after
+returns-clause-count_after c = same_count_after

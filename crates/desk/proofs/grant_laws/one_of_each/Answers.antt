@@ -1,4 +1,4 @@
-use Rattle.desk.proofs.FileLemmas.{one_file}
+use Rattle.desk.proofs.FileLemmas.{one_file, one_file_after}
 use Rattle.desk.proofs.SetLemmas.{one_live, one_outcome, one_parked}
 use Rattle.desk.proofs.grant_laws.one_of_each.Goals as goal
 
@@ -13,3 +13,6 @@ returns-clause-parked c = one_parked
 
 pub returns-clause-file : goal.returns-clause-file
 returns-clause-file c = one_file
+
+pub returns-clause-file_after : goal.returns-clause-file_after
+returns-clause-file_after c = one_file_after

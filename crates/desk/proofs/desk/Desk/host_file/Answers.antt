@@ -1,76 +1,23 @@
-use Rattle.std.proofs.Common.{◌≡◌, ◌⊎◌, ◌<◌, ◌≤◌, List, length, refl, inl, inr}
+use Rattle.std.proofs.Common.{◌≤◌, ◌<◌, length, subst, sym, ℕ}
 use Rattle.std.specs.Prelude.{string_bytes}
-use Rattle.std.proofs.lemmas.Result.{err_from_is_err_and}
-use Rattle.messages.specs.declared.message.Message.{Message}
-use Rattle.desk_store.specs.Sets.{Lists}
-use Rattle.desk.specs.declared.refusal.Refusal.TheVariants.{UnknownHost}
-use Rattle.desk.specs.HostFile.{Line, AreLines, IsHostFile}
-use Rattle.desk.specs.Refusals.{IsWant}
-use Rattle.desk.specs.Rights.{GivesRights}
-use Rattle.desk.proofs.FileLemmas.{rights_alike}
-use Rattle.desk.proofs.QueryLemmas.{same_messages}
-use Rattle.desk.proofs.SetLemmas.{alike_sets, file_alike, lines_alike, turned}
+use Rattle.std.proofs.lemmas.Result.{IfOk-weaker}
+use Rattle.desk.proofs.FileLemmas.{whole_count, whole_file, whole_rights}
 use Rattle.desk.proofs.desk.Desk.host_file.Goals as goal
 
-pub returns-in_err-host_file_in-clause-few : goal.returns-in_err-host_file_in-clause-few
-returns-in_err-host_file_in-clause-few g c =
-    let K = g.K.Keeper in
-    let old = c.self.inside.keeper in
-    let new = c.load.new.self in
-    let lent = c.messages-set.result.now in
-    let f = c.self.inside.roster.says in
-    let host = c.args.host.now in
-    let p = err_from_is_err_and c.from_residual-in_err-host_file_in.result c.from_residual-in_err-host_file_in.ensures.1 in
-    let answer : (set : List Message) (ls : List Line) → K.is_up new → Lists (K.holds old) set → AreLines f set host ls → length ls ≤ 8_192 → (p.0 ≡ UnknownHost) ⊎ IsWant p.0 = λ set ls up lists are few.
-    let done = c.in_ok-load.ensures in
-    let desk = c.self.invariant.1 (done.was_up up) in
-    let same = same_messages (K.holds old) (K.holds new) lent set (g.met.K.Keeper.stays_set old new (done.same up) desk) (c.messages-set.ensures (done.loaded up)) lists in
-    let there = lines_alike f set lent (turned f lent set (alike_sets f lent set same)) host ls are in
-    let memory = c.in_err-host_file_in.ensures.few ls there few in
-    rw (p.2, memory) (inr (inl refl)) in
-    rw (← c.self.view_is, p.1) answer
-
 pub returns-clause-file : goal.returns-clause-file
-returns-clause-file g c =
-    let K = g.K.Keeper in
-    let old = c.self.inside.keeper in
-    let new = c.load.new.self in
-    let lent = c.messages-set.result.now in
-    let f = c.self.inside.roster.says in
-    let text = string_bytes c.in_ok-host_file_in.field-0 in
-    let answer : (set : List Message) → K.is_up new → Lists (K.holds old) set → IsHostFile f c.self.inside.base set c.args.host.now text = λ set up lists.
-    let done = c.in_ok-load.ensures in
-    let desk = c.self.invariant.1 (done.was_up up) in
-    let same = same_messages (K.holds old) (K.holds new) lent set (g.met.K.Keeper.stays_set old new (done.same up) desk) (c.messages-set.ensures (done.loaded up)) lists in
-    file_alike f lent set (alike_sets f lent set same) c.self.inside.base c.args.host.now text c.in_ok-host_file_in.ensures.file in
-    rw (← c.self.view_is) answer
+returns-clause-file g c = λ set up lists.
+    let d = c.args.self.now in
+    IfOk-weaker c.file_of.result _ _ (λ s left. whole_file d.roster.says d.base set c.args.host.now (string_bytes s) left) (c.file_of.ensures.file set up lists)
 
 pub returns-clause-rights : goal.returns-clause-rights
-returns-clause-rights g c =
-    let K = g.K.Keeper in
-    let old = c.self.inside.keeper in
-    let new = c.load.new.self in
-    let lent = c.messages-set.result.now in
-    let f = c.self.inside.roster.says in
-    let text = string_bytes c.in_ok-host_file_in.field-0 in
-    let answer : (set : List Message) → K.is_up new → Lists (K.holds old) set → GivesRights f c.self.inside.base set c.args.host.now text = λ set up lists.
-    let done = c.in_ok-load.ensures in
-    let desk = c.self.invariant.1 (done.was_up up) in
-    let same = same_messages (K.holds old) (K.holds new) lent set (g.met.K.Keeper.stays_set old new (done.same up) desk) (c.messages-set.ensures (done.loaded up)) lists in
-    rights_alike f lent set (alike_sets f lent set same) c.self.inside.base c.args.host.now text c.in_ok-host_file_in.ensures.rights in
-    rw (← c.self.view_is) answer
+returns-clause-rights g c = λ set up lists.
+    let d = c.args.self.now in
+    IfOk-weaker c.file_of.result _ _ (λ s left. whole_rights d.roster.says d.base set c.args.host.now (string_bytes s) left) (c.file_of.ensures.file set up lists)
+
+pub returns-clause-few : goal.returns-clause-few
+returns-clause-few g c = λ set ls up lists are few.
+    c.file_of.ensures.few set ls up lists are (subst (λ (n : ℕ). n ≤ 8_192) (sym (whole_count ls)) few)
 
 pub returns-clause-many : goal.returns-clause-many
-returns-clause-many g c =
-    let K = g.K.Keeper in
-    let old = c.self.inside.keeper in
-    let new = c.load.new.self in
-    let lent = c.messages-set.result.now in
-    let f = c.self.inside.roster.says in
-    let host = c.args.host.now in
-    let answer : (set : List Message) (ls : List Line) → K.is_up new → Lists (K.holds old) set → AreLines f set host ls → 8_192 < length ls → ⊥ = λ set ls up lists are past.
-    let done = c.in_ok-load.ensures in
-    let desk = c.self.invariant.1 (done.was_up up) in
-    let same = same_messages (K.holds old) (K.holds new) lent set (g.met.K.Keeper.stays_set old new (done.same up) desk) (c.messages-set.ensures (done.loaded up)) lists in
-    c.in_ok-host_file_in.ensures.many ls (lines_alike f set lent (turned f lent set (alike_sets f lent set same)) host ls are) past in
-    rw (← c.self.view_is) answer
+returns-clause-many g c = λ set ls up lists are past.
+    c.file_of.ensures.many set ls up lists are (subst (λ (n : ℕ). 8_192 < n) (sym (whole_count ls)) past)
