@@ -3,7 +3,6 @@ use Rattle.std.proofs.Common.{◌≡◌, Bool, true, false, cond, List, [], ◌�
 use Rattle.std.specs.List.{Contains, AllByRecursion, filter}
 use Rattle.std.proofs.lemmas.List.Elements.{All-contains, All-contains_itself, All-filter, All-from_recursion, filter-append, filter_passes, recursion_from_All}
 use Rattle.messages.specs.Fields.{RequestFields}
-use Rattle.messages.specs.Names.{name_of}
 use Rattle.messages.specs.declared.message.Message.{Message}
 use Rattle.sudo_words.specs.declared.cmnd.Cmnd.{Cmnd}
 use Rattle.roster.specs.Fields.{RosterFields}

@@ -1,4 +1,4 @@
-use Rattle.std.proofs.Common.{◌≤◌, ◌<◌, length, subst, sym, ℕ}
+use Rattle.std.proofs.Common.{◌≤◌, ◌<◌, subst, sym, ℕ}
 use Rattle.std.specs.Prelude.{string_bytes}
 use Rattle.std.proofs.lemmas.Result.{IfOk-weaker}
 use Rattle.desk.proofs.FileLemmas.{whole_count, whole_file, whole_rights}
