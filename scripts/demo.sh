@@ -61,8 +61,8 @@ get() {
     printf '\n'
 }
 
-printf '$ desk serve %s 127.0.0.1:0 --requests 7\n' "${desk[*]}"
-coproc served { exec timeout 120 build/desk serve "${desk[@]}" 127.0.0.1:0 --requests 7; }
+printf '$ desk serve %s 127.0.0.1:0 --requests 8\n' "${desk[*]}"
+coproc served { exec timeout 120 build/desk serve "${desk[@]}" 127.0.0.1:0 --requests 8; }
 server=$served_PID
 read -r listening address <&"${served[0]}"
 printf '%s 127.0.0.1:PORT\n\n' "$listening"
@@ -70,6 +70,7 @@ post /v1/relays/mail/messages examples/parked.messages
 get /v1/parked
 post /v1/relays/chat/messages examples/approved.messages
 get /v1/grants/20260105093000Z
+get /v1/reviews/20260105093000Z
 post /v1/relays/fax/messages examples/parked.messages
 curl -s -m 20 -o build/fetched.sudo "http://$address/v1/hosts/db1/sudoers"
 wait "$server"

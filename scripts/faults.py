@@ -88,7 +88,7 @@ def exchanges():
     """What `serve` is asked, one connection each."""
     lines = MESSAGES.splitlines()
     posts = [b"POST /v1/relays/chat/messages HTTP/1.1\r\nHost: desk\r\nContent-Length: %d\r\n\r\n%s" % (len(line), line) for line in lines]
-    gets = [b"GET %s HTTP/1.1\r\nHost: desk\r\n\r\n" % target for target in (b"/v1/parked", b"/v1/grants/20260105093000Z", b"/v1/hosts/db1/sudoers")]
+    gets = [b"GET %s HTTP/1.1\r\nHost: desk\r\n\r\n" % target for target in (b"/v1/parked", b"/v1/grants/20260105093000Z", b"/v1/hosts/db1/sudoers", b"/v1/reviews/20260105093000Z")]
     return [posts[0], gets[0], *posts[1:], *gets[1:], gets[0]]
 
 

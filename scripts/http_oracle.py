@@ -22,6 +22,7 @@ ROUTES = (
     (rb"/v1/grants/([^/]+)", "GET", "grants"),
     (rb"/v1/parked", "GET", "parked"),
     (rb"/v1/hosts/([^/]+)/sudoers", "GET", "file"),
+    (rb"/v1/reviews/([^/]+)", "GET", "report"),
 )
 
 
@@ -92,6 +93,6 @@ def asks(given):
         return ("405 Method Not Allowed", "T4 BadMethod", "POST" if wanted == "POST" else "GET, HEAD"), bare
     if what == "deliver" and (fault := body_fault(given, fields, at)):
         return (*fault, None), bare
-    if what == "grants" and not is_moment(found[1]):
+    if what in ("grants", "report") and not is_moment(found[1]):
         return ("400 Bad Request", "T8 BadMoment", None), bare
     return (what, found[1] if found.groups() else None), bare

@@ -2,7 +2,7 @@
 """Asks `desk serve` over loopback, by curl, by Python's http.client, and by raw bytes from here and through nc, and compares each reply.
 
 Then peers go away at each byte of a request, one never reads, and ten thousand requests are changed at random: each reply must be
-the one that scripts/http_oracle.py says, and the server serves on. A host's file must pass `visudo -c`, and examples/fetch-sudoers.sh must put it in place, or keep
+the one that scripts/http_oracle.py says, and the server serves on. The reports of random sets of messages must be those that scripts/random_reports.py makes. A host's file must pass `visudo -c`, and examples/fetch-sudoers.sh must put it in place, or keep
 the old one. The servers listen at port 0; one ends by itself after as many connections as are made, the others by SIGTERM.
 `peers_http.py WORDS..` runs another program than build/desk.
 """
@@ -23,6 +23,7 @@ import threading
 import tomllib
 
 import http_oracle
+import random_reports
 
 ROOT = os.path.dirname(os.path.dirname(os.path.abspath(__file__)))
 DESK = sys.argv[1:] or [os.path.join(ROOT, "build", "desk")]
@@ -31,6 +32,7 @@ BASE = os.path.join(ROOT, "examples", "site.sudo")
 CASES = os.path.join(ROOT, "cases", "delivered.toml")
 FETCH = os.path.join(ROOT, "examples", "fetch-sudoers.sh")
 CHANGED = 10_000
+REPORTS = 40
 REQUEST = (
     b'{"at":"20260105060000Z","by":"ann","ceiling":"db-care","cmnds":["/usr/bin/id"],"from":"20260105090000Z","hosts":["db1"],'
     b'"kind":"request","no":7,"runas":"root","until":"20260105110000Z"}'
@@ -38,6 +40,13 @@ REQUEST = (
 APPROVAL = b'{"at":"20260105083000Z","by":"bob","kind":"approve","no":7,"of":"ann"}'
 GRANT = b"ann 7 db-care 20260105090000Z 20260105110000Z\n"
 LINE = b"ann db1 = (root) NOTBEFORE=20260105090000Z NOTAFTER=20260105110000Z /usr/bin/id\n"
+REPORT = (
+    b"REVIEW 20260105093000Z\nLIVE\n"
+    + b"ann%s7 db-care%s20260105090000Z 20260105110000Z needed\n" % (b" " * 38, b" " * 26)
+    + b"BARRED\nCONFLICTS\n"
+    + b"eve%sapprove-db%saudit\n" % (b" " * 30, b" " * 23)
+    + b"BROAD\nPARKED\n"
+)
 ACK = ("200 OK", b"ack\n")
 HOST = b"Host: desk\r\n"
 # every status that a reply may have
@@ -74,7 +83,11 @@ ASKED = [
     (["/v1/grants/2026010509Z"], ("400 Bad Request", b"T8 BadMoment\n")),
     (["/v1/parked?x"], ("400 Bad Request", b"T2 BadTarget\n")),
     (["/v1/parked/"], ("404 Not Found", b"T3 NoRoute\n")),
-    (["/v1/reviews/20260105093000Z"], ("404 Not Found", b"T3 NoRoute\n")),
+    (["/v1/reviews/20260105093000Z"], ("200 OK", REPORT)),
+    (["--head", "/v1/reviews/20260105093000Z"], ("200 OK", b"")),
+    (["/v1/reviews/20260105"], ("400 Bad Request", b"T8 BadMoment\n")),
+    (["/v1/reviews"], ("404 Not Found", b"T3 NoRoute\n")),
+    (["-X", "DELETE", "/v1/reviews/20260105"], ("405 Method Not Allowed", b"T4 BadMethod\n")),
     (["-X", "POST", "/v1/parked"], ("405 Method Not Allowed", b"T4 BadMethod\n")),
     (["/v1/relays/chat/messages"], ("405 Method Not Allowed", b"T4 BadMethod\n")),
     (["-X", "POST", "/v1/relays/chat/messages"], ("411 Length Required", b"T5 LengthRequired\n")),
@@ -127,6 +140,8 @@ def exchanges(request):
     spaced = APPROVAL.replace(b",", b", ", 1)
     grants = b"/v1/grants/20260105093000Z"
     line = b"ann 7 db-root 20260105090000Z 20260105110000Z\n"
+    heading, ends = b"REVIEW 20260105093000Z\nLIVE\n", b"BARRED\nCONFLICTS\nBROAD\nPARKED\n"
+    report = heading + b"ann%s7 db-root%s20260105090000Z 20260105110000Z needed\n" % (b" " * 38, b" " * 26) + ends
     bad = b"400 Bad Request"
     return [
         # what is refused is not stored
@@ -138,8 +153,13 @@ def exchanges(request):
         # an approval and its request
         (posted(b"web", APPROVAL), reply(b"200 OK", b"ack\n")),
         (asked(b"GET", b"/v1/parked"), reply(b"200 OK", APPROVAL + b"\n")),
+        (asked(b"GET", b"/v1/reviews/20260105093000Z"), reply(b"200 OK", heading + ends + APPROVAL + b"\n")),
         (posted(b"web", request), reply(b"200 OK", b"ack\n")),
         (asked(b"GET", grants), reply(b"200 OK", line)),
+        (asked(b"GET", b"/v1/reviews/20260105093000Z"), reply(b"200 OK", report)),
+        (asked(b"HEAD", b"/v1/reviews/20260105093000Z"), reply(b"200 OK", b"", len(report))),
+        (asked(b"HEAD", b"/v1/reviews/20260105"), reply(bad, b"", 13)),
+        (asked(b"POST", b"/v1/reviews/20260105093000Z"), reply(b"405 Method Not Allowed", b"T4 BadMethod\n", None, b"Allow: GET, HEAD\r\n")),
         (asked(b"GET", b"/v1/parked"), reply(b"200 OK", b"")),
         (asked(b"GET", b"/v1/hosts/db9/sudoers"), reply(b"404 Not Found", b"P2 UnknownHost\n")),
         (asked(b"POST", b"/v1/parked"), reply(b"405 Method Not Allowed", b"T4 BadMethod\n", None, b"Allow: GET, HEAD\r\n")),
@@ -349,6 +369,8 @@ def is_reply_to(given, whole):
     if what == "deliver":
         is_known = part in (b"chat", b"mail")
         return (status == "200 OK" and body == b"ack\n" or re.match(rb"[APM][1-8] ", body) is not None) and is_known == (body != b"P1 UnknownRelay\n")
+    if what == "report" and not bare:
+        return status == "200 OK" and body.startswith(b"REVIEW %s\nLIVE\n" % part)
     if what == "file" and part != b"db1":
         return status in ("200 OK", "404 Not Found") and (bare or status == "200 OK" or body == b"P2 UnknownHost\n")
     return status == "200 OK" and not (bare and body)
@@ -363,6 +385,7 @@ def change_requests(address):
         asked(b"GET", b"/v1/grants/20260105093000Z"),
         asked(b"HEAD", b"/v1/hosts/db1/sudoers"),
         asked(b"GET", b"/v1/parked"),
+        asked(b"GET", b"/v1/reviews/20260105093000Z"),
         b"POST /v1/relays/chat/messages HTTP/1.1\r\nhOST: desk\r\nA:b\r\nContent-length: \t70 \r\nTransfer-encoding: x\r\n\r\n" + APPROVAL,
         b"\r\nHEAD /v1/relays/chat/messages HTTP/1.0\n\n",
         b"PUT /v1/grants/20991231235959Z HTTP/1.1\nHost:\n\n",
@@ -376,6 +399,22 @@ def change_requests(address):
             wrong += 1
             print(f"{given!r}: {whole!r}")
     return CHANGED, wrong
+
+
+def ask_reports():
+    """The reports of random sets of messages, always the same ones, each posted to a server of its own."""
+    wrong, chance = 0, random.Random(8)
+    for _ in range(REPORTS):
+        with tempfile.TemporaryDirectory() as path:
+            drawn = random_reports.draw(path, chance)
+            with serving(drawn.folder.roster, drawn.folder.base) as address:
+                for line in drawn.lines:
+                    by_bytes(address, posted(b"web", line.encode("ascii")))
+                whole = by_bytes(address, asked(b"GET", b"/v1/reviews/" + random_reports.stamp(drawn.at).encode("ascii")))
+        if whole != reply(b"200 OK", drawn.text().encode("ascii")):
+            wrong += 1
+            print(f"{drawn.lines}: {whole!r}, not {drawn.text()!r}")
+    return REPORTS, wrong
 
 
 def check_file(address):
@@ -437,7 +476,7 @@ def fetch_files(address):
 
 
 def main():
-    counts = [ask_exactly()]
+    counts = [ask_exactly(), ask_reports()]
     with serving(ROSTER, BASE) as address:
         for part in (ask_all, ask_as_python, check_file, fetch_files, leave_at_each_byte, change_requests):
             counts.append(part(address))

@@ -164,8 +164,18 @@ def report(folder, roster, texts, at):
     return [f"REVIEW {stamp(at)}", "LIVE", *live, "BARRED", *barred, "CONFLICTS", *held, "BROAD", *broad, "PARKED", *parked]
 
 
-def compare(path, chance):
-    """Whether the desk's report of a random set is the one that is made here; and how many lines it has."""
+class Drawn:
+    """A random set of messages: the lines that bring it, a moment, and the lines of its report."""
+
+    def __init__(self, folder, lines, at, wanted):
+        self.folder, self.lines, self.at, self.wanted = folder, lines, at, wanted
+
+    def text(self):
+        return "".join(line + "\n" for line in self.wanted)
+
+
+def draw(path, chance):
+    """A random set over a random roster and base, whose files it puts at the path."""
     roster = Roster(chance)
     folder = Folder(path, roster.text(), chance.choice(BASES))
     lines = [canonical(message(chance)) for _ in range(chance.randint(0, 40))]
@@ -175,12 +185,19 @@ def compare(path, chance):
     answers = folder.run("deliver", folder.roster, folder.base, "-", "web", given=given).stdout.splitlines()
     held = sorted({line for line, answer in zip(lines, answers, strict=True) if answer == "ack"})
     at = MIDNIGHT + chance.randint(18, 84) * 100
-    wanted = report(folder, roster, held, at)
-    ran = folder.run("review", folder.roster, folder.base, "-", stamp(at), given=given)
-    is_right = ran.returncode == 0 and ran.stdout == "".join(line + "\n" for line in wanted)
+    return Drawn(folder, lines, at, report(folder, roster, held, at))
+
+
+def compare(path, chance):
+    """Whether the desk's report of a random set is the one that is made here; and how many lines it has."""
+    drawn = draw(path, chance)
+    given = "".join(line + "\n" for line in drawn.lines)
+    ran = drawn.folder.run("review", drawn.folder.roster, drawn.folder.base, "-", stamp(drawn.at), given=given)
+    is_right = ran.returncode == 0 and ran.stdout == drawn.text()
     if not is_right:
-        print(f"{roster.text()}\n{given}\n{ran.stdout}\n{wanted}")
-    return is_right, len(wanted)
+        with open(drawn.folder.roster) as roster:
+            print(f"{roster.read()}\n{given}\n{ran.stdout}\n{drawn.text()}")
+    return is_right, len(drawn.wanted)
 
 
 def main():

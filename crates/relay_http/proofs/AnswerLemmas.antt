@@ -14,9 +14,11 @@ use Rattle.desk.specs.HostFile.{Line, AreLines, IsHostFile}
 use Rattle.desk.specs.Refusals.{IsWant}
 use Rattle.desk.specs.declared.refusal.Refusal.{Refusal}
 use Rattle.desk.specs.declared.refusal.Refusal.TheVariants.{UnknownRelay, UnknownHost, TooLong, NotCanonical, BadField, Denied, TooManyRules, RosterChanged, NotADesk, Storage, NoMemory, BaseTooLarge}
+use Rattle.review.specs.Report.{IsReport}
+use Rattle.relay_http.specs.Asked.{report}
 use Rattle.relay_http.specs.Prepared.{to_question}
 use Rattle.relay_http.specs.declared.status.Status.TheVariants as status
-use Rattle.relay_http.specs.Replies.{IsFileReply, IsWanting, Reply, done, is_known_host, refusal}
+use Rattle.relay_http.specs.Replies.{IsFileReply, IsReply, IsWanting, Reply, done, is_known_host, refusal}
 
 -- the two wants of a refusal, as replies
 wanting : (e : Refusal) → IsWant e → IsWanting (refusal e)
@@ -56,12 +58,20 @@ is_storage (Denied denials.WindowTooLong) same = other (Denied denials.WindowToo
 is_storage (Denied denials.WindowBackwards) same = other (Denied denials.WindowBackwards) refl same
 is_storage Storage same = refl
 
--- no file is that reply
-pub file_cause : (r : Result (String Global) Refusal) → to_question r ≡ refusal Storage → r ≡ Err Storage
-file_cause (Ok s) same =
+-- no text is that reply
+pub text_cause : (r : Result (String Global) Refusal) → to_question r ≡ refusal Storage → r ≡ Err Storage
+text_cause (Ok s) same =
     let wrong : status.Done ≡ status.ServiceUnavailable = ap (λ (r : Reply). r.status) same in
     absurd cc
-file_cause (Err e) same = ap (λ (x : Refusal). Err x) (is_storage e same)
+text_cause (Err e) same = ap (λ (x : Refusal). Err x) (is_storage e same)
+
+-- ---- a report
+
+pub report_right : (f : RosterFields Cmnd) (base : List Entry) (set : List Message) (at : ℕ) (r : Result (String Global) Refusal)
+    → IfOk r (λ s. IsReport f base set at (string_bytes s)) → IfErr r IsWant
+    → IsReply f base set (report at) (to_question r) ⊎ IsWanting (to_question r)
+report_right f base set at (Ok s) is err = inl (string_bytes s, is, refl)
+report_right f base set at (Err e) is err = inr (wanting e err)
 
 -- ---- a host's file
 

@@ -5,7 +5,7 @@ use Rattle.std.proofs.lemmas.Bool.Decides.{nat_tests}
 use Rattle.std.proofs.lemmas.Slice.Eq.{bytes_eq-Decides}
 use Rattle.matchit.specs.Router.{RouteOf}
 use Rattle.matchit.specs.Seek.{first}
-use Rattle.relay_http.specs.Asked.{Asked, Request, deliver, grants, parked, host_file, refused}
+use Rattle.relay_http.specs.Asked.{Asked, Request, deliver, grants, parked, host_file, report, refused}
 use Rattle.relay_http.specs.Content.{by_lengths, content, content_of, is_length, most_content, sized}
 use Rattle.relay_http.specs.Fields.{Fields, values, is_bad_host}
 use Rattle.relay_http.specs.Routes.{routes, part}
@@ -14,7 +14,7 @@ use Rattle.relay_http.specs.Wanted.{Asks, AsksByHead, Dates, allow, asked_by, at
 use Rattle.relay_http.specs.declared.fault.RequestFault.{RequestFault}
 use Rattle.relay_http.specs.declared.fault.RequestFault.TheVariants.{BadHead, BadLength, BadMethod, BadTarget, ShortBody, TooLong}
 use Rattle.relay_http.specs.declared.place.Place.{Place}
-use Rattle.relay_http.specs.declared.place.Place.TheVariants.{Messages, Grants, Parked, HostFile}
+use Rattle.relay_http.specs.declared.place.Place.TheVariants.{Messages, Grants, Parked, HostFile, Report}
 use Rattle.relay_http.proofs.SettleLemmas.{kept}
 
 pub rest_ignored : (bytes more : List ℕ) (request : Request ℕ) → AsksByHead bytes request → (request.asked ≡ refused ShortBody → ⊥) → Asks (bytes ++ more) request
@@ -27,6 +27,7 @@ head_at Messages named fields rest = refl
 head_at Grants named fields rest = refl
 head_at Parked named fields rest = refl
 head_at HostFile named fields rest = refl
+head_at Report named fields rest = refl
 
 head_on : (route : Option (RouteOf Place)) (target : List ℕ) (fields : Fields) (rest : List ℕ)
     → on_route route (codes "HEAD") target fields rest ≡ on_route route (codes "GET") target fields rest
@@ -45,6 +46,7 @@ IsPosted method rest (deliver relay body) = (method ≡ codes "POST") × (length
 IsPosted method rest (grants at) = Unit {0}
 IsPosted method rest parked = Unit {0}
 IsPosted method rest (host_file host) = Unit {0}
+IsPosted method rest (report at) = Unit {0}
 IsPosted method rest (refused fault) = Unit {0}
 
 abbrev IsContent : (rest : List ℕ) → Result (List ℕ) RequestFault → Type 0
@@ -90,6 +92,7 @@ module _ (rest : List ℕ) where
       by Grants true e = tt
       by Parked true e = tt
       by HostFile true e = tt
+      by Report true e = tt
 
   posted_on : (route : Option (RouteOf Place)) (method target : List ℕ) (fields : Fields) → IsPosted method rest (on_route route method target fields rest)
   posted_on None method target fields = tt
@@ -115,6 +118,7 @@ IsOfMessages found (deliver relay body) = (route : RouteOf Place) × (found ≡ 
 IsOfMessages found (grants at) = Unit {0}
 IsOfMessages found parked = Unit {0}
 IsOfMessages found (host_file host) = Unit {0}
+IsOfMessages found (report at) = Unit {0}
 IsOfMessages found (refused fault) = Unit {0}
 
 messages_delivered : (route : RouteOf Place) (relay : List ℕ) → route.value ≡ Messages → (found : Result (List ℕ) RequestFault)
@@ -130,6 +134,7 @@ module _ (method target rest : List ℕ) (fields : Fields) where
   messages_at route named Grants is true = tt
   messages_at route named Parked is true = tt
   messages_at route named HostFile is true = tt
+  messages_at route named Report is true = tt
 
   messages_on : (found : Option (RouteOf Place)) → IsOfMessages found (on_route found method target fields rest)
   messages_on None = tt

@@ -10,7 +10,8 @@ use Rattle.desk.specs.Outcomes.{LiveGrant}
 use Rattle.desk.proofs.DeliveryLemmas.{one_answer}
 use Rattle.desk.proofs.FileLemmas.{one_lines}
 use Rattle.desk.proofs.SetLemmas.{one_live, one_parked}
-use Rattle.relay_http.specs.Asked.{Asked, deliver, grants, parked, host_file, refused}
+use Rattle.review.proofs.ReportOne.{one_report}
+use Rattle.relay_http.specs.Asked.{Asked, deliver, grants, parked, host_file, report, refused}
 use Rattle.relay_http.specs.Replies.{IsFileReply, IsReply, Reply, delivery, done, is_known_host, lines_of, live_line, to_delivery}
 
 -- a host is known, or it is not
@@ -35,4 +36,5 @@ one_reply f base set (grants at) a b x y =
     x.2 ∙ ap (λ (list : List LiveGrant). done (lines_of (map live_line list))) (one_live f set at x.0 y.0 x.1 y.1) ∙ sym y.2
 one_reply f base set parked a b x y = x.2 ∙ ap (λ (texts : List (List ℕ)). done (lines_of texts)) (one_parked set x.0 y.0 x.1 y.1) ∙ sym y.2
 one_reply f base set (host_file host) a b x y = one_file_reply f base set host a b x y
+one_reply f base set (report at) a b x y = x.2 ∙ ap done (one_report f base set set at x.0 y.0 (λ m. (λ held. held, λ held. held)) x.1 y.1) ∙ sym y.2
 one_reply f base set (refused fault) a b x y = x ∙ sym y

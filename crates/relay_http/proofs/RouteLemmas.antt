@@ -8,7 +8,7 @@ use Rattle.matchit.specs.declared.error.InsertError.{InsertError}
 use Rattle.matchit.specs.declared.error.InsertError.TheVariants.{Conflict, InvalidCatchAll, InvalidParam, InvalidParamSegment, OutOfMemory}
 use Rattle.matchit.proofs.RenameLemmas.{first-rename}
 use Rattle.relay_http.specs.declared.place.Place.{Place}
-use Rattle.relay_http.specs.declared.place.Place.TheVariants.{Messages, Grants, Parked, HostFile}
+use Rattle.relay_http.specs.declared.place.Place.TheVariants.{Messages, Grants, Parked, HostFile, Report}
 use Rattle.relay_http.specs.Routes.{IsFree, routes, added, with_route}
 use Rattle.relay_http.specs.Target.{is_plain, is_plain_byte}
 use Rattle.matchit.specs.Route.{parse_route}
@@ -59,6 +59,10 @@ pub free_host_file : IsFree (parse_route (codes "/v1/hosts/{host}/sudoers")) (wi
 unfolding scan
 free_host_file = refl
 
+pub free_report : IsFree (parse_route (codes "/v1/reviews/{at}")) (with_route (codes "/v1/hosts/{host}/sudoers") HostFile (with_route (codes "/v1/parked") Parked (with_route (codes "/v1/grants/{at}") Grants (with_route (codes "/v1/relays/{relay}/messages") Messages []))))
+unfolding scan
+free_report = refl
+
 and_true_left : (a b : Bool) → (a && b) ≡ true → a ≡ true
 and_true_left true b h = refl
 and_true_left false b h = h
@@ -85,6 +89,7 @@ text_for Messages = codes "/v1/relays/{relay}/messages"
 text_for Grants = codes "/v1/grants/{at}"
 text_for Parked = codes "/v1/parked"
 text_for HostFile = codes "/v1/hosts/{host}/sudoers"
+text_for Report = codes "/v1/reviews/{at}"
 
 abbrev pub from_scan : Result Scan InsertError → Place → RouteOf Place
 from_scan (Ok s) place = route_from s place
@@ -124,6 +129,7 @@ text_ascii Messages = below_ascii (route_for Messages).text refl
 text_ascii Grants = below_ascii (route_for Grants).text refl
 text_ascii Parked = below_ascii (route_for Parked).text refl
 text_ascii HostFile = below_ascii (route_for HostFile).text refl
+text_ascii Report = below_ascii (route_for Report).text refl
 
 pub texts : (target : List ℕ) (e : RouteOf Place) → first routes target ≡ Some e → IsTrue (is_plain target)
     → AllText (walk e.pattern e.text target e.names 0 0)

@@ -18,7 +18,7 @@ use Rattle.relay_http.specs.Wanted.{Asks, AsksByHead, Dates, DatesRequest, HasHe
 use Rattle.relay_http.specs.declared.fault.RequestFault.{RequestFault}
 use Rattle.relay_http.specs.declared.fault.RequestFault.TheVariants.{BadHead, BadLength, BadMethod, BadTarget, ShortBody, TooLong}
 use Rattle.relay_http.specs.declared.place.Place.{Place}
-use Rattle.relay_http.specs.declared.place.Place.TheVariants.{Messages, Grants, Parked, HostFile}
+use Rattle.relay_http.specs.declared.place.Place.TheVariants.{Messages, Grants, Parked, HostFile, Report}
 
 -- the content is there, or as many bytes as any content may have
 abbrev pub Enough : Result (List ℕ) RequestFault → List ℕ → Type 0
@@ -68,6 +68,7 @@ module _ (rest more : List ℕ) where
   sought_more Grants named fields h = refl
   sought_more Parked named fields h = refl
   sought_more HostFile named fields h = refl
+  sought_more Report named fields h = refl
 
   place_more : (place : Place) (method : List ℕ) (named : List ℕ → List ℕ) (fields : Fields) → EnoughAsked (at_place place method named fields rest) rest
       → at_place place method named fields (rest ++ more) ≡ at_place place method named fields rest

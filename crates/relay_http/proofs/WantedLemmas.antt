@@ -12,8 +12,8 @@ use Rattle.httparse.specs.Grammar.{RequestHead, ReadsRequest, Field}
 use Rattle.httparse.proofs.GrammarLemmas.{request_unique}
 use Rattle.sudo_words.proofs.MomentLemmas.{stamp_spells}
 use Rattle.sudo_words.proofs.MomentTexts.{one_spelled}
-use Rattle.relay_http.specs.Asked.{Asked, Request, deliver, grants, parked, host_file, refused}
-use Rattle.relay_http.specs.Wanted.{Asks, AsksByHead, Dates, DatesRequest, front, request_by, asks_by}
+use Rattle.relay_http.specs.Asked.{Asked, Request, deliver, grants, parked, host_file, report, refused}
+use Rattle.relay_http.specs.Wanted.{Asks, AsksByHead, Dates, DatesAt, DatesRequest, front, request_by, asks_by}
 
 take_at_most : (xs : List ℕ) (n k : ℕ) → n ≡ min (length xs) k → take n xs ≡ take k xs
 take_at_most xs n k e =
@@ -56,15 +56,20 @@ asks_at buf found headers spans h result is_front len at is = (
       is,
 )
 
--- a text is of one moment, so one thing is asked
+-- a text is of one moment
+one_dated_at : (question : ℕ → Asked ℕ) (at : List ℕ) (a b : Asked ℕ) → DatesAt question at a → DatesAt question at b → a ≡ b
+one_dated_at question at a b (inl x) (inl y) = x.2 ∙ ap question (one_spelled at x.0 y.0 (stamp_spells at x.0 x.1) (stamp_spells at y.0 y.1)) ∙ sym y.2
+one_dated_at question at a b (inl x) (inr y) = absurd (y.0 x.0 x.1)
+one_dated_at question at a b (inr x) (inl y) = absurd (x.0 y.0 y.1)
+one_dated_at question at a b (inr x) (inr y) = x.1 ∙ sym y.1
+
+-- so one thing is asked
 one_dated : (r : Asked (List ℕ)) (a b : Asked ℕ) → Dates r a → Dates r b → a ≡ b
 one_dated (deliver relay body) a b x y = x ∙ sym y
-one_dated (grants at) a b (inl x) (inl y) = x.2 ∙ ap grants (one_spelled at x.0 y.0 (stamp_spells at x.0 x.1) (stamp_spells at y.0 y.1)) ∙ sym y.2
-one_dated (grants at) a b (inl x) (inr y) = absurd (y.0 x.0 x.1)
-one_dated (grants at) a b (inr x) (inl y) = absurd (x.0 y.0 y.1)
-one_dated (grants at) a b (inr x) (inr y) = x.1 ∙ sym y.1
+one_dated (grants at) a b x y = one_dated_at grants at a b x y
 one_dated parked a b x y = x ∙ sym y
 one_dated (host_file host) a b x y = x ∙ sym y
+one_dated (report at) a b x y = one_dated_at report at a b x y
 one_dated (refused fault) a b x y = x ∙ sym y
 
 pub one_dated_request : (r : Request (List ℕ)) (a b : Request ℕ) → DatesRequest r a → DatesRequest r b → a ≡ b

@@ -2,7 +2,7 @@
 use Rattle.std.specs.Prelude.{ℕ, List, Bool}
 use Rattle.relay_http.specs.declared.fault.RequestFault.{RequestFault}
 use Rattle.relay_http.specs.declared.asked.Ask.{Ask}
-use Rattle.relay_http.specs.declared.asked.Ask.TheVariants.{Deliver, Grants, Parked, HostFile, Refused}
+use Rattle.relay_http.specs.declared.asked.Ask.TheVariants.{Deliver, Grants, Parked, HostFile, Report, Refused}
 use Rattle.relay_http.specs.declared.asked.Wanted.{Wanted}
 
 -- A delivery by a relay, a query, or the first fault that applies. `At` is what stands for a moment: its seconds, or a text that is still to be read.
@@ -11,6 +11,7 @@ pub data Asked (At : Type 0) : Type 0 where
   grants : (at : At) → Asked At
   parked : Asked At
   host_file : (host : List ℕ) → Asked At
+  report : (at : At) → Asked At
   refused : RequestFault → Asked At
 
 -- what is asked, and whether the reply has its body (RFC 9110, section 9.3.2: the reply to HEAD has none)
@@ -24,6 +25,7 @@ asked_of (Deliver relay body) = deliver relay.now body.now
 asked_of (Grants at) = grants at
 asked_of Parked = parked
 asked_of (HostFile host) = host_file host.now
+asked_of (Report at) = report at
 asked_of (Refused fault) = refused fault
 
 abbrev pub request_of : Wanted → Request ℕ

@@ -20,7 +20,8 @@ use Rattle.desk.specs.Refusals.{refusal_text}
 use Rattle.desk.specs.declared.ack.Ack.{Ack}
 use Rattle.desk.specs.declared.refusal.Refusal.{Refusal}
 use Rattle.desk.specs.declared.refusal.Refusal.TheVariants.{UnknownRelay, UnknownHost, TooLong, NotCanonical, BadField, Denied, TooManyRules, RosterChanged, NotADesk, Storage, NoMemory, BaseTooLarge}
-use Rattle.relay_http.specs.Asked.{Asked, deliver, grants, parked, host_file, refused}
+use Rattle.review.specs.Report.{IsReport}
+use Rattle.relay_http.specs.Asked.{Asked, deliver, grants, parked, host_file, report, refused}
 use Rattle.relay_http.specs.Reply.{fault_line, status_of}
 use Rattle.relay_http.specs.declared.status.Status.{Status}
 use Rattle.relay_http.specs.declared.status.Status.TheVariants as status
@@ -109,6 +110,7 @@ IsReply f base set (deliver relay body) reply = (answer : Result Ack Refusal) ×
 IsReply f base set (grants at) reply = (list : List LiveGrant) × AreLive f set at list × (reply ≡ done (lines_of (map live_line list)))
 IsReply f base set parked reply = (texts : List (List ℕ)) × AreParked set texts × (reply ≡ done (lines_of texts))
 IsReply f base set (host_file host) reply = IsFileReply f base set host reply
+IsReply f base set (report at) reply = (text : List ℕ) × IsReport f base set at text × (reply ≡ done text)
 IsReply f base set (refused fault) reply = reply ≡ record { status = status_of fault; body = fault_line fault }
 
 -- memory or the storage was wanting: no right reply to anything
@@ -128,4 +130,5 @@ Leaves Same old new (deliver relay body) reply = SameSet (λ m. old m ⊎ Stores
 Leaves Same old new (grants at) reply = Same
 Leaves Same old new parked reply = Same
 Leaves Same old new (host_file host) reply = Same
+Leaves Same old new (report at) reply = Same
 Leaves Same old new (refused fault) reply = Same

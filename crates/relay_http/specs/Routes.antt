@@ -7,7 +7,7 @@ use Rattle.matchit.specs.Router.{RouteOf, nearest, route_from}
 use Rattle.matchit.specs.Params.{walk, named}
 use Rattle.matchit.specs.declared.error.InsertError.{InsertError}
 use Rattle.relay_http.specs.declared.place.Place.{Place}
-use Rattle.relay_http.specs.declared.place.Place.TheVariants.{Messages, Grants, Parked, HostFile}
+use Rattle.relay_http.specs.declared.place.Place.TheVariants.{Messages, Grants, Parked, HostFile, Report}
 
 -- the routes with one more
 abbrev pub added : Result Scan InsertError → Place → RowsOf (RouteOf Place) → RowsOf (RouteOf Place)
@@ -25,10 +25,11 @@ IsFree (Err e) rows = ⊥
 -- the route of each place: a parameter in braces takes one component of the path, which is not empty
 unfoldable pub routes : RowsOf (RouteOf Place)
 routes =
-    with_route (codes "/v1/hosts/{host}/sudoers") HostFile
+    with_route (codes "/v1/reviews/{at}") Report
+    (with_route (codes "/v1/hosts/{host}/sudoers") HostFile
     (with_route (codes "/v1/parked") Parked
     (with_route (codes "/v1/grants/{at}") Grants
-    (with_route (codes "/v1/relays/{relay}/messages") Messages [])))
+    (with_route (codes "/v1/relays/{relay}/messages") Messages []))))
 
 -- the part of the target that the route's parameter of this name takes
 unfoldable pub part : List ℕ → RouteOf Place → List ℕ → List ℕ
@@ -40,6 +41,7 @@ parameter Messages = codes "relay"
 parameter Grants = codes "at"
 parameter Parked = []
 parameter HostFile = codes "host"
+parameter Report = codes "at"
 
 -- the place is the route's, and the bytes are what its parameter took
 abbrev pub Takes : Option (RouteOf Place) → List ℕ → Option (Place × List ℕ) → Type 0

@@ -7,7 +7,7 @@ use Rattle.httparse.specs.Spans.{name_and_value}
 use Rattle.matchit.specs.Router.{RouteOf}
 use Rattle.matchit.specs.Seek.{first}
 use Rattle.sudo_words.specs.Moment.{IsStamp}
-use Rattle.relay_http.specs.Asked.{Asked, Request, deliver, grants, parked, host_file, refused}
+use Rattle.relay_http.specs.Asked.{Asked, Request, deliver, grants, parked, host_file, report, refused}
 use Rattle.relay_http.specs.Fields.{Fields, values, is_bad_host}
 use Rattle.relay_http.specs.Content.{content_of}
 use Rattle.relay_http.specs.Target.{is_plain}
@@ -15,7 +15,7 @@ use Rattle.relay_http.specs.Routes.{routes, part}
 use Rattle.relay_http.specs.declared.fault.RequestFault.{RequestFault}
 use Rattle.relay_http.specs.declared.fault.RequestFault.TheVariants.{BadHead, BadTarget, NoRoute, BadMethod, BadMoment}
 use Rattle.relay_http.specs.declared.place.Place.{Place}
-use Rattle.relay_http.specs.declared.place.Place.TheVariants.{Messages, Grants, Parked, HostFile}
+use Rattle.relay_http.specs.declared.place.Place.TheVariants.{Messages, Grants, Parked, HostFile, Report}
 use Rattle.relay_http.specs.declared.place.Methods.{Methods}
 use Rattle.relay_http.specs.declared.place.Methods.TheVariants.{Post, GetOrHead}
 
@@ -35,6 +35,7 @@ methods_of Messages = Post
 methods_of Grants = GetOrHead
 methods_of Parked = GetOrHead
 methods_of HostFile = GetOrHead
+methods_of Report = GetOrHead
 
 -- methods are compared with case (RFC 9110, section 9.1)
 abbrev pub allow : Methods → (method : List ℕ) → Bool
@@ -52,6 +53,7 @@ sought Messages part_named fields rest = delivered (part_named (codes "relay")) 
 sought Grants part_named fields rest = grants (part_named (codes "at"))
 sought Parked part_named fields rest = parked
 sought HostFile part_named fields rest = host_file (part_named (codes "host"))
+sought Report part_named fields rest = report (part_named (codes "at"))
 
 -- what is asked of a place by a method
 abbrev pub at_place : Place → (method : List ℕ) → (List ℕ → List ℕ) → Fields → (rest : List ℕ) → Asked (List ℕ)
@@ -79,13 +81,18 @@ abbrev pub asks_by : RequestHead → List ℕ → Request (List ℕ)
 asks_by h bytes = request_by h.method h.target h.minor (map name_and_value h.fields) (drop (length (print_request h)) bytes)
 
 -- a moment stands as its canonical text; of any other text in its place the request is refused, last of all
+abbrev pub DatesAt : (question : ℕ → Asked ℕ) → (at : List ℕ) → Asked ℕ → Type 0
+DatesAt question at asked =
+    ((t : ℕ) × IsStamp at t × (asked ≡ question t))
+    ⊎ (((t : ℕ) → ¬ (IsStamp at t)) × (asked ≡ refused BadMoment))
+
+-- what is asked, once its moment is read
 abbrev pub Dates : Asked (List ℕ) → Asked ℕ → Type 0
 Dates (deliver relay body) asked = asked ≡ deliver relay body
-Dates (grants at) asked =
-    ((t : ℕ) × IsStamp at t × (asked ≡ grants t))
-    ⊎ (((t : ℕ) → ¬ (IsStamp at t)) × (asked ≡ refused BadMoment))
+Dates (grants at) asked = DatesAt grants at asked
 Dates parked asked = asked ≡ parked
 Dates (host_file host) asked = asked ≡ host_file host
+Dates (report at) asked = DatesAt report at asked
 Dates (refused fault) asked = asked ≡ refused fault
 
 -- the same of a request

@@ -5,7 +5,7 @@ ghost use Rattle.messages.specs.declared.message.Message.{Message as AnyMessage}
 ghost use Rattle.desk_store.specs.Keeping.{HasFailed};
 ghost use Rattle.desk_store.specs.Sets.{Lists};
 ghost use Rattle.desk.specs.Serving.{IsServed};
-ghost use Rattle.relay_http.specs.Asked.{asked_of, deliver, grants, host_file, parked};
+ghost use Rattle.relay_http.specs.Asked.{asked_of, deliver, grants, host_file, parked, report};
 ghost use Rattle.relay_http.specs.Exchange.{IsAnswered};
 ghost use Rattle.relay_http.specs.Prepared.{reply_of, to_question};
 
@@ -84,6 +84,19 @@ fn host_file<K: Keeper>(alloc: Global, desk: &mut Desk<K>, host: &str) -> Result
     }
 }
 
+/// The report of what the desk holds.
+fn report<K: Keeper>(desk: &mut Desk<K>, at: Moment) -> Result<String, Refusal>
+    ensures answered { IsAnswered desk.old.roster.says desk.old.base (K.is_up desk.new.keeper) (K.holds desk.old.keeper) (K.holds desk.new.keeper)
+        (K.is_same desk.old.keeper desk.new.keeper) (HasFailed (K.failures desk.old.keeper) (K.failures desk.new.keeper))
+        (report at) (to_question result) }
+    ensures roster { desk.new.roster ≡ desk.old.roster }
+    ensures base { desk.new.base ≡ desk.old.base }
+    ensures served { IsServed (K.is_up desk.old.keeper) (K.is_clean desk.old.keeper) (K.is_up desk.new.keeper) (K.is_clean desk.new.keeper)
+        (K.failures desk.old.keeper) (K.failures desk.new.keeper) }
+{
+    review::report(desk, at)
+}
+
 /// The answer of the desk to what is asked.
 pub fn answered<K: Keeper>(alloc: Global, desk: &mut Desk<K>, ask: Ask<'_>) -> Answer
     ensures answered { IsAnswered desk.old.roster.says desk.old.base (K.is_up desk.new.keeper) (K.holds desk.old.keeper) (K.holds desk.new.keeper)
@@ -99,6 +112,7 @@ pub fn answered<K: Keeper>(alloc: Global, desk: &mut Desk<K>, ask: Ask<'_>) -> A
         Ask::Grants(at) => to_question(live(alloc, desk, at)),
         Ask::Parked => to_question(parked(alloc, desk)),
         Ask::HostFile(host) => to_question(host_file(alloc, desk, host)),
+        Ask::Report(at) => to_question(report(desk, at)),
         Ask::Refused(fault) => to_fault(fault),
     }
 }

@@ -14,6 +14,8 @@ pub enum Ask<'b> {
     Parked,
     /// The sudoers file of a host, whatever the form of its name.
     HostFile(&'b str),
+    /// The report at the moment.
+    Report(Moment),
     /// Nothing: the first fault that applies.
     Refused(RequestFault),
 }

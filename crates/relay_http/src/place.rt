@@ -11,6 +11,8 @@ pub enum Place {
     Parked,
     /// The sudoers file of a host.
     HostFile,
+    /// The report at a moment.
+    Report,
 }
 
 impl Place {
@@ -23,7 +25,7 @@ impl Place {
     {
         match self {
             Place::Messages => Methods::Post,
-            Place::Grants | Place::Parked | Place::HostFile => Methods::GetOrHead,
+            Place::Grants | Place::Parked | Place::HostFile | Place::Report => Methods::GetOrHead,
         }
     }
 }

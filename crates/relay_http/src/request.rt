@@ -2,7 +2,7 @@
 
 ghost use Rattle.std.specs.Prelude.{◌≡◌, ◌≤◌, ◌++◌, ℕ, List, length, map, All, false};
 ghost use Rattle.httparse.specs.Spans.{IsHeaderWithin, header_bytes};
-ghost use Rattle.relay_http.specs.Asked.{Asked, Request, asked_of, grants, request_of};
+ghost use Rattle.relay_http.specs.Asked.{Asked, Request, asked_of, grants, report, request_of};
 ghost use Rattle.relay_http.specs.Content.{content_of};
 ghost use Rattle.relay_http.specs.Routes.{parameter};
 ghost use Rattle.relay_http.specs.Settled.{is_short};
@@ -35,12 +35,22 @@ const NO_HEAD: Wanted<'static> = Wanted {
     ask: Ask::Refused(RequestFault::BadHead),
 };
 
-/// What is asked by this text in the place of a moment.
+/// The grants at the moment of this text.
 fn grants_at<'b>(at: &str) -> Ask<'b>
     ensures { Dates (grants at.now) (asked_of result) }
 {
     match moment_of(at) {
         Some(moment) => Ask::Grants(moment),
+        None => Ask::Refused(RequestFault::BadMoment),
+    }
+}
+
+/// The report at the moment of this text.
+fn report_at<'b>(at: &str) -> Ask<'b>
+    ensures { Dates (report at.now) (asked_of result) }
+{
+    match moment_of(at) {
+        Some(moment) => Ask::Report(moment),
         None => Ask::Refused(RequestFault::BadMoment),
     }
 }
@@ -79,6 +89,7 @@ fn at_place<'b>(
         Place::Grants => grants_at(taken),
         Place::Parked => Ask::Parked,
         Place::HostFile => Ask::HostFile(taken),
+        Place::Report => report_at(taken),
     }
 }
 

@@ -72,6 +72,7 @@ fn router(alloc: Global) -> Result<Router<Place>, NoMemory>
     add(&mut router, "/v1/grants/{at}", Place::Grants)?;
     add(&mut router, "/v1/parked", Place::Parked)?;
     add(&mut router, "/v1/hosts/{host}/sudoers", Place::HostFile)?;
+    add(&mut router, "/v1/reviews/{at}", Place::Report)?;
     Ok(router)
 }
 
@@ -81,7 +82,7 @@ fn parameter(place: Place) -> &'static str
 {
     match place {
         Place::Messages => "relay",
-        Place::Grants => "at",
+        Place::Grants | Place::Report => "at",
         Place::Parked => "",
         Place::HostFile => "host",
     }

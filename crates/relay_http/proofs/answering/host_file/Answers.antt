@@ -1,6 +1,6 @@
 use Rattle.std.proofs.Common.{◌≡◌, ◌⊎◌, ℕ, List, true, sym, subst}
 use Rattle.sudo_words.specs.Word.{is_host_name}
-use Rattle.relay_http.proofs.AnswerLemmas.{file_cause, file_right}
+use Rattle.relay_http.proofs.AnswerLemmas.{file_right, text_cause}
 use Rattle.relay_http.specs.Asked.{host_file}
 use Rattle.relay_http.specs.Prepared.{to_question}
 use Rattle.relay_http.specs.Replies.{IsReply, IsWanting}
@@ -18,5 +18,5 @@ returns-in-Ok-clause-answered g c =
           (file_right f base set c.in-Ok.host c.host_file.result name
           (done.file set up lists) (λ ls. done.few set ls up lists) (λ ls. done.many set ls up lists) done.unknown done.err);
       leaves = done.unchanged;
-      cause = λ failed. done.cause (file_cause c.host_file.result failed);
+      cause = λ failed. done.cause (text_cause c.host_file.result failed);
     }

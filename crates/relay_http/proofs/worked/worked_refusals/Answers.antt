@@ -12,6 +12,9 @@ use Rattle.relay_http.proofs.worked.worked_refusals.Goals as goal
 no_moment : (t : ℕ) → IsStamp (codes "2026010509Z") t → ⊥
 no_moment t h = let size : length (codes "2026010509Z") ≡ 15 = length_stamped _ t h in grind (arith, size)
 
+no_day : (t : ℕ) → IsStamp (codes "20260105") t → ⊥
+no_day t h = let size : length (codes "20260105") ≡ 15 = length_stamped _ t h in grind (arith, size)
+
 pub returns : goal.returns
 unfolding is_token_byte print_request trim_ows scan param_step seek part routes
 returns c = record {
@@ -22,6 +25,8 @@ returns c = record {
   posts = worked (spelled (codes "POST") (codes "/v1/parked") 1 ((codes "Host", codes "desk") ∷ [])) [] _ _ refl refl refl refl (refl, refl);
   gets = worked (spelled (codes "GET") (codes "/v1/relays/web/messages") 1 ((codes "Host", codes "desk") ∷ [])) [] _ _ refl refl refl refl (refl, refl);
   moment = worked (spelled (codes "GET") (codes "/v1/grants/2026010509Z") 1 ((codes "Host", codes "desk") ∷ [])) [] _ _ refl refl refl refl (refl, inr (no_moment, refl));
+  report_by_day = worked (spelled (codes "HEAD") (codes "/v1/reviews/20260105") 1 ((codes "Host", codes "desk") ∷ [])) [] _ _ refl refl refl refl (refl, inr (no_day, refl));
+  posts_report = worked (spelled (codes "POST") (codes "/v1/reviews/20260105093000Z") 1 ((codes "Host", codes "desk") ∷ [])) [] _ _ refl refl refl refl (refl, refl);
   no_length = worked (spelled (codes "POST") (codes "/v1/relays/web/messages") 1 ((codes "Host", codes "desk") ∷ [])) [] _ _ refl refl refl refl (refl, refl);
   signed =
       worked (spelled (codes "POST") (codes "/v1/relays/web/messages") 1 ((codes "Host", codes "desk") ∷ (codes "Content-Length", codes "+70") ∷ [])) approval

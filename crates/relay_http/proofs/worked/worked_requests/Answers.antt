@@ -21,5 +21,8 @@ returns c = record {
       worked (spelled (codes "HEAD") (codes "/v1/grants/20260105093000Z") 1 ((codes "Host", codes "desk") ∷ [])) []
       _ _ refl refl refl refl (refl, inl (1_767_605_400, stamped_at_half_past_nine, refl));
   host_file = worked (spelled (codes "GET") (codes "/v1/hosts/db9/sudoers") 1 ((codes "Host", codes "desk") ∷ [])) [] _ _ refl refl refl refl (refl, refl);
+  report =
+      worked (spelled (codes "GET") (codes "/v1/reviews/20260105093000Z") 1 ((codes "Host", codes "desk") ∷ [])) []
+      _ _ refl refl refl refl (refl, inl (1_767_605_400, stamped_at_half_past_nine, refl));
   old = worked (spelled (codes "GET") (codes "/v1/parked") 0 []) [] _ _ refl refl refl refl (refl, refl);
 }
