@@ -132,10 +132,11 @@ said program words (Deliver places relay) all is =
     subst (λ ws. list_all is_operand ws ≡ true → IsCommandLine (program ∷ ws) (Deliver places relay)) (sym is)
     (λ operands. line program (codes "deliver") (nth 3) (places.roster ∷ places.base ∷ codes "-" ∷ relay ∷ []) _ (Deliver places relay)
     (delivers places.roster places.base relay operands) (refl, record { roster = refl; base = refl; store = refl }, refl)) all
-said program words (Print places host) all is =
-    subst (λ ws. list_all is_operand ws ≡ true → IsCommandLine (program ∷ ws) (Print places host)) (sym is.0)
-    (λ operands. line program (codes "print") (nth 4) (places.roster ∷ places.base ∷ codes "-" ∷ host ∷ []) _ (Print places host)
-    (prints places.roster places.base host operands) (refl, record { roster = refl; base = refl; store = refl }, (refl, is.1))) all
+said program words (Print places host after) all is =
+    subst (λ ws. list_all is_operand ws ≡ true → IsCommandLine (program ∷ ws) (Print places host after)) (sym is.0)
+    (λ operands. subst (λ m. IsCommandLine (program ∷ codes "print" ∷ places.roster ∷ places.base ∷ codes "-" ∷ host ∷ []) (Print places host m)) (sym is.2)
+    (line program (codes "print") (nth 4) (places.roster ∷ places.base ∷ codes "-" ∷ host ∷ []) _ (Print places host None)
+    (prints places.roster places.base host operands) (refl, record { roster = refl; base = refl; store = refl }, (refl, is.1), refl))) all
 said program words (Review places at) all is =
     let (text, stamp, same) = is in
     subst (λ ws. list_all is_operand ws ≡ true → IsCommandLine (program ∷ ws) (Review places at)) (sym same)

@@ -3,7 +3,8 @@ use Rattle.std.proofs.Common.{◌≡◌, ℕ, Bool, true, false, List, Option, S
 use Rattle.std.proofs.lemmas.Bool.{cases_Bool}
 use Rattle.std.specs.Str.Parse.{digits_value}
 use Rattle.clap.specs.Words.{Row, Text, first_of}
-use Rattle.desk_cli.specs.CommandLine.{HasCount, HasOption, is_count}
+use Rattle.sudo_words.specs.Moment.{IsStamp}
+use Rattle.desk_cli.specs.CommandLine.{HasCount, HasMomentIfGiven, HasOption, is_count}
 
 pub left_out : (form : Text → Bool) (id : Text) (rows : List Row) → first_of id rows ≡ None → (value : Option Text) → HasOption form id rows value
     → ◌≡◌ {A = Option Text} None value
@@ -48,3 +49,21 @@ not_counted text bytes same only = elim (cases_Bool (is_count bytes)) as (λ _. 
   | inl counts ↦ let wrong = only counts in absurd cc
   | inr other ↦ subst (λ (t : Text). is_count t ≡ false) same other
 ]
+
+-- ---- an option whose value is a moment
+
+pub no_moment : (id : Text) (rows : List Row) → first_of id rows ≡ None → (m : Option ℕ) → HasMomentIfGiven id rows m → ◌≡◌ {A = Option ℕ} None m
+no_moment id rows none None has = refl
+no_moment id rows none (Some m) has =
+    let both : ◌≡◌ {A = Option Text} None (Some has.0) = sym none ∙ has.1 in
+    absurd cc
+
+-- the moment whose canonical text is given
+pub moment_given : (id : Text) (rows : List Row) (text : Text) → first_of id rows ≡ Some text → (m : Option ℕ) → HasMomentIfGiven id rows m
+    → (n : ℕ) × (m ≡ Some n) × IsStamp text n
+moment_given id rows text is None has =
+    let both : ◌≡◌ {A = Option Text} (Some text) None = sym is ∙ has in
+    absurd cc
+moment_given id rows text is (Some n) has =
+    let both : ◌≡◌ {A = Option Text} (Some has.0) (Some text) = sym has.1 ∙ is in
+    let same : has.0 ≡ text = cc in (n, refl, subst (λ (t : Text). IsStamp t n) same has.2)

@@ -17,6 +17,6 @@ no_review rows none (Check file) says = apart (codes "check") refl says.0
 no_review rows none (Decide file run) says = apart (codes "decide") refl says.0
 no_review rows none (Beyond a b scope) says = apart (codes "beyond") refl says.0
 no_review rows none (Deliver places relay) says = apart (codes "deliver") refl says.0
-no_review rows none (Print places host) says = apart (codes "print") refl says.0
+no_review rows none (Print places host after) says = apart (codes "print") refl says.0
 no_review rows none (Review places at) says = none at says.2
 no_review rows none (Serve places addr requests) says = apart (codes "serve") refl says.0

@@ -53,7 +53,7 @@ IsAnswer (Check name) (file ∷ more) input status text said = ChecksFile file s
 IsAnswer (Decide name invocation) (file ∷ more) input status text said = DecidesByFile file invocation status text × (said ≡ [])
 IsAnswer (Beyond a_name b_name scope) (a ∷ b ∷ more) input status text said = ComparesFiles scope a b status text × (said ≡ [])
 IsAnswer (Deliver places relay) (roster ∷ base ∷ more) input status text said = DeliversLines roster base relay input status text × (said ≡ [])
-IsAnswer (Print places host) (roster ∷ base ∷ more) input status text said = PrintsHost roster base host input status text said
+IsAnswer (Print places host after) (roster ∷ base ∷ more) input status text said = PrintsHost roster base host after input status text said
 IsAnswer (Review places at) (roster ∷ base ∷ more) input status text said = ReviewsDesk roster base at input status text said
 IsAnswer job files input status text said = ⊥
 
@@ -80,6 +80,6 @@ IsCause (Check name) (file ∷ more) input reason = EndsReading file reason
 IsCause (Decide name invocation) (file ∷ more) input reason = EndsReading file reason
 IsCause (Beyond a_name b_name scope) (a ∷ b ∷ more) input reason = EndsComparing scope a b reason
 IsCause (Deliver places relay) (roster ∷ base ∷ more) input reason = EndsDelivering roster base reason
-IsCause (Print places host) (roster ∷ base ∷ more) input reason = EndsPrinting roster base host input reason
+IsCause (Print places host after) (roster ∷ base ∷ more) input reason = EndsPrinting roster base host after input reason
 IsCause (Review places at) (roster ∷ base ∷ more) input reason = EndsReviewing roster base reason
 IsCause job files input reason = reason ≡ FileFailed

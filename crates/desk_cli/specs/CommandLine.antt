@@ -42,17 +42,9 @@ decide_args = codes "FILE" ∷ codes "USER" ∷ codes "HOST" ∷ codes "RUNAS" �
 abbrev pub beyond_args : List Text
 beyond_args = codes "A" ∷ codes "B" ∷ []
 
-abbrev pub deliver_args : List Text
-deliver_args = codes "ROSTER" ∷ codes "BASE" ∷ codes "STORE" ∷ codes "RELAY" ∷ []
-
-abbrev pub print_args : List Text
-print_args = codes "ROSTER" ∷ codes "BASE" ∷ codes "STORE" ∷ codes "HOST" ∷ []
-
-abbrev pub review_args : List Text
-review_args = codes "ROSTER" ∷ codes "BASE" ∷ codes "STORE" ∷ codes "AT" ∷ []
-
-abbrev pub serve_args : List Text
-serve_args = codes "ROSTER" ∷ codes "BASE" ∷ codes "STORE" ∷ codes "ADDR" ∷ []
+-- the arguments of a command on a desk, of which the last is its own
+abbrev pub desk_args : Text → List Text
+desk_args id = codes "ROSTER" ∷ codes "BASE" ∷ codes "STORE" ∷ id ∷ []
 
 -- `check FILE`
 abbrev pub check : App
@@ -71,21 +63,25 @@ beyond =
     (optional (codes "HOST") (codes "host")))
     (optional (codes "RUNAS") (codes "runas"))
 
+-- a command on a desk
+abbrev pub on_desk : (name id : Text) → App
+on_desk name id = with_wanted (new_app name) (desk_args id)
+
 -- `deliver ROSTER BASE STORE RELAY`
 abbrev pub deliver : App
-deliver = with_wanted (new_app (codes "deliver")) deliver_args
+deliver = on_desk (codes "deliver") (codes "RELAY")
 
--- `print ROSTER BASE STORE HOST`
+-- `print ROSTER BASE STORE HOST [--after AFTER]`
 abbrev pub print : App
-print = with_wanted (new_app (codes "print")) print_args
+print = with_rule (on_desk (codes "print") (codes "HOST")) (optional (codes "AFTER") (codes "after"))
 
 -- `review ROSTER BASE STORE AT`
 abbrev pub review : App
-review = with_wanted (new_app (codes "review")) review_args
+review = on_desk (codes "review") (codes "AT")
 
 -- `serve ROSTER BASE STORE ADDR [--requests REQUESTS]`
 abbrev pub serve : App
-serve = with_rule (with_wanted (new_app (codes "serve")) serve_args) (optional (codes "REQUESTS") (codes "requests"))
+serve = with_rule (on_desk (codes "serve") (codes "ADDR")) (optional (codes "REQUESTS") (codes "requests"))
 
 -- the command with these commands under it as well
 abbrev pub with_subcommands : App → List App → App
@@ -121,6 +117,11 @@ HasWord form id rows text = HasValue id rows text × (form text ≡ true)
 -- the argument's value is the moment's canonical text
 abbrev pub HasMoment : Text → List Row → ℕ → Type 0
 HasMoment id rows moment = (text : Text) × HasValue id rows text × IsStamp text moment
+
+-- the option's value is the moment's canonical text, or it is left out
+abbrev pub HasMomentIfGiven : Text → List Row → Option ℕ → Type 0
+HasMomentIfGiven id rows None = first_of id rows ≡ None
+HasMomentIfGiven id rows (Some moment) = HasMoment id rows moment
 
 -- the values of an argument that may be left out, in order
 abbrev pub values : Text → List Row → List Text
@@ -180,7 +181,9 @@ Says (Some line) (Decide file run) =
 Says (Some line) (Beyond a b scope) =
     (line.0 ≡ codes "beyond") × HasValue (codes "A") line.1 a × HasValue (codes "B") line.1 b × IsScopeOf line.1 scope
 Says (Some line) (Deliver places relay) = (line.0 ≡ codes "deliver") × ArePlaces line.1 places × HasValue (codes "RELAY") line.1 relay
-Says (Some line) (Print places host) = (line.0 ≡ codes "print") × ArePlaces line.1 places × HasWord is_host_name (codes "HOST") line.1 host
+Says (Some line) (Print places host after) =
+    (line.0 ≡ codes "print") × ArePlaces line.1 places × HasWord is_host_name (codes "HOST") line.1 host
+    × HasMomentIfGiven (codes "AFTER") line.1 after
 Says (Some line) (Review places at) = (line.0 ≡ codes "review") × ArePlaces line.1 places × HasMoment (codes "AT") line.1 at
 Says (Some line) (Serve places addr requests) =
     (line.0 ≡ codes "serve") × ArePlaces line.1 places × HasValue (codes "ADDR") line.1 addr × HasCount (codes "REQUESTS") line.1 requests
@@ -233,6 +236,7 @@ pub record HasOther (id : Text) (rows : List Row) : Type 0 where
 pub data HasBadPlace (rows : List Row) : Type 0 where
   bad_store : HasOther (codes "STORE") rows → HasBadPlace rows
   bad_target : HasBadWord is_host_name (codes "HOST") rows → HasBadPlace rows
+  bad_after : HasBadMoment (codes "AFTER") rows → HasBadPlace rows
 
 -- one of the values of `review` is not of its form
 pub data HasBadReview (rows : List Row) : Type 0 where
@@ -278,7 +282,7 @@ IsComplete (Some line) =
     ((line.0 ≡ codes "check") × HaveSome check_args line.1)
     ⊎ ((line.0 ≡ codes "decide") × HaveSome decide_args line.1)
     ⊎ ((line.0 ≡ codes "beyond") × HaveSome beyond_args line.1)
-    ⊎ ((line.0 ≡ codes "deliver") × HaveSome deliver_args line.1)
-    ⊎ ((line.0 ≡ codes "print") × HaveSome print_args line.1)
-    ⊎ ((line.0 ≡ codes "review") × HaveSome review_args line.1)
-    ⊎ ((line.0 ≡ codes "serve") × HaveSome serve_args line.1)
+    ⊎ ((line.0 ≡ codes "deliver") × HaveSome (desk_args (codes "RELAY")) line.1)
+    ⊎ ((line.0 ≡ codes "print") × HaveSome (desk_args (codes "HOST")) line.1)
+    ⊎ ((line.0 ≡ codes "review") × HaveSome (desk_args (codes "AT")) line.1)
+    ⊎ ((line.0 ≡ codes "serve") × HaveSome (desk_args (codes "ADDR")) line.1)

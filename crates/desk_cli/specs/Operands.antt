@@ -31,7 +31,8 @@ SaysByPlace words (Decide file run) =
     × (words ≡ codes "decide" ∷ file ∷ run.user ∷ run.host ∷ run.runas ∷ at ∷ run.path ∷ run.args)
 SaysByPlace words (Beyond a b scope) = (words ≡ codes "beyond" ∷ a ∷ b ∷ []) × (scope ≡ record { user = None; host = None; runas = None })
 SaysByPlace words (Deliver places relay) = words ≡ codes "deliver" ∷ places.roster ∷ places.base ∷ codes "-" ∷ relay ∷ []
-SaysByPlace words (Print places host) = (words ≡ codes "print" ∷ places.roster ∷ places.base ∷ codes "-" ∷ host ∷ []) × (is_host_name host ≡ true)
+SaysByPlace words (Print places host after) =
+    (words ≡ codes "print" ∷ places.roster ∷ places.base ∷ codes "-" ∷ host ∷ []) × (is_host_name host ≡ true) × (after ≡ None)
 SaysByPlace words (Review places at) =
     (text : Text) × IsStamp text at × (words ≡ codes "review" ∷ places.roster ∷ places.base ∷ codes "-" ∷ text ∷ [])
 SaysByPlace words (Serve places addr requests) =

@@ -106,72 +106,87 @@ fn beyond<'a>(alloc: Global) -> Result<Command<'a>, AllocError>
         .arg(runas)
 }
 
-fn deliver<'a>(alloc: Global) -> Result<Command<'a>, AllocError>
-    ensures app { IfOk result (λ c. app_of c ≡ line.deliver) }
+/// A command on a desk, with one more argument: the desk's roster, its base policy and its store stand first.
+fn on_desk<'a>(
+    alloc: Global,
+    name: &'a str,
+    about: &'a str,
+    id: &'a str,
+    help: &'a str,
+) -> Result<Command<'a>, AllocError>
+    ensures app { IfOk result (λ c. app_of c ≡ line.on_desk name.entry.now id.entry.now) }
     ensures globals { IfOk result (λ c. (fields_of c).has_globals ≡ false) }
 {
-    let command = Command::new(alloc, "deliver").about(
-        "Deliver the messages on standard input, and print the answer to each",
-    );
     let wanted = [
         ("ROSTER", "The roster"),
         ("BASE", "The base policy"),
         ("STORE", "`-`: the messages are kept in memory alone"),
-        ("RELAY", "The relay that the messages come from"),
+        (id, help),
     ];
-    with_wanted(alloc, command, &wanted)
+    with_wanted(alloc, Command::new(alloc, name).about(about), &wanted)
+}
+
+fn deliver<'a>(alloc: Global) -> Result<Command<'a>, AllocError>
+    ensures app { IfOk result (λ c. app_of c ≡ line.deliver) }
+    ensures globals { IfOk result (λ c. (fields_of c).has_globals ≡ false) }
+{
+    let about = "Deliver the messages on standard input, and print the answer to each";
+    on_desk(
+        alloc,
+        "deliver",
+        about,
+        "RELAY",
+        "The relay that the messages come from",
+    )
 }
 
 fn print<'a>(alloc: Global) -> Result<Command<'a>, AllocError>
     ensures app { IfOk result (λ c. app_of c ≡ line.print) }
     ensures globals { IfOk result (λ c. (fields_of c).has_globals ≡ false) }
 {
-    let command = Command::new(alloc, "print").about(
-        "Print a host's sudoers file, from a base policy and the messages on standard input",
+    let about =
+        "Print a host's sudoers file, from a base policy and the messages on standard input";
+    let after = optional(
+        alloc,
+        "AFTER",
+        "after",
+        "Leave out the lines that end before this moment",
     );
-    let wanted = [
-        ("ROSTER", "The roster"),
-        ("BASE", "The base policy"),
-        ("STORE", "`-`: the messages are the lines of standard input"),
-        ("HOST", "The host"),
-    ];
-    with_wanted(alloc, command, &wanted)
+    on_desk(alloc, "print", about, "HOST", "The host")?.arg(after)
 }
 
 fn review<'a>(alloc: Global) -> Result<Command<'a>, AllocError>
     ensures app { IfOk result (λ c. app_of c ≡ line.review) }
     ensures globals { IfOk result (λ c. (fields_of c).has_globals ≡ false) }
 {
-    let command = Command::new(alloc, "review").about(
-        "Print who holds what at a moment, and which approvals do not count",
-    );
-    let wanted = [
-        ("ROSTER", "The roster"),
-        ("BASE", "The base policy"),
-        ("STORE", "`-`: the messages are the lines of standard input"),
-        ("AT", "The moment, as 20260105093000Z"),
-    ];
-    with_wanted(alloc, command, &wanted)
+    let about = "Print who holds what at a moment, and which approvals do not count";
+    on_desk(
+        alloc,
+        "review",
+        about,
+        "AT",
+        "The moment, as 20260105093000Z",
+    )
 }
 
 fn serve<'a>(alloc: Global) -> Result<Command<'a>, AllocError>
     ensures app { IfOk result (λ c. app_of c ≡ line.serve) }
     ensures globals { IfOk result (λ c. (fields_of c).has_globals ≡ false) }
 {
-    let command = Command::new(alloc, "serve").about("Serve a desk over HTTP");
-    let wanted = [
-        ("ROSTER", "The roster"),
-        ("BASE", "The base policy"),
-        ("STORE", "`-`: the messages are kept in memory alone"),
-        ("ADDR", "The address and port to listen at"),
-    ];
     let requests = optional(
         alloc,
         "REQUESTS",
         "requests",
         "End after so many connections",
     );
-    with_wanted(alloc, command, &wanted)?.arg(requests)
+    on_desk(
+        alloc,
+        "serve",
+        "Serve a desk over HTTP",
+        "ADDR",
+        "The address and port to listen at",
+    )?
+    .arg(requests)
 }
 
 /// Adds the commands on policies.

@@ -14,7 +14,9 @@ ghost use Rattle.desk_cli.specs.declared.task.Places.{Places as Parts};
 use crate::command::parsed;
 use crate::fault::JobFault;
 use crate::task::{Job, Places};
-use crate::values::{args, count_if_given, dash, moment, text, word, word_if_given};
+use crate::values::{
+    args, count_if_given, dash, moment, moment_if_given, text, word, word_if_given,
+};
 use clap::ArgMatches;
 use review::Scope;
 use std::alloc::{AllocError, Global};
@@ -106,7 +108,7 @@ fn places(alloc: Global, matches: &ArgMatches<'_>) -> Result<Places, JobFault>
 }
 
 fn deliver(alloc: Global, matches: &ArgMatches<'_>) -> Result<Job, JobFault>
-    requires { HaveSome line.deliver_args (rows_of (found_of matches.now)) }
+    requires { HaveSome (line.desk_args (codes "RELAY")) (rows_of (found_of matches.now)) }
     ensures found { IfOk result (λ j. Says (Some (codes "deliver", rows_of (found_of matches.now))) j) }
     ensures only { (j : Task) → Says (Some (codes "deliver", rows_of (found_of matches.now))) j → MatchResult result (λ k. k ≡ j) (λ e. e ≡ NoMemory) }
     ensures word { IfErr result (λ e. e ≡ BadWord → SaysBadly (Some (codes "deliver", rows_of (found_of matches.now)))) }
@@ -118,7 +120,7 @@ fn deliver(alloc: Global, matches: &ArgMatches<'_>) -> Result<Job, JobFault>
 }
 
 fn print(alloc: Global, matches: &ArgMatches<'_>) -> Result<Job, JobFault>
-    requires { HaveSome line.print_args (rows_of (found_of matches.now)) }
+    requires { HaveSome (line.desk_args (codes "HOST")) (rows_of (found_of matches.now)) }
     ensures found { IfOk result (λ j. Says (Some (codes "print", rows_of (found_of matches.now))) j) }
     ensures only { (j : Task) → Says (Some (codes "print", rows_of (found_of matches.now))) j → MatchResult result (λ k. k ≡ j) (λ e. e ≡ NoMemory) }
     ensures word { IfErr result (λ e. e ≡ BadWord → SaysBadly (Some (codes "print", rows_of (found_of matches.now)))) }
@@ -126,11 +128,16 @@ fn print(alloc: Global, matches: &ArgMatches<'_>) -> Result<Job, JobFault>
 {
     let places = places(alloc, matches)?;
     let host = word(alloc, matches, "HOST")?;
-    Ok(Job::Print { places, host })
+    let after = moment_if_given(matches, "AFTER")?;
+    Ok(Job::Print {
+        places,
+        host,
+        after,
+    })
 }
 
 fn review(alloc: Global, matches: &ArgMatches<'_>) -> Result<Job, JobFault>
-    requires { HaveSome line.review_args (rows_of (found_of matches.now)) }
+    requires { HaveSome (line.desk_args (codes "AT")) (rows_of (found_of matches.now)) }
     ensures found { IfOk result (λ j. Says (Some (codes "review", rows_of (found_of matches.now))) j) }
     ensures only { (j : Task) → Says (Some (codes "review", rows_of (found_of matches.now))) j → MatchResult result (λ k. k ≡ j) (λ e. e ≡ NoMemory) }
     ensures word { IfErr result (λ e. e ≡ BadWord → SaysBadly (Some (codes "review", rows_of (found_of matches.now)))) }
@@ -142,7 +149,7 @@ fn review(alloc: Global, matches: &ArgMatches<'_>) -> Result<Job, JobFault>
 }
 
 fn serve(alloc: Global, matches: &ArgMatches<'_>) -> Result<Job, JobFault>
-    requires { HaveSome line.serve_args (rows_of (found_of matches.now)) }
+    requires { HaveSome (line.desk_args (codes "ADDR")) (rows_of (found_of matches.now)) }
     ensures found { IfOk result (λ j. Says (Some (codes "serve", rows_of (found_of matches.now))) j) }
     ensures only { (j : Task) → Says (Some (codes "serve", rows_of (found_of matches.now))) j → MatchResult result (λ k. k ≡ j) (λ e. e ≡ NoMemory) }
     ensures word { IfErr result (λ e. e ≡ BadWord → SaysBadly (Some (codes "serve", rows_of (found_of matches.now)))) }

@@ -1,12 +1,15 @@
 //! Printing a host's file: the lines of the input are delivered to a desk.
 
-ghost use Rattle.std.specs.Prelude.{◌≡◌, ◌++◌, ℕ, List, IfErr, IfOk, OnOk, string_bytes};
+ghost use Rattle.std.specs.Prelude.{◌≡◌, ◌⊎◌, ◌↔◌, ◌≤◌, ◌++◌, ℕ, List, false, length, Err, IfErr, IfOk, OnOk, string_bytes};
 ghost use Rattle.std.specs.Io.KnownBytes.{Appends};
-ghost use Rattle.desk_cli.specs.Printing.{EndsPrinting, EndsTaking, HadMemory, IsTaken, PrintsHost, complaint, complaints};
+ghost use Rattle.desk_cli.specs.Printing.{EndsPrinting, EndsTaking, HadMemory, HasRights, IsPrinted, IsTaken, PrintsHost, complaint, complaints, lines_printed};
 ghost use Rattle.messages.specs.declared.message.Message.{Message};
+ghost use Rattle.roster.specs.Rules.{is_among};
 ghost use Rattle.desk_store.specs.Memory.{Holds};
 ghost use Rattle.desk_store.specs.Sets.{IsNothing, Lists};
+ghost use Rattle.desk.specs.HostFile.{AreLines, Line};
 ghost use Rattle.desk.specs.Refusals.{IsWant};
+ghost use Rattle.desk.specs.declared.refusal.Refusal.TheVariants as refusal;
 ghost use Rattle.desk_cli.specs.declared.status.Status.TheVariants.{Done};
 
 use crate::lines::read_lines;
@@ -16,7 +19,7 @@ use desk::{Ack, Desk, MemoryKeeper};
 use std::alloc::{AllocError, Global};
 use std::fmt::Write as _;
 use std::io::{Read, Write};
-use sudo_words::HostName;
+use sudo_words::{HostName, Moment};
 
 /// Adds why a line is refused.
 fn add_complaint(said: &mut String, number: usize, refusal: desk::Refusal) -> Result<(), AllocError>
@@ -87,7 +90,29 @@ pub fn take_lines<R: Read, E: Write>(
     say(said.as_str(), err)
 }
 
-/// The host's file, over the desk that the files make and the messages of the input's lines.
+/// The host's file, the whole of it, or without the lines that end before a moment.
+fn file_of(
+    desk: &mut Desk<MemoryKeeper>,
+    host: &HostName,
+    after: Option<Moment>,
+) -> Result<String, desk::Refusal>
+    ensures printed { (set : List Message) → Lists (Holds desk.old.keeper) set
+        → IfOk result (λ s. IsPrinted desk.old.roster.says desk.old.base set host.now after (string_bytes s)) }
+    ensures rights { (set : List Message) → Lists (Holds desk.old.keeper) set
+        → IfOk result (λ s. HasRights desk.old.roster.says desk.old.base set host.now after (string_bytes s)) }
+    ensures unknown { (result ≡ Err refusal.UnknownHost) ↔ (is_among desk.old.roster.says.hosts host.now ≡ false) }
+    ensures few { (set : List Message) (lines : List Line) → Lists (Holds desk.old.keeper) set → AreLines desk.old.roster.says set host.now lines
+        → length (lines_printed after lines) ≤ 8_192 → IfErr result (λ e. (e ≡ refusal.UnknownHost) ⊎ IsWant e) }
+    ensures err { IfErr result (λ e. (e ≡ refusal.UnknownHost) ⊎ (e ≡ refusal.TooManyRules) ⊎ IsWant e) }
+{
+    match after {
+        Some(moment) => desk.host_file_after(host, moment),
+        None => desk.host_file(host),
+    }
+}
+
+/// The host's file, over the desk that the files make and the messages of the input's lines. With a moment, the lines that end
+/// before it are left out.
 ///
 /// A line that the desk does not take is named on `err`, as `line 3: M2 NotCanonical`, and has no other effect. It is
 /// refused where the files make no desk, where the input cannot be read or `err` not be written, where the file would have
@@ -97,17 +122,18 @@ pub fn print_host<R: Read, E: Write>(
     roster: &[u8],
     base: &[u8],
     host: &HostName,
+    after: Option<Moment>,
     input: &mut R,
     err: &mut E,
 ) -> Result<String, Refusal>
     ensures printed { IfOk result (λ s. (said : List ℕ)
-        × PrintsHost roster.now base.now host.now (R.remaining input.old) Done (string_bytes s) said
+        × PrintsHost roster.now base.now host.now after (R.remaining input.old) Done (string_bytes s) said
         × Appends (E.contents err.old) (E.contents err.new) said) }
-    ensures err { IfErr result (EndsPrinting roster.now base.now host.now (R.remaining input.old)) }
+    ensures err { IfErr result (EndsPrinting roster.now base.now host.now after (R.remaining input.old)) }
 {
     let mut desk = open(alloc, roster, base)?;
     take_lines(alloc, &mut desk, input, err)?;
-    match desk.host_file(host) {
+    match file_of(&mut desk, host, after) {
         Ok(text) => Ok(text),
         Err(refusal) => Err(Refusal::Desk(refusal)),
     }

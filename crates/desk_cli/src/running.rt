@@ -123,17 +123,26 @@ fn printed<R: Read, E: Write>(
     alloc: Global,
     files: &[Vec<u8>],
     host: &HostName,
+    after: Option<Moment>,
     input: &mut R,
     err: &mut E,
 ) -> Result<Answer, Refusal>
-    ensures cause { (places : Parts) → IfErr result (IsCause (jobs.Print places host.now) (map (λ f. f.items) files.now) (R.remaining input.old)) }
+    ensures cause { (places : Parts) → IfErr result (IsCause (jobs.Print places host.now after) (map (λ f. f.items) files.now) (R.remaining input.old)) }
     ensures found { (places : Parts) → IfOk result (λ a. (said : List ℕ)
-        × IsAnswer (jobs.Print places host.now) (map (λ f. f.items) files.now) (R.remaining input.old) a.status (string_bytes a.text) said
+        × IsAnswer (jobs.Print places host.now after) (map (λ f. f.items) files.now) (R.remaining input.old) a.status (string_bytes a.text) said
         × Appends (E.contents err.old) (E.contents err.new) said) }
 {
     match files {
         [roster, base, ..] => Ok(Answer {
-            text: print_host(alloc, roster.as_slice(), base.as_slice(), host, input, err)?,
+            text: print_host(
+                alloc,
+                roster.as_slice(),
+                base.as_slice(),
+                host,
+                after,
+                input,
+                err,
+            )?,
             status: Status::Done,
         }),
         _ => Err(Refusal::FileFailed),
@@ -179,7 +188,7 @@ fn answered<R: Read, E: Write>(
         Job::Decide { invocation, .. } => decide_by_first(alloc, files, invocation),
         Job::Beyond { scope, .. } => compared(alloc, files, scope),
         Job::Deliver { relay, .. } => delivered(alloc, files, relay.as_str(), input),
-        Job::Print { host, .. } => printed(alloc, files, host, input, err),
+        Job::Print { host, after, .. } => printed(alloc, files, host, *after, input, err),
         Job::Review { at, .. } => reviewed(alloc, files, *at, input, err),
         Job::Serve { .. } => Err(Refusal::FileFailed),
     }

@@ -51,6 +51,8 @@ pub enum Job {
         places: Places,
         /// The host.
         host: HostName,
+        /// The moment before which no line ends that is printed; all are, where it is left out.
+        after: Option<Moment>,
     },
     /// Deliver the lines of the input to a desk, and print its report.
     Review {

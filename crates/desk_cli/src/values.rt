@@ -6,7 +6,7 @@ ghost use Rattle.std.specs.Str.Parse.{digits_value};
 ghost use Rattle.clap.specs.Words.{found_of, rows_of};
 ghost use Rattle.sudo_words.specs.Moment.{IsStamp};
 ghost use Rattle.sudo_words.specs.Word.{is_arg};
-ghost use Rattle.desk_cli.specs.CommandLine.{HasBadMoment, HasBadWord, HasBadWords, HasCount, HasMoment, HasOption, HasOther, HasSome, HasValue, HasWord, HasWords, is_count, is_number, values};
+ghost use Rattle.desk_cli.specs.CommandLine.{HasBadMoment, HasBadWord, HasBadWords, HasCount, HasMoment, HasMomentIfGiven, HasOption, HasOther, HasSome, HasValue, HasWord, HasWords, is_count, is_number, values};
 ghost use Rattle.desk_cli.specs.Faults.{IsUsage};
 ghost use Rattle.desk_cli.specs.declared.fault.JobFault.TheVariants.{BadWord, NoMemory};
 
@@ -156,6 +156,21 @@ pub fn moment(matches: &ArgMatches<'_>, id: &str) -> Result<Moment, JobFault>
     match stamped(value(matches, id)) {
         Some(moment) => Ok(moment),
         None => Err(JobFault::BadWord),
+    }
+}
+
+/// The value of an option, a moment's canonical text, or none where it is left out.
+pub fn moment_if_given(matches: &ArgMatches<'_>, id: &str) -> Result<Option<Moment>, JobFault>
+    ensures found { IfOk result (HasMomentIfGiven id.now (rows_of (found_of matches.now))) }
+    ensures only { (m : Option ℕ) → HasMomentIfGiven id.now (rows_of (found_of matches.now)) m → MatchResult result (λ r. r ≡ m) (λ e. ⊥) }
+    ensures word { IfErr result (λ e. (e ≡ BadWord) × HasBadMoment id.now (rows_of (found_of matches.now))) }
+{
+    match matches.get_str(id) {
+        Some(text) => match stamped(text) {
+            Some(moment) => Ok(Some(moment)),
+            None => Err(JobFault::BadWord),
+        },
+        None => Ok(None),
     }
 }
 

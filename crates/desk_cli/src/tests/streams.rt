@@ -173,6 +173,7 @@ fn prints_that_fail(rt: HostRuntime) -> Result<(), Fail> {
     let print = Job::Print {
         places: places(rt.alloc())?,
         host: HostName::read(rt.alloc(), "db1")?,
+        after: None,
     };
     // the input after its line, and in the middle of the next
     let wrongs = [
