@@ -5,7 +5,7 @@ use Rattle.std.specs.List.{AllByRecursion}
 use Rattle.std.specs.BTreeMap.{BTreeMap, values}
 use Rattle.std.proofs.lemmas.Bool.{leb-true, le-leb}
 use Rattle.std.proofs.lemmas.List.{length-map}
-use Rattle.std.proofs.lemmas.List.Elements.{All-contains}
+use Rattle.std.proofs.lemmas.List.Elements.{All-contains, filter_agree}
 use Rattle.sudo_words.specs.Word.{is_host_name}
 use Rattle.sudo_words.specs.Command.{IsLawful}
 use Rattle.sudo_words.specs.declared.cmnd.Cmnd.{Cmnd}
@@ -194,4 +194,20 @@ left_exactly f set host moment lines line is =
     let ends : p line ≡ leb moment is.last = ap (λ (r : Rule). is_not_after r.not_after moment) is.rule_is in (
       λ m. (was_there p lines line m, leb-true moment is.last (sym ends ∙ passes p lines line m)),
       λ both. kept p lines line both.0 (ends ∙ le-leb moment is.last both.1),
+    )
+
+-- none ends before the first moment of all
+none_before_first : (last : Option ℕ) → is_not_after last 0 ≡ true
+none_before_first None = refl
+none_before_first (Some last) = le-leb 0 last (omega arith)
+
+all_after_first : (lines : List Line) → lines_after 0 lines ≡ lines
+all_after_first lines =
+    filter_agree (λ (line : Line). is_not_after line.rule.not_after 0) (λ (line : Line). true) (λ line. none_before_first line.rule.not_after) lines ∙ all_left lines
+
+pub whole_after_first : (f : RosterFields Cmnd) (base : List Entry) (set : List Message) (host text : List ℕ) → IsHostFileAfter f base set host 0 text ↔ IsHostFile f base set host text
+whole_after_first f base set host text =
+    let same : (lines : List Line) → canon (with_lines base (lines_after 0 lines)) ≡ canon (with_lines base lines) = λ lines. ap (λ (ls : List Line). canon (with_lines base ls)) (all_after_first lines) in (
+      λ file. record { lines = file.lines; lines_are = file.lines_are; text_is = file.text_is ∙ same file.lines },
+      λ file. record { lines = file.lines; lines_are = file.lines_are; text_is = file.text_is ∙ sym (same file.lines) },
     )

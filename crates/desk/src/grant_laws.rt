@@ -1,6 +1,6 @@
 //! Laws of what a set of messages grants, each the contract of a function that does nothing.
 
-ghost use Rattle.std.specs.Prelude.{◌≡◌, ◌≢◌, ◌↔◌, ◌<◌, ◌≤◌, ℕ, List, [], ◌∷◌, ◌++◌, Contains, Option, length};
+ghost use Rattle.std.specs.Prelude.{◌≡◌, ◌≢◌, ◌↔◌, ◌<◌, ◌≤◌, ℕ, List, [], ◌∷◌, ◌++◌, Contains, Option, Some, length};
 ghost use Rattle.sudo_words.specs.declared.cmnd.Cmnd.{Cmnd};
 ghost use Rattle.sudo_syntax.specs.declared.entry.Entry.{Entry};
 ghost use Rattle.messages.specs.Fields.{RequestFields, VerdictFields};
@@ -67,11 +67,17 @@ pub fn file_gives_rights()
         (file : IsHostFile f base set host text) → length file.lines ≤ 8_192 → GivesRights f base set host text }
 {}
 
-/// A line is left after a moment exactly where it is one of the host's and the last moment of its window is not before that one; and
-/// what is the file after a moment gives the rights from then on, whatever lines were left out.
+/// A line is left after a moment exactly where it is one of the host's and the last moment of its window is not before that one: one
+/// that ends at the moment stays, and after the first moment of all the file is the whole. What is the file after a moment gives the
+/// rights from then on, whatever lines were left out.
 pub fn ended_lines_give_nothing()
     ensures left { (f : RosterFields Cmnd) (set : List Message) (host : List ℕ) (moment : ℕ) (lines : List Line) (line : Line) →
         (is : IsLine f set host line) → Contains (lines_after moment lines) line ↔ (Contains lines line × (moment ≤ is.last)) }
+    ensures worked { (a b : Line) → a.rule.not_after ≡ Some 1_767_610_800 → b.rule.not_after ≡ Some 1_767_610_801 →
+        (lines_after 1_767_610_800 (a ∷ b ∷ []) ≡ a ∷ b ∷ []) × (lines_after 1_767_610_801 (a ∷ b ∷ []) ≡ b ∷ [])
+        × (lines_after 1_767_610_802 (a ∷ b ∷ []) ≡ []) }
+    ensures whole { (f : RosterFields Cmnd) (base : List Entry) (set : List Message) (host text : List ℕ) →
+        IsHostFileAfter f base set host 0 text ↔ IsHostFile f base set host text }
     ensures rights { (f : RosterFields Cmnd) (base : List Entry) (set : List Message) (host : List ℕ) (moment : ℕ) (text : List ℕ) →
         FitsBase base → ((m : Message) → Contains set m → IsMessage m) →
         (file : IsHostFileAfter f base set host moment text) → length (lines_after moment file.lines) ≤ 8_192 →
