@@ -25,3 +25,7 @@ pub mod RecognizedLemmas
 pub mod Grown
 pub mod Makes
 pub mod MadeLemmas
+-- what a crash leaves
+pub mod OneSchema
+pub mod SurvivalLemmas
+pub mod LeftLemmas

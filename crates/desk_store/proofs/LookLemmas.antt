@@ -27,7 +27,7 @@ use Rattle.desk_store.proofs.TextSets.{same_text}
 abbrev pub TellsOf : Database → Found → Type 0
 TellsOf db it = Tells (IsFree db.schema) (IsDeskDatabase db) (content_of db).roster it
 
-free_has_none : (s : Schema) → IsFree s → ¬ HasDesk s
+pub free_has_none : (s : Schema) → IsFree s → ¬ HasDesk s
 free_has_none s free has =
     let e : ◌≡◌ {A = Option ℕ} (Some has.d) None = sym has.desk.named ∙ free.desk.table in absurd cc
 

@@ -9,7 +9,7 @@ use Rattle.sqlite.specs.Schema.{Schema}
 use Rattle.sqlite.specs.Table.{Table}
 use Rattle.sqlite.specs.Change.{created, next_tree, KeepsRows}
 use Rattle.sqlite.specs.Does.{lacks_sequence}
-use Rattle.sqlite.specs.Effect.{Database}
+use Rattle.sqlite.specs.Effect.{Database, IsDatabase}
 use Rattle.sqlite.specs.State.{State}
 use Rattle.messages.specs.Wire.{wire}
 use Rattle.desk_store.specs.Sets.{IsNothing}
@@ -26,10 +26,10 @@ none_held db roster content text there =
     let no : false ≡ true = sym (set.contains-empty (slice_cmp nat_cmp) text) ∙ sym (ap (λ c. has c text) content) ∙ there in cc
 
 -- a database that finds the two tables, the one with the row and the other empty
-pub made_of : (roster : List ℕ) → IsUtf8 roster → (db : Database) (d m desk_tree messages_tree : ℕ)
+pub made_of : (roster : List ℕ) → IsUtf8 roster → (db : Database) → IsDatabase db → (d m desk_tree messages_tree : ℕ)
     → Finds db.schema (codes "desk") d (desk_at desk_tree) → Finds db.schema (codes "messages") m (messages_at messages_tree)
     → recorded (db.trees desk_tree) ≡ Some roster → db.trees messages_tree ≡ [] → Makes roster db
-made_of roster utf8 db d m desk_tree messages_tree a b row empty =
+made_of roster utf8 db sound d m desk_tree messages_tree a b row empty =
     let s = db.schema in
     let at_desk : tree_of s (codes "desk") ≡ desk_tree = tree_of_found s (codes "desk") d (desk_at desk_tree) a in
     let at_messages : tree_of s (codes "messages") ≡ messages_tree = tree_of_found s (codes "messages") m (messages_at messages_tree) b in
@@ -37,6 +37,7 @@ made_of roster utf8 db d m desk_tree messages_tree a b row empty =
     let none : db.trees (tree_of s (codes "messages")) ≡ [] = ap db.trees at_messages ∙ empty in
     let content : content_of db ≡ fresh roster = λ i. record { roster = unwrap_or (is i) []; texts = texts_of (none i) } in
     record {
+      sound = sound;
       desk = record {
         schema = has_both s (d, desk_tree, a) (m, messages_tree, b);
         marked = (roster, is, utf8);
@@ -73,7 +74,7 @@ makes_all roster utf8 before one two after ready first second put =
     let b' = subst (λ (x : Schema). Finds x (codes "messages") (length mid.tables) (messages_at messages_tree)) (sym recorded.schema) b in
     let spared : after.trees messages_tree ≡ two.trees messages_tree = all_at (λ (t : Table). t.tree ≢ desk_tree → after.trees t.tree ≡ two.trees t.tree) two.schema.tables (length mid.tables) (messages_at messages_tree) b.has recorded.others (two_trees two.schema _ _ desk_tree messages_tree a b) in
     let empty : two.trees messages_tree ≡ [] = ap (λ x. two.trees (next_tree x)) (sym first.schema) ∙ second.empty in
-    made_of roster utf8 after (length s.tables) (length mid.tables) desk_tree messages_tree a' b' recorded.row (spared ∙ empty)
+    made_of roster utf8 after recorded.sound (length s.tables) (length mid.tables) desk_tree messages_tree a' b' recorded.row (spared ∙ empty)
 
 -- a desk that was made holds no message
 pub holds_nothing : (db : Database) (roster : List ℕ) → content_of db ≡ fresh roster → IsNothing (HoldsText db)

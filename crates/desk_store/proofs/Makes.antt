@@ -139,6 +139,7 @@ records old new roster count at tree found none h =
     let row : Row = Int (pos 1) ∷ Null ∷ Int (pos 1) ∷ Text roster ∷ [] in
     let is : edited db edit ≡ row ∷ [] = ap (λ all. edited db (edit_of db (desk_at tree) [] Chosen 0 all)) given.1.1 ∙ rw (none, cast_one, cast_null) refl in
     record {
+      sound = w.sound;
       schema = ap (λ (p : Tally × Database). p.1.schema) last;
       row = ap (λ (t : Trees). recorded (t tree)) trees ∙ ap recorded (step.rows ∙ is);
       others = subst (λ (next : Trees). AllByRecursion (λ (t : Table). t.tree ≢ tree → next t.tree ≡ db t.tree) s.tables) (sym trees) step.tables;

@@ -11,7 +11,7 @@ use Rattle.desk_store.specs.Sets.{IsWith}
 turned : (m n : Message) → m ≡ n → n ≡ m
 turned m n is = sym is
 
-put_adds : (r : Option (List ℕ)) (old : List Message) (m : Message) (new : List Message) → IsMessage m → IsPut old m new
+pub put_adds : (r : Option (List ℕ)) (old : List Message) (m : Message) (new : List Message) → IsMessage m → IsPut old m new
     → IsWith (Holds (record { roster = r; messages = old })) m (Holds (record { roster = r; messages = new }))
 put_adds r old m new is (inl (there, same)) = λ n. (
   λ held. elim held as (λ _. IsMessage n × Contains new n) [

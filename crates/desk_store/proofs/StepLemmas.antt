@@ -30,7 +30,7 @@ pub record After (text : List ℕ) (old new : State) (r : Result ℕ Error) : Ty
   pub others : OnOk r (KeepsOthers old.now new.now)
 
 -- the desk's tables stay a desk's with a message's text more
-stays_desk : (text : List ℕ) (s : Schema) (old new : Trees) (tally : Tally) → IsWritten text → IsDeskIn s old → Added text s old new tally → IsDeskIn s new
+pub stays_desk : (text : List ℕ) (s : Schema) (old new : Trees) (tally : Tally) → IsWritten text → IsDeskIn s old → Added text s old new tally → IsDeskIn s new
 stays_desk text s old new tally written is a = record {
   schema = is.schema;
   marked = (is.marked.0, ap recorded a.desk ∙ is.marked.1, is.marked.2);

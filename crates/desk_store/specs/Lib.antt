@@ -8,4 +8,7 @@ pub mod Collected
 pub mod DeskTables
 pub mod Stored
 pub mod SqliteStates
+-- what a crash leaves of a keeper, and of each of the two
+pub mod Left
+pub mod Crash
 pub mod private

@@ -10,9 +10,13 @@ IsNothing S = (m : Message) → ¬ S m
 abbrev pub SameSet : (Message → Type 0) → (Message → Type 0) → Type 0
 SameSet S T = (m : Message) → (S m → T m) × (T m → S m)
 
+-- the messages of the set, and this one
+abbrev pub With : (Message → Type 0) → Message → Message → Type 0
+With S m n = S n ⊎ (n ≡ m)
+
 -- the second set has exactly the messages of the first, and this one
 abbrev pub IsWith : (Message → Type 0) → Message → (Message → Type 0) → Type 0
-IsWith S m T = SameSet (λ n. S n ⊎ (n ≡ m)) T
+IsWith S m T = SameSet (With S m) T
 
 -- the list has exactly the messages of the set
 abbrev pub Lists : (Message → Type 0) → List Message → Type 0

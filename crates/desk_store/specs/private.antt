@@ -4,3 +4,4 @@ pub mod Recognized
 pub mod Statements
 pub mod Making
 pub mod SqliteLaws
+pub mod Survival

@@ -3,8 +3,9 @@
 ghost use Rattle.std.specs.Prelude.{◌≡◌, ℕ, ◌≤◌, ◌⊎◌, List, IfOk, OnOk, OnErr, Err};
 ghost use Rattle.messages.specs.Wire.{IsMessage};
 ghost use Rattle.messages.specs.declared.message.Message.{Message as AnyMessage};
-ghost use Rattle.desk_store.specs.Sets.{IsNothing, SameSet, IsWith, Lists};
+ghost use Rattle.desk_store.specs.Sets.{IsNothing, SameSet, IsWith, Lists, With};
 ghost use Rattle.desk_store.specs.Keeping.{Tells, HasFailed};
+ghost use Rattle.desk_store.specs.Left.{Left, IsAsKept, IsDeskOf, IsNothingOrFresh, IsWithOrWithout, LeavesOnly};
 
 use crate::error::KeeperError;
 use crate::found::Found;
@@ -16,6 +17,11 @@ use messages::Message;
 /// before. A clause of what is kept holds where the keeper is up as the call ends: its storage has been honest, and no
 /// failure has shut it. A keeper in memory is always up. `Storage` is answered only where the count of failures rose in
 /// that call, or stands at the greatest number of 64 bits.
+///
+/// A clause `crash` holds at each exit of its call, also behind a failure, as long as the storage has been honest: what a
+/// crash may leave then, for the next opening, is all that was kept as the call began, or all that the call was to commit.
+/// A clause `lasting` says that behind Ok it is the latter alone, and a clause `durable` that it is what the keeper keeps,
+/// as long as that is up.
 pub trait Keeper {
     /// It keeps nothing of a desk's.
     ghost is_empty: { Self → Type 0 };
@@ -44,6 +50,9 @@ pub trait Keeper {
     /// The second keeps what the first does.
     ghost is_same: { Self → Self → Type 0 };
 
+    /// A crash at this moment may leave this, for the next opening.
+    ghost may_leave: { Self → Left → Type 0 };
+
     /// Tells what it keeps. That stays as it is.
     fn look(&mut self) -> Result<Found, KeeperError>
         ensures found { is_up self.new → IfOk result (Tells (is_empty self.old) (is_desk self.old) (roster self.old)) }
@@ -52,7 +61,8 @@ pub trait Keeper {
         ensures was_clean { is_clean self.new → is_clean self.old }
         ensures shuts { is_up self.old → is_clean self.new → is_up self.new ⊎ HasFailed (failures self.old) (failures self.new) }
         ensures counts { failures self.old ≤ failures self.new }
-        ensures cause { result ≡ Err KeeperError.Storage → HasFailed (failures self.old) (failures self.new) };
+        ensures cause { result ≡ Err KeeperError.Storage → HasFailed (failures self.old) (failures self.new) }
+        ensures crash { is_up self.old → is_clean self.new → LeavesOnly (may_leave self.new) (IsAsKept (is_empty self.old) (is_desk self.old) (roster self.old) (holds self.old)) };
 
     /// Makes a desk of this roster text, without messages, in one commit.
     fn make(&mut self, text: &str) -> Result<(), KeeperError>
@@ -65,7 +75,10 @@ pub trait Keeper {
         ensures was_clean { is_clean self.new → is_clean self.old }
         ensures shuts { is_up self.old → is_clean self.new → is_up self.new ⊎ HasFailed (failures self.old) (failures self.new) }
         ensures counts { failures self.old ≤ failures self.new }
-        ensures cause { result ≡ Err KeeperError.Storage → HasFailed (failures self.old) (failures self.new) };
+        ensures cause { result ≡ Err KeeperError.Storage → HasFailed (failures self.old) (failures self.new) }
+        ensures crash { is_up self.old → is_clean self.new → LeavesOnly (may_leave self.new) (IsNothingOrFresh text.now) }
+        ensures lasting { is_up self.old → is_clean self.new → OnOk result (LeavesOnly (may_leave self.new) (IsDeskOf text.now (λ _. ⊥))) }
+        ensures durable { is_up self.new → LeavesOnly (may_leave self.new) (IsAsKept (is_empty self.new) (is_desk self.new) (roster self.new) (holds self.new)) };
 
     /// Adds the message to the desk's, in one commit. One that the desk has already changes nothing.
     fn add(&mut self, message: Message) -> Result<(), KeeperError>
@@ -79,7 +92,10 @@ pub trait Keeper {
         ensures was_clean { is_clean self.new → is_clean self.old }
         ensures shuts { is_up self.old → is_clean self.new → is_up self.new ⊎ HasFailed (failures self.old) (failures self.new) }
         ensures counts { failures self.old ≤ failures self.new }
-        ensures cause { result ≡ Err KeeperError.Storage → HasFailed (failures self.old) (failures self.new) };
+        ensures cause { result ≡ Err KeeperError.Storage → HasFailed (failures self.old) (failures self.new) }
+        ensures crash { is_up self.old → is_clean self.new → LeavesOnly (may_leave self.new) (IsWithOrWithout (roster self.old) (holds self.old) message) }
+        ensures lasting { is_up self.old → is_clean self.new → OnOk result (LeavesOnly (may_leave self.new) (IsDeskOf (roster self.old) (With (holds self.old) message))) }
+        ensures durable { is_up self.new → LeavesOnly (may_leave self.new) (IsDeskOf (roster self.new) (holds self.new)) };
 
     /// Brings the desk's messages into memory, where `messages` lends them. What is kept stays as it is.
     fn load(&mut self) -> Result<(), KeeperError>
@@ -90,7 +106,8 @@ pub trait Keeper {
         ensures was_clean { is_clean self.new → is_clean self.old }
         ensures shuts { is_up self.old → is_clean self.new → is_up self.new ⊎ HasFailed (failures self.old) (failures self.new) }
         ensures counts { failures self.old ≤ failures self.new }
-        ensures cause { result ≡ Err KeeperError.Storage → HasFailed (failures self.old) (failures self.new) };
+        ensures cause { result ≡ Err KeeperError.Storage → HasFailed (failures self.old) (failures self.new) }
+        ensures crash { is_up self.old → is_clean self.new → LeavesOnly (may_leave self.new) (IsDeskOf (roster self.old) (holds self.old)) };
 
     /// The messages that were brought into memory, each once, in an order of the keeper's own.
     fn messages(&self) -> &[Message]

@@ -4,6 +4,7 @@ ghost use Rattle.std.specs.Prelude.{◌≡◌, false, OnOk, OnErr};
 ghost use Rattle.sqlite.specs.State.{HasCleanDisk, KeepsCommit, Survives};
 ghost use Rattle.sqlite.specs.Held.{state};
 ghost use Rattle.desk_store.specs.SqliteStates.{IsUp, Rests};
+ghost use Rattle.desk_store.specs.private.Survival.{MakesAt};
 ghost use Rattle.desk_store.specs.private.Making.{InStep, IsReady, Makes, MakesDesk, MakesMessages, PutsRoster, Fills};
 
 use sqlite::{Alter, Connection, Error, Transaction, params};
@@ -67,6 +68,7 @@ pub(crate) fn create<S: Alter>(conn: &mut Connection<S>, roster: &str) -> Result
     ensures up { IsUp (state S.Store conn.old) → HasCleanDisk (state S.Store conn.new) → OnOk result (IsUp (state S.Store conn.new)) }
     ensures unmade { IsUp (state S.Store conn.new) → OnErr result ((state S.Store conn.new).now ≡ (state S.Store conn.old).now) }
     ensures made { IsUp (state S.Store conn.new) → OnOk result (Makes roster.now (state S.Store conn.new).now) }
+    ensures survives { IsUp (state S.Store conn.old) → Survives (state S.Store conn.old) (state S.Store conn.new) (MakesAt roster.now) }
 {
     let mut tx = conn.transaction();
     fill(&mut tx, roster)?;

@@ -45,6 +45,7 @@ impl MemoryKeeper {
 impl Keeper for MemoryKeeper {
     ghost use Rattle.std.specs.Prelude.{◌≡◌, ⊤, IsSome, unwrap_or};
     ghost use Rattle.desk_store.specs.MemoryLaws as laws;
+    ghost use Rattle.desk_store.specs.Crash.{LeavesContent};
 
     ghost is_empty = { λ k. k.roster ≡ None };
 
@@ -63,6 +64,8 @@ impl Keeper for MemoryKeeper {
     ghost failures = { λ k. 0 };
 
     ghost is_same = { λ a b. b ≡ a };
+
+    ghost may_leave = { LeavesContent };
 
     ghost holds_messages = { λ k m held. held.0 };
 

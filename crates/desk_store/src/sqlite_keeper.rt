@@ -7,6 +7,7 @@ ghost use Rattle.desk_store.specs.Keeping.{HasFailed};
 ghost use Rattle.desk_store.specs.Sets.{Lists, SameSet};
 ghost use Rattle.desk_store.specs.Stored.{HoldsText, IsDeskDatabase, IsFree, content_of};
 ghost use Rattle.desk_store.specs.SqliteStates.{IsUp, Rests};
+ghost use Rattle.desk_store.specs.Crash.{MayLeave};
 ghost use Rattle.desk_store.specs.private.Props.{Rests-prop};
 ghost use Rattle.desk_store.specs.private.SqliteLaws as laws;
 
@@ -16,7 +17,7 @@ use crate::keeper::Keeper;
 use crate::making::create;
 use crate::reading::{messages_in, roster_of};
 use crate::recognize::{has_desk, is_free, lacks_sequence};
-use crate::statements::{insert, select_bodies, select_desk};
+use crate::statements::{insert, select_bodies, select_desk, settles};
 use messages::{Message, text};
 use sqlite::{Alter, Connection, Error, ErrorCode};
 use std::alloc::Global;
@@ -134,6 +135,8 @@ impl<S: Alter> Keeper for SqliteKeeper<S> {
 
     ghost is_same = { λ a b. (state S.Store b.conn).now ≡ (state S.Store a.conn).now };
 
+    ghost may_leave = { λ k. MayLeave (state S.Store k.conn) };
+
     ghost holds_messages = { λ k m held. held.0 };
 
     ghost same_itself = { λ a. laws.same_itself _ };
@@ -151,6 +154,7 @@ impl<S: Alter> Keeper for SqliteKeeper<S> {
     ghost stays_set = { λ a b same desk. laws.stays_set _ _ same };
 
     fn look(&mut self) -> Result<Found, KeeperError> {
+        settles(&self.conn);
         let schema = self.conn.schema();
         if is_free(schema) {
             return Ok(Found::Empty);
@@ -177,10 +181,13 @@ impl<S: Alter> Keeper for SqliteKeeper<S> {
 
     /// A database is refused, as what fails is, that counts by AUTOINCREMENT without the table of the counts.
     fn make(&mut self, text: &str) -> Result<(), KeeperError> {
+        settles(&self.conn);
         if !self.conn.is_autocommit() || lacks_sequence(self.conn.schema()) {
             return Err(storage(&mut self.failed));
         }
-        match create(&mut self.conn, text) {
+        let made = create(&mut self.conn, text);
+        settles(&self.conn);
+        match made {
             Ok(()) => Ok(()),
             Err(error) => Err(told(&mut self.failed, error)),
         }
@@ -188,17 +195,21 @@ impl<S: Alter> Keeper for SqliteKeeper<S> {
 
     /// A message whose text is longer than what is read as one is refused, as what a database refuses is.
     fn add(&mut self, message: Message) -> Result<(), KeeperError> {
+        settles(&self.conn);
         let body = text(self.alloc, &message)?;
         if body.as_bytes().len() > MOST_BYTES {
             return Err(storage(&mut self.failed));
         }
-        match insert(&mut self.conn, body.as_str()) {
+        let inserted = insert(&mut self.conn, body.as_str());
+        settles(&self.conn);
+        match inserted {
             Ok(_) => Ok(()),
             Err(error) => Err(told(&mut self.failed, error)),
         }
     }
 
     fn load(&mut self) -> Result<(), KeeperError> {
+        settles(&self.conn);
         let rows = match select_bodies(&mut self.conn) {
             Ok(rows) => rows,
             Err(error) => return Err(told(&mut self.failed, error)),

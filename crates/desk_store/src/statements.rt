@@ -1,13 +1,22 @@
 //! The statements of a keeper over a database, each in a function of its own.
 
 ghost use Rattle.std.specs.Prelude.{◌≡◌, IfOk, OnOk, OnErr};
-ghost use Rattle.sqlite.specs.State.{HasCleanDisk};
+ghost use Rattle.sqlite.specs.State.{HasCleanDisk, Survives};
 ghost use Rattle.sqlite.specs.Held.{state};
 ghost use Rattle.desk_store.specs.Stored.{HasDesk, IsDeskDatabase, IsWritten, content_of, with_text};
 ghost use Rattle.desk_store.specs.SqliteStates.{IsUp, Rests};
 ghost use Rattle.desk_store.specs.private.Statements.{KeepsOthers, ShowsBodies, ShowsMark};
+ghost use Rattle.desk_store.specs.private.Survival.{GainsAt, Settled};
 
 use sqlite::{Alter, Connection, Error, Row, params};
+
+/// While the store is up, a crash leaves what the connection shows. It reads nothing: a proof names it.
+pub(crate) fn settles<S: Alter>(conn: &Connection<S>)
+    requires { Rests (state S.Store conn.now) }
+    ensures { Settled (state S.Store conn.now) }
+{
+    let _schema = conn.schema();
+}
 
 /// Puts the text of a message in where it is missing, in one statement and one commit. The tables of other names keep their rows.
 pub(crate) fn insert<S: Alter>(conn: &mut Connection<S>, text: &str) -> Result<usize, Error>
@@ -22,6 +31,7 @@ pub(crate) fn insert<S: Alter>(conn: &mut Connection<S>, text: &str) -> Result<u
     ensures inserted { IsUp (state S.Store conn.new) → OnOk result (content_of (state S.Store conn.new).now ≡ with_text text.now (content_of (state S.Store conn.old).now)) }
     ensures unchanged { IsUp (state S.Store conn.new) → OnErr result ((state S.Store conn.new).now ≡ (state S.Store conn.old).now) }
     ensures others { IsUp (state S.Store conn.new) → OnOk result (KeepsOthers (state S.Store conn.old).now (state S.Store conn.new).now) }
+    ensures survives { IsUp (state S.Store conn.old) → Survives (state S.Store conn.old) (state S.Store conn.new) (GainsAt text.now (state S.Store conn.old).now) }
 {
     conn.execute(
         "INSERT INTO messages (body) SELECT ?1 WHERE NOT EXISTS (SELECT 1 FROM messages WHERE body = ?1)",
@@ -39,6 +49,7 @@ pub(crate) fn select_bodies<S: Alter>(conn: &mut Connection<S>) -> Result<Vec<Ro
     ensures up { IsUp (state S.Store conn.old) → HasCleanDisk (state S.Store conn.new) → OnOk result (IsUp (state S.Store conn.new)) }
     ensures same { IsUp (state S.Store conn.new) → (state S.Store conn.new).now ≡ (state S.Store conn.old).now }
     ensures shows { IsUp (state S.Store conn.new) → IfOk result (λ rows. ShowsBodies (state S.Store conn.old).now rows.items) }
+    ensures survives { IsUp (state S.Store conn.old) → Survives (state S.Store conn.old) (state S.Store conn.new) (λ _. ⊥) }
 {
     conn.query_all("SELECT body FROM messages", &[])
 }
@@ -53,6 +64,7 @@ pub(crate) fn select_desk<S: Alter>(conn: &mut Connection<S>) -> Result<Vec<Row>
     ensures up { IsUp (state S.Store conn.old) → HasCleanDisk (state S.Store conn.new) → OnOk result (IsUp (state S.Store conn.new)) }
     ensures same { IsUp (state S.Store conn.new) → (state S.Store conn.new).now ≡ (state S.Store conn.old).now }
     ensures shows { IsUp (state S.Store conn.new) → IfOk result (λ rows. ShowsMark (state S.Store conn.old).now rows.items) }
+    ensures survives { IsUp (state S.Store conn.old) → Survives (state S.Store conn.old) (state S.Store conn.new) (λ _. ⊥) }
 {
     conn.query_all("SELECT id, schema, roster FROM desk", &[])
 }

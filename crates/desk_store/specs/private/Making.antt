@@ -7,7 +7,7 @@ use Rattle.sqlite.specs.Table.{Table}
 use Rattle.sqlite.specs.Change.{created, next_tree, KeepsRows}
 use Rattle.sqlite.specs.Does.{lacks_sequence}
 use Rattle.sqlite.specs.State.{HasCleanDisk, State, Shows}
-use Rattle.sqlite.specs.Effect.{Database}
+use Rattle.sqlite.specs.Effect.{Database, IsDatabase}
 use Rattle.desk_store.specs.DeskTables.{desk, desk_at, messages_at}
 use Rattle.desk_store.specs.Stored.{Content, Finds, IsFree, IsUnused, IsDeskDatabase, content_of, recorded}
 
@@ -43,8 +43,9 @@ pub record MakesMessages (old new : State) : Type 0 where
   pub inside : IsInside old new
   pub adds : IsUnused old.now.schema (codes "messages") → lacks_sequence old.now.schema ≡ false → Adds (messages_at 0) old.now new.now
 
--- the row was put in an empty table, and each other table keeps its rows
+-- the row was put in an empty table, each other table keeps its rows, and the trees obey the schema that they list
 pub record Records (roster : List ℕ) (tree : ℕ) (old new : Database) : Type 0 where
+  pub sound : IsDatabase new
   pub schema : new.schema ≡ old.schema
   pub row : recorded (new.trees tree) ≡ Some roster
   pub others : AllByRecursion (λ (t : Table). t.tree ≢ tree → new.trees t.tree ≡ old.trees t.tree) old.schema.tables
@@ -53,8 +54,9 @@ pub record PutsRoster (roster : List ℕ) (old new : State) : Type 0 where
   pub inside : IsInside old new
   pub records : (at tree : ℕ) → Finds old.now.schema (codes "desk") at (desk_at tree) → old.now.trees tree ≡ [] → Records roster tree old.now new.now
 
--- a desk of the roster text was made, with no message
+-- a desk of the roster text was made, with no message, in trees that obey the schema that they list
 pub record Makes (roster : List ℕ) (new : Database) : Type 0 where
+  pub sound : IsDatabase new
   pub desk : IsDeskDatabase new
   pub content : content_of new ≡ fresh roster
 

@@ -1,5 +1,7 @@
 use Rattle.std.proofs.Common.{arith}
 use Rattle.sqlite.specs.Held.{state}
+use Rattle.desk_store.specs.private.Survival.{GainsAt}
+use Rattle.desk_store.proofs.SurvivalLemmas.{commits, survives_as}
 use Rattle.desk_store.proofs.StepLemmas.{after, ends_up}
 use Rattle.desk_store.proofs.statements.insert.Goals as goal
 
@@ -39,3 +41,9 @@ pub returns-clause-others : goal.returns-clause-others
 returns-clause-others g c up =
     (after c.args.text.now (state g.S.Store c.args.conn.now) (state g.S.Store c.execute.new.self) c.execute.result _ c.execute.ensures.survives c.requires.rests c.requires.desk c.requires.written up
     (rw c.params-to_sql.ensures at (c.execute.ensures.runs up.clean))).others
+
+pub returns-clause-survives : goal.returns-clause-survives
+returns-clause-survives g c up =
+    let old = state g.S.Store c.args.conn.now in
+    let new = state g.S.Store c.execute.new.self in
+    survives_as old new _ (GainsAt c.args.text.now old.now) (λ db new. commits c.args.text.now old db (c.requires.desk up) c.requires.written new) (rw c.params-to_sql.ensures at c.execute.ensures.survives)

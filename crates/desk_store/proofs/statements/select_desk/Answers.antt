@@ -1,6 +1,7 @@
 use Rattle.std.proofs.Common.{arith}
 use Rattle.sqlite.specs.Held.{state}
 use Rattle.desk_store.proofs.QueriesOf.{roster_query}
+use Rattle.desk_store.proofs.SurvivalLemmas.{survives_query}
 use Rattle.desk_store.proofs.QueryLemmas.{stays, answered_up, roster_plain, shows_mark}
 use Rattle.desk_store.proofs.statements.select_desk.Goals as goal
 
@@ -30,3 +31,8 @@ returns-clause-shows g c up =
     let before = (stays roster_query (state g.S.Store c.args.conn.now) (state g.S.Store c.query_all.new.self) _ c.query_all.ensures.survives c.requires.rests (λ before. roster_plain (state g.S.Store c.args.conn.now) (c.requires.desk before)) up
     c.query_all.result (c.query_all.ensures.ok up.clean) (c.query_all.ensures.err up.clean)).was_up in
     shows_mark (state g.S.Store c.args.conn.now) (state g.S.Store c.query_all.new.self) (c.requires.desk before) c.query_all.result (c.query_all.ensures.ok up.clean)
+
+pub returns-clause-survives : goal.returns-clause-survives
+returns-clause-survives g c up =
+    let old = state g.S.Store c.args.conn.now in
+    survives_query roster_query old (state g.S.Store c.query_all.new.self) (roster_plain old (c.requires.desk up)) c.query_all.ensures.survives

@@ -1,0 +1,27 @@
+use Rattle.std.proofs.Common.{rules, ◌≡◌, sym, subst, arith}
+use Rattle.sqlite.specs.State.{HasCleanDisk, Survives}
+use Rattle.sqlite.specs.Held.{state}
+use Rattle.sqlite.proofs.Callers.{survives_begin}
+use Rattle.sqlite.proofs.StateLemmas.{survives_then}
+use Rattle.desk_store.specs.private.Making.{Fills}
+use Rattle.desk_store.specs.private.Survival.{MakesAt}
+use Rattle.desk_store.proofs.SurvivalLemmas.{makes_again}
+use Rattle.desk_store.proofs.making.create.Goals as goal
+
+-- the commit alone can leave more, and it leaves the whole desk
+pub returns-clause-survives : goal.returns-clause-survives
+returns-clause-survives g c up =
+    let old = c.args.conn.now in
+    let first = c.transaction-tx.result.conn.now in
+    let last = c.fill.new.tx.conn.now in
+    let end = c.commit.new.self.0 in
+    let begun = c.transaction-tx.ensures.begun in
+    let roster = c.args.roster.now in
+    let makes = λ (clean : HasCleanDisk (state g.S.Store last)).
+    let filled : Fills roster (state g.S.Store first) (state g.S.Store last) = c.in_ok-fill.ensures.filled clean (rw begun) in
+    filled.makes (rw begun (c.requires.ready up)) in
+    let whole = survives_then (state g.S.Store old) (state g.S.Store last) (state g.S.Store end) _ _ (MakesAt roster) (λ _ db none. absurd none)
+    (λ clean db is. let lives = c.commit.ensures.survives.clean in subst (MakesAt roster) (sym is) (makes_again roster (state g.S.Store last).now (makes (omega (arith, lives, clean)))))
+    (survives_begin g.S.Store old (state g.S.Store last) _ (rw begun at c.fill.ensures.survives)) c.commit.ensures.survives in
+    let same : end ≡ c.conn-2-1.given.0 = search rules in
+    subst (λ h. Survives (state g.S.Store old) (state g.S.Store h) (MakesAt roster)) same whole

@@ -1,0 +1,39 @@
+-- What a crash leaves, as the next opening finds it.
+use Rattle.std.specs.Prelude.{◌≡◌, ◌⊎◌, true, List, ℕ}
+use Rattle.messages.specs.Wire.{wire, IsMessage}
+use Rattle.messages.specs.declared.message.Message.{Message}
+use Rattle.desk_store.specs.Sets.{SameSet, With}
+use Rattle.desk_store.specs.Stored.{Content, has}
+
+-- Nothing of a desk's, a desk with all that it keeps, or something of a desk's that is no desk.
+pub data Left : Type 0 where
+  Nothing : Left
+  ADesk : Content → Left
+  NoDesk : Left
+
+-- the message's text is one of the desk's
+abbrev pub HoldsIn : Content → Message → Type 0
+HoldsIn c m = IsMessage m × (has c (wire m) ≡ true)
+
+-- a whole desk: of this roster text, and with exactly these messages
+abbrev pub IsDeskOf : (roster : List ℕ) → (messages : Message → Type 0) → Left → Type 0
+IsDeskOf roster S Nothing = ⊥
+IsDeskOf roster S (ADesk c) = (c.roster ≡ roster) × SameSet S (HoldsIn c)
+IsDeskOf roster S NoDesk = ⊥
+
+-- What is left is what was kept: nothing of a desk's, or the whole desk.
+pub record IsAsKept (Empty Desk : Type 0) (roster : List ℕ) (S : Message → Type 0) (left : Left) : Type 0 where
+  pub empty : Empty → left ≡ Nothing
+  pub desk : Desk → IsDeskOf roster S left
+
+-- nothing of a desk's, or a whole desk of this roster text, with no message
+abbrev pub IsNothingOrFresh : (roster : List ℕ) → Left → Type 0
+IsNothingOrFresh roster left = (left ≡ Nothing) ⊎ IsDeskOf roster (λ _. ⊥) left
+
+-- the whole desk without the message, or the whole desk with it
+abbrev pub IsWithOrWithout : (roster : List ℕ) → (messages : Message → Type 0) → Message → Left → Type 0
+IsWithOrWithout roster S m left = IsDeskOf roster S left ⊎ IsDeskOf roster (With S m) left
+
+-- whatever may be left has the property
+abbrev pub LeavesOnly : (MayLeave Property : Left → Type 0) → Type 0
+LeavesOnly MayLeave Property = (left : Left) → MayLeave left → Property left
