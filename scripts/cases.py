@@ -202,6 +202,7 @@ def printed(table):
     for row in table["printed"]:
         base, roster = (text_of(row.get(name, table[name])).encode() for name in ("base", "roster"))
         words = ["print", "ROSTER", "BASE", "-", row.get("host", table["host"])]
+        words += ["--after", row["after"]] if "after" in row else []
         wanted = (text_of(row["out"]), row.get("err", ""), row.get("status", 0))
         yield row["name"], Run(base, words, input_of(table, row), roster=roster), wanted
 
@@ -251,18 +252,18 @@ def words(table):
             yield f"{group['name']}: {line}", run, (None if "stdout" in run.streams else out, None if "stderr" in run.streams else err, group["status"])
 
 
-def rule_lines(first, count, each):
+def rule_lines(first, count, each, until="20260105110000Z"):
     """So many requests from this number on, each approved, and the lines of the host's file that grant them: by number, and then by command."""
     given, granted = [], []
     for no in range(first, first + count):
         commands = [f"/bin/c{n:02}" for n in range(each)]
         request = {
             "at": "20260105060000Z", "by": "ann", "ceiling": "db-root", "cmnds": commands, "from": "20260105090000Z",
-            "hosts": ["db1"], "kind": "request", "no": no, "runas": "root", "until": "20260105110000Z",
+            "hosts": ["db1"], "kind": "request", "no": no, "runas": "root", "until": until,
         }
         approval = {"at": "20260105083000Z", "by": "bob", "kind": "approve", "no": no, "of": "ann"}
         given += [json.dumps(approval, separators=(",", ":")), json.dumps(request, separators=(",", ":"))]
-        granted += [f"ann db1 = (root) NOTBEFORE=20260105090000Z NOTAFTER=20260105110000Z {name}" for name in commands]
+        granted += [f"ann db1 = (root) NOTBEFORE=20260105090000Z NOTAFTER={until} {name}" for name in commands]
     return given, granted
 
 
@@ -272,9 +273,12 @@ def many(table):
         for made in row["requests"]:
             lines, rules = rule_lines(*made)
             given, granted = given + lines, granted + rules
+        after = row.get("after")
+        granted = granted[:row["left"]] if after else granted
         out = "" if "err" in row else "\n".join([table["bare"], *granted]) + "\n"
         wanted = (out, row.get("err", ""), row.get("status", 0))
-        run = Run(table["base"].encode(), ["print", "ROSTER", "BASE", "-", "db1"], ("\n".join(given) + "\n").encode(), roster=table["roster"].encode())
+        words = ["print", "ROSTER", "BASE", "-", "db1"] + (["--after", after] if after else [])
+        run = Run(table["base"].encode(), words, ("\n".join(given) + "\n").encode(), roster=table["roster"].encode())
         yield row["name"], run, wanted
 
 
