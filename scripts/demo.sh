@@ -41,6 +41,7 @@ with_messages examples/parked.messages deliver "${desk[@]}" fax
 for step in parked asked approved refused revoked; do
     with_messages "examples/$step.messages" print "${desk[@]}" db1
 done
+with_messages examples/revoked.messages print "${desk[@]}" db1 --after 20260105103000Z
 build/desk print "${desk[@]}" db1 < examples/revoked.messages > build/db1.sudo
 for at in 20260105091459Z 20260105091500Z 20260105102959Z 20260105103000Z; do
     ask decide build/db1.sudo ann db1 root "$at" /usr/bin/id
