@@ -57,6 +57,7 @@ def commands(folder):
             file.write(text)
     return [
         (["print", roster, base, "-", "db1"], MESSAGES),
+        (["print", roster, base, "-", "db1", "--after", "20260105110001Z"], MESSAGES),
         (["review", roster, base, "-", "20260105093000Z"], MESSAGES),
         (["deliver", roster, base, "-", "chat"], MESSAGES),
         (["check", base], b""),
