@@ -84,3 +84,7 @@ for at in 20260105093000Z 20260105103000Z; do
     with_messages examples/revoked.messages review "${desk[@]}" "$at"
 done
 with_messages examples/parked.messages review "${desk[@]}" 20260105093000Z
+
+# What the grant's lines allow beyond the base, and that the base allows nothing beyond the host's file.
+ask beyond build/db1.sudo examples/site.sudo
+ask beyond examples/site.sudo build/db1.sudo
