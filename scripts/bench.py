@@ -329,7 +329,25 @@ def comparing(folder):
     words = [DESK, "beyond", stored(folder, "new.sudo", new), stored(folder, "old.sudo", old)]
     figure = (instructions(words), *run(words), len(new) + len(old))
     print(f"beyond, 1,000,000 cases, {shown(figure)}")
-    return judged("beyond: 1,000,000 cases, million instructions", figure[0] / 1e6, 2_000) if figure[0] else 0
+    wrong = judged("beyond: 1,000,000 cases, million instructions", figure[0] / 1e6, 2_000) if figure[0] else 0
+    return wrong + growing(folder)
+
+
+def growing(folder):
+    """What a case costs on policies of ten times as many rules, which deciding looks at one after the other; 1 where that grows faster than they do."""
+    costs = []
+    for rules in (40, 400):
+
+        def text(start, end):
+            return "".join(f"u h = (r) NOTBEFORE=20260105{start:02}Z NOTAFTER=20260105{end:02}Z /c{n}\n" for n in range(rules))
+
+        words = [DESK, "beyond", stored(folder, "new.sudo", text(10, 11)), stored(folder, "old.sudo", text(9, 12))]
+        # two users, hosts and targets each, a path for each rule and one more, and five moments; and the same with one user, host and target
+        counts = [instructions(words), instructions([*words, "--user", "x", "--host", "x", "--runas", "x"])]
+        if None in counts:
+            return 0
+        costs.append((counts[0] - counts[1]) / ((8 - 1) * (rules + 1) * 5))
+    return judged("beyond: a case on ten times the rules, instructions", costs[1] / costs[0], 10)
 
 
 def reports(folder):
