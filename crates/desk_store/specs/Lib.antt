@@ -1,5 +1,6 @@
 pub mod Sets
 pub mod Keeping
+pub mod Faults
 -- a keeper in memory
 pub mod Memory
 pub mod MemoryLaws

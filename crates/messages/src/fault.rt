@@ -4,6 +4,7 @@ ghost use Rattle.std.specs.Prelude.{◌≡◌};
 ghost use Rattle.messages.specs.declared.fault.MessageFault.TheVariants as fault;
 
 use std::alloc::{AllocError, AllocFailed};
+use std::error::Error;
 use std::fmt;
 use sudo_words::NoMemory;
 
@@ -35,6 +36,8 @@ impl fmt::Display for MessageFault {
         })
     }
 }
+
+impl Error for MessageFault {}
 
 impl From<AllocError> for MessageFault {
     ghost from_gives = { λ _ e. e ≡ fault.NoMemory };

@@ -2,8 +2,10 @@
 
 use crate::place::Methods;
 use crate::status::Status;
+use std::error::Error;
+use std::fmt;
 
-/// Why a request is refused by its bytes alone.
+/// Why a request is refused by its bytes alone. It is shown as its code and name.
 #[derive(Clone, Copy, Debug, PartialEq, Eq)]
 pub enum RequestFault {
     /// The first 8,192 bytes begin with no request head of at most 32 fields, or its Host field is missing or there twice.
@@ -25,6 +27,29 @@ pub enum RequestFault {
     /// The text in a moment's place is no moment's canonical text.
     BadMoment,
 }
+
+impl fmt::Display for RequestFault {
+    ghost use Rattle.std.specs.Prelude.{Some};
+    ghost use Rattle.relay_http.specs.Reply.{fault_text};
+
+    ghost output = { λ f. Some (fault_text f) };
+
+    fn fmt<W: fmt::Write>(&self, f: &mut fmt::Formatter<W>) -> fmt::Result {
+        f.write_str(match self {
+            RequestFault::BadHead => "T1 BadHead",
+            RequestFault::BadTarget => "T2 BadTarget",
+            RequestFault::NoRoute => "T3 NoRoute",
+            RequestFault::BadMethod(_) => "T4 BadMethod",
+            RequestFault::LengthRequired => "T5 LengthRequired",
+            RequestFault::BadLength => "T6 BadLength",
+            RequestFault::ShortBody => "T7 ShortBody",
+            RequestFault::BadMoment => "T8 BadMoment",
+            RequestFault::TooLong => "M1 TooLong",
+        })
+    }
+}
+
+impl Error for RequestFault {}
 
 impl RequestFault {
     ghost use Rattle.std.specs.Prelude.{◌≡◌};

@@ -5,7 +5,7 @@ use Rattle.std.proofs.lemmas.List.{append-nil, length-append}
 use Rattle.sudo_words.specs.Word.{is_arg}
 use Rattle.sudo_words.specs.Command.{arg_text}
 use Rattle.sudo_syntax.specs.Lex.{Tok, word}
-use Rattle.sudo_syntax.specs.Fronts.{NoArg, arg_toks}
+use Rattle.sudo_syntax.specs.private.Fronts.{NoArg, arg_toks}
 use Rattle.sudo_syntax.proofs.Leads.{Leads}
 
 abbrev pub AreArgs : List (List ℕ) → Type 0

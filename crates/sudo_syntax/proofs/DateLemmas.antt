@@ -4,7 +4,7 @@ use Rattle.std.specs.Prelude.{codes}
 use Rattle.sudo_words.specs.Moment as moments
 use Rattle.sudo_syntax.specs.Lex.{Tok, word, mark}
 use Rattle.sudo_syntax.specs.Grammar.{Date, GivesBound, Bounds, SpellsDates, begins_spaced}
-use Rattle.sudo_syntax.specs.Fronts.{AddsBound, Dated, NoDate}
+use Rattle.sudo_syntax.specs.private.Fronts.{AddsBound, Dated, NoDate}
 use Rattle.sudo_syntax.proofs.Leads.{Leads}
 
 -- the two options have different words

@@ -13,8 +13,8 @@ use Rattle.sudo_syntax.specs.declared.scope.Scope.{Scope}
 use Rattle.sudo_syntax.specs.declared.fault.LineFault.{LineFault}
 use Rattle.sudo_syntax.specs.declared.fault.LineFault.TheVariants as fault
 use Rattle.sudo_syntax.specs.Alias.{item_alias, cmnd_alias, user_def, runas_def, host_def, cmnd_def, user_defs, runas_defs, host_defs, cmnd_defs}
-use Rattle.sudo_syntax.specs.Measures.{stopped, IsDefinable, Defines}
-use Rattle.sudo_syntax.specs.Scope.{IsScope, RuleIsKnown, rule_weight_in}
+use Rattle.sudo_syntax.specs.private.Measures.{stopped, IsDefinable, Defines}
+use Rattle.sudo_syntax.specs.private.Scope.{IsScope, RuleIsKnown, rule_weight_in}
 use Rattle.sudo_syntax.specs.Policy.{IsPlaced, entry_weight}
 use Rattle.sudo_syntax.proofs.Tables.{new_is, definable_is, kind_push, kind_same, rule_known, known_rule, rule_stopped}
 

@@ -13,7 +13,7 @@ use Rattle.sudo_syntax.specs.declared.tree.Part.{Part}
 use Rattle.sudo_syntax.specs.declared.tree.Settings.{Settings}
 use Rattle.sudo_syntax.specs.declared.tree.Line.{Line}
 use Rattle.sudo_syntax.specs.declared.token.Token.{Token}
-use Rattle.sudo_syntax.specs.Lex.{toks}
+use Rattle.sudo_syntax.specs.private.Tokens.{toks}
 use Rattle.sudo_syntax.specs.Grammar.{SpellsTree}
 use Rattle.sudo_syntax.specs.Spelling.{SpellsEntries}
 use Rattle.sudo_syntax.specs.Inheritance.{with_spec, rule_with, rules_of, part_rules}

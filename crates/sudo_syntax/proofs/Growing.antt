@@ -10,10 +10,10 @@ use Rattle.sudo_syntax.specs.declared.aliases.Alias.{Alias}
 use Rattle.sudo_syntax.specs.declared.aliases.Aliases.{Aliases}
 use Rattle.sudo_syntax.specs.declared.scope.Scope.{Scope}
 use Rattle.sudo_syntax.specs.Alias.{is_defined}
-use Rattle.sudo_syntax.specs.Measures.{alias_at}
+use Rattle.sudo_syntax.specs.private.Measures.{alias_at}
 use Rattle.sudo_syntax.specs.Policy.{IsEntry, IsPolicy, weight}
 use Rattle.sudo_syntax.specs.Printing.{line_text, canon}
-use Rattle.sudo_syntax.specs.Scope.{IsKind, IsWhole}
+use Rattle.sudo_syntax.specs.private.Scope.{IsKind, IsWhole}
 use Rattle.sudo_syntax.proofs.Measuring.{each_push}
 use Rattle.sudo_syntax.proofs.PolicyFronts.{placed_push, weight_push, canon_push}
 use Rattle.sudo_syntax.proofs.Entering.{IsEntered}

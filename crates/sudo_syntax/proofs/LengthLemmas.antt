@@ -2,7 +2,7 @@
 use Rattle.std.proofs.Common.{◌≡◌, ℕ, suc, ◌+◌, ◌<◌, List, ◌++◌, length, get_or, take, ap, ◌∙◌, arith}
 use Rattle.std.specs.Prelude.{codes}
 use Rattle.std.proofs.lemmas.List.{length-append}
-use Rattle.sudo_syntax.specs.Lengths.{stopped}
+use Rattle.sudo_syntax.specs.private.Lengths.{stopped}
 use Rattle.sudo_syntax.specs.Printing.{tail_text}
 use Rattle.sudo_syntax.proofs.Printed.{tail_suc}
 

@@ -6,8 +6,9 @@ use Rattle.std.proofs.lemmas.Bool.{false≢true, eqb-true}
 use Rattle.std.proofs.lemmas.Bool.Decides.{nat_tests}
 use Rattle.std.proofs.lemmas.List.{append-nil, length-append}
 use Rattle.sudo_syntax.specs.Span.{Each, Stops, IsCut}
-use Rattle.sudo_syntax.specs.Lex.{is_blank, is_mark, is_word_byte, is_word_text, goes_on, bangs, is_some_blank, is_spaced, Tok, word, mark, text_of, IsTok, Lexes, IsFirst, IsLast, NoLexing}
-use Rattle.sudo_syntax.specs.Cuts.{is_bang, IsWordCut}
+use Rattle.sudo_syntax.specs.Lex.{is_blank, is_mark, is_word_byte, is_word_text, goes_on, bangs, is_some_blank, is_spaced, Tok, word, mark, text_of, IsTok, Lexes}
+use Rattle.sudo_syntax.specs.private.Tokens.{IsFirst, IsLast, NoLexing}
+use Rattle.sudo_syntax.specs.private.Cuts.{is_bang, IsWordCut}
 use Rattle.sudo_syntax.proofs.Spans.{one_cut}
 use Rattle.sudo_syntax.proofs.WordTexts.{begins, text_goes_on, one_word}
 

@@ -7,7 +7,7 @@ use Rattle.sudo_syntax.specs.declared.entry.Entry.{Entry}
 use Rattle.sudo_syntax.specs.Span.{Each}
 use Rattle.sudo_syntax.specs.Lex.{is_text_byte}
 use Rattle.sudo_syntax.specs.Lines.{lines_of, IsBody, IsContinued, Joined}
-use Rattle.sudo_syntax.specs.Pending.{JoinedBehind, SpellsBehind, Leads}
+use Rattle.sudo_syntax.specs.private.Pending.{JoinedBehind, SpellsBehind, Leads}
 use Rattle.sudo_syntax.specs.Policy.{IsPolicy}
 use Rattle.sudo_syntax.specs.Reading.{HasOtherByte, IsLineOf, SpellsBy}
 use Rattle.sudo_syntax.specs.Spelling.{SpellsLine, SpellsLines}

@@ -7,8 +7,9 @@ use Rattle.sudo_syntax.specs.declared.entry.Signed.{Signed}
 use Rattle.sudo_syntax.specs.declared.entry.Item.{Item}
 use Rattle.sudo_syntax.specs.declared.token.Token.{Token}
 use Rattle.sudo_syntax.specs.declared.tree.Part.{Part}
-use Rattle.sudo_syntax.specs.Lex.{Tok, word, mark, toks}
-use Rattle.sudo_syntax.specs.Fronts.{NoMark, Defines}
+use Rattle.sudo_syntax.specs.Lex.{Tok, word, mark}
+use Rattle.sudo_syntax.specs.private.Tokens.{toks}
+use Rattle.sudo_syntax.specs.private.Fronts.{NoMark, Defines}
 use Rattle.sudo_syntax.specs.Grammar.{More, Listed, Hosts, SpellsPart, begins_spaced}
 use Rattle.sudo_syntax.proofs.Leads.{Leads, leads_on}
 

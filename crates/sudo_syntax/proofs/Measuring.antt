@@ -8,7 +8,7 @@ use Rattle.sudo_syntax.specs.declared.entry.Signed.{Signed}
 use Rattle.sudo_syntax.specs.declared.aliases.Measure.{Measure}
 use Rattle.sudo_syntax.specs.declared.aliases.Aliases.{Aliases}
 use Rattle.sudo_syntax.specs.Alias.{list_weight, item_weight, list_depth, item_depth}
-use Rattle.sudo_syntax.specs.Measures.{stopped, weight_in, depth_in, has, KnowsAll, IsItemKnown, IsItemMeasured, IsMeasured}
+use Rattle.sudo_syntax.specs.private.Measures.{stopped, weight_in, depth_in, has, KnowsAll, IsItemKnown, IsItemMeasured, IsMeasured}
 
 pub each_push : {X : Type 0} (P : X → Type 0) (xs : List X) (x : X) → AllByRecursion P xs → P x → AllByRecursion P (xs ++ x ∷ [])
 each_push P [] x all here = (here, tt)

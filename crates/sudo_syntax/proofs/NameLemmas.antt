@@ -7,7 +7,7 @@ use Rattle.sudo_syntax.specs.declared.entry.Item.{Item}
 use Rattle.sudo_syntax.specs.declared.entry.Item.TheVariants as items
 use Rattle.sudo_syntax.specs.Printing.{item_text}
 use Rattle.sudo_syntax.specs.Policy.{IsItem}
-use Rattle.sudo_syntax.specs.Fronts.{begins_upper}
+use Rattle.sudo_syntax.specs.private.Fronts.{begins_upper}
 
 -- `ALL` is no alias
 pub all_reserved : is_alias_name (codes "ALL") ≡ true → ⊥

@@ -17,7 +17,8 @@ use Rattle.sudo_syntax.specs.declared.tree.Line.TheVariants as lines
 use Rattle.sudo_syntax.specs.declared.tree.Part.{Part}
 use Rattle.sudo_syntax.specs.declared.tree.Spec.{Spec}
 use Rattle.sudo_syntax.specs.Policy.{IsCmndItem, IsPolicy}
-use Rattle.sudo_syntax.specs.Lex.{Tok, word, mark, Lexes, NoLexing}
+use Rattle.sudo_syntax.specs.Lex.{Tok, word, mark, Lexes}
+use Rattle.sudo_syntax.specs.private.Tokens.{NoLexing}
 use Rattle.sudo_syntax.specs.Lines.{is_no_hash, is_backslash, ends_with, lines_of, Joined}
 use Rattle.sudo_syntax.specs.Grammar.{Listed, More, SpellsItem, SpellsCmnd, SpellsRunas, SpellsDates, SpellsTags, SpellsSpec, SpellsPart, SpellsRights, SpellsTree, Date, head_of, args_of, rule_toks}
 use Rattle.sudo_syntax.specs.Inheritance.{entries_of}

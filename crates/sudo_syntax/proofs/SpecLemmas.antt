@@ -6,7 +6,7 @@ use Rattle.sudo_syntax.specs.declared.entry.Item.{Item}
 use Rattle.sudo_syntax.specs.declared.tree.Spec.{Spec}
 use Rattle.sudo_syntax.specs.Lex.{Tok, word, mark}
 use Rattle.sudo_syntax.specs.Grammar.{Date, SpellsCmnd, SpellsDates, SpellsTags, head_of, args_of, tag_word}
-use Rattle.sudo_syntax.specs.Fronts.{EndsBy, NoMark, NoTag, NoDate}
+use Rattle.sudo_syntax.specs.private.Fronts.{EndsBy, NoMark, NoTag, NoDate}
 use Rattle.sudo_syntax.proofs.ListLemmas.{no_mark}
 use Rattle.sudo_syntax.proofs.CmndLemmas.{cmnd_no_tag, args_no_equals}
 

@@ -16,8 +16,8 @@ use Rattle.sudo_syntax.specs.declared.aliases.Alias.{Alias}
 use Rattle.sudo_syntax.specs.declared.aliases.Aliases.{Aliases}
 use Rattle.sudo_syntax.specs.declared.scope.Scope.{Scope}
 use Rattle.sudo_syntax.specs.Alias.{DefinedAt, is_defined, item_alias, cmnd_alias, list_weight, depth_of, alias_weight, alias_depth, user_defs, runas_defs, host_defs, cmnd_defs}
-use Rattle.sudo_syntax.specs.Measures.{alias_at, has, weight_in, depth_in, stopped, IsDefinable, Defines}
-use Rattle.sudo_syntax.specs.Scope.{IsTable, ArePlaces, IsKind, IsScope, RuleIsKnown, rule_weight_in}
+use Rattle.sudo_syntax.specs.private.Measures.{alias_at, has, weight_in, depth_in, stopped, IsDefinable, Defines}
+use Rattle.sudo_syntax.specs.private.Scope.{IsTable, ArePlaces, IsKind, IsScope, RuleIsKnown, rule_weight_in}
 use Rattle.sudo_syntax.specs.Policy.{IsNew, KnowsRule, rule_weight}
 use Rattle.sudo_syntax.proofs.Measuring.{known_same, list_stopped, list_deep}
 

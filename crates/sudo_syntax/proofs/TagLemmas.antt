@@ -3,7 +3,7 @@ use Rattle.std.proofs.Common.{◌≡◌, Bool, true, false, List, [], ◌∷◌,
 use Rattle.std.specs.Option.{option_or}
 use Rattle.sudo_syntax.specs.Lex.{Tok, word, mark}
 use Rattle.sudo_syntax.specs.Grammar.{SpellsTags, tag_word, last_tag}
-use Rattle.sudo_syntax.specs.Fronts.{NoTag, Tagged}
+use Rattle.sudo_syntax.specs.private.Fronts.{NoTag, Tagged}
 use Rattle.sudo_syntax.proofs.Leads.{Leads}
 
 abbrev pub Ends : Option Bool → List Tok → Type 0

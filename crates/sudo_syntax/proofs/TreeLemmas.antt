@@ -15,7 +15,7 @@ use Rattle.sudo_syntax.specs.Lex.{Tok}
 use Rattle.sudo_syntax.specs.Printing.{item_text}
 use Rattle.sudo_syntax.specs.Policy.{IsItem}
 use Rattle.sudo_syntax.specs.Grammar.{Users, SpellsAliases, SpellsRights, SpellsTree}
-use Rattle.sudo_syntax.specs.Fronts.{NoKind}
+use Rattle.sudo_syntax.specs.private.Fronts.{NoKind}
 
 -- ---- the words of the four kinds
 

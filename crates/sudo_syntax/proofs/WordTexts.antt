@@ -7,7 +7,7 @@ use Rattle.std.proofs.Math.Seq.{take-append_seam, drop-append_seam}
 use Rattle.std.proofs.lemmas.Bool.{false≢true, and_parts, and_from, or_left, or_right}
 use Rattle.std.proofs.lemmas.Bool.Decides.{nat_tests}
 use Rattle.sudo_words.specs.Command.{is_escaped}
-use Rattle.sudo_syntax.specs.Cuts.{IsBehindPart, IsWordCut}
+use Rattle.sudo_syntax.specs.private.Cuts.{IsBehindPart, IsWordCut}
 use Rattle.sudo_syntax.specs.Lex.{is_word_byte, is_word_text, goes_on}
 
 -- ---- bytes

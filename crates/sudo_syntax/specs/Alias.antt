@@ -16,31 +16,19 @@ use Rattle.sudo_syntax.specs.declared.tree.Definition.{Definition}
 
 abbrev pub user_def : Entry → List (Definition (Item (List ℕ)))
 user_def (entries.UserAlias name list) = record { name = name; list = list } ∷ []
-user_def (entries.RunasAlias name list) = []
-user_def (entries.HostAlias name list) = []
-user_def (entries.CmndAlias name list) = []
-user_def (entries.Rule rule) = []
+user_def other = []
 
 abbrev pub runas_def : Entry → List (Definition (Item (List ℕ)))
-runas_def (entries.UserAlias name list) = []
 runas_def (entries.RunasAlias name list) = record { name = name; list = list } ∷ []
-runas_def (entries.HostAlias name list) = []
-runas_def (entries.CmndAlias name list) = []
-runas_def (entries.Rule rule) = []
+runas_def other = []
 
 abbrev pub host_def : Entry → List (Definition (Item (List ℕ)))
-host_def (entries.UserAlias name list) = []
-host_def (entries.RunasAlias name list) = []
 host_def (entries.HostAlias name list) = record { name = name; list = list } ∷ []
-host_def (entries.CmndAlias name list) = []
-host_def (entries.Rule rule) = []
+host_def other = []
 
 abbrev pub cmnd_def : Entry → List (Definition CmndItem)
-cmnd_def (entries.UserAlias name list) = []
-cmnd_def (entries.RunasAlias name list) = []
-cmnd_def (entries.HostAlias name list) = []
 cmnd_def (entries.CmndAlias name list) = record { name = name; list = list } ∷ []
-cmnd_def (entries.Rule rule) = []
+cmnd_def other = []
 
 -- those of entries that are listed from the nearest to the farthest above
 abbrev pub user_defs : List Entry → List (Definition (Item (List ℕ)))

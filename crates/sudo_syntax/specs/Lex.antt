@@ -1,10 +1,8 @@
 -- A line as words and marks, and where blanks stand between them.
-use Rattle.std.specs.Prelude.{◌≡◌, ℕ, zero, suc, ◌<◌, Bool, true, false, ◌&&◌, ◌||◌, ◌==◌, nat_le, if◌then◌else◌, List, [], ◌∷◌, ◌++◌, length, map}
+use Rattle.std.specs.Prelude.{◌≡◌, ℕ, zero, suc, ◌<◌, Bool, true, false, ◌&&◌, ◌||◌, ◌==◌, nat_le, if◌then◌else◌, List, [], ◌∷◌, ◌++◌, length}
 use Rattle.sudo_words.specs.Word.{is_letter_or_digit}
 use Rattle.sudo_words.specs.Command.{is_escaped}
 use Rattle.sudo_syntax.specs.Span.{Each}
-use Rattle.sudo_syntax.specs.declared.token.Token.{Token}
-use Rattle.sudo_syntax.specs.declared.token.Token.TheVariants.{Word, Mark}
 
 -- the bytes of a text: tab, newline, and the printed ones of ASCII
 abbrev pub is_text_byte : ℕ → Bool
@@ -68,24 +66,3 @@ Lexes bytes [] = Each is_blank bytes
 Lexes bytes (t ∷ ts) =
     (blanks rest : List ℕ) × Each is_blank blanks × (is_spaced t ≡ is_some_blank blanks) × IsTok t rest
     × (bytes ≡ blanks ++ (text_of t ++ rest)) × Lexes rest ts
-
--- a token of the code, without where its bytes lie
-abbrev pub tok : Token → Tok
-tok (Word spaced n text) = word spaced n text.now
-tok (Mark spaced byte) = mark spaced byte
-
-abbrev pub toks : List Token → List Tok
-toks ts = map tok ts
-
--- The readings of the bytes are those of the rest, with the token before them.
-pub record IsFirst (bytes : List ℕ) (t : Tok) (rest : List ℕ) : Type 0 where
-  pub adds : (ts : List Tok) → Lexes rest ts → Lexes bytes (t ∷ ts)
-  pub only : (ts : List Tok) → Lexes bytes ts → (more : List Tok) × (ts ≡ t ∷ more) × Lexes rest more
-  pub shorter : length rest < length bytes
-
-pub record IsLast (bytes : List ℕ) : Type 0 where
-  pub empty : Lexes bytes []
-  pub only : (ts : List Tok) → Lexes bytes ts → ts ≡ []
-
-abbrev pub NoLexing : List ℕ → Type 0
-NoLexing bytes = (ts : List Tok) → Lexes bytes ts → ⊥

@@ -1,25 +1,21 @@
+-- what a policy is made of, and its text
 pub mod Printing
 pub mod Alias
 pub mod Policy
-pub mod Aliased
-pub mod Measures
-pub mod Scope
+-- which texts spell it
 pub mod Span
 pub mod Lex
-pub mod Cuts
 pub mod Lines
-pub mod Pieces
-pub mod Pending
 pub mod Grammar
 pub mod Inheritance
-pub mod Inherited
 pub mod Spelling
+pub mod Reading
+pub mod Faults
+-- laws in the subject's words, and worked texts
+pub mod Aliased
+pub mod Inherited
 pub mod Alike
 pub mod Apart
 pub mod Worked
 pub mod Doubling
-pub mod Reading
-pub mod Faults
-pub mod Lengths
-pub mod Fronts
-pub mod Low
+pub mod private

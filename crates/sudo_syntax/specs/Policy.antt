@@ -82,11 +82,8 @@ rule_weight above r =
     + list_weight cmnd_alias (alias_weight cmnd_alias (cmnd_defs above)) (r.cmnd ∷ [])
 
 abbrev pub entry_weight : List Entry → Entry → ℕ
-entry_weight above (entries.UserAlias name list) = 0
-entry_weight above (entries.RunasAlias name list) = 0
-entry_weight above (entries.HostAlias name list) = 0
-entry_weight above (entries.CmndAlias name list) = 0
 entry_weight above (entries.Rule rule) = rule_weight above rule
+entry_weight above alias = 0
 
 abbrev pub weight_below : List Entry → List Entry → ℕ
 weight_below above [] = 0

@@ -3,7 +3,7 @@
 ghost use Rattle.std.specs.Prelude.{◌≡◌, ◌+◌, ◌∷◌, [], List, ℕ, Option, max, MatchOption, OnOk, OnErr, IfOk, IfErr, Some};
 ghost use Rattle.std.specs.Option.{option_copied};
 ghost use Rattle.sudo_syntax.specs.Alias.{item_alias, cmnd_alias};
-ghost use Rattle.sudo_syntax.specs.Measures.{alias_at, stopped, IsUnmeasured, IsMeasured, IsItemUnmeasured, IsItemMeasured, IsDefinable, Defines};
+ghost use Rattle.sudo_syntax.specs.private.Measures.{alias_at, stopped, IsUnmeasured, IsMeasured, IsItemUnmeasured, IsItemMeasured, IsDefinable, Defines};
 ghost use Rattle.sudo_syntax.specs.declared.fault.LineFault.TheVariants as fault;
 
 use crate::entry::{CmndItem, Item, Signed};

@@ -8,9 +8,10 @@ ghost use Rattle.sudo_words.specs.declared.cmnd.ArgRule.{ArgRule as Ruled};
 ghost use Rattle.sudo_words.specs.declared.cmnd.Cmnd.{Cmnd as Command};
 ghost use Rattle.sudo_syntax.specs.declared.entry.CmndItem.{CmndItem as Said};
 ghost use Rattle.sudo_syntax.specs.declared.fault.LineFault.TheVariants.{NoMemory};
-ghost use Rattle.sudo_syntax.specs.Fronts.{EndsBy, NoArg, arg_toks, rule_from};
+ghost use Rattle.sudo_syntax.specs.private.Fronts.{EndsBy, NoArg, arg_toks, rule_from};
 ghost use Rattle.sudo_syntax.specs.Grammar.{SpellsCmnd, args_of, head_of, rule_toks};
-ghost use Rattle.sudo_syntax.specs.Lex.{Tok, toks};
+ghost use Rattle.sudo_syntax.specs.Lex.{Tok};
+ghost use Rattle.sudo_syntax.specs.private.Tokens.{toks};
 ghost use Rattle.sudo_syntax.specs.Policy.{IsCmndItem};
 
 use crate::entry::{CmndItem, Signed};

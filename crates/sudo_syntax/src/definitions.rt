@@ -4,9 +4,10 @@ ghost use Rattle.std.specs.Prelude.{◌≡◌, ◌<◌, List, ℕ, length, IfOk,
 ghost use Rattle.sudo_syntax.specs.declared.entry.Signed.{Signed as Sign};
 ghost use Rattle.sudo_syntax.specs.declared.fault.LineFault.TheVariants.{NoMemory};
 ghost use Rattle.sudo_syntax.specs.declared.tree.Definition.{Definition as Defined};
-ghost use Rattle.sudo_syntax.specs.Fronts.{Defines, EndsBy, NoKind};
+ghost use Rattle.sudo_syntax.specs.private.Fronts.{Defines, EndsBy, NoKind};
 ghost use Rattle.sudo_syntax.specs.Grammar.{SpellsCmnd, SpellsDef, SpellsItem};
-ghost use Rattle.sudo_syntax.specs.Lex.{Tok, toks};
+ghost use Rattle.sudo_syntax.specs.Lex.{Tok};
+ghost use Rattle.sudo_syntax.specs.private.Tokens.{toks};
 
 use crate::entry::{CmndItem, Item, Signed};
 use crate::fault::LineFault;

@@ -3,7 +3,7 @@
 ghost use Rattle.std.specs.Prelude.{◌≡◌, ◌++◌, ◌∷◌, [], IfErr, OnOk};
 ghost use Rattle.sudo_syntax.specs.declared.fault.LineFault.TheVariants as fault;
 ghost use Rattle.sudo_syntax.specs.Policy.{IsEntry, IsPolicy};
-ghost use Rattle.sudo_syntax.specs.Scope.{Adds, IsDraft, IsWhole};
+ghost use Rattle.sudo_syntax.specs.private.Scope.{Adds, IsDraft, IsWhole};
 
 use crate::entry::Entry;
 use crate::fault::LineFault;

@@ -6,7 +6,7 @@ ghost use Rattle.sudo_syntax.specs.declared.entry.Entry.TheVariants as entries;
 ghost use Rattle.sudo_syntax.specs.declared.fault.FaultKind.TheVariants.{TooLarge, UnknownAlias, NoMemory};
 ghost use Rattle.sudo_syntax.specs.Policy.{IsPolicy, IsRule, KnowsRule};
 ghost use Rattle.sudo_syntax.specs.Reading as reading;
-ghost use Rattle.sudo_syntax.specs.Scope.{Adds, IsDraft};
+ghost use Rattle.sudo_syntax.specs.private.Scope.{Adds, IsDraft};
 ghost use Rattle.sudo_syntax.specs.declared.fault.LineFault.TheVariants as fault;
 
 use crate::draft::Draft;

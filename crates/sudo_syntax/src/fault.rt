@@ -4,6 +4,7 @@ ghost use Rattle.std.specs.Prelude.{◌≡◌};
 ghost use Rattle.sudo_syntax.specs.declared.fault.LineFault.TheVariants.{NoMemory};
 
 use std::alloc::{AllocError, AllocFailed};
+use std::error::Error;
 use std::fmt;
 use sudo_words::{CmndFault, WordFault};
 
@@ -57,6 +58,8 @@ impl fmt::Display for FaultKind {
     }
 }
 
+impl Error for FaultKind {}
+
 /// Why a text was not read: what is wrong, and in which line, from 1. It is shown as `S5 UnknownAlias line 3`.
 #[derive(Clone, Copy, Debug, PartialEq, Eq)]
 pub struct ReadFault {
@@ -78,6 +81,8 @@ impl fmt::Display for ReadFault {
         write!(f, "{kind} line {line}")
     }
 }
+
+impl Error for ReadFault {}
 
 /// What is wrong with a line.
 #[derive(Clone, Copy)]

@@ -1,8 +1,9 @@
 //! What stands at the front of tokens.
 
 ghost use Rattle.std.specs.Prelude.{◌≡◌, ◌≢◌, ◌<◌, ◌∷◌, Bool, true, false, List, ℕ, length, IfSome, MatchOption};
-ghost use Rattle.sudo_syntax.specs.Fronts.{NoArg, NoDate, NoHead, NoKind, NoMark, NoWord};
-ghost use Rattle.sudo_syntax.specs.Lex.{Tok, word, mark, toks};
+ghost use Rattle.sudo_syntax.specs.private.Fronts.{NoArg, NoDate, NoHead, NoKind, NoMark, NoWord};
+ghost use Rattle.sudo_syntax.specs.Lex.{Tok, word, mark};
+ghost use Rattle.sudo_syntax.specs.private.Tokens.{toks};
 
 use crate::token::Token;
 

@@ -3,7 +3,7 @@
 ghost use Rattle.std.specs.Prelude.{◌≡◌, List, ℕ, IfOk, MatchResult, true, false};
 ghost use Rattle.sudo_syntax.specs.declared.entry.Item.{Item as Said};
 ghost use Rattle.sudo_syntax.specs.declared.fault.LineFault.TheVariants.{NoMemory};
-ghost use Rattle.sudo_syntax.specs.Fronts.{begins_upper};
+ghost use Rattle.sudo_syntax.specs.private.Fronts.{begins_upper};
 ghost use Rattle.sudo_syntax.specs.Grammar.{SpellsItem};
 ghost use Rattle.sudo_syntax.specs.Policy.{IsItem};
 ghost use Rattle.sudo_syntax.specs.Printing.{item_text};
@@ -23,13 +23,13 @@ pub(crate) trait NameForm: Form {
 }
 
 impl NameForm for UserForm {
-    ghost use Rattle.sudo_syntax.specs.Low.{name_low};
+    ghost use Rattle.sudo_syntax.specs.private.Low.{name_low};
 
     ghost low = { name_low };
 }
 
 impl NameForm for HostForm {
-    ghost use Rattle.sudo_syntax.specs.Low.{host_low};
+    ghost use Rattle.sudo_syntax.specs.private.Low.{host_low};
 
     ghost low = { host_low };
 }

@@ -3,7 +3,7 @@
 ghost use Rattle.std.specs.Prelude.{◌≡◌, ◌≤◌, ◌+◌, ◌++◌, List, ℕ, codes, length};
 ghost use Rattle.std.specs.List.{AllByRecursion};
 ghost use Rattle.sudo_syntax.specs.declared.entry.Entry.TheVariants as entries;
-ghost use Rattle.sudo_syntax.specs.Lengths.{stopped};
+ghost use Rattle.sudo_syntax.specs.private.Lengths.{stopped};
 ghost use Rattle.sudo_syntax.specs.Policy.{IsCmndItem, IsEntry, IsItem, IsRule};
 ghost use Rattle.sudo_syntax.specs.Printing.{alias_text, cmnd_item_text, date_text, item_text, line_text, list_text, signed_text, tail_text, who_text};
 

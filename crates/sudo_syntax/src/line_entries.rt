@@ -6,7 +6,7 @@ ghost use Rattle.sudo_syntax.specs.declared.entry.Entry.TheVariants as entries;
 ghost use Rattle.sudo_syntax.specs.declared.fault.LineFault.TheVariants as fault;
 ghost use Rattle.sudo_syntax.specs.Inheritance as inheritance;
 ghost use Rattle.sudo_syntax.specs.Policy.{IsEntry, IsPolicy};
-ghost use Rattle.sudo_syntax.specs.Scope.{Adds, IsDraft};
+ghost use Rattle.sudo_syntax.specs.private.Scope.{Adds, IsDraft};
 
 use crate::copying::{copied_lists, copied_names};
 use crate::draft::Draft;

@@ -2,9 +2,10 @@
 
 ghost use Rattle.std.specs.Prelude.{◌≡◌, ◌<◌, ◌∷◌, Bool, List, ℕ, length, IfOk, MatchResult};
 ghost use Rattle.sudo_syntax.specs.declared.fault.LineFault.TheVariants.{NoMemory};
-ghost use Rattle.sudo_syntax.specs.Fronts.{NoMark};
+ghost use Rattle.sudo_syntax.specs.private.Fronts.{NoMark};
 ghost use Rattle.sudo_syntax.specs.Grammar.{Listed};
-ghost use Rattle.sudo_syntax.specs.Lex.{Tok, mark, toks};
+ghost use Rattle.sudo_syntax.specs.Lex.{Tok, mark};
+ghost use Rattle.sudo_syntax.specs.private.Tokens.{toks};
 
 use crate::fault::LineFault;
 use crate::fronts::behind_mark;

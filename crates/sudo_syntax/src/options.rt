@@ -3,10 +3,11 @@
 ghost use Rattle.std.specs.Prelude.{◌≡◌, ◌≤◌, ◌<◌, ◌∷◌, List, ℕ, Bool, length, IfOk, IfSome, MatchOption, MatchResult, Option, Some, None, Ok, true, false};
 ghost use Rattle.sudo_words.specs.Moment.{Spells};
 ghost use Rattle.sudo_syntax.specs.declared.fault.LineFault.TheVariants.{NoMemory};
-ghost use Rattle.sudo_syntax.specs.Fronts.{AddsBound, Dated, NoDate, NoTag, Tagged};
+ghost use Rattle.sudo_syntax.specs.private.Fronts.{AddsBound, Dated, NoDate, NoTag, Tagged};
 ghost use Rattle.sudo_syntax.specs.Grammar as grammar;
 ghost use Rattle.sudo_syntax.specs.Grammar.{tag_word};
-ghost use Rattle.sudo_syntax.specs.Lex.{Tok, toks, word, mark};
+ghost use Rattle.sudo_syntax.specs.Lex.{Tok, word, mark};
+ghost use Rattle.sudo_syntax.specs.private.Tokens.{toks};
 
 use crate::fault::LineFault;
 use crate::fronts::{date_at, head_at};

@@ -5,9 +5,10 @@ ghost use Rattle.sudo_syntax.specs.declared.entry.Item.{Item as Said};
 ghost use Rattle.sudo_syntax.specs.declared.entry.Signed.{Signed as Sign};
 ghost use Rattle.sudo_syntax.specs.declared.fault.LineFault.TheVariants.{NoMemory};
 ghost use Rattle.sudo_syntax.specs.declared.tree.Part.{Part as Parted};
-ghost use Rattle.sudo_syntax.specs.Fronts.{EndsBy};
+ghost use Rattle.sudo_syntax.specs.private.Fronts.{EndsBy};
 ghost use Rattle.sudo_syntax.specs.Grammar.{SpellsPart, SpellsRights};
-ghost use Rattle.sudo_syntax.specs.Lex.{Tok, toks};
+ghost use Rattle.sudo_syntax.specs.Lex.{Tok};
+ghost use Rattle.sudo_syntax.specs.private.Tokens.{toks};
 
 use crate::entry::{Item, Signed};
 use crate::fault::LineFault;

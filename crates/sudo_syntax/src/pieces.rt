@@ -3,7 +3,7 @@
 ghost use Rattle.std.specs.Prelude.{◌≡◌, ℕ, false, List, [], ◌∷◌, ◌++◌, IfOk, IfErr, MatchOption, length, take_while};
 ghost use Rattle.sudo_syntax.specs.Lines.{IsBody, IsContinued};
 ghost use Rattle.sudo_syntax.specs.Lines as lines;
-ghost use Rattle.sudo_syntax.specs.Pieces.{IsPiece};
+ghost use Rattle.sudo_syntax.specs.private.Pieces.{IsPiece};
 ghost use Rattle.sudo_syntax.specs.Span.{Each, IsCut};
 
 use crate::fault::LineFault;

@@ -5,11 +5,11 @@ ghost use Rattle.sudo_syntax.specs.declared.entry.Entry.{Entry as Entered};
 ghost use Rattle.sudo_syntax.specs.declared.fault.FaultKind.TheVariants.{TooLong, BadByte, TooLarge, NoMemory};
 ghost use Rattle.sudo_syntax.specs.declared.fault.LineFault.TheVariants.{NoMemory as OutOfMemory};
 ghost use Rattle.sudo_syntax.specs.Spelling.{Spells, SpellsLine};
-ghost use Rattle.sudo_syntax.specs.Pending.{Leads, SpellsBehind};
+ghost use Rattle.sudo_syntax.specs.private.Pending.{Leads, SpellsBehind};
 ghost use Rattle.sudo_syntax.specs.Lex as lex;
 ghost use Rattle.sudo_syntax.specs.Reading.{HasOtherByte, IsInLine, IsLineOf, SpellsBy};
 ghost use Rattle.sudo_syntax.specs.Policy.{IsPolicy};
-ghost use Rattle.sudo_syntax.specs.Scope.{Adds, IsDraft};
+ghost use Rattle.sudo_syntax.specs.private.Scope.{Adds, IsDraft};
 ghost use Rattle.sudo_syntax.specs.Span.{Each};
 ghost use Rattle.sudo_syntax.specs.Lines.{lines_of};
 

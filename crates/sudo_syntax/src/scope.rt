@@ -2,9 +2,9 @@
 
 ghost use Rattle.std.specs.Prelude.{◌≡◌, ◌++◌, ◌∷◌, [], ◌↔◌, IsTrue, List, length, reverse, MatchOption, IfOk, IfErr};
 ghost use Rattle.std.specs.List.{AllByRecursion};
-ghost use Rattle.sudo_syntax.specs.Measures.{stopped};
+ghost use Rattle.sudo_syntax.specs.private.Measures.{stopped};
 ghost use Rattle.sudo_syntax.specs.Policy.{IsPlaced, entry_weight};
-ghost use Rattle.sudo_syntax.specs.Scope.{IsScope, RuleIsKnown, rule_weight_in};
+ghost use Rattle.sudo_syntax.specs.private.Scope.{IsScope, RuleIsKnown, rule_weight_in};
 ghost use Rattle.sudo_syntax.specs.declared.entry.Entry.{Entry as Entered};
 ghost use Rattle.sudo_syntax.specs.declared.fault.LineFault.TheVariants as fault;
 

@@ -4,9 +4,10 @@ ghost use Rattle.std.specs.Prelude.{◌≡◌, ◌≤◌, List, ℕ, length, IfO
 ghost use Rattle.sudo_syntax.specs.declared.entry.Item.{Item as Said};
 ghost use Rattle.sudo_syntax.specs.declared.entry.Signed.{Signed as Sign};
 ghost use Rattle.sudo_syntax.specs.declared.fault.LineFault.TheVariants.{NoMemory};
-ghost use Rattle.sudo_syntax.specs.Fronts.{EndsBy, NoMark, NoWord};
+ghost use Rattle.sudo_syntax.specs.private.Fronts.{EndsBy, NoMark, NoWord};
 ghost use Rattle.sudo_syntax.specs.Grammar.{SpellsRunas, SpellsSpec};
-ghost use Rattle.sudo_syntax.specs.Lex.{Tok, toks};
+ghost use Rattle.sudo_syntax.specs.Lex.{Tok};
+ghost use Rattle.sudo_syntax.specs.private.Tokens.{toks};
 
 use crate::entry::{CmndItem, Item, Signed};
 use crate::fault::LineFault;

@@ -5,8 +5,9 @@ ghost use Rattle.std.specs.List.{list_all};
 ghost use Rattle.sudo_syntax.specs.declared.fault.LineFault.TheVariants.{NoMemory};
 ghost use Rattle.sudo_words.specs.Command as command;
 ghost use Rattle.sudo_syntax.specs.Span.{IsCut};
-ghost use Rattle.sudo_syntax.specs.Cuts.{is_bang, IsBehindPart, IsWordCut};
+ghost use Rattle.sudo_syntax.specs.private.Cuts.{is_bang, IsBehindPart, IsWordCut};
 ghost use Rattle.sudo_syntax.specs.Lex as lex;
+ghost use Rattle.sudo_syntax.specs.private.Tokens as lexing;
 
 use crate::fault::LineFault;
 use std::alloc::Global;
@@ -166,8 +167,8 @@ fn no_word(bytes: &[u8]) -> LineFault {
 
 /// The first token, if there is one, and what follows it.
 pub(crate) fn next_token(bytes: &[u8]) -> Result<Option<(Token<'_>, &[u8])>, LineFault>
-    ensures first { IfOk result (λ o. MatchOption o (lex.IsLast bytes.now) (λ x. lex.IsFirst bytes.now (lex.tok x.0) x.1.now)) }
-    ensures fault { IfErr result (λ e. lex.NoLexing bytes.now) }
+    ensures first { IfOk result (λ o. MatchOption o (lexing.IsLast bytes.now) (λ x. lexing.IsFirst bytes.now (lexing.tok x.0) x.1.now)) }
+    ensures fault { IfErr result (λ e. lexing.NoLexing bytes.now) }
 {
     let (blanks, rest) = cut_blanks(bytes);
     let spaced = !blanks.is_empty();
@@ -191,8 +192,8 @@ pub(crate) fn next_token(bytes: &[u8]) -> Result<Option<(Token<'_>, &[u8])>, Lin
 /// The tokens of a line.
 #[tactic(auto, using(crate::proofs::Lexing::leads_end))]
 pub(crate) fn tokens(alloc: Global, line: &[u8]) -> Result<Vec<Token<'_>>, LineFault>
-    ensures found { IfOk result (λ v. lex.Lexes line.now (lex.toks v.items)) }
-    ensures only { (ts : List lex.Tok) → lex.Lexes line.now ts → MatchResult result (λ v. lex.toks v.items ≡ ts) (λ e. e ≡ NoMemory) }
+    ensures found { IfOk result (λ v. lex.Lexes line.now (lexing.toks v.items)) }
+    ensures only { (ts : List lex.Tok) → lex.Lexes line.now ts → MatchResult result (λ v. lexing.toks v.items ≡ ts) (λ e. e ≡ NoMemory) }
 {
     let mut out = Vec::with_capacity(alloc, line.len() / 4)?;
     let mut rest = line;

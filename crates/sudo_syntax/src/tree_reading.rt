@@ -4,7 +4,7 @@ ghost use Rattle.std.specs.Prelude.{◌≡◌, IfOk, MatchResult};
 ghost use Rattle.sudo_syntax.specs.declared.fault.LineFault.TheVariants.{NoMemory};
 ghost use Rattle.sudo_syntax.specs.declared.tree.Line.{Line as Said};
 ghost use Rattle.sudo_syntax.specs.Grammar.{SpellsTree};
-ghost use Rattle.sudo_syntax.specs.Lex.{toks};
+ghost use Rattle.sudo_syntax.specs.private.Tokens.{toks};
 
 use crate::definitions::aliases_of;
 use crate::entry::{CmndItem, Item};

@@ -5,10 +5,25 @@ ghost use Rattle.sudo_words.specs.declared.fault.CmndFault.TheVariants as cmnd;
 ghost use Rattle.sudo_words.specs.declared.fault.WordFault.TheVariants as word;
 
 use std::alloc::{AllocError, AllocFailed};
+use std::error::Error;
+use std::fmt;
 
-/// Memory ran out: a growth was refused.
+/// Memory ran out: a growth was refused. It is shown as its name.
 #[derive(Clone, Copy, Debug, PartialEq, Eq)]
 pub struct NoMemory;
+
+impl fmt::Display for NoMemory {
+    ghost use Rattle.std.specs.Prelude.{Some};
+    ghost use Rattle.sudo_words.specs.Faults.{no_memory_text};
+
+    ghost output = { λ f. Some (no_memory_text f) };
+
+    fn fmt<W: fmt::Write>(&self, f: &mut fmt::Formatter<W>) -> fmt::Result {
+        f.write_str("NoMemory")
+    }
+}
+
+impl Error for NoMemory {}
 
 impl From<AllocError> for NoMemory {
     fn from(_e: AllocError) -> NoMemory {
@@ -22,7 +37,7 @@ impl<T: Drop> From<AllocFailed<T>> for NoMemory {
     }
 }
 
-/// Why a text was read as no word.
+/// Why a text was read as no word. It is shown as its name.
 #[derive(Clone, Copy, Debug, PartialEq, Eq)]
 pub enum WordFault {
     /// The text has not the word's form.
@@ -30,6 +45,22 @@ pub enum WordFault {
     /// Memory ran out.
     NoMemory,
 }
+
+impl fmt::Display for WordFault {
+    ghost use Rattle.std.specs.Prelude.{Some};
+    ghost use Rattle.sudo_words.specs.Faults.{word_fault_text};
+
+    ghost output = { λ f. Some (word_fault_text f) };
+
+    fn fmt<W: fmt::Write>(&self, f: &mut fmt::Formatter<W>) -> fmt::Result {
+        f.write_str(match self {
+            WordFault::BadWord => "BadWord",
+            WordFault::NoMemory => "NoMemory",
+        })
+    }
+}
+
+impl Error for WordFault {}
 
 impl From<AllocError> for WordFault {
     ghost from_gives = { λ _ e. e ≡ word.NoMemory };
@@ -47,7 +78,7 @@ impl<T: Drop> From<AllocFailed<T>> for WordFault {
     }
 }
 
-/// Why a text was read as no command.
+/// Why a text was read as no command. It is shown as its name.
 #[derive(Clone, Copy, Debug, PartialEq, Eq)]
 pub enum CmndFault {
     /// The text is no lawful command's.
@@ -55,6 +86,22 @@ pub enum CmndFault {
     /// Memory ran out.
     NoMemory,
 }
+
+impl fmt::Display for CmndFault {
+    ghost use Rattle.std.specs.Prelude.{Some};
+    ghost use Rattle.sudo_words.specs.Faults.{cmnd_fault_text};
+
+    ghost output = { λ f. Some (cmnd_fault_text f) };
+
+    fn fmt<W: fmt::Write>(&self, f: &mut fmt::Formatter<W>) -> fmt::Result {
+        f.write_str(match self {
+            CmndFault::BadCmnd => "BadCmnd",
+            CmndFault::NoMemory => "NoMemory",
+        })
+    }
+}
+
+impl Error for CmndFault {}
 
 impl From<AllocError> for CmndFault {
     ghost from_gives = { λ _ e. e ≡ cmnd.NoMemory };

@@ -9,7 +9,7 @@ use std::marker::Model;
 use std::{fmt, str};
 
 /// The last second of 2099.
-const LAST: u64 = 4_102_444_799;
+const LAST: u32 = 4_102_444_799;
 
 /// The length of `yyyymmdd`.
 const DATE_LENGTH: usize = 8;
@@ -21,7 +21,7 @@ const DATE_LENGTH: usize = 8;
 /// Fractions and the endings `+0100` and `-0100` of that syntax are not read.
 #[derive(Clone, Copy, Debug, PartialEq, Eq, PartialOrd, Ord)]
 pub struct Moment {
-    secs: u64,
+    secs: u32,
 }
 
 impl Model for Moment {
@@ -49,7 +49,7 @@ impl Moment {
         let days = date(front)?;
         let time = clock(rest)?;
         Some(Moment {
-            secs: u64::from(days) * 86_400 + u64::from(time),
+            secs: days * 86_400 + time,
         })
     }
 
@@ -58,7 +58,7 @@ impl Moment {
         ensures value { result ≡ self.now }
         ensures moment { IsMoment result }
     {
-        self.secs
+        u64::from(self.secs)
     }
 
     /// The moment so many seconds after 1970-01-01T00:00:00Z, or `None` past the year 2099.
@@ -66,10 +66,10 @@ impl Moment {
         ensures found { IfSome result (λ t. (t ≡ secs) × IsMoment secs) }
         ensures only { IsMoment secs → result ≡ Some secs }
     {
-        if secs > LAST {
-            return None;
+        match u32::try_from(secs) {
+            Ok(secs) if secs <= LAST => Some(Moment { secs }),
+            _ => None,
         }
-        Some(Moment { secs })
     }
 }
 
@@ -86,7 +86,7 @@ fn stamp_bytes(moment: Moment) -> [u8; 15]
     ensures { result ≡ stamp moment }
 {
     let secs = moment.secs;
-    let civil = date_at((secs / 86_400) as u32);
+    let civil = date_at(secs / 86_400);
     let century = (civil.year / 100) as u8;
     let year = (civil.year % 100) as u8;
     let hour = (secs % 86_400 / 3600) as u8;

@@ -1,5 +1,5 @@
 use Rattle.std.proofs.Common.{◌≡◌, take}
-use Rattle.sudo_syntax.specs.Scope.{IsDraft}
+use Rattle.sudo_syntax.specs.private.Scope.{IsDraft}
 use Rattle.sudo_syntax.proofs.extending.add_base.Given as goal
 
 abbrev pub invariant-loop-entry : goal.invariant-loop-entry

@@ -1,6 +1,6 @@
 use Rattle.std.proofs.Common.{◌≡◌, ◌++◌, map}
 use Rattle.sudo_syntax.specs.declared.entry.Entry.TheVariants as entries
-use Rattle.sudo_syntax.specs.Scope.{IsDraft}
+use Rattle.sudo_syntax.specs.private.Scope.{IsDraft}
 use Rattle.sudo_syntax.proofs.extending.add_rules.Given as goal
 
 abbrev pub invariant-loop-rule : goal.invariant-loop-rule

@@ -1,5 +1,5 @@
 use Rattle.std.proofs.Common.{◌≡◌, ℕ, ◌+◌, length, get_or, ap, ◌∙◌, subst, sym}
-use Rattle.sudo_syntax.specs.Lengths.{stopped}
+use Rattle.sudo_syntax.specs.private.Lengths.{stopped}
 use Rattle.sudo_syntax.specs.Printing.{signed_text}
 use Rattle.sudo_syntax.proofs.LengthLemmas.{tail_longer}
 use Rattle.sudo_syntax.proofs.Printed.{each_at}

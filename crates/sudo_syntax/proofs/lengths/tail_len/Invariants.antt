@@ -1,5 +1,5 @@
 use Rattle.std.proofs.Common.{◌≡◌, length, take}
-use Rattle.sudo_syntax.specs.Lengths.{stopped}
+use Rattle.sudo_syntax.specs.private.Lengths.{stopped}
 use Rattle.sudo_syntax.specs.Printing.{signed_text, tail_text}
 use Rattle.sudo_syntax.proofs.lengths.tail_len.Given as goal
 

@@ -1,6 +1,6 @@
 use Rattle.std.proofs.Common.{Some, arith}
-use Rattle.sudo_syntax.specs.Lex.{toks}
-use Rattle.sudo_syntax.specs.Fronts.{Tagged}
+use Rattle.sudo_syntax.specs.private.Tokens.{toks}
+use Rattle.sudo_syntax.specs.private.Fronts.{Tagged}
 use Rattle.sudo_syntax.proofs.Leads.{leads_on}
 use Rattle.sudo_syntax.proofs.TagLemmas.{Ends, Left, tag_read, tags_end}
 use Rattle.sudo_syntax.proofs.options.tags_at.Goals as goal

@@ -1,6 +1,6 @@
 use Rattle.std.proofs.Common.{◌≤◌, length}
-use Rattle.sudo_syntax.specs.Lex.{toks}
-use Rattle.sudo_syntax.specs.Fronts.{Tagged}
+use Rattle.sudo_syntax.specs.private.Tokens.{toks}
+use Rattle.sudo_syntax.specs.private.Fronts.{Tagged}
 use Rattle.sudo_syntax.proofs.Leads.{Leads}
 use Rattle.sudo_syntax.proofs.TagLemmas.{Ends, Left}
 use Rattle.sudo_syntax.proofs.options.tags_at.Given as goal

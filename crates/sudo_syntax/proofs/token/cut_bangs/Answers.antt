@@ -1,4 +1,4 @@
-use Rattle.sudo_syntax.specs.Cuts.{is_bang}
+use Rattle.sudo_syntax.specs.private.Cuts.{is_bang}
 use Rattle.sudo_syntax.proofs.Spans.{cut_is}
 use Rattle.sudo_syntax.proofs.token.cut_bangs.Goals as goal
 

@@ -1,6 +1,6 @@
 use Rattle.std.proofs.Common.{[], ◌∷◌}
 use Rattle.std.proofs.lemmas.List.{map-append}
-use Rattle.sudo_syntax.specs.Lex.{tok, toks}
+use Rattle.sudo_syntax.specs.private.Tokens.{tok, toks}
 use Rattle.sudo_syntax.proofs.Lexing.{leads_more}
 use Rattle.sudo_syntax.proofs.token.tokens.Goals as goal
 

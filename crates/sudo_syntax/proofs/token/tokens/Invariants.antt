@@ -1,5 +1,5 @@
 use Rattle.std.proofs.Common.{length}
-use Rattle.sudo_syntax.specs.Lex.{toks}
+use Rattle.sudo_syntax.specs.private.Tokens.{toks}
 use Rattle.sudo_syntax.proofs.Lexing.{Leads}
 use Rattle.sudo_syntax.proofs.token.tokens.Given as goal
 

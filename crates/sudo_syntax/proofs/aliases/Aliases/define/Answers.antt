@@ -5,7 +5,7 @@ use Rattle.std.specs.Str.{bytes_eq}
 use Rattle.std.proofs.lemmas.Map.Text.{btree_map_updates_text}
 use Rattle.sudo_syntax.specs.declared.aliases.Alias.{Alias}
 use Rattle.sudo_syntax.specs.Alias.{depth_of}
-use Rattle.sudo_syntax.specs.Measures.{alias_at, depth_in}
+use Rattle.sudo_syntax.specs.private.Measures.{alias_at, depth_in}
 use Rattle.sudo_syntax.proofs.aliases.Aliases.define.Goals as goal
 
 pub returns-clause-found : goal.returns-clause-found

@@ -1,5 +1,5 @@
 use Rattle.std.proofs.Common.{take}
-use Rattle.sudo_syntax.specs.Measures.{IsMeasured}
+use Rattle.sudo_syntax.specs.private.Measures.{IsMeasured}
 use Rattle.sudo_syntax.proofs.aliases.Aliases.measured.Given as goal
 
 abbrev pub invariant-loop-signed : goal.invariant-loop-signed

@@ -1,7 +1,7 @@
 use Rattle.std.proofs.Common.{◌≡◌, length, refl, arith, rules}
 use Rattle.std.proofs.lemmas.Result.{err_from_is_err_and}
 use Rattle.sudo_syntax.specs.declared.fault.LineFault.TheVariants as fault
-use Rattle.sudo_syntax.specs.Lengths.{stopped}
+use Rattle.sudo_syntax.specs.private.Lengths.{stopped}
 use Rattle.sudo_syntax.specs.Printing.{line_text}
 use Rattle.sudo_syntax.proofs.PolicyFronts.{next_placed}
 use Rattle.sudo_syntax.proofs.Growing.{whole_push, limits_hold}

@@ -4,7 +4,7 @@ use Rattle.std.specs.List.{AllByRecursion}
 use Rattle.sudo_syntax.specs.declared.entry.Rule.{Rule}
 use Rattle.sudo_syntax.specs.declared.entry.Entry.{Entry}
 use Rattle.sudo_syntax.specs.Policy.{KnowsRule}
-use Rattle.sudo_syntax.specs.Scope.{RuleIsKnown}
+use Rattle.sudo_syntax.specs.private.Scope.{RuleIsKnown}
 use Rattle.sudo_syntax.proofs.Tables.{rule_known, known_rule}
 use Rattle.sudo_syntax.proofs.policy.Policy.knows.Goals as goal
 

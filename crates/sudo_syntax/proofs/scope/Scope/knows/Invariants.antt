@@ -1,6 +1,6 @@
 use Rattle.std.proofs.Common.{take}
 use Rattle.std.specs.List.{AllByRecursion}
-use Rattle.sudo_syntax.specs.Scope.{RuleIsKnown}
+use Rattle.sudo_syntax.specs.private.Scope.{RuleIsKnown}
 use Rattle.sudo_syntax.proofs.scope.Scope.knows.Given as goal
 
 abbrev pub invariant-loop-rule : goal.invariant-loop-rule

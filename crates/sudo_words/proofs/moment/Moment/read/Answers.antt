@@ -18,7 +18,7 @@ returns-clause-found c =
     let days = c.in_ok-days.ensures.found in
     let time = c.in_ok-time.ensures.found in
     let whole : c.args.text.now ≡ c.in_ok-front.front.now ++ c.in_ok-front.rest.now = rw (cut.1, cut.2, take-append-drop 8 c.as_bytes.result.now) (sym e) in
-    rw (c.from.ensures, c.from-2.ensures) (spells_from c.args.text.now c.in_ok-front.front.now c.in_ok-front.rest.now c.in_ok-days.days c.in_ok-time.time whole days.0 days.1 time.0 time.1)
+    spells_from c.args.text.now c.in_ok-front.front.now c.in_ok-front.rest.now c.in_ok-days.days c.in_ok-time.time whole days.0 days.1 time.0 time.1
 
 pub returns-clause-only : goal.returns-clause-only
 returns-clause-only c = λ t s.
@@ -29,5 +29,5 @@ returns-clause-only c = λ t s.
     let time = c.in_ok-time.ensures.only (t % 86_400) (omega arith) parts.clock_is in
     let days_are : c.in_ok-days.days ≡ t / 86_400 = cc in
     let time_is : c.in_ok-time.time ≡ t % 86_400 = cc in
-    let all : c.from.result * 86_400 + c.from-2.result ≡ t = omega (arith, days_are, time_is, c.from.ensures, c.from-2.ensures) in
+    let all : c.in_ok-days.days * 86_400 + c.in_ok-time.time ≡ t = omega (arith, days_are, time_is) in
     ap Some all

@@ -5,7 +5,7 @@ use Rattle.std.proofs.Common.{sym, subst, lit≤, lit<, inl, inr}
 use Rattle.std.proofs.Math.Nat.{le_trans}
 use Rattle.std.proofs.lemmas.Bool.{and_parts, or_cases, leb-true, lt-leb, eqb-true, and_right}
 use Rattle.sudo_words.specs.Word.{is_name, is_host_name, is_lower, is_upper, is_name_byte, is_host_byte}
-use Rattle.sudo_syntax.specs.Fronts.{begins_upper}
+use Rattle.sudo_syntax.specs.private.Fronts.{begins_upper}
 
 pub high_no_upper : (b : ℕ) → 90 < b → is_upper b ≡ false
 high_no_upper b h = and_right (nat_le 65 b) (nat_le b 90) (lt-leb b 90 h)

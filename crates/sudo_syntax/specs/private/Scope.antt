@@ -9,7 +9,7 @@ use Rattle.sudo_syntax.specs.declared.aliases.Aliases.{Aliases}
 use Rattle.sudo_syntax.specs.declared.scope.Scope.{Scope}
 use Rattle.sudo_syntax.specs.declared.draft.Draft.{Draft}
 use Rattle.sudo_syntax.specs.Alias.{DefinedAt, is_defined, item_alias, cmnd_alias, list_weight, alias_weight, alias_depth, user_def, runas_def, host_def, cmnd_def}
-use Rattle.sudo_syntax.specs.Measures.{alias_at, has, weight_in, depth_in, stopped, KnowsAll}
+use Rattle.sudo_syntax.specs.private.Measures.{alias_at, has, weight_in, depth_in, stopped, KnowsAll}
 use Rattle.sudo_syntax.specs.Policy.{IsPolicy, weight}
 use Rattle.sudo_syntax.specs.Printing.{canon}
 
