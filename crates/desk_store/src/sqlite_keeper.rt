@@ -139,6 +139,8 @@ impl<S: Alter> Keeper for SqliteKeeper<S> {
 
     ghost holds_messages = { λ k m held. held.0 };
 
+    ghost up_is_clean = { λ k up. up.clean };
+
     ghost same_itself = { λ a. laws.same_itself _ };
 
     ghost same_back = { λ a b same. laws.same_back _ _ same };
