@@ -62,6 +62,7 @@ pub trait Keeper {
         ensures shuts { is_up self.old → is_clean self.new → is_up self.new ⊎ HasFailed (failures self.old) (failures self.new) }
         ensures counts { failures self.old ≤ failures self.new }
         ensures cause { result ≡ Err KeeperError.Storage → HasFailed (failures self.old) (failures self.new) }
+        ensures up { is_up self.old → is_clean self.new → OnOk result (is_up self.new) }
         ensures crash { is_up self.old → is_clean self.new → LeavesOnly (may_leave self.new) (IsAsKept (is_empty self.old) (is_desk self.old) (roster self.old) (holds self.old)) };
 
     /// Makes a desk of this roster text, without messages, in one commit.
@@ -119,6 +120,9 @@ pub trait Keeper {
 
     /// Each message that is held is one that a desk knows.
     ghost holds_messages: { (k : Self) → (m : AnyMessage) → holds k m → IsMessage m };
+
+    /// What is up has had honest storage.
+    ghost up_is_clean: { (k : Self) → is_up k → is_clean k };
 
     /// What is kept is the same as itself.
     ghost same_itself: { (a : Self) → is_same a a };

@@ -69,6 +69,8 @@ impl Keeper for MemoryKeeper {
 
     ghost holds_messages = { λ k m held. held.0 };
 
+    ghost up_is_clean = { λ k up. up };
+
     ghost same_itself = { laws.same_itself };
 
     ghost same_back = { laws.same_back };

@@ -1,9 +1,10 @@
 //! What the rows of a desk's tables say.
 
-ghost use Rattle.std.specs.Prelude.{◌≡◌, List, ℕ, Some, IfOk, IfErr, IfSome, IfNone, IsUtf8};
+ghost use Rattle.std.specs.Prelude.{◌≡◌, List, ℕ, true, false, Some, IfOk, IfErr, IfSome, IfNone, IsUtf8};
 ghost use Rattle.std.specs.String.{string_bytes};
 ghost use Rattle.sqlite.specs.declared.types.Value.TheVariants.{Text};
 ghost use Rattle.sqlite.specs.Order.{column};
+ghost use Rattle.messages.specs.declared.message.Message.{Message as AnyMessage};
 ghost use Rattle.desk_store.specs.declared.error.KeeperError.TheVariants as error;
 ghost use Rattle.desk_store.specs.Stored.{is_one};
 ghost use Rattle.desk_store.specs.private.Statements.{shown_mark};
@@ -62,6 +63,20 @@ fn message_in(alloc: Global, row: &Row) -> Result<Option<Message>, KeeperError>
         Err(MessageFault::NoMemory) => Err(KeeperError::NoMemory),
         Err(_) => Ok(None),
     }
+}
+
+/// The rows show texts of messages and nothing else. No message is kept.
+pub(crate) fn are_messages(alloc: Global, rows: &[Row]) -> Result<bool, KeeperError>
+    ensures all { IfOk result (λ all. all ≡ true → (ms : List AnyMessage) × AreBodies rows.now ms) }
+    ensures none { IfOk result (λ all. all ≡ false → HasForeign rows.now) }
+    ensures err { IfErr result (λ e. e ≡ error.NoMemory) }
+{
+    for row in rows {
+        let Some(_) = message_in(alloc, row)? else {
+            return Ok(false);
+        };
+    }
+    Ok(true)
 }
 
 /// The messages whose texts the rows show, where they show nothing else.

@@ -15,7 +15,7 @@ use crate::error::KeeperError;
 use crate::found::Found;
 use crate::keeper::Keeper;
 use crate::making::create;
-use crate::reading::{messages_in, roster_of};
+use crate::reading::{are_messages, messages_in, roster_of};
 use crate::recognize::{has_desk, is_free, lacks_sequence};
 use crate::statements::{insert, select_bodies, select_desk, settles};
 use messages::{Message, text};
@@ -139,6 +139,8 @@ impl<S: Alter> Keeper for SqliteKeeper<S> {
 
     ghost holds_messages = { λ k m held. held.0 };
 
+    ghost up_is_clean = { λ k up. up.clean };
+
     ghost same_itself = { λ a. laws.same_itself _ };
 
     ghost same_back = { λ a b same. laws.same_back _ _ same };
@@ -173,10 +175,10 @@ impl<S: Alter> Keeper for SqliteKeeper<S> {
             Ok(rows) => rows,
             Err(error) => return Err(told(&mut self.failed, error)),
         };
-        match messages_in(self.alloc, rows.as_slice())? {
-            Some(_) => Ok(Found::Desk(roster)),
-            None => Ok(Found::NotADesk),
+        if !are_messages(self.alloc, rows.as_slice())? {
+            return Ok(Found::NotADesk);
         }
+        Ok(Found::Desk(roster))
     }
 
     /// A database is refused, as what fails is, that counts by AUTOINCREMENT without the table of the counts.

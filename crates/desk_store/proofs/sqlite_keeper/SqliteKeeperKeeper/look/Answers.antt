@@ -1,7 +1,8 @@
-use Rattle.std.proofs.Common.{rules, ◌≡◌, Some, subst}
+use Rattle.std.proofs.Common.{rules, ◌≡◌, List, Some, subst}
 use Rattle.std.specs.Prelude.{string_bytes}
 use Rattle.sqlite.specs.Effect.{Database}
 use Rattle.sqlite.specs.Held.{state}
+use Rattle.messages.specs.declared.message.Message.{Message}
 use Rattle.desk_store.specs.Stored.{HasDesk}
 use Rattle.desk_store.specs.private.Statements.{ShowsBodies, ShowsMark, shown_mark}
 use Rattle.desk_store.specs.private.Reading.{AreBodies, HasForeign}
@@ -10,8 +11,8 @@ use Rattle.desk_store.proofs.LookLemmas.{tells_desk, tells_foreign}
 use Rattle.desk_store.proofs.SurvivalLemmas.{survives_both}
 use Rattle.desk_store.proofs.sqlite_keeper.SqliteKeeperKeeper.look.Goals as goal
 
-pub returns-in-Some-2-clause-found : goal.returns-in-Some-2-clause-found
-returns-in-Some-2-clause-found g c up =
+pub returns-clause-found : goal.returns-clause-found
+returns-clause-found g c up =
     let db = (state g.S.Store c.args.self.now.conn).now in
     let between = (state g.S.Store c.select_desk.new.conn).now in
     let before = c.in-Ok-select_bodies.ensures.was_up up in
@@ -21,11 +22,11 @@ returns-in-Some-2-clause-found g c up =
     let marked : shown_mark c.in-Ok.rows.items ≡ Some (string_bytes c.in-Some.roster) = search rules in
     let shows : ShowsBodies between c.in-Ok-select_bodies.rows.items = search rules in
     let P : Database → Type 0 = λ d. ShowsBodies d c.in-Ok-select_bodies.rows.items in
-    let are : AreBodies c.in-Ok-select_bodies.rows.items c.in-Some-2.field-0.items = search rules in
-    tells_desk db c.in-Ok.rows.items c.in-Ok-select_bodies.rows.items c.in-Some.roster c.in-Some-2.field-0.items has mark marked (subst P same shows) are
+    let are : (ms : List Message) × AreBodies c.in-Ok-select_bodies.rows.items ms = search rules in
+    tells_desk db c.in-Ok.rows.items c.in-Ok-select_bodies.rows.items c.in-Some.roster are.0 has mark marked (subst P same shows) are.1
 
-pub returns-clause-found : goal.returns-clause-found
-returns-clause-found g c up =
+pub returns-then-not-branch-clause-found : goal.returns-then-not-branch-clause-found
+returns-then-not-branch-clause-found g c up =
     let db = (state g.S.Store c.args.self.now.conn).now in
     let between = (state g.S.Store c.select_desk.new.conn).now in
     let before = c.in-Ok-select_bodies.ensures.was_up up in
@@ -55,16 +56,16 @@ returns-in-Err-select_bodies-clause-crash g c up clean left may =
     let still = c.in-Ok.ensures.up up (c.select_bodies.ensures.was_clean clean) in
     as_kept old new c.settles.ensures up clean left may (survives_both old between new (c.select_desk.ensures.survives up) (c.select_bodies.ensures.survives still))
 
-pub returns-in_err-messages_in-clause-crash : goal.returns-in_err-messages_in-clause-crash
-returns-in_err-messages_in-clause-crash g c up clean left may =
+pub returns-in_err-are_messages-clause-crash : goal.returns-in_err-are_messages-clause-crash
+returns-in_err-are_messages-clause-crash g c up clean left may =
     let old = state g.S.Store c.args.self.now.conn in
     let between = state g.S.Store c.select_desk.new.conn in
     let new = state g.S.Store c.select_bodies.new.conn in
     let still = c.in-Ok.ensures.up up (c.select_bodies.ensures.was_clean clean) in
     as_kept old new c.settles.ensures up clean left may (survives_both old between new (c.select_desk.ensures.survives up) (c.select_bodies.ensures.survives still))
 
-pub returns-in-Some-2-clause-crash : goal.returns-in-Some-2-clause-crash
-returns-in-Some-2-clause-crash g c up clean left may =
+pub returns-then-not-branch-clause-crash : goal.returns-then-not-branch-clause-crash
+returns-then-not-branch-clause-crash g c up clean left may =
     let old = state g.S.Store c.args.self.now.conn in
     let between = state g.S.Store c.select_desk.new.conn in
     let new = state g.S.Store c.select_bodies.new.conn in
