@@ -1,4 +1,5 @@
 pub mod Rows
+pub mod Wanted
 pub mod Stamps
 pub mod Options
 pub mod Commands

@@ -1,7 +1,7 @@
 //! The program's commands, as clap reads them.
 
 ghost use Rattle.std.specs.Prelude.{◌≡◌, IfOk, IfErr, [], ◌∷◌, map, string_bytes, false};
-ghost use Rattle.clap.specs.Words.{app_of, fault_of, kind_of, rule_of, subcommand_of, subcommand_rows_of};
+ghost use Rattle.clap.specs.Words.{App, app_of, fault_of, kind_of, new_app, rule_of, subcommand_of, subcommand_rows_of, with_rule, with_subcommand};
 ghost use Rattle.clap.specs.declared.builder.Command.TheViews.{out-Command as fields_of};
 ghost use Rattle.desk_cli.specs.CommandLine as line;
 ghost use Rattle.desk_cli.specs.CommandLine.{desk};
@@ -12,6 +12,22 @@ use crate::fault::JobFault;
 use clap::error::ErrorKind;
 use clap::{Arg, ArgAction, ArgMatches, Command};
 use std::alloc::{AllocError, Global};
+
+/// What `decide` wants.
+const DECIDE_ARGS: [(&str, &str); 6] = [
+    ("FILE", "The policy"),
+    ("USER", "Who runs the command"),
+    ("HOST", "The host that it runs on"),
+    ("RUNAS", "The user that it runs as"),
+    ("AT", "When it runs, as yyyymmddHHMMSSZ"),
+    ("PATH", "The command's path"),
+];
+
+/// What `beyond` wants.
+const BEYOND_ARGS: [(&str, &str); 2] = [
+    ("A", "The policy that may allow more"),
+    ("B", "The policy that it is compared with"),
+];
 
 fn wanted<'a>(alloc: Global, id: &'a str, help: &'a str) -> Arg<'a>
     ensures rule { rule_of result ≡ line.wanted id.entry.now }
@@ -40,6 +56,59 @@ fn optional<'a>(alloc: Global, id: &'a str, long: &'a str, help: &'a str) -> Arg
         .help(help)
 }
 
+/// Adds an argument.
+fn with_arg<'a>(command: Command<'a>, arg: Arg<'a>) -> Result<Command<'a>, AllocError>
+    requires command { (fields_of command).has_globals ≡ false }
+    requires arg { arg.global ≡ false }
+    ensures app { IfOk result (λ c. app_of c ≡ with_rule (app_of command.entry) (rule_of arg.entry)) }
+    ensures globals { IfOk result (λ c. (fields_of c).has_globals ≡ false) }
+{
+    command.arg(arg)
+}
+
+/// Adds an option.
+fn with_optional<'a>(
+    alloc: Global,
+    command: Command<'a>,
+    id: &'a str,
+    long: &'a str,
+    help: &'a str,
+) -> Result<Command<'a>, AllocError>
+    requires { (fields_of command).has_globals ≡ false }
+    ensures app { IfOk result (λ c. app_of c ≡ with_rule (app_of command.entry) (line.optional id.entry.now long.entry.now)) }
+    ensures globals { IfOk result (λ c. (fields_of c).has_globals ≡ false) }
+{
+    with_arg(command, optional(alloc, id, long, help))
+}
+
+/// Adds an argument that has one value and may not be left out.
+fn with_one<'a>(
+    alloc: Global,
+    command: Command<'a>,
+    id: &'a str,
+    help: &'a str,
+) -> Result<Command<'a>, AllocError>
+    requires { (fields_of command).has_globals ≡ false }
+    ensures app { IfOk result (λ c. app_of c ≡ with_rule (app_of command.entry) (line.wanted id.entry.now)) }
+    ensures globals { IfOk result (λ c. (fields_of c).has_globals ≡ false) }
+{
+    with_arg(command, wanted(alloc, id, help))
+}
+
+/// Adds an argument that has any number of values.
+fn with_several<'a>(
+    alloc: Global,
+    command: Command<'a>,
+    id: &'a str,
+    help: &'a str,
+) -> Result<Command<'a>, AllocError>
+    requires { (fields_of command).has_globals ≡ false }
+    ensures app { IfOk result (λ c. app_of c ≡ with_rule (app_of command.entry) (line.several id.entry.now)) }
+    ensures globals { IfOk result (λ c. (fields_of c).has_globals ≡ false) }
+{
+    with_arg(command, several(alloc, id, help))
+}
+
 /// Adds arguments that have one value each and may not be left out, by their names and helps.
 fn with_wanted<'a>(
     alloc: Global,
@@ -52,58 +121,57 @@ fn with_wanted<'a>(
 {
     let mut command = command;
     for (id, help) in args {
-        command = command.arg(wanted(alloc, id, help))?;
+        command = with_one(alloc, command, id, help)?;
     }
     Ok(command)
+}
+
+/// A command with arguments that have one value each and may not be left out.
+fn plain<'a>(
+    alloc: Global,
+    name: &'a str,
+    about: &'a str,
+    args: &[(&'a str, &'a str)],
+) -> Result<Command<'a>, AllocError>
+    ensures app { IfOk result (λ c. app_of c ≡ line.with_wanted (new_app name.entry.now) (map (λ a. a.0.now) args.now)) }
+    ensures globals { IfOk result (λ c. (fields_of c).has_globals ≡ false) }
+{
+    with_wanted(alloc, Command::new(alloc, name).about(about), args)
 }
 
 fn check<'a>(alloc: Global) -> Result<Command<'a>, AllocError>
     ensures app { IfOk result (λ c. app_of c ≡ line.check) }
     ensures globals { IfOk result (λ c. (fields_of c).has_globals ≡ false) }
 {
-    let command = Command::new(alloc, "check").about("Print the canonical text of a policy");
-    with_wanted(alloc, command, &[("FILE", "The policy")])
+    let about = "Print the canonical text of a policy";
+    plain(alloc, "check", about, &[("FILE", "The policy")])
 }
 
 fn decide<'a>(alloc: Global) -> Result<Command<'a>, AllocError>
     ensures app { IfOk result (λ c. app_of c ≡ line.decide) }
     ensures globals { IfOk result (λ c. (fields_of c).has_globals ≡ false) }
 {
-    let command = Command::new(alloc, "decide").about("Decide one run of a command by a policy");
-    let args = several(
-        alloc,
-        "ARGS",
-        "The command's arguments, behind `--` where one begins with `-`",
-    );
-    let wanted = [
-        ("FILE", "The policy"),
-        ("USER", "Who runs the command"),
-        ("HOST", "The host that it runs on"),
-        ("RUNAS", "The user that it runs as"),
-        ("AT", "When it runs, as yyyymmddHHMMSSZ"),
-        ("PATH", "The command's path"),
-    ];
-    with_wanted(alloc, command, &wanted)?.arg(args)
+    let about = "Decide one run of a command by a policy";
+    let command = plain(alloc, "decide", about, &DECIDE_ARGS)?;
+    let help = "The command's arguments, behind `--` where one begins with `-`";
+    with_several(alloc, command, "ARGS", help)
 }
 
 fn beyond<'a>(alloc: Global) -> Result<Command<'a>, AllocError>
     ensures app { IfOk result (λ c. app_of c ≡ line.beyond) }
     ensures globals { IfOk result (λ c. (fields_of c).has_globals ≡ false) }
 {
-    let command = Command::new(alloc, "beyond").about(
-        "Find what one policy allows and another refuses",
-    );
-    let wanted = [
-        ("A", "The policy that may allow more"),
-        ("B", "The policy that it is compared with"),
-    ];
-    let user = optional(alloc, "USER", "user", "Look at this user alone");
-    let host = optional(alloc, "HOST", "host", "Look at this host alone");
-    let runas = optional(alloc, "RUNAS", "runas", "Look at this target alone");
-    with_wanted(alloc, command, &wanted)?
-        .arg(user)?
-        .arg(host)?
-        .arg(runas)
+    let about = "Find what one policy allows and another refuses";
+    let command = plain(alloc, "beyond", about, &BEYOND_ARGS)?;
+    let command = with_optional(alloc, command, "USER", "user", "Look at this user alone")?;
+    let command = with_optional(alloc, command, "HOST", "host", "Look at this host alone")?;
+    with_optional(
+        alloc,
+        command,
+        "RUNAS",
+        "runas",
+        "Look at this target alone",
+    )
 }
 
 /// A command on a desk, with one more argument: the desk's roster, its base policy and its store stand first.
@@ -123,7 +191,7 @@ fn on_desk<'a>(
         ("STORE", "`-`: the messages are kept in memory alone"),
         (id, help),
     ];
-    with_wanted(alloc, Command::new(alloc, name).about(about), &wanted)
+    plain(alloc, name, about, &wanted)
 }
 
 fn deliver<'a>(alloc: Global) -> Result<Command<'a>, AllocError>
@@ -146,13 +214,9 @@ fn print<'a>(alloc: Global) -> Result<Command<'a>, AllocError>
 {
     let about =
         "Print a host's sudoers file, from a base policy and the messages on standard input";
-    let after = optional(
-        alloc,
-        "AFTER",
-        "after",
-        "Leave out the lines that end before this moment",
-    );
-    on_desk(alloc, "print", about, "HOST", "The host")?.arg(after)
+    let command = on_desk(alloc, "print", about, "HOST", "The host")?;
+    let help = "Leave out the lines that end before this moment";
+    with_optional(alloc, command, "AFTER", "after", help)
 }
 
 fn review<'a>(alloc: Global) -> Result<Command<'a>, AllocError>
@@ -173,20 +237,23 @@ fn serve<'a>(alloc: Global) -> Result<Command<'a>, AllocError>
     ensures app { IfOk result (λ c. app_of c ≡ line.serve) }
     ensures globals { IfOk result (λ c. (fields_of c).has_globals ≡ false) }
 {
-    let requests = optional(
-        alloc,
-        "REQUESTS",
-        "requests",
-        "End after so many connections",
-    );
-    on_desk(
-        alloc,
-        "serve",
-        "Serve a desk over HTTP",
-        "ADDR",
-        "The address and port to listen at",
-    )?
-    .arg(requests)
+    let help = "The address and port to listen at";
+    let command = on_desk(alloc, "serve", "Serve a desk over HTTP", "ADDR", help)?;
+    let help = "End after so many connections";
+    with_optional(alloc, command, "REQUESTS", "requests", help)
+}
+
+/// Adds a command under it, where it could be made.
+fn with_command<'a>(
+    command: Command<'a>,
+    made: Result<Command<'a>, AllocError>,
+) -> Result<Command<'a>, AllocError>
+    requires command { (fields_of command).has_globals ≡ false }
+    requires made { IfOk made (λ c. (fields_of c).has_globals ≡ false) }
+    ensures app { (sub : App) → IfOk made.entry (λ m. app_of m ≡ sub) → IfOk result (λ c. app_of c ≡ with_subcommand (app_of command.entry) sub.top) }
+    ensures globals { IfOk result (λ c. (fields_of c).has_globals ≡ false) }
+{
+    command.subcommand(made?)
 }
 
 /// Adds the commands on policies.
@@ -195,10 +262,9 @@ fn with_policies<'a>(alloc: Global, command: Command<'a>) -> Result<Command<'a>,
     ensures app { IfOk result (λ c. app_of c ≡ line.with_subcommands (app_of command.entry) line.on_policies) }
     ensures globals { IfOk result (λ c. (fields_of c).has_globals ≡ false) }
 {
-    command
-        .subcommand(check(alloc)?)?
-        .subcommand(decide(alloc)?)?
-        .subcommand(beyond(alloc)?)
+    let command = with_command(command, check(alloc))?;
+    let command = with_command(command, decide(alloc))?;
+    with_command(command, beyond(alloc))
 }
 
 /// Adds the commands that take messages, or make a host's file of them.
@@ -207,9 +273,8 @@ fn with_messages<'a>(alloc: Global, command: Command<'a>) -> Result<Command<'a>,
     ensures app { IfOk result (λ c. app_of c ≡ line.with_subcommands (app_of command.entry) (line.deliver ∷ line.print ∷ [])) }
     ensures globals { IfOk result (λ c. (fields_of c).has_globals ≡ false) }
 {
-    command
-        .subcommand(deliver(alloc)?)?
-        .subcommand(print(alloc)?)
+    let command = with_command(command, deliver(alloc))?;
+    with_command(command, print(alloc))
 }
 
 /// Adds the commands on a desk.
@@ -218,9 +283,9 @@ fn with_desks<'a>(alloc: Global, command: Command<'a>) -> Result<Command<'a>, Al
     ensures app { IfOk result (λ c. app_of c ≡ line.with_subcommands (app_of command.entry) line.on_desks) }
     ensures globals { IfOk result (λ c. (fields_of c).has_globals ≡ false) }
 {
-    with_messages(alloc, command)?
-        .subcommand(review(alloc)?)?
-        .subcommand(serve(alloc)?)
+    let command = with_messages(alloc, command)?;
+    let command = with_command(command, review(alloc))?;
+    with_command(command, serve(alloc))
 }
 
 fn command<'a>(alloc: Global) -> Result<Command<'a>, AllocError>
