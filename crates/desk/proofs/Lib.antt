@@ -22,3 +22,5 @@ pub mod RunLemmas
 pub mod QueryLemmas
 pub mod AnswerLemmas
 pub mod SummaryLemmas
+pub mod CrashLemmas
+pub mod RestartLemmas

@@ -3,6 +3,7 @@ pub mod State
 pub mod Refusals
 pub mod Opening
 pub mod Delivery
+pub mod Crash
 -- what a set of messages grants
 pub mod Order
 pub mod Covers

@@ -9,9 +9,11 @@ use Rattle.messages.specs.declared.message.Message.{Message}
 use Rattle.roster.specs.Fields.{RosterFields}
 use Rattle.grants.specs.Statuses.{InWindow}
 use Rattle.grants.specs.declared.outcome.Status.{Status}
+use Rattle.desk_store.specs.Sets.{Lists}
 use Rattle.desk.specs.Covers.{Covers}
 use Rattle.desk.specs.HostFile.{IsHostFile, IsHostFileAfter}
 use Rattle.desk.specs.Outcomes.{AreLive, ComesTo, LiveGrant}
+use Rattle.desk.specs.Parked.{AreParked}
 
 -- Each name comes to the same, each request is in force at the same moments, each invocation is covered by both or by neither,
 -- the same grants are in force at each moment, and each host has the same file behind each base, the whole and that after each moment.
@@ -22,3 +24,8 @@ pub record GrantTheSame (f : RosterFields Cmnd) (s t : List Message) : Type 0 wh
   pub live : (moment : ℕ) (list : List LiveGrant) → AreLive f s moment list ↔ AreLive f t moment list
   pub files : (base : List Entry) (host text : List ℕ) → IsHostFile f base s host text ↔ IsHostFile f base t host text
   pub files_after : (base : List Entry) (host : List ℕ) (moment : ℕ) (text : List ℕ) → IsHostFileAfter f base s host moment text ↔ IsHostFileAfter f base t host moment text
+
+-- What holds the one set and what holds the other answer every question alike: lists of their messages grant the same, and have the same parked verdicts.
+pub record AnswerAlike (f : RosterFields Cmnd) (S T : Message → Type 0) : Type 0 where
+  pub grants : (s t : List Message) → Lists S s → Lists T t → GrantTheSame f s t
+  pub parked : (s t : List Message) (texts : List (List ℕ)) → Lists S s → Lists T t → AreParked s texts ↔ AreParked t texts

@@ -1,9 +1,11 @@
 //! A desk.
 
-ghost use Rattle.std.specs.Prelude.{◌≡◌, ◌⊎◌, ◌↔◌, ◌≤◌, [], length, map, vec_capacity, Contains, IfOk, IfErr, OnErr, MatchResult, Err};
+ghost use Rattle.std.specs.Prelude.{◌≡◌, ◌≢◌, ◌⊎◌, ◌↔◌, ◌≤◌, [], length, map, vec_capacity, Contains, IfOk, IfErr, OnOk, OnErr, MatchResult, Err};
 ghost use Rattle.grants.specs.Bases.{FitsBase};
 ghost use Rattle.desk_store.specs.Keeping.{HasFailed};
-ghost use Rattle.desk.specs.Delivery.{AreAnswers, HeldAfter, HeldAfterAll, IsAnswer, delivery_of};
+ghost use Rattle.desk_store.specs.Left.{IsDeskOf, LeavesOnly};
+ghost use Rattle.desk.specs.Crash.{IsLeftByDelivery, IsLeftByOpening};
+ghost use Rattle.desk.specs.Delivery.{Acknowledges, AreAnswers, HeldAfter, HeldAfterAll, IsAnswer, delivery_of};
 ghost use Rattle.desk.specs.Opening.{Opens, Refuses};
 ghost use Rattle.desk.specs.Refusals.{IsWant};
 ghost use Rattle.desk.specs.declared.refusal.Refusal.TheVariants as refusal;
@@ -33,13 +35,15 @@ pub struct Desk<K: Keeper> {
 impl<K: Keeper> Model for Desk<K> {
     ghost use Rattle.std.specs.Prelude.{◌≡◌};
     ghost use Rattle.grants.specs.Bases.{FitsBase};
+    ghost use Rattle.desk_store.specs.Left.{IsDeskOf, LeavesOnly};
     ghost use Rattle.desk.specs.State.{DeskState};
 
     ghost Value = { DeskState K };
 
     ghost view = { λ d. record { roster = d.roster; base = d.base; keeper = d.keeper } };
 
-    ghost invariant = { λ d. FitsBase d.base × (K.is_up d.keeper → K.is_desk d.keeper) × (K.is_up d.keeper → K.roster d.keeper ≡ d.roster.text) };
+    ghost invariant = { λ d. FitsBase d.base × (K.is_up d.keeper → K.is_desk d.keeper) × (K.is_up d.keeper → K.roster d.keeper ≡ d.roster.text)
+        × (K.is_up d.keeper → LeavesOnly (K.may_leave d.keeper) (IsDeskOf (K.roster d.keeper) (K.holds d.keeper))) };
 }
 
 impl<K: Keeper> Desk<K> {
@@ -48,6 +52,9 @@ impl<K: Keeper> Desk<K> {
     /// `BaseTooLarge` comes exactly where the base is past a limit of the desk. Else `NotADesk` comes where the keeper has
     /// something of a desk's and no desk, and `RosterChanged` where its desk has another roster's text; `Storage` and
     /// `NoMemory` wherever the storage or memory refuses. A refusal hands the keeper back, with what it keeps as it was.
+    ///
+    /// Whenever the call ends, a crash leaves a desk that was there whole, and of an empty keeper nothing, or a whole desk without
+    /// messages. While the keeper is up behind Ok, a crash leaves the desk.
     pub fn open(
         alloc: Global,
         roster: Roster,
@@ -69,6 +76,14 @@ impl<K: Keeper> Desk<K> {
             (λ r. K.is_clean r.1 → K.is_up r.1 ⊎ HasFailed (K.failures keeper) (K.failures r.1)) }
         ensures counts { MatchResult result (λ d. K.failures keeper ≤ K.failures d.keeper) (λ r. K.failures keeper ≤ K.failures r.1) }
         ensures cause { IfErr result (λ r. r.0 ≡ refusal.Storage → HasFailed (K.failures keeper) (K.failures r.1)) }
+        // A base past the limits is refused before the keeper is asked.
+        ensures unasked { IfErr result (λ r. r.0 ≡ refusal.BaseTooLarge → r.1 ≡ keeper) }
+        ensures crash { K.is_up keeper → MatchResult result
+            (λ d. K.is_clean d.keeper
+            → LeavesOnly (K.may_leave d.keeper) (IsLeftByOpening (K.is_empty keeper) (K.is_desk keeper) (K.roster keeper) roster.text (K.holds keeper)))
+            (λ r. r.0 ≢ refusal.BaseTooLarge → K.is_clean r.1
+            → LeavesOnly (K.may_leave r.1) (IsLeftByOpening (K.is_empty keeper) (K.is_desk keeper) (K.roster keeper) roster.text (K.holds keeper))) }
+        ensures durable { IfOk result (λ d. K.is_up d.keeper → LeavesOnly (K.may_leave d.keeper) (IsDeskOf roster.text (K.holds d.keeper))) }
     {
         if !fits_base(&base) {
             return Err((Refusal::BaseTooLarge, keeper));
@@ -91,6 +106,9 @@ impl<K: Keeper> Desk<K> {
     /// body is no message's; else the denial, where the roster does not admit the message: the first that applies. Want of
     /// memory anywhere is `NoMemory`, and a failure of the storage is `Storage`. An acknowledgement says that the message is
     /// kept; one that was kept before changes nothing. After a refusal nothing changed.
+    ///
+    /// Whenever the call ends, a crash leaves the whole desk without the message, or the whole desk with it; behind Ok only the latter.
+    /// While the keeper is up, a crash leaves what the desk holds.
     pub fn deliver(&mut self, relay: &str, body: &[u8]) -> Result<Ack, Refusal>
         ensures answer { IsAnswer self.old.roster.says (record { relay = relay.now; body = body.now }) result }
         ensures held { K.is_up self.new.keeper
@@ -104,6 +122,11 @@ impl<K: Keeper> Desk<K> {
             → K.is_up self.new.keeper ⊎ HasFailed (K.failures self.old.keeper) (K.failures self.new.keeper) }
         ensures counts { K.failures self.old.keeper ≤ K.failures self.new.keeper }
         ensures cause { result ≡ Err refusal.Storage → HasFailed (K.failures self.old.keeper) (K.failures self.new.keeper) }
+        ensures crash { K.is_up self.old.keeper → K.is_clean self.new.keeper → LeavesOnly (K.may_leave self.new.keeper)
+            (IsLeftByDelivery self.old.roster.says self.old.roster.text (K.holds self.old.keeper) (record { relay = relay.now; body = body.now })) }
+        ensures lasting { K.is_up self.old.keeper → K.is_clean self.new.keeper → OnOk result (LeavesOnly (K.may_leave self.new.keeper)
+            (IsDeskOf self.old.roster.text (λ m. K.holds self.old.keeper m ⊎ Acknowledges (record { relay = relay.now; body = body.now }) result m))) }
+        ensures durable { K.is_up self.new.keeper → LeavesOnly (K.may_leave self.new.keeper) (IsDeskOf self.new.roster.text (K.holds self.new.keeper)) }
     {
         if !self.roster.has_relay(relay) {
             return Err(Refusal::UnknownRelay);
@@ -116,6 +139,7 @@ impl<K: Keeper> Desk<K> {
     /// Delivers each body that a relay brings, in order, and answers for each as `deliver` does.
     ///
     /// The whole is refused with `NoMemory` alone, before anything is delivered: the room for the answers is taken first.
+    /// While the keeper is up, a crash leaves what the desk holds: what it held, and all that was acknowledged.
     pub fn deliver_all(
         &mut self,
         list: &[(String, Vec<u8>)],
@@ -134,10 +158,19 @@ impl<K: Keeper> Desk<K> {
         ensures counts { K.failures self.old.keeper ≤ K.failures self.new.keeper }
         ensures cause { IfOk result (λ answers. Contains answers.items (Err refusal.Storage)
             → HasFailed (K.failures self.old.keeper) (K.failures self.new.keeper)) }
+        ensures durable { K.is_up self.new.keeper → LeavesOnly (K.may_leave self.new.keeper) (IsDeskOf self.new.roster.text (K.holds self.new.keeper)) }
     {
         let mut answers = Vec::with_capacity(self.alloc, list.len())?;
         self.deliver_each(list, &mut answers);
+        self.lasts();
         Ok(answers)
+    }
+
+    /// While the keeper is up, a crash leaves what the desk holds. It reads nothing: a proof names it.
+    fn lasts(&self)
+        ensures { K.is_up self.now.keeper → LeavesOnly (K.may_leave self.now.keeper) (IsDeskOf self.now.roster.text (K.holds self.now.keeper)) }
+    {
+        let _roster = &self.roster;
     }
 
     /// Delivers each in order, and puts the answers behind one another. There is room for them.
@@ -178,10 +211,13 @@ impl<K: Keeper> Desk<K> {
     }
 
     /// Gives the keeper up as it is. It takes no memory.
+    ///
+    /// While the keeper is up, a crash leaves what the desk held, whatever was called before.
     pub fn into_keeper(self) -> K
         ensures same { result ≡ self.keeper }
         ensures desk { K.is_up result → K.is_desk result }
         ensures roster { K.is_up result → K.roster result ≡ self.roster.text }
+        ensures durable { K.is_up result → LeavesOnly (K.may_leave result) (IsDeskOf self.roster.text (K.holds result)) }
     {
         let Desk {
             alloc: _,

@@ -10,6 +10,7 @@ mod gathering;
 mod grant_laws;
 mod host_file;
 mod live;
+mod loading;
 mod naming;
 mod opening;
 mod outcomes;
@@ -31,5 +32,5 @@ pub use grant_laws::{
 pub use live::Live;
 pub use naming::RequestName;
 pub use refusal::Refusal;
-pub use reopening::restart;
+pub use reopening::{restart, restart_over};
 pub use run_laws::{one_answer, run_free};

@@ -2,6 +2,8 @@
 
 ghost use Rattle.std.specs.Prelude.{◌≡◌, ◌≢◌, ◌⊎◌, ◌≤◌, ⊤, OnOk, OnErr, IfErr, Err};
 ghost use Rattle.desk_store.specs.Keeping.{HasFailed};
+ghost use Rattle.desk_store.specs.Left.{IsDeskOf, LeavesOnly};
+ghost use Rattle.desk.specs.Crash.{IsLeftByOpening};
 ghost use Rattle.desk.specs.Opening.{Opens, Refuses};
 ghost use Rattle.desk.specs.Refusals.{IsWant};
 ghost use Rattle.desk.specs.declared.refusal.Refusal.TheVariants as refusal;
@@ -24,6 +26,9 @@ pub(crate) fn find_or_make<K: Keeper>(keeper: &mut K, text: &str) -> Result<(), 
     ensures shuts { K.is_up keeper.old → K.is_clean keeper.new → K.is_up keeper.new ⊎ HasFailed (K.failures keeper.old) (K.failures keeper.new) }
     ensures counts { K.failures keeper.old ≤ K.failures keeper.new }
     ensures cause { result ≡ Err refusal.Storage → HasFailed (K.failures keeper.old) (K.failures keeper.new) }
+    ensures crash { K.is_up keeper.old → K.is_clean keeper.new
+        → LeavesOnly (K.may_leave keeper.new) (IsLeftByOpening (K.is_empty keeper.old) (K.is_desk keeper.old) (K.roster keeper.old) text.now (K.holds keeper.old)) }
+    ensures durable { K.is_up keeper.new → OnOk result (LeavesOnly (K.may_leave keeper.new) (IsDeskOf (K.roster keeper.new) (K.holds keeper.new))) }
 {
     match keeper.look()? {
         Found::Empty => {

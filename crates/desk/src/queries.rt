@@ -17,6 +17,7 @@ ghost use Rattle.desk.specs.declared.refusal.Refusal.TheVariants as refusal;
 use crate::desk::Desk;
 use crate::host_file::host_file_in;
 use crate::live::{Live, live_in};
+use crate::loading::load;
 use crate::naming::RequestName;
 use crate::outcomes::status_in;
 use crate::parked::parked_in;
@@ -42,7 +43,7 @@ impl<K: Keeper> Desk<K> {
         ensures counts { K.failures self.old.keeper ≤ K.failures self.new.keeper }
         ensures cause { result ≡ Err refusal.Storage → HasFailed (K.failures self.old.keeper) (K.failures self.new.keeper) }
     {
-        self.keeper.load()?;
+        load(&mut self.keeper)?;
         let set = self.keeper.messages();
         Ok(status_in(self.alloc, &self.roster, set, name)?)
     }
@@ -62,7 +63,7 @@ impl<K: Keeper> Desk<K> {
         ensures counts { K.failures self.old.keeper ≤ K.failures self.new.keeper }
         ensures cause { result ≡ Err refusal.Storage → HasFailed (K.failures self.old.keeper) (K.failures self.new.keeper) }
     {
-        self.keeper.load()?;
+        load(&mut self.keeper)?;
         let set = self.keeper.messages();
         Ok(live_in(self.alloc, &self.roster, set, at)?)
     }
@@ -82,7 +83,7 @@ impl<K: Keeper> Desk<K> {
         ensures counts { K.failures self.old.keeper ≤ K.failures self.new.keeper }
         ensures cause { result ≡ Err refusal.Storage → HasFailed (K.failures self.old.keeper) (K.failures self.new.keeper) }
     {
-        self.keeper.load()?;
+        load(&mut self.keeper)?;
         let set = self.keeper.messages();
         Ok(parked_in(self.alloc, set)?)
     }
@@ -103,7 +104,7 @@ impl<K: Keeper> Desk<K> {
         ensures counts { K.failures self.old.keeper ≤ K.failures self.new.keeper }
         ensures cause { result ≡ Err refusal.Storage → HasFailed (K.failures self.old.keeper) (K.failures self.new.keeper) }
     {
-        self.keeper.load()?;
+        load(&mut self.keeper)?;
         let set = self.keeper.messages();
         Ok(summaries_in(self.alloc, set)?)
     }
@@ -198,7 +199,7 @@ impl<K: Keeper> Desk<K> {
         if !self.roster.has_host(host) {
             return Err(Refusal::UnknownHost);
         }
-        self.keeper.load()?;
+        load(&mut self.keeper)?;
         let set = self.keeper.messages();
         Ok(host_file_in(self.alloc, &self.roster, &self.base, set, host, after)?)
     }

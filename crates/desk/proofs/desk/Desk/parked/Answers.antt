@@ -11,11 +11,10 @@ pub returns-clause-parked : goal.returns-clause-parked
 returns-clause-parked g c =
     let K = g.K.Keeper in
     let old = c.self.inside.keeper in
-    let new = c.load.new.self in
+    let new = c.load.new.keeper in
     let lent = c.messages-set.result.now in
     let answer : (set : List Message) → K.is_up new → Lists (K.holds old) set → AreParked set (map string_bytes c.in_ok-parked_in.field-0.items) = λ set up lists.
     let done = c.in_ok-load.ensures in
-    let desk = c.self.invariant.1 (done.was_up up) in
-    let same = same_messages (K.holds old) (K.holds new) lent set (g.met.K.Keeper.stays_set old new (done.same up) desk) (c.messages-set.ensures (done.loaded up)) lists in
+    let same = same_messages (K.holds old) (K.holds new) lent set (done.set up) (c.messages-set.ensures (done.loaded up)) lists in
     parked_of_set lent set (map string_bytes c.in_ok-parked_in.field-0.items) same c.in_ok-parked_in.ensures in
     rw (← c.self.view_is) answer

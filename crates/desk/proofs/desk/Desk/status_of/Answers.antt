@@ -10,12 +10,11 @@ pub returns-clause-status : goal.returns-clause-status
 returns-clause-status g c =
     let K = g.K.Keeper in
     let old = c.self.inside.keeper in
-    let new = c.load.new.self in
+    let new = c.load.new.keeper in
     let lent = c.messages-set.result.now in
     let f = c.self.inside.roster.says in
     let answer : (set : List Message) → K.is_up new → Lists (K.holds old) set → ComesTo f set c.args.name.now c.in_ok-status_in.field-0 = λ set up lists.
     let done = c.in_ok-load.ensures in
-    let desk = c.self.invariant.1 (done.was_up up) in
-    let same = same_messages (K.holds old) (K.holds new) lent set (g.met.K.Keeper.stays_set old new (done.same up) desk) (c.messages-set.ensures (done.loaded up)) lists in
+    let same = same_messages (K.holds old) (K.holds new) lent set (done.set up) (c.messages-set.ensures (done.loaded up)) lists in
     outcome_alike f lent set (alike_sets f lent set same) c.args.name.now c.in_ok-status_in.field-0 c.in_ok-status_in.ensures in
     rw (← c.self.view_is) answer

@@ -1,0 +1,43 @@
+-- What a crash leaves of a desk.
+use Rattle.std.proofs.Common.{◌≡◌, ◌⊎◌, inl, inr, ℕ, List, Ok, refl, sym}
+use Rattle.sudo_words.specs.declared.cmnd.Cmnd.{Cmnd}
+use Rattle.messages.specs.declared.message.Message.{Message}
+use Rattle.roster.specs.Fields.{RosterFields}
+use Rattle.desk_store.specs.Sets.{SameSet, With}
+use Rattle.desk_store.specs.Left.{Left, IsAsKept, IsDeskOf, IsNothingOrFresh, IsWithOrWithout, LeavesOnly}
+use Rattle.desk_store.proofs.LeftLemmas.{same_left}
+use Rattle.desk.specs.Crash.{IsAcceptable, IsLeftByDelivery, IsLeftByOpening}
+use Rattle.desk.specs.Delivery.{Acknowledges, Delivery, IsBodyOf}
+use Rattle.desk.specs.declared.ack.Ack.{Ack}
+use Rattle.desk.proofs.DeliveryLemmas.{held_at_ok}
+
+-- ---- opening
+
+-- what was kept as it was
+pub kept_by_opening : (Empty Desk : Type 0) (recorded text : List ℕ) (S : Message → Type 0) (left : Left) → IsAsKept Empty Desk recorded S left → IsLeftByOpening Empty Desk recorded text S left
+kept_by_opening Empty Desk recorded text S left kept = record { empty = λ none. inl (kept.empty none); desk = kept.desk }
+
+-- what the making of a desk may leave, where there was none
+pub made_by_opening : (Empty Desk : Type 0) (recorded text : List ℕ) (S : Message → Type 0) (left : Left) → (¬ Desk) → IsNothingOrFresh text left → IsLeftByOpening Empty Desk recorded text S left
+made_by_opening Empty Desk recorded text S left none made = record { empty = λ _. made; desk = λ desk. absurd (none desk) }
+
+-- ---- the desk, under another name of its roster's text and of its messages
+
+pub leaves_same : (MayLeave : Left → Type 0) (r s : List ℕ) (S T : Message → Type 0) → s ≡ r → SameSet S T → LeavesOnly MayLeave (IsDeskOf s T) → LeavesOnly MayLeave (IsDeskOf r S)
+leaves_same MayLeave r s S T roster set leaves left may = same_left r s S T left roster set (leaves left may)
+
+pub of_roster : (MayLeave : Left → Type 0) (r s : List ℕ) (S : Message → Type 0) → s ≡ r → LeavesOnly MayLeave (IsDeskOf s S) → LeavesOnly MayLeave (IsDeskOf r S)
+of_roster MayLeave r s S roster = leaves_same MayLeave r s S S roster (λ m. (λ h. h, λ h. h))
+
+-- ---- delivery
+
+-- where the message was put to the desk
+pub left_by_delivery : (f : RosterFields Cmnd) (r s : List ℕ) (S : Message → Type 0) (d : Delivery) (m : Message) (left : Left) → s ≡ r → IsAcceptable f d m → IsWithOrWithout s S m left → IsLeftByDelivery f r S d left
+left_by_delivery f r s S d m left roster is (inl without) = inl (same_left r s S S left roster (λ n. (λ h. h, λ h. h)) without)
+left_by_delivery f r s S d m left roster is (inr with_it) = inr (m, is, same_left r s (With S m) (With S m) left roster (λ n. (λ h. h, λ h. h)) with_it)
+
+-- and acknowledged
+pub lasts_by_delivery : (MayLeave : Left → Type 0) (r s : List ℕ) (S : Message → Type 0) (d : Delivery) (ack : Ack) (m : Message) → s ≡ r → IsBodyOf d.body m
+    → LeavesOnly MayLeave (IsDeskOf s (With S m)) → LeavesOnly MayLeave (IsDeskOf r (λ n. S n ⊎ Acknowledges d (Ok ack) n))
+lasts_by_delivery MayLeave r s S d ack m roster body =
+    leaves_same MayLeave r s (λ n. S n ⊎ Acknowledges d (Ok ack) n) (With S m) roster (held_at_ok S (With S m) d ack m body (λ n. (λ h. h, λ h. h)))

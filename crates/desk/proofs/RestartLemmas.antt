@@ -1,0 +1,42 @@
+-- What holds the same set of messages answers alike.
+use Rattle.std.proofs.Common.{◌≡◌, inl, inr, ℕ, List, Result, Ok, Err, subst}
+use Rattle.std.specs.Prelude.{IfOk, MatchResult}
+use Rattle.sudo_words.specs.declared.cmnd.Cmnd.{Cmnd}
+use Rattle.messages.specs.Names.{SameMessages}
+use Rattle.messages.specs.declared.message.Message.{Message}
+use Rattle.roster.specs.Fields.{RosterFields}
+use Rattle.desk_store.specs.Sets.{Lists, SameSet}
+use Rattle.desk.specs.Opening.{Opens}
+use Rattle.desk.specs.Same.{AnswerAlike}
+use Rattle.desk.proofs.LawLemmas.{order_free}
+use Rattle.desk.proofs.SetLemmas.{parked_of_set}
+
+listed : (S T : Message → Type 0) → SameSet S T → (s t : List Message) → Lists S s → Lists T t → SameMessages s t
+listed S T same s t x y m = (λ c. (y m).0 ((same m).0 ((x m).1 c)), λ c. (x m).0 ((same m).1 ((y m).1 c)))
+
+back : (S T : Message → Type 0) → SameSet S T → (s t : List Message) → Lists S s → Lists T t → SameMessages t s
+back S T same s t x y m = (λ c. (x m).0 ((same m).1 ((y m).1 c)), λ c. (y m).0 ((same m).0 ((x m).1 c)))
+
+pub same_answers : (f : RosterFields Cmnd) (S T : Message → Type 0) → SameSet S T → AnswerAlike f S T
+same_answers f S T same = record {
+  grants = λ s t x y. order_free f s t (listed S T same s t x y);
+  parked = λ s t texts x y. (λ are. parked_of_set s t texts (listed S T same s t x y) are, λ are. parked_of_set t s texts (back S T same s t x y) are);
+}
+
+-- a desk that is opened over what a desk held, holds that
+pub held_again : (Empty Desk : Type 0) (recorded text : List ℕ) (S T U : Message → Type 0) → Desk → SameSet S T → Opens Empty Desk recorded text T U → SameSet S U
+held_again Empty Desk recorded text S T U desk same (inl none) = absurd (none.1 desk)
+held_again Empty Desk recorded text S T U desk same (inr found) = λ m. (λ h. (found.3 m).0 ((same m).0 h), λ h. (same m).1 ((found.3 m).1 h))
+
+-- what is said of one thing and of a thing that is the same
+pub set_of_same : {A : Type 0} (a b : A) → a ≡ b → (H : A → Message → Type 0) (T : Message → Type 0) → SameSet (H a) T → SameSet (H b) T
+set_of_same a b same H T set = subst (λ x. SameSet (H x) T) same set
+
+-- from what an opening promises of a desk, what else holds of it
+pub of_opened : {A E : Type 0} (r : Result A E) (P Q R : A → Type 0) (F : E → Type 0) → ((a : A) → P a → Q a → R a) → IfOk r P → MatchResult r Q F → IfOk r R
+of_opened (Ok a) P Q R F each p q = each a p q
+of_opened (Err e) P Q R F each p q = tt
+
+pub of_ok : {A E : Type 0} (r : Result A E) (P R : A → Type 0) → ((a : A) → P a → R a) → IfOk r P → IfOk r R
+of_ok (Ok a) P R each p = each a p
+of_ok (Err e) P R each p = tt

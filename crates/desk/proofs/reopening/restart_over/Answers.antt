@@ -1,0 +1,39 @@
+use Rattle.sqlite.specs.Held.{state}
+use Rattle.desk_store.specs.Sets.{SameSet}
+use Rattle.desk_store.specs.SqliteStates.{IsUp}
+use Rattle.desk_store.specs.Stored.{HoldsText, IsDeskDatabase, IsFree, content_of}
+use Rattle.desk.specs.Opening.{Opens}
+use Rattle.desk.specs.Same.{AnswerAlike}
+use Rattle.desk.proofs.RestartLemmas.{held_again, of_ok, of_opened, same_answers, set_of_same}
+use Rattle.desk.proofs.reopening.restart_over.Goals as goal
+
+pub returns-clause-held : goal.returns-clause-held
+returns-clause-held g c =
+    let S = g.S.Store in
+    let old = (state S c.args.desk.keeper.conn).now in
+    let given = c.into_keeper-keeper.result in
+    let k = state S c.renewed.result.conn in
+    let same : SameSet (HoldsText old) (HoldsText k.now) =
+    set_of_same given c.args.desk.keeper c.into_keeper-keeper.ensures.same (λ x. HoldsText (state S x.conn).now) (HoldsText k.now) c.renewed.ensures.set in
+    of_opened c.open.result
+    (λ d. IsUp (state S d.keeper.conn)
+    → Opens (IsFree k.now.schema) (IsDeskDatabase k.now) (content_of k.now).roster c.args.roster.text (HoldsText k.now) (HoldsText (state S d.keeper.conn).now))
+    (λ d. IsUp (state S d.keeper.conn) → IsUp k)
+    (λ d. IsUp (state S d.keeper.conn) → SameSet (HoldsText old) (HoldsText (state S d.keeper.conn).now))
+    (λ r. IsUp (state S r.1.conn) → IsUp k)
+    (λ d opens was up.
+    let desk = c.renewed.ensures.desk.1 (c.into_keeper-keeper.ensures.desk (c.renewed.ensures.up.0 (was up))) in
+    held_again (IsFree k.now.schema) (IsDeskDatabase k.now) (content_of k.now).roster c.args.roster.text (HoldsText old) (HoldsText k.now) (HoldsText (state S d.keeper.conn).now) desk same (opens up))
+    c.open.ensures.opens
+    c.open.ensures.was_up
+
+pub returns-clause-alike : goal.returns-clause-alike
+returns-clause-alike g c =
+    let S = g.S.Store in
+    let f = c.args.desk.roster.says in
+    let old = (state S c.args.desk.keeper.conn).now in
+    of_ok c.open.result
+    (λ d. IsUp (state S d.keeper.conn) → SameSet (HoldsText old) (HoldsText (state S d.keeper.conn).now))
+    (λ d. IsUp (state S d.keeper.conn) → AnswerAlike f (HoldsText old) (HoldsText (state S d.keeper.conn).now))
+    (λ d held up. same_answers f (HoldsText old) (HoldsText (state S d.keeper.conn).now) (held up))
+    (returns-clause-held g c)
