@@ -11,6 +11,8 @@ pub mod Lists
 pub mod Others
 pub mod DecisionLemmas
 pub mod RunLemmas
+pub mod Halving
+pub mod Listings
 pub mod Products
 pub mod Gaps
 pub mod Listed

@@ -24,7 +24,7 @@ args_alike : (path : List ℕ) (cmnds : List Cmnd) (lists : List (List (List ℕ
 args_alike path cmnds lists once =
     fun_ext (λ args. any_once (λ y x. pointwise bytes_eq x y) args_decides args_order (args_with path cmnds) lists once args)
 
-files_alike : (standing listed : List (List ℕ)) → IsEachOnce text_order standing listed → has listed ≡ has standing
+pub files_alike : (standing listed : List (List ℕ)) → IsEachOnce text_order standing listed → has listed ≡ has standing
 files_alike standing listed once = fun_ext (λ x. any_once bytes_eq bytes_eq-Decides text_order standing listed once x)
 
 fresh_alike : (standing listed : List (List ℕ)) → IsEachOnce text_order standing listed → (dir : List ℕ) (runs : List Run) → IsFreshFile listed dir runs → IsFreshFile standing dir runs

@@ -17,8 +17,8 @@ fn names_and_other<F: Form>(
     requires { IsFormOfOthers F.has }
     ensures { IfOk result (λ cases. AreNamesAndOther standing.items cases) }
 {
-    let other_name = first_other(alloc, &standing)?;
     let mut cases = in_order(standing);
+    let other_name = first_other(alloc, &cases)?;
     cases.push(other_name)?;
     Ok(Items::new(cases))
 }

@@ -1,9 +1,11 @@
 //! Words that do not stand: `other0`, `other1` and so on.
 
 ghost use Rattle.std.specs.Prelude.{◌≡◌, ℕ, ◌<◌, ◌^◌, true, IfOk};
-ghost use Rattle.review.specs.Cases.{other as word_of, IsFirstOther, has};
+ghost use Rattle.std.specs.List.Sorted.{IsStrictlySortedBy};
+ghost use Rattle.review.specs.Cases.{other as word_of, IsFirstOther, has, text_order};
 ghost use Rattle.review.specs.Gathering.{IsFormOfOthers};
 
+use crate::order::is_among;
 use std::alloc::Global;
 use sudo_words::{Form, NoMemory, Word};
 
@@ -18,14 +20,15 @@ pub(crate) fn other<F: Form>(alloc: Global, number: usize) -> Result<Word<F>, No
     }
 }
 
-/// The first other word that does not stand: one of as many as stand, and one more.
+/// The first other word that does not stand: one of as many as stand, and one more. Those that stand are in order.
 pub(crate) fn first_other<F: Form>(alloc: Global, standing: &[Word<F>]) -> Result<Word<F>, NoMemory>
-    requires { IsFormOfOthers F.has }
+    requires form { IsFormOfOthers F.has }
+    requires sorted { IsStrictlySortedBy text_order standing.now }
     ensures { IfOk result (λ w. IsFirstOther (has standing.now) w) }
 {
     for number in 0..standing.len() {
         let word = other(alloc, number)?;
-        if !standing.contains(&word) {
+        if !is_among(standing, &word) {
             return Ok(word);
         }
     }

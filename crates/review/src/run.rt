@@ -101,8 +101,8 @@ impl Ord for Args {
     }
 }
 
-/// A path that is run with arguments.
-#[derive(Drop)]
+/// A path that is run with arguments. Runs are in order by their paths, and those of one path by their arguments.
+#[derive(PartialEq, Eq, PartialOrd, Ord, Drop)]
 pub(crate) struct Run {
     /// The path.
     pub(crate) path: FilePath,

@@ -10,8 +10,8 @@ use Rattle.review.proofs.Others.{last_free}
 use Rattle.review.proofs.RunLemmas.{args_either_way}
 use Rattle.review.proofs.runs.free_args.Goals as goal
 
-pub returns-then-not-contains : goal.returns-then-not-contains
-returns-then-not-contains c = (
+pub returns-then-not-is_among : goal.returns-then-not-is_among
+returns-then-not-is_among c = (
   other c.loop-number.number,
   c.in_ok-args.ensures,
   record {
@@ -20,8 +20,8 @@ returns-then-not-contains c = (
     free =
         ap (has_args c.args.lists.now) (sym c.in_ok-args.ensures)
         ∙ sym (args_either_way c.args.lists.now c.in_ok-args.args)
-        ∙ sym c.contains.ensures.value
-        ∙ c.if-not-contains.true;
+        ∙ sym c.is_among.ensures
+        ∙ c.if-not-is_among.true;
     first = c.loop-number.invariant;
   },
 )
@@ -34,8 +34,8 @@ loop-number-preserved c = λ k below.
           ap (λ (j : ℕ). has_args lists (other j ∷ [])) e
           ∙ ap (has_args lists) (sym c.in_ok-args.ensures)
           ∙ sym (args_either_way lists c.in_ok-args.args)
-          ∙ sym c.contains.ensures.value
-          ∙ c.if-not-contains.false
+          ∙ sym c.is_among.ensures
+          ∙ c.if-not-is_among.false
       | inr (inl lower) ↦ c.loop-number.invariant k lower
       | inr (inr higher) ↦ absurd (omega arith)
     ]

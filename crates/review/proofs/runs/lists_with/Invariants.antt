@@ -1,6 +1,9 @@
-use Rattle.std.proofs.Common.{◌≡◌, take}
-use Rattle.review.specs.Cases.{args_with}
+use Rattle.std.proofs.Common.{◌≡◌, map, take}
+use Rattle.review.specs.Gathering.{args_at}
 use Rattle.review.proofs.runs.lists_with.Given as goal
 
-abbrev pub invariant-loop-cmnd : goal.invariant-loop-cmnd
-invariant-loop-cmnd l = l.lists.items ≡ args_with l.path (take l.cmnd-index l.cmnds)
+abbrev pub invariant-loop-run : goal.invariant-loop-run
+invariant-loop-run l = record {
+  so_far : l.lists.items ≡ map (λ run. run.args) (take l.run-index l.run-items);
+  these : map (λ run. run.args) l.run-items ≡ args_at l.path l.listed;
+}
