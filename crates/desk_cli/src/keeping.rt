@@ -2,7 +2,7 @@
 
 ghost use Rattle.std.specs.Prelude.{◌≢◌, ℕ, List, IfOk, map, string_bytes};
 ghost use Rattle.std.specs.Io.KnownBytes.{Appends};
-ghost use Rattle.desk_cli.specs.Keeping.{IsDeskAnswer, IsKeptAnswer, held_in};
+ghost use Rattle.desk_cli.specs.Keeping.{IsDeskAnswer, IsKeptAnswer, PrintsFile, PrintsReport, held_in};
 
 use crate::answer::Answer;
 use crate::delivering::deliver_to;
@@ -16,6 +16,35 @@ use desk::{Desk, Keeper};
 use review::report;
 use std::alloc::Global;
 use std::io::{Read, Write};
+use sudo_words::{HostName, Moment};
+
+/// Answers with the host's file, of what the desk holds.
+fn print_of<K: Keeper>(
+    desk: &mut Desk<K>,
+    host: &HostName,
+    after: Option<Moment>,
+) -> Result<Answer, desk::Refusal>
+    ensures found { K.is_up desk.new.keeper → K.is_desk desk.new.keeper → IfOk result (λ a. PrintsFile desk.old.roster.says desk.old.base host.now after
+        (K.holds desk.old.keeper) (K.holds desk.new.keeper) a.status (string_bytes a.text)) }
+    ensures was_up { K.is_up desk.new.keeper → K.is_up desk.old.keeper }
+{
+    Ok(Answer {
+        text: file_of(desk, host, after)?,
+        status: Status::Done,
+    })
+}
+
+/// Answers with the report at the moment, of what the desk holds.
+fn review_of<K: Keeper>(desk: &mut Desk<K>, at: Moment) -> Result<Answer, desk::Refusal>
+    ensures found { K.is_up desk.new.keeper → K.is_desk desk.new.keeper → IfOk result (λ a. PrintsReport desk.old.roster.says desk.old.base at
+        (K.holds desk.old.keeper) (K.holds desk.new.keeper) a.status (string_bytes a.text)) }
+    ensures was_up { K.is_up desk.new.keeper → K.is_up desk.old.keeper }
+{
+    Ok(Answer {
+        text: report(desk, at)?,
+        status: Status::Done,
+    })
+}
 
 /// What the desk answers to the job. Only `deliver` reads the input.
 fn asked<K: Keeper, R: Read>(
@@ -24,20 +53,14 @@ fn asked<K: Keeper, R: Read>(
     desk: &mut Desk<K>,
     input: &mut R,
 ) -> Result<Answer, Refusal>
-    ensures found { K.is_up desk.new.keeper → IfOk result (λ a. IsDeskAnswer job.now desk.old.roster.says desk.old.base (K.holds desk.old.keeper)
-        (R.remaining input.old) (K.holds desk.new.keeper) a.status (string_bytes a.text)) }
+    ensures found { K.is_up desk.new.keeper → K.is_desk desk.new.keeper → IfOk result (λ a. IsDeskAnswer job.now desk.old.roster.says desk.old.base
+        (K.holds desk.old.keeper) (R.remaining input.old) (K.holds desk.new.keeper) a.status (string_bytes a.text)) }
     ensures was_up { K.is_up desk.new.keeper → K.is_up desk.old.keeper }
 {
     match job {
         Job::Deliver { relay, .. } => deliver_to(alloc, desk, relay.as_str(), input),
-        Job::Print { host, after, .. } => Ok(Answer {
-            text: file_of(desk, host, *after)?,
-            status: Status::Done,
-        }),
-        Job::Review { at, .. } => Ok(Answer {
-            text: report(desk, *at)?,
-            status: Status::Done,
-        }),
+        Job::Print { host, after, .. } => Ok(print_of(desk, host, *after)?),
+        Job::Review { at, .. } => Ok(review_of(desk, *at)?),
         _ => Err(Refusal::FileFailed),
     }
 }
