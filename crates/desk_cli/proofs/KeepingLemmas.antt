@@ -1,12 +1,13 @@
 -- What is held of a desk that is opened over a keeper, and answers over one set that another equals.
-use Rattle.std.proofs.Common.{◌≡◌, ◌⊎◌, ℕ, List, Option, inl, inr}
+use Rattle.std.proofs.Common.{◌≡◌, ◌⊎◌, ℕ, List, Option, Result, Ok, Err, IfOk, inl, inr, subst, sym}
 use Rattle.sudo_words.specs.declared.cmnd.Cmnd.{Cmnd}
 use Rattle.sudo_syntax.specs.declared.entry.Entry.{Entry}
 use Rattle.messages.specs.declared.message.Message.{Message}
 use Rattle.roster.specs.Fields.{RosterFields}
 use Rattle.desk_store.specs.Sets.{IsNothing, Lists, SameSet}
 use Rattle.desk.specs.Opening.{Opens}
-use Rattle.desk_cli.specs.Keeping.{AnswersLines, IsDeskAnswer, PrintsFile, PrintsReport, held_in}
+use Rattle.desk_cli.specs.Files.{IsDeskOf}
+use Rattle.desk_cli.specs.Keeping.{AnswersLines, IsAnswerOfDesk, IsDeskAnswer, PrintsFile, PrintsReport, held_in}
 use Rattle.desk_cli.specs.declared.status.Status.{Status}
 use Rattle.desk_cli.specs.declared.task.Job.{Job}
 use Rattle.desk_cli.specs.declared.task.Job.TheVariants.{Beyond, Check, Decide, Deliver, Print, Review, Serve}
@@ -80,3 +81,21 @@ module _ (f : RosterFields Cmnd) (base : List Entry) (S T new : Message → Type
   answered_over (Print places host after) is = file_over host after is
   answered_over (Review places at) is = report_over at is
   answered_over (Serve places addr requests) is = is
+
+-- ---- a desk that is opened over a keeper, asked, and given up again
+
+module _ {A E : Type 0} (status_of : A → Status) (text_of : A → List ℕ) (job : Job) (roster_file base_file : List ℕ) (f : RosterFields Cmnd) (base : List Entry)
+    (made : IsDeskOf roster_file base_file f base) (input : Option (List ℕ)) where
+  of_files : (r : Result A E) (S T new : Message → Type 0) → SameSet S T
+      → IfOk r (λ a. IsDeskAnswer job f base T input new (status_of a) (text_of a))
+      → IfOk r (λ a. IsAnswerOfDesk job roster_file base_file S input new (status_of a) (text_of a))
+  of_files (Ok a) S T new same is = (f, base, made, answered_over f base S T new input (status_of a) (text_of a) same job is)
+  of_files (Err e) S T new same is = tt
+
+  pub by_desk : {K : Type 0} (is_up is_desk : K → Type 0) (holds : K → Message → Type 0) (r : Result A E) (held : Message → Type 0) (opened asked handed : K)
+      → handed ≡ asked → (is_up handed → is_desk handed) → (is_up asked → is_up opened) → (is_up opened → SameSet held (holds opened))
+      → (is_up asked → is_desk asked → IfOk r (λ a. IsDeskAnswer job f base (holds opened) input (holds asked) (status_of a) (text_of a)))
+      → is_up handed → IfOk r (λ a. IsAnswerOfDesk job roster_file base_file held input (holds handed) (status_of a) (text_of a))
+  by_desk is_up is_desk holds r held opened asked handed is desk was_up opens answers =
+      subst (λ k. (is_up k → is_desk k) → is_up k → IfOk r (λ a. IsAnswerOfDesk job roster_file base_file held input (holds k) (status_of a) (text_of a)))
+      (sym is) (λ desk up. of_files r held (holds opened) (holds asked) (opens (was_up up)) (answers up (desk up))) desk

@@ -60,8 +60,12 @@ IsDeskAnswer job f base old input new status text = ⊥
 
 -- ---- over files
 
+-- A roster's file and a base's make a desk, which answers the job so.
+abbrev pub IsAnswerOfDesk : Job → (roster_file base_file : List ℕ) → (old : Message → Type 0) → Option (List ℕ) → (new : Message → Type 0) → Status → List ℕ → Type 0
+IsAnswerOfDesk job roster_file base_file old input new status text =
+    (f : RosterFields Cmnd) × (base : List Entry) × IsDeskOf roster_file base_file f base × IsDeskAnswer job f base old input new status text
+
 -- The files, in the order in which the job names them, make a desk, which answers the job so.
 abbrev pub IsKeptAnswer : Job → List (List ℕ) → (old : Message → Type 0) → Option (List ℕ) → (new : Message → Type 0) → Status → List ℕ → Type 0
-IsKeptAnswer job (roster_file ∷ base_file ∷ more) old input new status text =
-    (f : RosterFields Cmnd) × (base : List Entry) × IsDeskOf roster_file base_file f base × IsDeskAnswer job f base old input new status text
+IsKeptAnswer job (roster_file ∷ base_file ∷ more) old input new status text = IsAnswerOfDesk job roster_file base_file old input new status text
 IsKeptAnswer job files old input new status text = ⊥

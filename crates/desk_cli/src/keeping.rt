@@ -2,7 +2,7 @@
 
 ghost use Rattle.std.specs.Prelude.{◌≢◌, ℕ, List, IfOk, map, string_bytes};
 ghost use Rattle.std.specs.Io.KnownBytes.{Appends};
-ghost use Rattle.desk_cli.specs.Keeping.{IsDeskAnswer, IsKeptAnswer, PrintsFile, PrintsReport, held_in};
+ghost use Rattle.desk_cli.specs.Keeping.{IsAnswerOfDesk, IsDeskAnswer, IsKeptAnswer, PrintsFile, PrintsReport, held_in};
 
 use crate::answer::Answer;
 use crate::delivering::deliver_to;
@@ -65,7 +65,29 @@ fn asked<K: Keeper, R: Read>(
     }
 }
 
-/// What the job answers over the desk that the files make and the keeper keeps, or why it is refused; and the keeper.
+/// What the job answers over the desk that the roster's file and the base's make and the keeper keeps, or why it is refused;
+/// and the keeper.
+fn answered_by_desk<K: Keeper, R: Read>(
+    alloc: Global,
+    job: &Job,
+    roster: &[u8],
+    base: &[u8],
+    keeper: K,
+    input: &mut R,
+) -> (Result<Answer, Refusal>, K)
+    ensures found { K.is_up result.1 → IfOk result.0 (λ a. IsAnswerOfDesk job.now roster.now base.now (held_in (K.is_desk keeper) (K.holds keeper))
+        (R.remaining input.old) (K.holds result.1) a.status (string_bytes a.text)) }
+{
+    match open_over(alloc, roster, base, keeper) {
+        Ok(mut desk) => {
+            let answer = asked(alloc, job, &mut desk, input);
+            (answer, desk.into_keeper())
+        }
+        Err((refusal, keeper)) => (Err(refusal), keeper),
+    }
+}
+
+/// The same, over the job's files.
 fn answered_over<K: Keeper, R: Read>(
     alloc: Global,
     job: &Job,
@@ -76,15 +98,16 @@ fn answered_over<K: Keeper, R: Read>(
     ensures found { K.is_up result.1 → IfOk result.0 (λ a. IsKeptAnswer job.now (map (λ f. f.items) files.now) (held_in (K.is_desk keeper) (K.holds keeper))
         (R.remaining input.old) (K.holds result.1) a.status (string_bytes a.text)) }
 {
-    let [roster, base, ..] = files else {
-        return (Err(Refusal::FileFailed), keeper);
-    };
-    match open_over(alloc, roster.as_slice(), base.as_slice(), keeper) {
-        Ok(mut desk) => {
-            let answer = asked(alloc, job, &mut desk, input);
-            (answer, desk.into_keeper())
-        }
-        Err((refusal, keeper)) => (Err(refusal), keeper),
+    match files {
+        [roster, base, ..] => answered_by_desk(
+            alloc,
+            job,
+            roster.as_slice(),
+            base.as_slice(),
+            keeper,
+            input,
+        ),
+        _ => (Err(Refusal::FileFailed), keeper),
     }
 }
 
