@@ -14,7 +14,7 @@ returns-in-Ok-clause-printed g c =
       taking.1,
       prints c.args.roster.now c.args.base.now c.args.host.now c.args.after (g.R.Read.remaining c.args.input.now) c.take_lines.new.desk.roster.says
           c.take_lines.new.desk.base taking.0 taking.1 made taken c.file_of.result c.in-Ok.text _ c.in-Ok.is c.file_of.ensures.unknown
-          (c.in-Ok.ensures.printed taking.0 taking.2) (c.in-Ok.ensures.rights taking.0 taking.2),
+          (c.in-Ok.ensures.printed taking.0 tt taking.2) (c.in-Ok.ensures.rights taking.0 tt taking.2),
       taking.4,
     )
 
@@ -28,4 +28,4 @@ returns-clause-err g c =
     let taken : IsTaken c.take_lines.new.desk.roster.says (g.R.Read.remaining c.args.input.now) taking.0 taking.1 = rw same_roster taking.3 in
     ends_printing c.args.roster.now c.args.base.now c.args.host.now c.args.after (g.R.Read.remaining c.args.input.now) c.take_lines.new.desk.roster.says
     c.take_lines.new.desk.base taking.0 taking.1 made taken c.file_of.result c.in-Err.refusal c.in-Err.is c.file_of.ensures.unknown
-    (λ lines are short. c.in-Err.ensures.few taking.0 lines taking.2 are short) c.in-Err.ensures.err
+    (λ lines are short. c.in-Err.ensures.few taking.0 lines tt taking.2 are short) c.in-Err.ensures.err

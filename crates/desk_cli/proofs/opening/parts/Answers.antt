@@ -1,5 +1,5 @@
 use Rattle.std.proofs.lemmas.Result.{err_from_is_err_and}
-use Rattle.desk_cli.proofs.opening.open.Goals as goal
+use Rattle.desk_cli.proofs.opening.parts.Goals as goal
 
 pub returns-in_err-base-clause-err : goal.returns-in_err-base-clause-err
 returns-in_err-base-clause-err c =
