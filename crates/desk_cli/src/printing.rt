@@ -55,6 +55,17 @@ fn complaints_of(alloc: Global, answers: &[Result<Ack, desk::Refusal>]) -> Resul
     Ok(said)
 }
 
+/// Writes it on `err`, the whole of it.
+fn write_whole<E: Write>(said: &str, err: &mut E) -> Result<(), Refusal>
+    ensures said { OnOk result (Appends (E.contents err.old) (E.contents err.new) said.now) }
+    ensures err { IfErr result EndsTaking }
+{
+    if err.write_all(said.as_bytes()).is_err() || err.flush().is_err() {
+        return Err(Refusal::FileFailed);
+    }
+    Ok(())
+}
+
 /// Says it on `err`.
 fn say<E: Write>(said: &str, err: &mut E) -> Result<(), Refusal>
     ensures said { OnOk result (Appends (E.contents err.old) (E.contents err.new) said.now) }
@@ -63,10 +74,7 @@ fn say<E: Write>(said: &str, err: &mut E) -> Result<(), Refusal>
     if said.is_empty() {
         return Ok(());
     }
-    if err.write_all(said.as_bytes()).is_err() || err.flush().is_err() {
-        return Err(Refusal::FileFailed);
-    }
-    Ok(())
+    write_whole(said, err)
 }
 
 /// Delivers the lines of the input as those of the roster's first relay in byte order, and says on `err` which the desk does
