@@ -72,25 +72,25 @@ compares : (a b : Text) → list_all is_operand (a ∷ b ∷ []) ≡ true → Fi
 unfolding clap_on_literals
 compares a b all = record { enters = enters_beyond; operands = all; leads = refl; faultless = refl; finds = refl }
 
-delivers : (roster base relay : Text) → list_all is_operand (roster ∷ base ∷ codes "-" ∷ relay ∷ []) ≡ true
-    → Finds (codes "deliver") (nth 3) (roster ∷ base ∷ codes "-" ∷ relay ∷ [])
+delivers : (roster base store relay : Text) → list_all is_operand (roster ∷ base ∷ store ∷ relay ∷ []) ≡ true
+    → Finds (codes "deliver") (nth 3) (roster ∷ base ∷ store ∷ relay ∷ [])
 unfolding clap_on_literals
-delivers roster base relay all = record { enters = enters_deliver; operands = all; leads = refl; faultless = refl; finds = refl }
+delivers roster base store relay all = record { enters = enters_deliver; operands = all; leads = refl; faultless = refl; finds = refl }
 
-prints : (roster base host : Text) → list_all is_operand (roster ∷ base ∷ codes "-" ∷ host ∷ []) ≡ true
-    → Finds (codes "print") (nth 4) (roster ∷ base ∷ codes "-" ∷ host ∷ [])
+prints : (roster base store host : Text) → list_all is_operand (roster ∷ base ∷ store ∷ host ∷ []) ≡ true
+    → Finds (codes "print") (nth 4) (roster ∷ base ∷ store ∷ host ∷ [])
 unfolding clap_on_literals
-prints roster base host all = record { enters = enters_print; operands = all; leads = refl; faultless = refl; finds = refl }
+prints roster base store host all = record { enters = enters_print; operands = all; leads = refl; faultless = refl; finds = refl }
 
-reviews : (roster base at : Text) → list_all is_operand (roster ∷ base ∷ codes "-" ∷ at ∷ []) ≡ true
-    → Finds (codes "review") (nth 5) (roster ∷ base ∷ codes "-" ∷ at ∷ [])
+reviews : (roster base store at : Text) → list_all is_operand (roster ∷ base ∷ store ∷ at ∷ []) ≡ true
+    → Finds (codes "review") (nth 5) (roster ∷ base ∷ store ∷ at ∷ [])
 unfolding clap_on_literals
-reviews roster base at all = record { enters = enters_review; operands = all; leads = refl; faultless = refl; finds = refl }
+reviews roster base store at all = record { enters = enters_review; operands = all; leads = refl; faultless = refl; finds = refl }
 
-serves : (roster base addr : Text) → list_all is_operand (roster ∷ base ∷ codes "-" ∷ addr ∷ []) ≡ true
-    → Finds (codes "serve") (nth 6) (roster ∷ base ∷ codes "-" ∷ addr ∷ [])
+serves : (roster base store addr : Text) → list_all is_operand (roster ∷ base ∷ store ∷ addr ∷ []) ≡ true
+    → Finds (codes "serve") (nth 6) (roster ∷ base ∷ store ∷ addr ∷ [])
 unfolding clap_on_literals
-serves roster base addr all = record { enters = enters_serve; operands = all; leads = refl; faultless = refl; finds = refl }
+serves roster base store addr all = record { enters = enters_serve; operands = all; leads = refl; faultless = refl; finds = refl }
 
 decides : (f u h r t p : Text) (args : List Text) → list_all is_operand (f ∷ u ∷ h ∷ r ∷ t ∷ p ∷ args) ≡ true
     → Takes (codes "decide") (nth 1) (f ∷ u ∷ h ∷ r ∷ t ∷ p ∷ args) (six f u h r t p (args_row args))
@@ -129,21 +129,26 @@ said program words (Beyond a b scope) all is =
     (line program (codes "beyond") (nth 2) (a ∷ b ∷ []) _ (Beyond a b (record { user = None; host = None; runas = None })) (compares a b operands)
     (refl, refl, refl, record { user = refl; host = refl; runas = refl }))) all
 said program words (Deliver places relay) all is =
-    subst (λ ws. list_all is_operand ws ≡ true → IsCommandLine (program ∷ ws) (Deliver places relay)) (sym is)
-    (λ operands. line program (codes "deliver") (nth 3) (places.roster ∷ places.base ∷ codes "-" ∷ relay ∷ []) _ (Deliver places relay)
-    (delivers places.roster places.base relay operands) (refl, record { roster = refl; base = refl; store = refl }, refl)) all
+    let (store, says, same) = is in
+    subst (λ ws. list_all is_operand ws ≡ true → IsCommandLine (program ∷ ws) (Deliver places relay)) (sym same)
+    (λ operands. line program (codes "deliver") (nth 3) (places.roster ∷ places.base ∷ store ∷ relay ∷ []) _ (Deliver places relay)
+    (delivers places.roster places.base store relay operands) (refl, record { roster = refl; base = refl; store = (store, refl, says) }, refl)) all
 said program words (Print places host after) all is =
-    subst (λ ws. list_all is_operand ws ≡ true → IsCommandLine (program ∷ ws) (Print places host after)) (sym is.0)
-    (λ operands. subst (λ m. IsCommandLine (program ∷ codes "print" ∷ places.roster ∷ places.base ∷ codes "-" ∷ host ∷ []) (Print places host m)) (sym is.2)
-    (line program (codes "print") (nth 4) (places.roster ∷ places.base ∷ codes "-" ∷ host ∷ []) _ (Print places host None)
-    (prints places.roster places.base host operands) (refl, record { roster = refl; base = refl; store = refl }, (refl, is.1), refl))) all
+    let (store, says, same, name, none) = is in
+    subst (λ ws. list_all is_operand ws ≡ true → IsCommandLine (program ∷ ws) (Print places host after)) (sym same)
+    (λ operands. subst (λ m. IsCommandLine (program ∷ codes "print" ∷ places.roster ∷ places.base ∷ store ∷ host ∷ []) (Print places host m)) (sym none)
+    (line program (codes "print") (nth 4) (places.roster ∷ places.base ∷ store ∷ host ∷ []) _ (Print places host None)
+    (prints places.roster places.base store host operands)
+    (refl, record { roster = refl; base = refl; store = (store, refl, says) }, (refl, name), refl))) all
 said program words (Review places at) all is =
-    let (text, stamp, same) = is in
+    let (store, text, says, stamp, same) = is in
     subst (λ ws. list_all is_operand ws ≡ true → IsCommandLine (program ∷ ws) (Review places at)) (sym same)
-    (λ operands. line program (codes "review") (nth 5) (places.roster ∷ places.base ∷ codes "-" ∷ text ∷ []) _ (Review places at)
-    (reviews places.roster places.base text operands) (refl, record { roster = refl; base = refl; store = refl }, (text, refl, stamp))) all
+    (λ operands. line program (codes "review") (nth 5) (places.roster ∷ places.base ∷ store ∷ text ∷ []) _ (Review places at)
+    (reviews places.roster places.base store text operands)
+    (refl, record { roster = refl; base = refl; store = (store, refl, says) }, (text, refl, stamp))) all
 said program words (Serve places addr requests) all is =
-    subst (λ ws. list_all is_operand ws ≡ true → IsCommandLine (program ∷ ws) (Serve places addr requests)) (sym is.0)
-    (λ operands. subst (λ r. IsCommandLine (program ∷ codes "serve" ∷ places.roster ∷ places.base ∷ codes "-" ∷ addr ∷ []) (Serve places addr r)) (sym is.1)
-    (line program (codes "serve") (nth 6) (places.roster ∷ places.base ∷ codes "-" ∷ addr ∷ []) _ (Serve places addr None)
-    (serves places.roster places.base addr operands) (refl, record { roster = refl; base = refl; store = refl }, refl, refl))) all
+    let (store, says, same, none) = is in
+    subst (λ ws. list_all is_operand ws ≡ true → IsCommandLine (program ∷ ws) (Serve places addr requests)) (sym same)
+    (λ operands. subst (λ r. IsCommandLine (program ∷ codes "serve" ∷ places.roster ∷ places.base ∷ store ∷ addr ∷ []) (Serve places addr r)) (sym none)
+    (line program (codes "serve") (nth 6) (places.roster ∷ places.base ∷ store ∷ addr ∷ []) _ (Serve places addr None)
+    (serves places.roster places.base store addr operands) (refl, record { roster = refl; base = refl; store = (store, refl, says) }, refl, refl))) all

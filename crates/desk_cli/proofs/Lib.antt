@@ -11,6 +11,7 @@ pub mod Placed
 pub mod ArgsPlaced
 pub mod ByPlace
 pub mod LineLemmas
+pub mod KeepingLemmas
 pub mod ComplaintLemmas
 pub mod AnswerLines
 pub mod BroughtLemmas

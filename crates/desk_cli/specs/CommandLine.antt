@@ -10,6 +10,8 @@ use Rattle.sudo_words.specs.Word.{is_arg, is_file_path, is_host_name, is_name}
 use Rattle.sudo_decide.specs.declared.invocation.Invocation.{Invocation}
 use Rattle.review.specs.declared.scope.Scope.{Scope}
 use Rattle.desk_cli.specs.declared.task.Places.{Places}
+use Rattle.desk_cli.specs.declared.task.Store.{Store}
+use Rattle.desk_cli.specs.declared.task.Store.TheVariants.{Memory, File}
 use Rattle.desk_cli.specs.declared.task.Job.{Job}
 use Rattle.desk_cli.specs.declared.task.Job.TheVariants.{Beyond, Check, Decide, Deliver, Print, Review, Serve}
 
@@ -164,11 +166,20 @@ pub record IsScopeOf (rows : List Row) (scope : Scope) : Type 0 where
   pub host : HasOption is_host_name (codes "HOST") rows scope.host
   pub runas : HasOption is_name (codes "RUNAS") rows scope.runas
 
--- the places that the values say: the paths of the roster and of the base, and no store
+-- `-` says that messages are kept in memory, and any other text is the path of a database
+abbrev pub SaysStore : Text → Store → Type 0
+SaysStore text Memory = text ≡ codes "-"
+SaysStore text (File path) = (text ≡ path) × (path ≢ codes "-")
+
+-- the argument's value says this
+abbrev pub HasStore : Text → List Row → Store → Type 0
+HasStore id rows store = (text : Text) × HasValue id rows text × SaysStore text store
+
+-- the places that the values say: the paths of the roster and of the base, and where messages are kept
 pub record ArePlaces (rows : List Row) (places : Places) : Type 0 where
   pub roster : HasValue (codes "ROSTER") rows places.roster
   pub base : HasValue (codes "BASE") rows places.base
-  pub store : HasValue (codes "STORE") rows (codes "-")
+  pub store : HasStore (codes "STORE") rows places.store
 
 -- ---- what the line says
 
@@ -226,27 +237,10 @@ pub data HasBadScope (rows : List Row) : Type 0 where
   bad_host : HasBadWord is_host_name (codes "HOST") rows → HasBadScope rows
   bad_runas : HasBadWord is_name (codes "RUNAS") rows → HasBadScope rows
 
--- the argument has a value other than `-`
-pub record HasOther (id : Text) (rows : List Row) : Type 0 where
-  pub text : Text
-  pub value : HasValue id rows text
-  pub other : text ≢ codes "-"
-
 -- one of the values of `print` is not of its form
 pub data HasBadPlace (rows : List Row) : Type 0 where
-  bad_store : HasOther (codes "STORE") rows → HasBadPlace rows
   bad_target : HasBadWord is_host_name (codes "HOST") rows → HasBadPlace rows
   bad_after : HasBadMoment (codes "AFTER") rows → HasBadPlace rows
-
--- one of the values of `review` is not of its form
-pub data HasBadReview (rows : List Row) : Type 0 where
-  bad_store : HasOther (codes "STORE") rows → HasBadReview rows
-  bad_at : HasBadMoment (codes "AT") rows → HasBadReview rows
-
--- one of the values of `serve` is not of its form
-pub data HasBadServing (rows : List Row) : Type 0 where
-  bad_kept : HasOther (codes "STORE") rows → HasBadServing rows
-  bad_count : HasBadWord is_count (codes "REQUESTS") rows → HasBadServing rows
 
 -- the command's name, with a value that is not of its form
 abbrev pub SaysBadly : Option (Text × List Row) → Type 0
@@ -254,10 +248,9 @@ SaysBadly None = ⊥
 SaysBadly (Some line) =
     ((line.0 ≡ codes "decide") × HasBadValue line.1)
     ⊎ ((line.0 ≡ codes "beyond") × HasBadScope line.1)
-    ⊎ ((line.0 ≡ codes "deliver") × HasOther (codes "STORE") line.1)
     ⊎ ((line.0 ≡ codes "print") × HasBadPlace line.1)
-    ⊎ ((line.0 ≡ codes "review") × HasBadReview line.1)
-    ⊎ ((line.0 ≡ codes "serve") × HasBadServing line.1)
+    ⊎ ((line.0 ≡ codes "review") × HasBadMoment (codes "AT") line.1)
+    ⊎ ((line.0 ≡ codes "serve") × HasBadWord is_count (codes "REQUESTS") line.1)
 
 -- By clap's rules the words are a command of the program, without a fault, but a value is not of its form.
 pub record IsBadLine (words : List Text) : Type 0 where

@@ -8,4 +8,5 @@ pub mod Delivering
 pub mod Printing
 pub mod Reviewing
 pub mod Comparing
+pub mod Keeping
 pub mod Answers

@@ -5,6 +5,7 @@ use Rattle.clap.specs.Words.{Text}
 use Rattle.sudo_words.specs.Moment.{IsStamp}
 use Rattle.sudo_words.specs.Word.{is_arg, is_file_path, is_host_name, is_name}
 use Rattle.sudo_decide.specs.declared.invocation.Invocation.{Invocation}
+use Rattle.desk_cli.specs.CommandLine.{SaysStore}
 use Rattle.desk_cli.specs.declared.task.Job.{Job}
 use Rattle.desk_cli.specs.declared.task.Job.TheVariants.{Beyond, Check, Decide, Deliver, Print, Review, Serve}
 
@@ -30,10 +31,12 @@ SaysByPlace words (Decide file run) =
     (at : Text) × IsStamp at run.at × HasForms run
     × (words ≡ codes "decide" ∷ file ∷ run.user ∷ run.host ∷ run.runas ∷ at ∷ run.path ∷ run.args)
 SaysByPlace words (Beyond a b scope) = (words ≡ codes "beyond" ∷ a ∷ b ∷ []) × (scope ≡ record { user = None; host = None; runas = None })
-SaysByPlace words (Deliver places relay) = words ≡ codes "deliver" ∷ places.roster ∷ places.base ∷ codes "-" ∷ relay ∷ []
+SaysByPlace words (Deliver places relay) =
+    (store : Text) × SaysStore store places.store × (words ≡ codes "deliver" ∷ places.roster ∷ places.base ∷ store ∷ relay ∷ [])
 SaysByPlace words (Print places host after) =
-    (words ≡ codes "print" ∷ places.roster ∷ places.base ∷ codes "-" ∷ host ∷ []) × (is_host_name host ≡ true) × (after ≡ None)
+    (store : Text) × SaysStore store places.store × (words ≡ codes "print" ∷ places.roster ∷ places.base ∷ store ∷ host ∷ [])
+    × (is_host_name host ≡ true) × (after ≡ None)
 SaysByPlace words (Review places at) =
-    (text : Text) × IsStamp text at × (words ≡ codes "review" ∷ places.roster ∷ places.base ∷ codes "-" ∷ text ∷ [])
+    (store text : Text) × SaysStore store places.store × IsStamp text at × (words ≡ codes "review" ∷ places.roster ∷ places.base ∷ store ∷ text ∷ [])
 SaysByPlace words (Serve places addr requests) =
-    (words ≡ codes "serve" ∷ places.roster ∷ places.base ∷ codes "-" ∷ addr ∷ []) × (requests ≡ None)
+    (store : Text) × SaysStore store places.store × (words ≡ codes "serve" ∷ places.roster ∷ places.base ∷ store ∷ addr ∷ []) × (requests ≡ None)

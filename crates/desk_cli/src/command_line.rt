@@ -5,7 +5,7 @@ ghost use Rattle.clap.specs.Words.{fault_of, found_of, rows_of, subcommand_rows_
 ghost use Rattle.sudo_decide.specs.declared.invocation.Invocation.{Invocation as Run};
 ghost use Rattle.review.specs.declared.scope.Scope.{Scope as Fixed};
 ghost use Rattle.desk_cli.specs.CommandLine as line;
-ghost use Rattle.desk_cli.specs.CommandLine.{ArePlaces, HasBadScope, HasBadValue, HasOther, HaveSome, IsBadLine, IsCommandLine, IsComplete, IsInvocation, IsScopeOf, Says, SaysBadly, desk};
+ghost use Rattle.desk_cli.specs.CommandLine.{ArePlaces, HasBadScope, HasBadValue, HaveSome, IsBadLine, IsCommandLine, IsComplete, IsInvocation, IsScopeOf, Says, SaysBadly, desk};
 ghost use Rattle.desk_cli.specs.Faults.{IsUsage};
 ghost use Rattle.desk_cli.specs.declared.fault.JobFault.TheVariants.{BadWord, NoMemory};
 ghost use Rattle.desk_cli.specs.declared.task.Job.{Job as Task};
@@ -15,7 +15,7 @@ use crate::command::parsed;
 use crate::fault::JobFault;
 use crate::task::{Job, Places};
 use crate::values::{
-    args, count_if_given, dash, moment, moment_if_given, text, word, word_if_given,
+    args, count_if_given, moment, moment_if_given, store, text, word, word_if_given,
 };
 use clap::ArgMatches;
 use review::Scope;
@@ -94,25 +94,25 @@ fn beyond(alloc: Global, matches: &ArgMatches<'_>) -> Result<Job, JobFault>
 }
 
 /// The values of `ROSTER`, `BASE` and `STORE`.
-fn places(alloc: Global, matches: &ArgMatches<'_>) -> Result<Places, JobFault>
+fn places(alloc: Global, matches: &ArgMatches<'_>) -> Result<Places, AllocError>
     requires { HaveSome (codes "ROSTER" ∷ codes "BASE" ∷ codes "STORE" ∷ []) (rows_of (found_of matches.now)) }
     ensures found { IfOk result (λ p. ArePlaces (rows_of (found_of matches.now)) p) }
-    ensures only { (p : Parts) → ArePlaces (rows_of (found_of matches.now)) p → MatchResult result (λ q. q ≡ p) (λ e. e ≡ NoMemory) }
-    ensures word { IfErr result (λ e. e ≡ BadWord → HasOther (codes "STORE") (rows_of (found_of matches.now))) }
-    ensures usage { IfErr result (λ e. IsUsage e → ⊥) }
+    ensures only { (p : Parts) → ArePlaces (rows_of (found_of matches.now)) p → IfOk result (λ q. q ≡ p) }
 {
     let roster = text(alloc, matches, "ROSTER")?;
     let base = text(alloc, matches, "BASE")?;
-    dash(matches, "STORE")?;
-    Ok(Places { roster, base })
+    let store = store(alloc, matches, "STORE")?;
+    Ok(Places {
+        roster,
+        base,
+        store,
+    })
 }
 
-fn deliver(alloc: Global, matches: &ArgMatches<'_>) -> Result<Job, JobFault>
+fn deliver(alloc: Global, matches: &ArgMatches<'_>) -> Result<Job, AllocError>
     requires { HaveSome (line.desk_args (codes "RELAY")) (rows_of (found_of matches.now)) }
     ensures found { IfOk result (λ j. Says (Some (codes "deliver", rows_of (found_of matches.now))) j) }
-    ensures only { (j : Task) → Says (Some (codes "deliver", rows_of (found_of matches.now))) j → MatchResult result (λ k. k ≡ j) (λ e. e ≡ NoMemory) }
-    ensures word { IfErr result (λ e. e ≡ BadWord → SaysBadly (Some (codes "deliver", rows_of (found_of matches.now)))) }
-    ensures usage { IfErr result (λ e. IsUsage e → ⊥) }
+    ensures only { (j : Task) → Says (Some (codes "deliver", rows_of (found_of matches.now))) j → IfOk result (λ k. k ≡ j) }
 {
     let places = places(alloc, matches)?;
     let relay = text(alloc, matches, "RELAY")?;
@@ -179,7 +179,7 @@ fn by_name(alloc: Global, name: &str, matches: &ArgMatches<'_>) -> Result<Job, J
     } else if name == "beyond" {
         beyond(alloc, matches)
     } else if name == "deliver" {
-        deliver(alloc, matches)
+        Ok(deliver(alloc, matches)?)
     } else if name == "print" {
         print(alloc, matches)
     } else if name == "review" {

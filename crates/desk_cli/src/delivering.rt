@@ -3,13 +3,14 @@
 ghost use Rattle.std.specs.Prelude.{◌≡◌, ◌++◌, ℕ, List, [], IfErr, IfOk, OnOk, is_ok, map, string_bytes};
 ghost use Rattle.std.specs.List.{list_all};
 ghost use Rattle.desk_cli.specs.Delivering.{DeliversLines, EndsDelivering, answer_line, answer_lines, status_after};
+ghost use Rattle.desk_cli.specs.Keeping.{AnswersLines};
 
 use crate::answer::Answer;
 use crate::lines::read_lines;
 use crate::opening::open;
 use crate::refusal::Refusal;
 use crate::status::Status;
-use desk::Ack;
+use desk::{Ack, Desk, Keeper};
 use std::alloc::{AllocError, AllocFailed, Global};
 use std::fmt::Write as _;
 use std::io::Read;
@@ -54,10 +55,31 @@ fn status_of(answers: &[Result<Ack, desk::Refusal>]) -> Status
     }
 }
 
-/// What the desk that the files make answers to each line of the input, in order.
+/// What the desk answers to each line of the input, in order, as the relay's.
 ///
 /// A line that the desk refuses is answered by its code and name, and has no other effect but on the status. It is refused
-/// as a whole where the files make no desk, where the input cannot be read, and where memory runs out.
+/// as a whole where the input cannot be read, and where memory runs out.
+pub fn deliver_to<K: Keeper, R: Read>(
+    alloc: Global,
+    desk: &mut Desk<K>,
+    relay: &str,
+    input: &mut R,
+) -> Result<Answer, Refusal>
+    ensures found { K.is_up desk.new.keeper → IfOk result (λ a. AnswersLines desk.old.roster.says relay.now (K.holds desk.old.keeper) (R.remaining input.old)
+        (K.holds desk.new.keeper) a.status (string_bytes a.text)) }
+    ensures was_up { K.is_up desk.new.keeper → K.is_up desk.old.keeper }
+{
+    let lines = read_lines(alloc, relay, input)?;
+    let answers = desk.deliver_all(lines.as_slice())?;
+    Ok(Answer {
+        text: text_of(alloc, answers.as_slice())?,
+        status: status_of(answers.as_slice()),
+    })
+}
+
+/// What the desk that the files make answers to each line of the input, in order, as `deliver_to` does.
+///
+/// It is refused where the files make no desk, too.
 pub fn deliver_lines<R: Read>(
     alloc: Global,
     roster: &[u8],

@@ -8,6 +8,7 @@ mod compare_laws;
 mod comparing;
 mod delivering;
 mod fault;
+mod keeping;
 mod laws;
 mod lines;
 mod opening;
@@ -25,15 +26,24 @@ mod values;
 
 use crate::command_line::job;
 use crate::fault::{JobFault, show};
+use crate::keeping::run_over;
 use crate::refusal::Refusal;
 use crate::running::{finish, refuse, run};
 use crate::serving::serve;
 use crate::status::{Status, code};
-use crate::task::Job;
+use crate::task::{Job, Store};
 use crate::text::Text;
+use desk_store::{MemoryKeeper, SqliteKeeper};
+use sqlite::{Connection, Error, ErrorCode};
+use sqlite_disk::Unknown;
+use sqlite_std_file::FileFrom;
+use sqlite_store::FileStore;
 use std::io::{BufReader, BufWriter};
 use std::process::ExitCode;
 use std::{env, fs, io};
+
+/// A keeper over a database in a file.
+type Stored = SqliteKeeper<FileStore<FileFrom<Unknown>>>;
 
 fn words(rt: &HostRuntime) -> Result<Vec<String>, Refusal> {
     match env::args(rt) {
@@ -73,13 +83,52 @@ fn files(rt: &HostRuntime, job: &Job) -> Result<Vec<Vec<u8>>, Refusal> {
     Ok(files)
 }
 
-/// Does the job over the process's streams.
-fn work(rt: &HostRuntime, job: &Job) -> Result<Status, Refusal> {
-    let alloc = rt.alloc();
-    let files = files(rt, job)?;
-    if let Job::Serve { addr, requests, .. } = job {
-        return serve(rt, files.as_slice(), addr.as_str(), *requests);
+/// Where the job's desk keeps its messages, if it has one.
+fn store_of(job: &Job) -> Option<&Store> {
+    match job {
+        Job::Check { .. } | Job::Decide { .. } | Job::Beyond { .. } => None,
+        Job::Deliver { places, .. }
+        | Job::Print { places, .. }
+        | Job::Review { places, .. }
+        | Job::Serve { places, .. } => Some(&places.store),
     }
+}
+
+/// What the database of this path keeps.
+fn keeper(rt: &HostRuntime, path: &Text) -> Result<Stored, Refusal> {
+    match Connection::open_from(rt, path.as_str(), false, Unknown) {
+        Ok(conn) => Ok(SqliteKeeper::new(rt.alloc(), conn)),
+        Err((Error::SqliteFailure(ErrorCode::OutOfMemory), _)) => Err(Refusal::NoMemory),
+        Err(_) => Err(Refusal::FileFailed),
+    }
+}
+
+/// Serves a desk over what is kept in the place.
+fn serve_over(
+    rt: &HostRuntime,
+    files: &[Vec<u8>],
+    store: &Store,
+    addr: &str,
+    requests: Option<u64>,
+) -> Result<Status, Refusal> {
+    match store {
+        Store::Memory => serve(rt, files, MemoryKeeper::new(rt.alloc()), addr, requests).0,
+        Store::File(path) => serve(rt, files, keeper(rt, path)?, addr, requests).0,
+    }
+}
+
+/// The database that the job's desk is kept in, if it is kept in one.
+fn kept(rt: &HostRuntime, job: &Job) -> Result<Option<Stored>, Refusal> {
+    match store_of(job) {
+        Some(Store::File(path)) => Ok(Some(keeper(rt, path)?)),
+        Some(Store::Memory) | None => Ok(None),
+    }
+}
+
+/// Does a job that is no `serve`, over the process's streams.
+fn run_on_streams(rt: &HostRuntime, job: &Job, files: &[Vec<u8>]) -> Result<Status, Refusal> {
+    let alloc = rt.alloc();
+    let kept = kept(rt, job)?;
     let Ok(mut input) = BufReader::new(alloc, rt.stdin()) else {
         return Err(Refusal::NoMemory);
     };
@@ -87,8 +136,25 @@ fn work(rt: &HostRuntime, job: &Job) -> Result<Status, Refusal> {
         return Err(Refusal::NoMemory);
     };
     let mut err = rt.stderr();
-    let status = run(alloc, job, files.as_slice(), &mut input, &mut out, &mut err);
+    let status = match kept {
+        Some(keeper) => run_over(alloc, job, files, keeper, &mut input, &mut out, &mut err).0,
+        None => run(alloc, job, files, &mut input, &mut out, &mut err),
+    };
     Ok(finish(status, &mut out, &mut err))
+}
+
+/// Does the job. Its files are read before its database is opened.
+fn work(rt: &HostRuntime, job: &Job) -> Result<Status, Refusal> {
+    let files = files(rt, job)?;
+    let files = files.as_slice();
+    match job {
+        Job::Serve {
+            places,
+            addr,
+            requests,
+        } => serve_over(rt, files, &places.store, addr.as_str(), *requests),
+        _ => run_on_streams(rt, job, files),
+    }
 }
 
 fn outcome(rt: &HostRuntime) -> Result<Status, Refusal> {

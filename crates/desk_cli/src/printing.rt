@@ -15,7 +15,7 @@ ghost use Rattle.desk_cli.specs.declared.status.Status.TheVariants.{Done};
 use crate::lines::read_lines;
 use crate::opening::open;
 use crate::refusal::Refusal;
-use desk::{Ack, Desk, MemoryKeeper};
+use desk::{Ack, Desk, Keeper, MemoryKeeper};
 use std::alloc::{AllocError, Global};
 use std::fmt::Write as _;
 use std::io::{Read, Write};
@@ -91,17 +91,19 @@ pub fn take_lines<R: Read, E: Write>(
 }
 
 /// The host's file, the whole of it, or without the lines that end before a moment.
-fn file_of(
-    desk: &mut Desk<MemoryKeeper>,
+pub fn file_of<K: Keeper>(
+    desk: &mut Desk<K>,
     host: &HostName,
     after: Option<Moment>,
 ) -> Result<String, desk::Refusal>
-    ensures printed { (set : List Message) → Lists (Holds desk.old.keeper) set
+    ensures printed { (set : List Message) → K.is_up desk.new.keeper → Lists (K.holds desk.old.keeper) set
         → IfOk result (λ s. IsPrinted desk.old.roster.says desk.old.base set host.now after (string_bytes s)) }
-    ensures rights { (set : List Message) → Lists (Holds desk.old.keeper) set
+    ensures rights { (set : List Message) → K.is_up desk.new.keeper → Lists (K.holds desk.old.keeper) set
         → IfOk result (λ s. HasRights desk.old.roster.says desk.old.base set host.now after (string_bytes s)) }
+    ensures same { K.is_up desk.new.keeper → K.is_same desk.old.keeper desk.new.keeper }
+    ensures was_up { K.is_up desk.new.keeper → K.is_up desk.old.keeper }
     ensures unknown { (result ≡ Err refusal.UnknownHost) ↔ (is_among desk.old.roster.says.hosts host.now ≡ false) }
-    ensures few { (set : List Message) (lines : List Line) → Lists (Holds desk.old.keeper) set → AreLines desk.old.roster.says set host.now lines
+    ensures few { (set : List Message) (lines : List Line) → K.is_up desk.new.keeper → Lists (K.holds desk.old.keeper) set → AreLines desk.old.roster.says set host.now lines
         → length (lines_printed after lines) ≤ 8_192 → IfErr result (λ e. (e ≡ refusal.UnknownHost) ⊎ IsWant e) }
     ensures err { IfErr result (λ e. (e ≡ refusal.UnknownHost) ⊎ (e ≡ refusal.TooManyRules) ⊎ IsWant e) }
 {

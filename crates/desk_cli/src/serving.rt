@@ -1,9 +1,9 @@
 //! Serving a desk over HTTP, one connection after the other.
 
-use crate::opening::open;
+use crate::opening::open_over;
 use crate::refusal::Refusal;
 use crate::status::Status;
-use desk::{Desk, MemoryKeeper};
+use desk::{Desk, Keeper};
 use relay_http::{Counted, ServeFault, serve_one};
 use std::alloc::Global;
 use std::io::{self, Read};
@@ -37,9 +37,9 @@ fn hang_up(stream: &TcpStream) -> io::Result<()> {
 }
 
 /// Serves one connection.
-fn serve_stream(
+fn serve_stream<K: Keeper>(
     alloc: Global,
-    desk: &mut Desk<MemoryKeeper>,
+    desk: &mut Desk<K>,
     stream: &TcpStream,
 ) -> Result<(), ServeFault> {
     if limit(stream, PATIENCE).is_err() {
@@ -53,9 +53,9 @@ fn serve_stream(
 }
 
 /// Serves so many connections. A fault of one is printed on the standard error.
-fn serve_streams(
+fn serve_streams<K: Keeper>(
     rt: &HostRuntime,
-    desk: &mut Desk<MemoryKeeper>,
+    desk: &mut Desk<K>,
     listener: &TcpListener,
     requests: usize,
 ) -> io::Result<()> {
@@ -75,29 +75,39 @@ fn listen(rt: &HostRuntime, addr: &str) -> io::Result<TcpListener> {
     Ok(listener)
 }
 
-/// Serves the desk that the files make, at the address: so many connections, one after the other.
-///
-/// It is refused where the files make no desk, and where the address cannot be listened at or accepted from.
-pub fn serve(
+/// Serves the desk at the address: so many connections, one after the other.
+fn serve_desk<K: Keeper>(
     rt: &HostRuntime,
-    files: &[Vec<u8>],
+    desk: &mut Desk<K>,
     addr: &str,
     requests: Option<u64>,
-) -> Result<Status, Refusal> {
+) -> io::Result<()> {
+    let listener = listen(rt, addr)?;
+    serve_streams(rt, desk, &listener, requests.unwrap_or(u64::MAX) as usize)
+}
+
+/// Serves the desk that the files make over what the keeper keeps, at the address, and hands the keeper on.
+///
+/// It is refused where the files make no desk, and where the address cannot be listened at or accepted from.
+pub fn serve<K: Keeper>(
+    rt: &HostRuntime,
+    files: &[Vec<u8>],
+    keeper: K,
+    addr: &str,
+    requests: Option<u64>,
+) -> (Result<Status, Refusal>, K) {
     let [roster, base, ..] = files else {
-        return Err(Refusal::FileFailed);
+        return (Err(Refusal::FileFailed), keeper);
     };
-    let mut desk = open(rt.alloc(), roster.as_slice(), base.as_slice())?;
-    let Ok(listener) = listen(rt, addr) else {
-        return Err(Refusal::FileFailed);
-    };
-    match serve_streams(
-        rt,
-        &mut desk,
-        &listener,
-        requests.unwrap_or(u64::MAX) as usize,
-    ) {
-        Ok(()) => Ok(Status::Done),
-        Err(_) => Err(Refusal::FileFailed),
+    match open_over(rt.alloc(), roster.as_slice(), base.as_slice(), keeper) {
+        Ok(mut desk) => {
+            let served = serve_desk(rt, &mut desk, addr, requests);
+            let answer = match served {
+                Ok(()) => Ok(Status::Done),
+                Err(_) => Err(Refusal::FileFailed),
+            };
+            (answer, desk.into_keeper())
+        }
+        Err((refusal, keeper)) => (Err(refusal), keeper),
     }
 }

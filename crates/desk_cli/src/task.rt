@@ -5,13 +5,24 @@ use review::Scope;
 use sudo_decide::Invocation;
 use sudo_words::{HostName, Moment};
 
-/// Where the parts of a desk stand. It keeps its messages in memory alone.
+/// Where a desk keeps its messages.
+#[derive(Drop)]
+pub enum Store {
+    /// In memory alone.
+    Memory,
+    /// In the database of this path.
+    File(Text),
+}
+
+/// Where the parts of a desk stand.
 #[derive(Drop)]
 pub struct Places {
     /// The path of the roster's file.
     pub roster: Text,
     /// The path of the base policy's file.
     pub base: Text,
+    /// Where its messages are kept.
+    pub store: Store,
 }
 
 /// What the command line says to do.

@@ -1,16 +1,18 @@
 //! The values of a command's arguments.
 
-ghost use Rattle.std.specs.Prelude.{◌≡◌, ◌⊎◌, ◌<◌, ◌≤◌, ℕ, List, IfOk, IfErr, IfSome, IsOk, MatchResult, OnOk, Option, None, Some, codes, map, length, true, false, if◌then◌else◌};
+ghost use Rattle.std.specs.Prelude.{◌≡◌, ◌⊎◌, ◌<◌, ◌≤◌, ℕ, List, IfOk, IfErr, IfSome, MatchResult, Option, None, Some, map, length, true, false, if◌then◌else◌};
 ghost use Rattle.std.specs.List.{list_all};
 ghost use Rattle.std.specs.Str.Parse.{digits_value};
 ghost use Rattle.clap.specs.Words.{found_of, rows_of};
 ghost use Rattle.sudo_words.specs.Moment.{IsStamp};
 ghost use Rattle.sudo_words.specs.Word.{is_arg};
-ghost use Rattle.desk_cli.specs.CommandLine.{HasBadMoment, HasBadWord, HasBadWords, HasCount, HasMoment, HasMomentIfGiven, HasOption, HasOther, HasSome, HasValue, HasWord, HasWords, is_count, is_number, values};
+ghost use Rattle.desk_cli.specs.CommandLine.{HasBadMoment, HasBadWord, HasBadWords, HasCount, HasMoment, HasMomentIfGiven, HasOption, HasSome, HasStore, HasValue, HasWord, HasWords, is_count, is_number, values};
 ghost use Rattle.desk_cli.specs.Faults.{IsUsage};
 ghost use Rattle.desk_cli.specs.declared.fault.JobFault.TheVariants.{BadWord, NoMemory};
+ghost use Rattle.desk_cli.specs.declared.task.Store.{Store as Place};
 
 use crate::fault::JobFault;
+use crate::task::Store;
 use crate::text::Text;
 use clap::ArgMatches;
 use std::alloc::{AllocError, Global};
@@ -120,17 +122,17 @@ pub fn count_if_given(matches: &ArgMatches<'_>, id: &str) -> Result<Option<u64>,
     }
 }
 
-/// Tests that the value of an argument that has one is `-`.
-pub fn dash(matches: &ArgMatches<'_>, id: &str) -> Result<(), JobFault>
+/// Where messages are kept, by the value of an argument that has one: `-` says in memory, and any other the path of a database.
+pub fn store(alloc: Global, matches: &ArgMatches<'_>, id: &str) -> Result<Store, AllocError>
     requires { HasSome id.now (rows_of (found_of matches.now)) }
-    ensures found { OnOk result (HasValue id.now (rows_of (found_of matches.now)) (codes "-")) }
-    ensures only { HasValue id.now (rows_of (found_of matches.now)) (codes "-") → IsOk result }
-    ensures word { IfErr result (λ e. (e ≡ BadWord) × HasOther id.now (rows_of (found_of matches.now))) }
+    ensures found { IfOk result (HasStore id.now (rows_of (found_of matches.now))) }
+    ensures only { (s : Place) → HasStore id.now (rows_of (found_of matches.now)) s → IfOk result (λ r. r ≡ s) }
 {
-    if value(matches, id) == "-" {
-        Ok(())
+    let text = value(matches, id);
+    if text == "-" {
+        Ok(Store::Memory)
     } else {
-        Err(JobFault::BadWord)
+        Ok(Store::File(Text::copied(alloc, text)?))
     }
 }
 
