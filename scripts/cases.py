@@ -675,7 +675,10 @@ def short(value):
 
 def differs(folder, run, wanted, front=()):
     """What is wrong with the program's answer, if something is."""
-    got = answer(folder, run, front)
+    try:
+        got = answer(folder, run, front)
+    except subprocess.TimeoutExpired:
+        return f"{short(run)} takes more than a minute"
     return None if is_wanted(got, wanted) else f"{short(run)} gives {short(got)} and not {short(wanted)}"
 
 

@@ -3,7 +3,7 @@
 
 Every run has to give the plain answer, or to end with status 2, nothing on the output and a refusal for want of memory. `deliver` may also answer some
 lines with that refusal, and the others as they are. A file in the place of STORE holds afterwards what it held and what was acknowledged, and nothing that
-was not sent; run again, the program gives the plain answer over it. `serve` may answer a peer with that refusal and the status 503, or let it go and name `H3`; asked again it
+was not sent; run again, after each tenth, the program gives the plain answer over it. `serve` may answer a peer with that refusal and the status 503, or let it go and name `H3`; asked again it
 gives the plain reply. `faults.py WORDS..` runs another program than build/desk.
 """
 
@@ -203,8 +203,9 @@ def fail_storing(folder, shim, count):
             got = run(words, given, shim, failing, count)
             runs += 1
             refusals += got != plain
-            is_answered = got == plain or is_refused(words, got, plain)
-            if not is_answered or not is_kept(store, held, given, got[1]) or (got != plain and run(words, given, shim, 0, count) != plain):
+            is_right = (got == plain or is_refused(words, got, plain)) and is_kept(store, held, given, got[1])
+            # (run again after each tenth, for the time that it takes)
+            if not is_right or failing % 10 == 0 and run(words, given, shim, 0, count) != plain:
                 wrong += 1
                 print(f"desk {' '.join(words)}: request {failing} refused: {got}")
     return runs, refusals, wrong
