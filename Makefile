@@ -37,16 +37,19 @@ edits:
 	python3 scripts/edits.py $(CRATES)
 
 # What the desk decides beside what sudo itself answers (as root; Debian's packages sudo and faketime), and `desk serve` asked over loopback (curl). Nothing of the
-# machine changes.
+# machine changes. Then the file of a desk beside Debian's `sqlite3`, and a desk that is killed while it takes messages.
 peers: desk
 	python3 scripts/peers.py
 	python3 scripts/peers_http.py
+	python3 scripts/peers_store.py
 
 # Time and memory: `check` and `decide` beside visudo (Debian's package sudo) on up to 16,001 rules, on 8,000 aliases with 8,000 rules, and on
-# the greatest weight; `print` on 800 and 8,000 requests; `beyond` on 1,000,000 cases; `serve` beside nginx (Debian's package nginx-light).
+# the greatest weight; `print` on 800 and 8,000 requests; `beyond` on 1,000,000 cases; `serve` beside nginx (Debian's package nginx-light); `deliver` to a
+# file beside C SQLite (Python's `sqlite3`), and what it costs to open one.
 bench: desk
 	python3 scripts/bench.py
 	python3 scripts/bench_http.py
+	python3 scripts/bench_store.py
 
 # The program with each request for memory refused in turn.
 faults: desk

@@ -1,8 +1,8 @@
 #!/usr/bin/env python3
 """Runs the program on each case of cases/*.toml and compares its output, its standard error and its status.
 
-Each file says at its top what its rows mean, and the function of its name here makes the runs. Each case that differs is printed, and the
-last line has the counts.
+Each file says at its top what its rows mean, and the function of its name here makes the runs. Each case that differs is printed, the three
+slowest where one took more than ten seconds, and the last line has the counts.
 """
 
 import contextlib
@@ -14,8 +14,12 @@ import shlex
 import subprocess
 import sys
 import tempfile
+import time
 import tomllib
+from collections.abc import Callable
 from typing import NamedTuple
+
+import store_files
 
 ROOT = os.path.dirname(os.path.dirname(os.path.abspath(__file__)))
 DESK = os.path.join(ROOT, "build", "desk")
@@ -30,6 +34,22 @@ class Run(NamedTuple):
     streams: dict = {}
     roster: bytes = b""
     other: bytes = b""
+
+
+class Visits(NamedTuple):
+    """Runs in a row over one store, each with what is wanted of it: how its file is made before, and what is wrong with it after, if something is.
+
+    The texts are those that the recipe's statements name. The file may be `taken` by another program meanwhile, or have to stay `untouched`, and
+    `bounded` takes root's right to pass over a file's mode from the program.
+    """
+
+    runs: list
+    made: dict = {}
+    texts: dict = {}
+    fault: Callable = lambda _: None
+    taken: bool = False
+    untouched: bool = False
+    bounded: bool = False
 
 
 def some(text):
@@ -456,6 +476,133 @@ def reviewed(table):
             yield row["name"], Run(base.encode(), ["review", "ROSTER", "BASE", "-", at], text.encode(), roster=roster.encode()), wanted
 
 
+def table_of(name):
+    with open(os.path.join(ROOT, "cases", name + ".toml"), "rb") as file:
+        return tomllib.load(file)
+
+
+def held(bodies, roster=None):
+    """What is wrong with a store that has to hold these messages, and to be the desk of this roster, if one is given."""
+
+    def fault(path):
+        rows, kept = store_files.read(path)
+        if kept != sorted(bodies):
+            return f"holds {short(kept)} and not {short(sorted(bodies))}"
+        if [row[:2] for row in rows] != [(1, 1)] or (roster is not None and rows[0][2].encode() != roster):
+            return f"has the desk {short(rows)}"
+        return None
+
+    return fault
+
+
+def is_absent(path):
+    """What is wrong where there has to be no file."""
+    return f"{path} is there" if os.path.lexists(path) else None
+
+
+def without_tables(path):
+    """What is wrong where nothing may have been made of the store but a database without tables."""
+    found = store_files.asked(path, "SELECT name FROM sqlite_schema") if os.path.lexists(path) else []
+    return f"has {found}" if found else None
+
+
+def visit(table, row):
+    """The runs of a row over one store, and what it holds after them."""
+    runs = []
+    for made in row["runs"]:
+        command, *rest = words_of(made["words"])
+        roster = edited(table["roster"], made.get("with", row.get("with", [])))
+        given = text_of(made["given"]) if "given" in made else lines_of(table, made.get("messages", []))
+        words = [command, "ROSTER" if made.get("reads", True) else "NONE", "BASE", made.get("store", "STORE"), *rest]
+        base = text_of(made.get("base", table["base"]))
+        run = Run(base.encode(), words, given.encode(), made.get("streams", {}), text_of(made.get("roster", roster)).encode())
+        out = None if "stdout" in run.streams else text_of(made.get("out", ""))
+        runs.append((run, (out, made.get("err", ""), made.get("status", 0))))
+    roster = edited(table["roster"], row.get("with", []))
+    bodies = [line_of(message_of(table, message)) for message in row.get("holds", [])]
+    faults = [held(bodies, roster.encode())] if "holds" in row else []
+    faults += [is_absent] if row.get("absent") else [without_tables] if row.get("empty") else []
+    if "asked" in row:
+        query, rows = row["asked"]
+        faults.append(lambda path: None if (found := store_files.asked(path, query)) == rows else f"answers {found} to {query}")
+    texts = texts_of(table, roster)
+    fault = lambda path: next((found for each in faults if (found := each(path))), None)
+    return Visits(runs, row.get("made", {}), texts, fault, row.get("taken", False), False, row.get("bounded", False))
+
+
+def texts_of(table, roster):
+    """The texts that the statements of a recipe name: the roster, and the messages."""
+    texts = {name: line_of(message) for name, message in table["message"].items()}
+    return texts | {name: text_of(text) for name, text in table["body"].items()} | {"roster": roster}
+
+
+def refusals(table, row, made):
+    """Each command over the file of a recipe, refused alike; the file stays as it was."""
+    roster = edited(table["roster"], row.get("with", [])).encode()
+    wanted = ("", row["fault"] + "\n", 2)
+    given = lines_of(table, ["Q7", "V7"]).encode()
+    runs = [
+        (Run(text_of(row.get("base", table["base"])).encode(), [command, "ROSTER", "BASE", "STORE", word], given, roster=roster), wanted)
+        for command, word in (("print", "db1"), ("deliver", "web"), ("review", "20260105093000Z"), ("print", "db1"))
+    ]
+    return Visits(runs, made, texts_of(table, table["roster"]), taken=row.get("taken", False), untouched=True, bounded=row.get("bounded", False))
+
+
+def is_over_memory(run):
+    return run.words[0] in ("deliver", "print", "review") and run.words[3:4] == ["-"] and not run.streams
+
+
+def over_file(run):
+    return run._replace(words=[*run.words[:3], "STORE", *run.words[4:]])
+
+
+def first_relay(roster):
+    return min(tomllib.loads(roster.decode())["relays"])
+
+
+def answers_by_line(given, named):
+    """The lines of an input, and what `deliver` answers to each, where `print` names these as refused."""
+    faults = dict(line.removeprefix("line ").split(": ", 1) for line in named)
+    lines = given.removesuffix(b"\n").split(b"\n") if given else []
+    return lines, [faults.get(str(n), "ack") for n in range(1, len(lines) + 1)]
+
+
+def over_store(run, wanted):
+    """The run of a case over memory as runs over a file: what was read is delivered before, and what was delivered is delivered again."""
+    out, err, status = wanted
+    named = err.splitlines()
+    refusal = named.pop() if status == 2 and named else ""
+    if refusal and refusal[0] not in "PG":
+        return Visits([(over_file(run), wanted)], fault=without_tables)
+    lines, answers = answers_by_line(run.given, named)
+    if run.words[0] == "deliver":
+        answers, runs = out.splitlines(), [(over_file(run), wanted)] * 2
+    else:
+        delivered = run._replace(words=["deliver", *run.words[1:3], "STORE", first_relay(run.roster)])
+        told = "".join(answer + "\n" for answer in answers), "", 2 if named else 0
+        runs = [(delivered, told), (over_file(run), (out, refusal and refusal + "\n", status))]
+    bodies = {line.decode() for line, answer in zip(lines, answers, strict=True) if answer == "ack"}
+    return Visits(runs, fault=held(bodies, run.roster))
+
+
+def stores(table):
+    for row in table["visit"]:
+        yield row["name"], visit(table, row), None
+    for row in table["refused"]:
+        for made in row.get("files", [row.get("made", {})]):
+            yield row["name"], refusals(table, row, made), None
+    for row in table["cut"]:
+        for size in range(*row["sizes"]):
+            yield f"{row['name']}: {size}", refusals(table, row, row["made"] | {"cut": size}), None
+    for name in table["over"]:
+        kind, seen = globals()[name], set()
+        for title, run, wanted in kind(table_of(name)):
+            # one order of the messages is enough: what the file holds is a set
+            if is_over_memory(run) and title not in seen:
+                seen.add(title)
+                yield f"{name}, {title}", over_store(run, wanted), None
+
+
 def crowd(table):
     """A roster of many people who all approve."""
     made = table["crowd"]
@@ -486,20 +633,32 @@ def long_request(table, size):
     return line()
 
 
-def answer(folder, run):
-    """What the program prints, and its status. BASE, ROSTER and OTHER are the names of files that have these, NONE that of no file, FOLDER that of a folder."""
+# takes root's right to pass over the modes of files from a program
+BOUNDED = ["setpriv", "--bounding-set", "-dac_override,-dac_read_search", "--"]
+
+
+def store_of(folder):
+    return os.path.join(folder, "store", "desk.db")
+
+
+def answer(folder, run, front=()):
+    """What the program prints, and its status. BASE, ROSTER and OTHER are the names of files that have these, NONE that of no file, FOLDER that of a folder.
+
+    STORE is the name of what a recipe made, if one did; STORE/BELOW lies in a folder that is not there.
+    """
     paths = {"BASE": os.path.join(folder, "base.sudo"), "ROSTER": os.path.join(folder, "roster.toml"), "OTHER": os.path.join(folder, "other.sudo")}
     for name, text in (("BASE", run.base), ("ROSTER", run.roster), ("OTHER", run.other)):
         with open(paths[name], "wb") as file:
             file.write(text)
-    names = paths | {"NONE": os.path.join(folder, "none.sudo"), "FOLDER": folder}
+    names = paths | {"NONE": os.path.join(folder, "none.sudo"), "FOLDER": folder, "STORE": store_of(folder)}
+    names |= {"STORE/BELOW": os.path.join(folder, "missing", "desk.db"), "STORE/BESIDE": os.path.join(folder, "store", "elsewhere.db")}
     streams = {"stdout": subprocess.PIPE, "stderr": subprocess.PIPE}
     with contextlib.ExitStack() as opened:
         for stream, name in run.streams.items():
             streams[stream] = os.open(names.get(name, name), os.O_RDONLY if stream == "stdin" else os.O_WRONLY)
             opened.callback(os.close, streams[stream])
         given = {} if "stdin" in streams else {"input": run.given}
-        done = subprocess.run([DESK, *(names.get(word, word) for word in run.words)], **given, **streams, timeout=300)
+        done = subprocess.run([*front, DESK, *(names.get(word, word) for word in run.words)], **given, **streams, timeout=60)
     return (done.stdout or b"").decode("latin-1"), (done.stderr or b"").decode("latin-1"), done.returncode
 
 
@@ -514,19 +673,54 @@ def short(value):
     return shown if len(shown) <= 400 else shown[:400] + ".."
 
 
+def differs(folder, run, wanted, front=()):
+    """What is wrong with the program's answer, if something is."""
+    try:
+        got = answer(folder, run, front)
+    except subprocess.TimeoutExpired:
+        return f"{short(run)} takes more than a minute"
+    return None if is_wanted(got, wanted) else f"{short(run)} gives {short(got)} and not {short(wanted)}"
+
+
+def visited(folder, visits):
+    """What is wrong with each of the runs over one store, and with its file as they end, if something is."""
+    path = store_of(folder)
+    store_files.clear(os.path.dirname(path))
+    store_files.make(path, visits.made, visits.texts)
+    before = store_files.as_it_is(path)
+    front = BOUNDED if visits.bounded and os.geteuid() == 0 else ()
+    with store_files.taken(path) if visits.taken else contextlib.nullcontext():
+        found = [differs(folder, run, wanted, front) for run, wanted in visits.runs]
+    if visits.untouched and store_files.as_it_is(path) != before:
+        return [*found[:-1], f"the file is another after {short(visits.runs)}"]
+    fault = visits.fault(path)
+    return [*found[:-1], f"after {short(visits.runs)} the store {fault}"] if fault else found
+
+
+def tried(folder, run, wanted):
+    """What is wrong with each run of a case."""
+    return visited(folder, run) if isinstance(run, Visits) else [differs(folder, run, wanted)]
+
+
 def main():
-    kinds = [admission, beyond, checked, commands, decided, delivered, desk, limits, many, messages, moments, printed, refused, reviewed, rosters, words]
+    kinds = [admission, beyond, checked, commands, decided, delivered, desk, limits, many, messages, moments, printed, refused, reviewed, rosters, stores, words]
     count = wrong = 0
-    with tempfile.TemporaryDirectory() as folder:
+    spent = []
+    # in memory, where there is such a folder: what a disk takes to sync is not asked here
+    with tempfile.TemporaryDirectory(dir="/dev/shm" if os.path.isdir("/dev/shm") else None) as folder:
+        os.mkdir(os.path.dirname(store_of(folder)))
         for kind in kinds:
-            with open(os.path.join(ROOT, "cases", kind.__name__ + ".toml"), "rb") as file:
-                table = tomllib.load(file)
-            for title, run, wanted in kind(table):
-                count += 1
-                got = answer(folder, run)
-                if not is_wanted(got, wanted):
+            for title, run, wanted in kind(table_of(kind.__name__)):
+                begun = time.monotonic()
+                found = tried(folder, run, wanted)
+                spent.append((time.monotonic() - begun, f"{kind.__name__}, {short(title)}"))
+                count += len(found)
+                for fault in filter(None, found):
                     wrong += 1
-                    print(f"{kind.__name__}, {short(title)}: {short(run)} gives {short(got)} and not {short(wanted)}")
+                    print(f"{kind.__name__}, {short(title)}: {fault}")
+    slowest = sorted(spent, reverse=True)[:3]
+    if slowest and slowest[0][0] > 10:
+        print("; ".join(f"{seconds:.1f} s: {title}" for seconds, title in slowest))
     print(f"{count} cases, {wrong} wrong")
     sys.exit(1 if wrong or not count else 0)
 

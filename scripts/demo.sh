@@ -47,6 +47,17 @@ for at in 20260105091459Z 20260105091500Z 20260105102959Z 20260105103000Z; do
     ask decide build/db1.sudo ann db1 root "$at" /usr/bin/id
 done
 
+# A desk in a file: what one run was told is there in the next, a repeat adds nothing, and another roster is refused.
+rm -f build/demo.db build/demo.db-wal
+kept=(examples/roster.toml examples/site.sudo build/demo.db)
+with_messages examples/parked.messages deliver "${kept[@]}" chat
+ask print "${kept[@]}" db1
+with_messages examples/approved.messages deliver "${kept[@]}" mail
+ask print "${kept[@]}" db1
+ask review "${kept[@]}" 20260105093000Z
+sed 's/"mail"/"mail", "post"/' examples/roster.toml > build/other.toml
+ask print build/other.toml examples/site.sudo build/demo.db db1
+
 # The same over HTTP: the messages are posted, the host's file is fetched, and decides.
 post() {
     printf '$ curl --data-binary LINE http://127.0.0.1:PORT%s < %s\n' "$1" "$2"

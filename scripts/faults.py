@@ -2,17 +2,21 @@
 """Runs the program with each request for memory failing in turn.
 
 Every run has to give the plain answer, or to end with status 2, nothing on the output and a refusal for want of memory. `deliver` may also answer some
-lines with that refusal, and the others as they are. `serve` may answer a peer with that refusal and the status 503, or let it go and name `H3`; asked again it
+lines with that refusal, and the others as they are. A file in the place of STORE holds afterwards what it held and what was acknowledged, and nothing that
+was not sent; run again, after each tenth, the program gives the plain answer over it. `serve` may answer a peer with that refusal and the status 503, or let it go and name `H3`; asked again it
 gives the plain reply. `faults.py WORDS..` runs another program than build/desk.
 """
 
 import contextlib
 import os
 import re
+import shutil
 import socket
 import subprocess
 import sys
 import tempfile
+
+import store_files
 
 ROOT = os.path.dirname(os.path.dirname(os.path.abspath(__file__)))
 DESK = sys.argv[1:] or [os.path.join(ROOT, "build", "desk")]
@@ -152,6 +156,61 @@ def fail_serving(words, shim, count):
     return requests, refusals, wrong
 
 
+def stored(folder):
+    """The command lines over a file, each with its input, and with the messages that the file holds before: none where it is not there."""
+    base, roster, store = (os.path.join(folder, name) for name in ("base.sudo", "roster.toml", "desk.db"))
+    held = [line.decode() for line in MESSAGES.splitlines()[:2]]
+    return [
+        (["deliver", roster, base, store, "chat"], MESSAGES, None),
+        (["deliver", roster, base, store, "chat"], MESSAGES, held[:1]),
+        (["print", roster, base, store, "db1"], b"", held),
+        (["review", roster, base, store, "20260105093000Z"], b"", held),
+    ]
+
+
+def put(store, held):
+    """Makes the file of a desk that holds these messages, or none."""
+    for end in ("", "-wal"):
+        with contextlib.suppress(FileNotFoundError):
+            os.unlink(store + end)
+    if held is not None:
+        shutil.copy(store + f".{len(held)}", store)
+
+
+def is_kept(store, held, given, out):
+    """Whether the file holds what it held and what was acknowledged, and nothing that was not sent."""
+    if not os.path.exists(store) or not store_files.asked(store, "SELECT name FROM sqlite_schema"):
+        return held is None and b"ack" not in out
+    lines = [line.decode() for line in given.splitlines()]
+    acked = {line for line, answer in zip(lines, out.splitlines(), strict=False) if answer == b"ack"}
+    kept = set(store_files.read(store)[1])
+    return acked | set(held or ()) <= kept <= set(held or ()) | set(lines)
+
+
+def fail_storing(folder, shim, count):
+    """The same as of `serve`, of the commands over a file."""
+    runs = refusals = wrong = 0
+    for words, given, held in stored(folder):
+        store = words[3]
+        if held is not None and not os.path.exists(store + f".{len(held)}"):
+            store_files.make_desk(store + f".{len(held)}", ROSTER, held)
+        put(store, held)
+        plain = run(words, given, shim, 0, count)
+        with open(count) as file:
+            requests = int(file.read())
+        for failing in range(1, requests + 1):
+            put(store, held)
+            got = run(words, given, shim, failing, count)
+            runs += 1
+            refusals += got != plain
+            is_right = (got == plain or is_refused(words, got, plain)) and is_kept(store, held, given, got[1])
+            # (run again after each tenth, for the time that it takes)
+            if not is_right or failing % 10 == 0 and run(words, given, shim, 0, count) != plain:
+                wrong += 1
+                print(f"desk {' '.join(words)}: request {failing} refused: {got}")
+    return runs, refusals, wrong
+
+
 def main():
     wrong = runs = refusals = 0
     with tempfile.TemporaryDirectory() as folder:
@@ -161,7 +220,8 @@ def main():
         base, roster = os.path.join(folder, "base.sudo"), os.path.join(folder, "roster.toml")
         rows = commands(folder)
         served = fail_serving(["serve", roster, base, "-", "127.0.0.1:0"], shim, count)
-        runs, refusals, wrong = (have + more for have, more in zip((runs, refusals, wrong), served, strict=True))
+        kept = fail_storing(folder, shim, count)
+        runs, refusals, wrong = map(sum, zip(served, kept, strict=True))
         for words, given in rows:
             plain = run(words, given, shim, 0, count)
             with open(count) as file:

@@ -1,6 +1,6 @@
 #!/usr/bin/env bash
 # The whole gate: what can be seen without a proof; `rt ci`; and then, over the program that it left, the demo, the cases, sudo beside the desk, the desk
-# served over loopback, and each request for memory refused.
+# served over loopback, its file beside sqlite3, and each request for memory refused.
 # With WHOLE=1 a part that cannot run here fails; without it, it is left out and named. The last line is 'N passed, M failed'.
 set -euo pipefail
 cd "$(dirname "$0")/.."
@@ -52,7 +52,7 @@ cases() {
 }
 
 peers() {
-    python3 scripts/peers.py && python3 scripts/peers_http.py
+    python3 scripts/peers.py && python3 scripts/peers_http.py && python3 scripts/peers_store.py
 }
 
 bash scripts/tools.sh
@@ -73,8 +73,8 @@ mkdir -p build
 cp crates/desk_cli/out/desk_cli build/desk
 
 part demo demo
-part cases cases
-part_with peers root sudo visudo faketime unshare curl nc -- peers
+part_with cases setpriv -- cases
+part_with peers root sudo visudo faketime unshare curl nc sqlite3 -- peers
 part_with faults cc -- python3 scripts/faults.py
 echo "$passed passed, $failed failed"
 [ "$failed" = 0 ]

@@ -1,5 +1,5 @@
 #!/usr/bin/env bash
-# Installs what the gate asks beside the toolchain, where it is not there: sudo, with visudo, and a clock that stands still, curl and nc for
+# Installs what the gate asks beside the toolchain, where it is not there: sudo, with visudo, and a clock that stands still, curl, nc and sqlite3 for
 # `make peers`, and a C compiler for `make faults`. Where this is not root, or there is no apt-get, nothing is installed.
 set -euo pipefail
 export PATH="$PATH:/usr/sbin:/sbin"
@@ -9,7 +9,8 @@ command -v faketime >/dev/null || wanted+=(faketime)
 command -v curl >/dev/null || wanted+=(curl)
 command -v nc >/dev/null || wanted+=(netcat-openbsd)
 command -v cc >/dev/null || wanted+=(gcc libc6-dev)
-command -v unshare >/dev/null || wanted+=(util-linux)
+command -v sqlite3 >/dev/null || wanted+=(sqlite3)
+command -v unshare >/dev/null && command -v setpriv >/dev/null || wanted+=(util-linux)
 if [ "${#wanted[@]}" -gt 0 ] && [ "$(id -u)" = 0 ] && command -v apt-get >/dev/null; then
     apt-get update -qq
     DEBIAN_FRONTEND=noninteractive apt-get install -y -qq --no-install-recommends "${wanted[@]}"

@@ -1,0 +1,136 @@
+#!/usr/bin/env python3
+"""Times a desk over a file: `desk deliver` of 10,000 messages beside C SQLite, and what it costs to open 100,000.
+
+C SQLite is Python's `sqlite3`: it makes the same tables and the same commits, one a message, with the desk's journal mode (`wal`) and synchronous level (`full`),
+on the same disk. Beside both stands `fdatasync` alone, as often, each after a block of 4,096 bytes; and `deliver` to memory, which is what the desk does beside keeping.
+Then, over files in memory so that no disk is asked: opening a file of 100,000 messages (`deliver` of no line) beside what it costs to read them alone (`deliver` of
+them over a roster that lists nobody, which keeps none); and what a delivery costs over 1,000 and over 100,000 messages: 10,000 more, less the opening.
+Prints of each the wall time or the processor time, the best of a few runs, the peak memory, and the ratios with what the desk promises.
+`bench_store.py WORDS..` runs another program than build/desk.
+"""
+
+import os
+import shutil
+import sqlite3
+import subprocess
+import sys
+import tempfile
+import time
+
+import store_files
+
+ROOT = os.path.dirname(os.path.dirname(os.path.abspath(__file__)))
+DESK = sys.argv[1:] or [os.path.join(ROOT, "build", "desk")]
+ROSTER = os.path.join(ROOT, "examples", "roster.toml")
+BASE = os.path.join(ROOT, "examples", "site.sudo")
+DELIVERED, HELD, FEW, MORE, RUNS = 10_000, 100_000, 1_000, 10_000, 3
+NOBODY = 'relays = ["chat"]\nhosts = ["db1"]\nduties = []\nconflicts = []\n[people]\n[ceilings]\n'
+
+
+def bodies(first, count):
+    """So many approvals."""
+    return [f'{{"at":"20260105083000Z","by":"bob","kind":"approve","no":{no},"of":"ann"}}' for no in range(first, first + count)]
+
+
+def deliver(store, lines, folder, roster=ROSTER, status=0):
+    """What a delivery takes: seconds of wall time, seconds of processor time, and the peak memory in MiB."""
+    given = os.path.join(folder, "given")
+    with open(given, "w") as file:
+        file.writelines(line + "\n" for line in lines)
+    with open(given) as file:
+        begun = time.perf_counter()
+        process = subprocess.Popen([*DESK, "deliver", roster, BASE, store, "chat"], stdin=file, stdout=subprocess.DEVNULL)
+        _, ended, used = os.wait4(process.pid, 0)
+        wall = time.perf_counter() - begun
+    process.returncode = os.waitstatus_to_exitcode(ended)
+    if process.returncode != status:
+        sys.exit(f"deliver to {store} ends with {process.returncode}")
+    return wall, used.ru_utime + used.ru_stime, used.ru_maxrss / 1024
+
+
+def by_sqlite(folder, lines):
+    """The same commits by C SQLite: seconds of wall time."""
+    store = os.path.join(folder, "sqlite.db")
+    begun = time.perf_counter()
+    with store_files.connected(store) as conn:
+        conn.execute("PRAGMA journal_mode = wal")
+        conn.execute("PRAGMA synchronous = full")
+        conn.execute(store_files.DESK_TABLE)
+        conn.execute(store_files.MESSAGES_TABLE)
+        for line in lines:
+            conn.execute("INSERT INTO messages (body) SELECT ?1 WHERE NOT EXISTS (SELECT 1 FROM messages WHERE body = ?1)", (line,))
+    return time.perf_counter() - begun
+
+
+def by_disk(folder, count):
+    """`fdatasync` alone: seconds of wall time."""
+    begun = time.perf_counter()
+    with open(os.path.join(folder, "blocks"), "wb", buffering=0) as file:
+        for _ in range(count):
+            file.write(bytes(4096))
+            os.fdatasync(file.fileno())
+    return time.perf_counter() - begun
+
+
+def told(what, ratio, promised):
+    print(f"{what}: {ratio:.2f} (at most {promised}){'' if ratio <= promised else ', which it is not'}")
+
+
+def on_disk():
+    """Deliveries to a disk, one run of each behind the other."""
+    lines = bodies(0, DELIVERED)
+    with tempfile.TemporaryDirectory(dir=os.path.join(ROOT, "build")) as folder:
+        wall, used, peak = deliver(os.path.join(folder, "desk.db"), lines, folder)
+        theirs = by_sqlite(folder, lines)
+        synced = by_disk(folder, DELIVERED)
+        alone, _, _ = deliver("-", lines, folder)
+    print(f"deliver of {DELIVERED} messages to a file: {wall:.2f} s, of which {used:.2f} s of the processor; {peak:.0f} MiB")
+    print(f"C SQLite {sqlite3.sqlite_version}, the same commits: {theirs:.2f} s; fdatasync alone: {synced:.2f} s; deliver to memory: {alone:.2f} s")
+    told("deliver to a file beside C SQLite", wall / theirs, 1.2)
+
+
+def best(measure):
+    """The least processor time of a few runs, and the greatest memory."""
+    runs = [measure() for _ in range(RUNS)]
+    return min(used for _, used, _ in runs), max(peak for _, _, peak in runs)
+
+
+def held(folder, count):
+    """The file of a desk with so many messages."""
+    store = os.path.join(folder, f"held{count}.db")
+    with open(ROSTER) as file:
+        store_files.make_desk(store, file.read(), bodies(0, count))
+    return store
+
+
+def in_memory():
+    """Openings, and the cost of a delivery by how many messages are held."""
+    with tempfile.TemporaryDirectory(dir="/dev/shm" if os.path.isdir("/dev/shm") else None) as folder:
+        nobody = os.path.join(folder, "nobody.toml")
+        with open(nobody, "w") as file:
+            file.write(NOBODY)
+        read, read_peak = best(lambda: deliver("-", bodies(0, HELD), folder, nobody, 2))
+        print(f"reading {HELD} messages alone: {read:.3f} s, {read_peak:.0f} MiB")
+        each = {}
+        for count in (FEW, HELD):
+            store = held(folder, count)
+            opened, peak = best(lambda: deliver(store, [], folder))
+            print(f"opening a file of {count} messages: {opened:.3f} s, {peak:.0f} MiB")
+
+            def deliver_more():
+                copy = os.path.join(folder, "copy.db")
+                for end in ("", "-wal"):
+                    if os.path.exists(store + end):
+                        shutil.copy(store + end, copy + end)
+                return deliver(copy, bodies(HELD, MORE), folder)
+
+            used, peak = best(deliver_more)
+            each[count] = (used - opened) / MORE
+            print(f"a delivery over {count} messages: {each[count] * 1e6:.0f} us, {peak:.0f} MiB")
+        told(f"opening {HELD} messages beside reading them", opened / read, 3)
+        # a tree of pages has a level more, at most
+        told(f"a delivery over {HELD} messages beside one over {FEW}", each[HELD] / each[FEW], 2)
+
+
+on_disk()
+in_memory()
