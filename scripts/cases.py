@@ -658,7 +658,7 @@ def answer(folder, run, front=()):
             streams[stream] = os.open(names.get(name, name), os.O_RDONLY if stream == "stdin" else os.O_WRONLY)
             opened.callback(os.close, streams[stream])
         given = {} if "stdin" in streams else {"input": run.given}
-        done = subprocess.run([*front, DESK, *(names.get(word, word) for word in run.words)], **given, **streams, timeout=60)
+        done = subprocess.run([*front, DESK, *(names.get(word, word) for word in run.words)], **given, **streams, timeout=120)
     return (done.stdout or b"").decode("latin-1"), (done.stderr or b"").decode("latin-1"), done.returncode
 
 
