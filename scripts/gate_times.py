@@ -7,12 +7,15 @@ that this script started: so a figure lacks at most half a second a run. The sta
 
 import collections
 import os
+import re
 import subprocess
 import sys
 import threading
 import time
 
 MARK = "STEELNEWT_GATE"
+# what a check with one job takes of memory at most, with room to spare: some 2.4 GB for `sudo_syntax`, some 3 for `desk_cli`
+MEMORY = 5 << 30
 TICKS = os.sysconf("SC_CLK_TCK")
 KINDS = ("proof", "tests", "edits")
 
@@ -83,16 +86,25 @@ def show(meter, wall):
         ends = max(meter.ends[name, kind] for kind in KINDS) / 60
         cells = [f"{it:.1f}" if it else "" for it in (*each, sum(each))]
         print(f"| `{name}` | {' | '.join(cells)} | {ends:.0f} |")
-    jobs = os.environ.get("RT_JOBS") or len(os.sched_getaffinity(0))
+    jobs, processors = os.environ["RT_JOBS"], len(os.sched_getaffinity(0))
     slowest = max(names, key=lambda name: minutes[name, "proof"])
-    print(f"\nProcessor minutes. `rt ci` took {wall / 60:.1f} minutes on {jobs} processors, {sum(minutes.values()):.0f} processor minutes in all.")
+    print(f"\nProcessor minutes. `rt ci` took {wall / 60:.1f} minutes in {jobs} lanes on {processors} processors, {sum(minutes.values()):.0f} processor minutes in all.")
     print(f"The slowest proof is that of `{slowest}`: {minutes[slowest, 'proof']:.1f} processor minutes.\n", flush=True)
+
+
+def lanes():
+    """How many checks go side by side, each with one job. Left to itself `rt ci` sets aside twice or three times the memory that a check takes, and
+    so lets the proofs of the longest chain wait for the edits of other crates."""
+    with open("/proc/meminfo") as file:
+        memory = int(re.search(r"MemTotal:\s+(\d+)", file.read())[1]) << 10
+    return max(1, min(len(os.sched_getaffinity(0)), memory // MEMORY))
 
 
 def main():
     os.chdir(os.path.dirname(os.path.dirname(os.path.abspath(__file__))))
     meter = Meter()
     meter.start()
+    os.environ.setdefault("RT_JOBS", str(lanes()))
     status = subprocess.run(["rt", "ci"], env=dict(os.environ, **{MARK: str(os.getpid())}), check=False).returncode
     wall = time.monotonic() - meter.begins
     meter.done.set()
