@@ -678,7 +678,7 @@ def differs(folder, run, wanted, front=()):
     try:
         got = answer(folder, run, front)
     except subprocess.TimeoutExpired:
-        return f"{short(run)} takes more than a minute"
+        return f"{short(run)} takes more than two minutes"
     return None if is_wanted(got, wanted) else f"{short(run)} gives {short(got)} and not {short(wanted)}"
 
 
