@@ -63,24 +63,6 @@ deliver-requires c =
     let same : codes "deliver" ≡ c.args.name.now = first_of (search rules, grind (arith, common_steps)) in
     wanted_at (codes "deliver") c.args.name.now (rows_of (found_of c.args.matches.now)) same c.requires
 
-pub returns-then-eq-4-clause-found : goal.returns-then-eq-4-clause-found
-returns-then-eq-4-clause-found c =
-    let same : codes "deliver" ≡ c.args.name.now = first_of (search rules, grind (arith, common_steps)) in
-    subst (λ (name : List ℕ). IfOk c.deliver.result (λ j. Says (Some (name, rows_of (found_of c.args.matches.now))) j)) same c.deliver.ensures.found
-
-pub returns-then-eq-4-clause-only : goal.returns-then-eq-4-clause-only
-returns-then-eq-4-clause-only c =
-    let same : codes "deliver" ≡ c.args.name.now = first_of (search rules, grind (arith, common_steps)) in
-    subst (λ (name : List ℕ). (j : Task) → Says (Some (name, rows_of (found_of c.args.matches.now))) j → MatchResult c.deliver.result (λ k. k ≡ j) (λ e. e ≡ NoMemory)) same c.deliver.ensures.only
-
-pub returns-then-eq-4-clause-word : goal.returns-then-eq-4-clause-word
-returns-then-eq-4-clause-word c =
-    let same : codes "deliver" ≡ c.args.name.now = first_of (search rules, grind (arith, common_steps)) in
-    subst (λ (name : List ℕ). IfErr c.deliver.result (λ e. e ≡ BadWord → SaysBadly (Some (name, rows_of (found_of c.args.matches.now))))) same c.deliver.ensures.word
-
-pub returns-then-eq-4-clause-usage : goal.returns-then-eq-4-clause-usage
-returns-then-eq-4-clause-usage c = c.deliver.ensures.usage
-
 pub print-requires : goal.print-requires
 print-requires c =
     let same : codes "print" ≡ c.args.name.now = first_of (search rules, grind (arith, common_steps)) in
