@@ -126,7 +126,7 @@ fn kept(rt: &HostRuntime, job: &Job) -> Result<Option<Stored>, Refusal> {
 }
 
 /// Does a job that is no `serve`, over the process's streams.
-fn run_on_streams(rt: &HostRuntime, job: &Job, files: &[Vec<u8>]) -> Result<Status, Refusal> {
+fn run_on_streams(rt: &HostRuntime, job: &Job, files: &mut [Vec<u8>]) -> Result<Status, Refusal> {
     let alloc = rt.alloc();
     let kept = kept(rt, job)?;
     let Ok(mut input) = BufReader::new(alloc, rt.stdin()) else {
@@ -145,8 +145,8 @@ fn run_on_streams(rt: &HostRuntime, job: &Job, files: &[Vec<u8>]) -> Result<Stat
 
 /// Does the job. Its files are read before its database is opened.
 fn work(rt: &HostRuntime, job: &Job) -> Result<Status, Refusal> {
-    let files = files(rt, job)?;
-    let files = files.as_slice();
+    let mut files = files(rt, job)?;
+    let files = files.as_mut_slice();
     match job {
         Job::Serve {
             places,

@@ -4,6 +4,7 @@ ghost use Rattle.std.specs.Prelude.{◌≡◌, ◌≢◌, ◌⊎◌, ℕ, List, 
 ghost use Rattle.std.specs.Io.Buffered.{writer_buffer, writer_contents};
 ghost use Rattle.std.specs.Io.KnownBytes.{Appends, Keeps};
 ghost use Rattle.desk_cli.specs.Answers.{ChecksFile, DecidesByFile, EndsReading, HasAnswer, IsAnswer, IsCause, IsDecided, status_of};
+ghost use Rattle.sudo_syntax.specs.Spelling.{Spells};
 ghost use Rattle.desk_cli.specs.declared.task.Job.TheVariants as jobs;
 ghost use Rattle.desk_cli.specs.declared.task.Places.{Places as Parts};
 
@@ -19,7 +20,7 @@ use review::Scope;
 use std::alloc::{AllocError, Global};
 use std::io::{BufWriter, Read, Write};
 use sudo_decide::{Decision, Invocation, decide};
-use sudo_syntax::{print_policy, read_policy};
+use sudo_syntax::{Policy, print_policy, read_policy};
 use sudo_words::{HostName, Moment};
 
 fn status_of(decision: Decision) -> Status
@@ -41,47 +42,57 @@ fn decision_line(alloc: Global, decision: Decision) -> Result<Answer, AllocError
     })
 }
 
-fn check(alloc: Global, file: &[u8]) -> Result<Answer, Refusal>
-    ensures err { IfErr result (EndsReading file.now) }
-    ensures found { IfOk result (λ a. ChecksFile file.now a.status (string_bytes a.text)) }
+/// The policy that a file spells. Nothing reads the file again, so its bytes are given back: what is printed may have their room.
+fn policy_of(alloc: Global, file: &mut Vec<u8>) -> Result<Policy, Refusal>
+    ensures err { IfErr result (EndsReading file.old.items) }
+    ensures found { IfOk result (λ p. Spells file.old.items p) }
 {
-    let policy = read_policy(alloc, file)?;
+    let policy = read_policy(alloc, file.as_slice())?;
+    *file = Vec::new(alloc);
+    Ok(policy)
+}
+
+fn check(alloc: Global, file: &mut Vec<u8>) -> Result<Answer, Refusal>
+    ensures err { IfErr result (EndsReading file.old.items) }
+    ensures found { IfOk result (λ a. ChecksFile file.old.items a.status (string_bytes a.text)) }
+{
+    let policy = policy_of(alloc, file)?;
     Ok(Answer {
         text: print_policy(alloc, &policy)?,
         status: Status::Done,
     })
 }
 
-fn decided(alloc: Global, file: &[u8], invocation: &Invocation) -> Result<Answer, Refusal>
-    ensures err { IfErr result (EndsReading file.now) }
-    ensures found { IfOk result (λ a. DecidesByFile file.now invocation.now a.status (string_bytes a.text)) }
+fn decided(alloc: Global, file: &mut Vec<u8>, invocation: &Invocation) -> Result<Answer, Refusal>
+    ensures err { IfErr result (EndsReading file.old.items) }
+    ensures found { IfOk result (λ a. DecidesByFile file.old.items invocation.now a.status (string_bytes a.text)) }
 {
-    let policy = read_policy(alloc, file)?;
+    let policy = policy_of(alloc, file)?;
     Ok(decision_line(alloc, decide(&policy, invocation))?)
 }
 
-fn check_first(alloc: Global, files: &[Vec<u8>]) -> Result<Answer, Refusal>
-    ensures cause { (name : List ℕ) → (input : Option (List ℕ)) → IfErr result (IsCause (jobs.Check name) (map (λ f. f.items) files.now) input) }
+fn check_first(alloc: Global, files: &mut [Vec<u8>]) -> Result<Answer, Refusal>
+    ensures cause { (name : List ℕ) → (input : Option (List ℕ)) → IfErr result (IsCause (jobs.Check name) (map (λ f. f.items) files.old) input) }
     ensures found { (name : List ℕ) → (input : Option (List ℕ)) → IfOk result (λ a.
-        IsAnswer (jobs.Check name) (map (λ f. f.items) files.now) input a.status (string_bytes a.text) []) }
+        IsAnswer (jobs.Check name) (map (λ f. f.items) files.old) input a.status (string_bytes a.text) []) }
 {
     match files {
-        [file, ..] => check(alloc, file.as_slice()),
+        [file, ..] => check(alloc, file),
         _ => Err(Refusal::FileFailed),
     }
 }
 
 fn decide_by_first(
     alloc: Global,
-    files: &[Vec<u8>],
+    files: &mut [Vec<u8>],
     invocation: &Invocation,
 ) -> Result<Answer, Refusal>
-    ensures cause { (name : List ℕ) → (input : Option (List ℕ)) → IfErr result (IsCause (jobs.Decide name invocation.now) (map (λ f. f.items) files.now) input) }
+    ensures cause { (name : List ℕ) → (input : Option (List ℕ)) → IfErr result (IsCause (jobs.Decide name invocation.now) (map (λ f. f.items) files.old) input) }
     ensures found { (name : List ℕ) → (input : Option (List ℕ)) → IfOk result (λ a.
-        IsAnswer (jobs.Decide name invocation.now) (map (λ f. f.items) files.now) input a.status (string_bytes a.text) []) }
+        IsAnswer (jobs.Decide name invocation.now) (map (λ f. f.items) files.old) input a.status (string_bytes a.text) []) }
 {
     match files {
-        [file, ..] => decided(alloc, file.as_slice(), invocation),
+        [file, ..] => decided(alloc, file, invocation),
         _ => Err(Refusal::FileFailed),
     }
 }
@@ -174,13 +185,13 @@ fn reviewed<R: Read, E: Write>(
 fn answered<R: Read, E: Write>(
     alloc: Global,
     job: &Job,
-    files: &[Vec<u8>],
+    files: &mut [Vec<u8>],
     input: &mut R,
     err: &mut E,
 ) -> Result<Answer, Refusal>
-    ensures cause { IfErr result (IsCause job.now (map (λ f. f.items) files.now) (R.remaining input.old)) }
+    ensures cause { IfErr result (IsCause job.now (map (λ f. f.items) files.old) (R.remaining input.old)) }
     ensures found { IfOk result (λ a. (said : List ℕ)
-        × IsAnswer job.now (map (λ f. f.items) files.now) (R.remaining input.old) a.status (string_bytes a.text) said
+        × IsAnswer job.now (map (λ f. f.items) files.old) (R.remaining input.old) a.status (string_bytes a.text) said
         × Appends (E.contents err.old) (E.contents err.new) said) }
 {
     match job {
@@ -217,23 +228,23 @@ pub fn write_answer<W: Write, E: Write>(answer: &Answer, out: &mut W, err: &mut 
 /// Does the job over the bytes of the files that it names, in their order, and over the input. The answer goes to `out`,
 /// and why there is none to `err`, as does what `print` says of lines of the input that it does not take.
 ///
-/// `files` has the bytes of each file that the job names. Where one is missing, or where the input, `out` or what is to be
+/// `files` has the bytes of each file that the job names; `check` and `decide` give theirs back once they are read. Where one is missing, or where the input, `out` or what is to be
 /// said on `err` fails, the job is refused. Nothing is written on `out` where the answer cannot be made.
 pub fn run<R: Read, W: Write, E: Write>(
     alloc: Global,
     job: &Job,
-    files: &[Vec<u8>],
+    files: &mut [Vec<u8>],
     input: &mut R,
     out: &mut W,
     err: &mut E,
 ) -> Status
     ensures answered { result ≢ Status.Refused → (text : List ℕ) × (said : List ℕ)
-        × IsAnswer job.now (map (λ f. f.items) files.now) (R.remaining input.old) result text said
+        × IsAnswer job.now (map (λ f. f.items) files.old) (R.remaining input.old) result text said
         × Appends (W.contents out.old) (W.contents out.new) text
         × Appends (E.contents err.old) (E.contents err.new) said }
     // A job that is refused leaves what stood on `out`, or it has an answer, which could not be written.
     ensures refused { result ≡ Status.Refused → (W.contents out.new ≡ W.contents out.old)
-        ⊎ HasAnswer job.now (map (λ f. f.items) files.now) (R.remaining input.old) }
+        ⊎ HasAnswer job.now (map (λ f. f.items) files.old) (R.remaining input.old) }
 {
     match answered(alloc, job, files, input, err) {
         Ok(answer) => write_answer(&answer, out, err),

@@ -128,11 +128,18 @@ fn places(alloc: Global) -> Result<Places, Fail> {
 
 /// The exit status, what stands on the output, and what on the standard error.
 fn ended(alloc: Global, job: &Job, texts: &[&str], wrong: Wrong) -> Result<String, Fail> {
-    let files = files_of(alloc, texts, wrong)?;
+    let mut files = files_of(alloc, texts, wrong)?;
     let mut input = input_of(wrong);
     let mut out = BufWriter::new(alloc, output_of(alloc, wrong))?;
     let mut err = error_of(alloc, wrong);
-    let status = run(alloc, job, files.as_slice(), &mut input, &mut out, &mut err);
+    let status = run(
+        alloc,
+        job,
+        files.as_mut_slice(),
+        &mut input,
+        &mut out,
+        &mut err,
+    );
     let status = code(finish(status, &mut out, &mut err));
     let written = str::from_utf8(out.get_ref().bytes.as_slice())?;
     let said = str::from_utf8(err.bytes.as_slice())?;
