@@ -2,7 +2,7 @@
 
 use crate::running::{finish, run};
 use crate::status::code;
-use crate::task::{Job, Places};
+use crate::task::{Job, Places, Store};
 use crate::text::Text;
 use std::alloc::Global;
 use std::io::{BufWriter, Read, Write};
@@ -123,6 +123,7 @@ fn places(alloc: Global) -> Result<Places, Fail> {
     Ok(Places {
         roster: Text::copied(alloc, "roster.toml")?,
         base: Text::copied(alloc, "base.sudo")?,
+        store: Store::Memory,
     })
 }
 
