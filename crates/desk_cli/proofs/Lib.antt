@@ -3,6 +3,7 @@ pub mod Wanted
 pub mod Stamps
 pub mod Options
 pub mod Commands
+pub mod Building
 pub mod Args
 pub mod Runs
 pub mod Filled

@@ -10,3 +10,4 @@ pub mod Reviewing
 pub mod Comparing
 pub mod Keeping
 pub mod Answers
+pub mod private

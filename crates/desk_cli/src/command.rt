@@ -1,11 +1,10 @@
 //! The program's commands, as clap reads them.
 
-ghost use Rattle.std.specs.Prelude.{◌≡◌, IfOk, IfErr, [], ◌∷◌, map, string_bytes, false};
-ghost use Rattle.clap.specs.Words.{App, app_of, fault_of, kind_of, new_app, rule_of, subcommand_of, subcommand_rows_of, with_rule, with_subcommand};
-ghost use Rattle.clap.specs.declared.builder.Command.TheViews.{out-Command as fields_of};
+ghost use Rattle.std.specs.Prelude.{◌≡◌, ◌++◌, List, IfOk, IfErr, OnOk, [], ◌∷◌, map, string_bytes, false};
+ghost use Rattle.clap.specs.Words.{App, Rule, fault_of, kind_of, new_app, rule_of, subcommand_of, subcommand_rows_of};
 ghost use Rattle.desk_cli.specs.CommandLine as line;
 ghost use Rattle.desk_cli.specs.CommandLine.{desk};
-ghost use Rattle.desk_cli.specs.Faults.{IsUsage};
+ghost use Rattle.desk_cli.specs.private.Commands.{AreCommands, HasRules, IsCommand, with_rules};
 ghost use Rattle.desk_cli.specs.declared.fault.JobFault.TheVariants.{BadWord, NoMemory};
 
 use crate::fault::JobFault;
@@ -28,6 +27,9 @@ const BEYOND_ARGS: [(&str, &str); 2] = [
     ("A", "The policy that may allow more"),
     ("B", "The policy that it is compared with"),
 ];
+
+/// What the place of STORE takes.
+const STORE_HELP: &str = "The database that keeps the messages, or `-`: kept in memory alone";
 
 fn wanted<'a>(alloc: Global, id: &'a str, help: &'a str) -> Arg<'a>
     ensures rule { rule_of result ≡ line.wanted id.entry.now }
@@ -56,246 +58,197 @@ fn optional<'a>(alloc: Global, id: &'a str, long: &'a str, help: &'a str) -> Arg
         .help(help)
 }
 
-/// Adds an argument.
-fn with_arg<'a>(command: Command<'a>, arg: Arg<'a>) -> Result<Command<'a>, AllocError>
-    requires command { (fields_of command).has_globals ≡ false }
-    requires arg { arg.global ≡ false }
-    ensures app { IfOk result (λ c. app_of c ≡ with_rule (app_of command.entry) (rule_of arg.entry)) }
-    ensures globals { IfOk result (λ c. (fields_of c).has_globals ≡ false) }
-{
-    command.arg(arg)
-}
-
-/// Adds an option.
-fn with_optional<'a>(
+/// Adds arguments that have one value each and may not be left out, by their names and helps.
+fn push_wanted<'a>(
     alloc: Global,
-    command: Command<'a>,
-    id: &'a str,
-    long: &'a str,
-    help: &'a str,
-) -> Result<Command<'a>, AllocError>
-    requires { (fields_of command).has_globals ≡ false }
-    ensures app { IfOk result (λ c. app_of c ≡ with_rule (app_of command.entry) (line.optional id.entry.now long.entry.now)) }
-    ensures globals { IfOk result (λ c. (fields_of c).has_globals ≡ false) }
+    args: &mut Vec<Arg<'a>>,
+    names: &[(&'a str, &'a str)],
+) -> Result<(), AllocError>
+    ensures { (rules : List Rule) → HasRules args.old.items rules
+        → OnOk result (HasRules args.new.items (rules ++ map (λ n. line.wanted n.0.now) names.now)) }
 {
-    with_arg(command, optional(alloc, id, long, help))
-}
-
-/// Adds an argument that has one value and may not be left out.
-fn with_one<'a>(
-    alloc: Global,
-    command: Command<'a>,
-    id: &'a str,
-    help: &'a str,
-) -> Result<Command<'a>, AllocError>
-    requires { (fields_of command).has_globals ≡ false }
-    ensures app { IfOk result (λ c. app_of c ≡ with_rule (app_of command.entry) (line.wanted id.entry.now)) }
-    ensures globals { IfOk result (λ c. (fields_of c).has_globals ≡ false) }
-{
-    with_arg(command, wanted(alloc, id, help))
+    for (id, help) in names {
+        args.push(wanted(alloc, id, help))?;
+    }
+    Ok(())
 }
 
 /// Adds an argument that has any number of values.
-fn with_several<'a>(
+fn push_several<'a>(
     alloc: Global,
-    command: Command<'a>,
+    args: &mut Vec<Arg<'a>>,
     id: &'a str,
     help: &'a str,
-) -> Result<Command<'a>, AllocError>
-    requires { (fields_of command).has_globals ≡ false }
-    ensures app { IfOk result (λ c. app_of c ≡ with_rule (app_of command.entry) (line.several id.entry.now)) }
-    ensures globals { IfOk result (λ c. (fields_of c).has_globals ≡ false) }
+) -> Result<(), AllocError>
+    ensures { (rules : List Rule) → HasRules args.old.items rules
+        → OnOk result (HasRules args.new.items (rules ++ line.several id.entry.now ∷ [])) }
 {
-    with_arg(command, several(alloc, id, help))
+    Ok(args.push(several(alloc, id, help))?)
 }
 
-/// Adds arguments that have one value each and may not be left out, by their names and helps.
-fn with_wanted<'a>(
+/// Adds an option.
+fn push_option<'a>(
     alloc: Global,
-    command: Command<'a>,
-    args: &[(&'a str, &'a str)],
-) -> Result<Command<'a>, AllocError>
-    requires { (fields_of command).has_globals ≡ false }
-    ensures app { IfOk result (λ c. app_of c ≡ line.with_wanted (app_of command.entry) (map (λ a. a.0.now) args.now)) }
-    ensures globals { IfOk result (λ c. (fields_of c).has_globals ≡ false) }
+    args: &mut Vec<Arg<'a>>,
+    id: &'a str,
+    long: &'a str,
+    help: &'a str,
+) -> Result<(), AllocError>
+    ensures { (rules : List Rule) → HasRules args.old.items rules
+        → OnOk result (HasRules args.new.items (rules ++ line.optional id.entry.now long.entry.now ∷ [])) }
 {
-    let mut command = command;
-    for (id, help) in args {
-        command = with_one(alloc, command, id, help)?;
-    }
-    Ok(command)
+    Ok(args.push(optional(alloc, id, long, help))?)
 }
 
-/// A command with arguments that have one value each and may not be left out.
-fn plain<'a>(
+/// Adds the arguments of a command on a desk: its roster, its base policy and its store, and then its own.
+fn push_on_desk<'a>(
+    alloc: Global,
+    args: &mut Vec<Arg<'a>>,
+    id: &'a str,
+    help: &'a str,
+) -> Result<(), AllocError>
+    ensures { (rules : List Rule) → HasRules args.old.items rules
+        → OnOk result (HasRules args.new.items (rules ++ map line.wanted (line.desk_args id.entry.now))) }
+{
+    let names = [
+        ("ROSTER", "The roster"),
+        ("BASE", "The base policy"),
+        ("STORE", STORE_HELP),
+        (id, help),
+    ];
+    push_wanted(alloc, args, &names)
+}
+
+/// The command of this name with these arguments.
+fn command_of<'a>(
     alloc: Global,
     name: &'a str,
     about: &'a str,
-    args: &[(&'a str, &'a str)],
+    args: Vec<Arg<'a>>,
 ) -> Result<Command<'a>, AllocError>
-    ensures app { IfOk result (λ c. app_of c ≡ line.with_wanted (new_app name.entry.now) (map (λ a. a.0.now) args.now)) }
-    ensures globals { IfOk result (λ c. (fields_of c).has_globals ≡ false) }
+    ensures { (rules : List Rule) → HasRules args.entry.items rules → IfOk result (IsCommand (with_rules (new_app name.entry.now) rules)) }
 {
-    with_wanted(alloc, Command::new(alloc, name).about(about), args)
+    Command::new(alloc, name).about(about).args(args)
 }
 
 fn check<'a>(alloc: Global) -> Result<Command<'a>, AllocError>
-    ensures app { IfOk result (λ c. app_of c ≡ line.check) }
-    ensures globals { IfOk result (λ c. (fields_of c).has_globals ≡ false) }
+    ensures { IfOk result (IsCommand line.check) }
 {
     let about = "Print the canonical text of a policy";
-    plain(alloc, "check", about, &[("FILE", "The policy")])
+    let mut args: Vec<Arg<'a>> = Vec::new(alloc);
+    push_wanted(alloc, &mut args, &[("FILE", "The policy")])?;
+    command_of(alloc, "check", about, args)
 }
 
 fn decide<'a>(alloc: Global) -> Result<Command<'a>, AllocError>
-    ensures app { IfOk result (λ c. app_of c ≡ line.decide) }
-    ensures globals { IfOk result (λ c. (fields_of c).has_globals ≡ false) }
+    ensures { IfOk result (IsCommand line.decide) }
 {
     let about = "Decide one run of a command by a policy";
-    let command = plain(alloc, "decide", about, &DECIDE_ARGS)?;
+    let mut args: Vec<Arg<'a>> = Vec::new(alloc);
+    push_wanted(alloc, &mut args, &DECIDE_ARGS)?;
     let help = "The command's arguments, behind `--` where one begins with `-`";
-    with_several(alloc, command, "ARGS", help)
+    push_several(alloc, &mut args, "ARGS", help)?;
+    command_of(alloc, "decide", about, args)
 }
 
 fn beyond<'a>(alloc: Global) -> Result<Command<'a>, AllocError>
-    ensures app { IfOk result (λ c. app_of c ≡ line.beyond) }
-    ensures globals { IfOk result (λ c. (fields_of c).has_globals ≡ false) }
+    ensures { IfOk result (IsCommand line.beyond) }
 {
     let about = "Find what one policy allows and another refuses";
-    let command = plain(alloc, "beyond", about, &BEYOND_ARGS)?;
-    let command = with_optional(alloc, command, "USER", "user", "Look at this user alone")?;
-    let command = with_optional(alloc, command, "HOST", "host", "Look at this host alone")?;
-    with_optional(
-        alloc,
-        command,
-        "RUNAS",
-        "runas",
-        "Look at this target alone",
-    )
-}
-
-/// A command on a desk, with one more argument: the desk's roster, its base policy and its store stand first.
-fn on_desk<'a>(
-    alloc: Global,
-    name: &'a str,
-    about: &'a str,
-    id: &'a str,
-    help: &'a str,
-) -> Result<Command<'a>, AllocError>
-    ensures app { IfOk result (λ c. app_of c ≡ line.on_desk name.entry.now id.entry.now) }
-    ensures globals { IfOk result (λ c. (fields_of c).has_globals ≡ false) }
-{
-    let wanted = [
-        ("ROSTER", "The roster"),
-        ("BASE", "The base policy"),
-        ("STORE", "`-`: the messages are kept in memory alone"),
-        (id, help),
-    ];
-    plain(alloc, name, about, &wanted)
+    let mut args: Vec<Arg<'a>> = Vec::new(alloc);
+    push_wanted(alloc, &mut args, &BEYOND_ARGS)?;
+    let help = "Look at this user alone";
+    push_option(alloc, &mut args, "USER", "user", help)?;
+    let help = "Look at this host alone";
+    push_option(alloc, &mut args, "HOST", "host", help)?;
+    let help = "Look at this target alone";
+    push_option(alloc, &mut args, "RUNAS", "runas", help)?;
+    command_of(alloc, "beyond", about, args)
 }
 
 fn deliver<'a>(alloc: Global) -> Result<Command<'a>, AllocError>
-    ensures app { IfOk result (λ c. app_of c ≡ line.deliver) }
-    ensures globals { IfOk result (λ c. (fields_of c).has_globals ≡ false) }
+    ensures { IfOk result (IsCommand line.deliver) }
 {
     let about = "Deliver the messages on standard input, and print the answer to each";
-    on_desk(
-        alloc,
-        "deliver",
-        about,
-        "RELAY",
-        "The relay that the messages come from",
-    )
+    let mut args: Vec<Arg<'a>> = Vec::new(alloc);
+    let help = "The relay that the messages come from";
+    push_on_desk(alloc, &mut args, "RELAY", help)?;
+    command_of(alloc, "deliver", about, args)
 }
 
 fn print<'a>(alloc: Global) -> Result<Command<'a>, AllocError>
-    ensures app { IfOk result (λ c. app_of c ≡ line.print) }
-    ensures globals { IfOk result (λ c. (fields_of c).has_globals ≡ false) }
+    ensures { IfOk result (IsCommand line.print) }
 {
-    let about =
-        "Print a host's sudoers file, from a base policy and the messages on standard input";
-    let command = on_desk(alloc, "print", about, "HOST", "The host")?;
+    let about = "Print a host's sudoers file, from a base policy and a desk's messages";
+    let mut args: Vec<Arg<'a>> = Vec::new(alloc);
+    push_on_desk(alloc, &mut args, "HOST", "The host")?;
     let help = "Leave out the lines that end before this moment";
-    with_optional(alloc, command, "AFTER", "after", help)
+    push_option(alloc, &mut args, "AFTER", "after", help)?;
+    command_of(alloc, "print", about, args)
 }
 
 fn review<'a>(alloc: Global) -> Result<Command<'a>, AllocError>
-    ensures app { IfOk result (λ c. app_of c ≡ line.review) }
-    ensures globals { IfOk result (λ c. (fields_of c).has_globals ≡ false) }
+    ensures { IfOk result (IsCommand line.review) }
 {
     let about = "Print who holds what at a moment, and which approvals do not count";
-    on_desk(
-        alloc,
-        "review",
-        about,
-        "AT",
-        "The moment, as 20260105093000Z",
-    )
+    let mut args: Vec<Arg<'a>> = Vec::new(alloc);
+    let help = "The moment, as 20260105093000Z";
+    push_on_desk(alloc, &mut args, "AT", help)?;
+    command_of(alloc, "review", about, args)
 }
 
 fn serve<'a>(alloc: Global) -> Result<Command<'a>, AllocError>
-    ensures app { IfOk result (λ c. app_of c ≡ line.serve) }
-    ensures globals { IfOk result (λ c. (fields_of c).has_globals ≡ false) }
+    ensures { IfOk result (IsCommand line.serve) }
 {
+    let about = "Serve a desk over HTTP";
+    let mut args: Vec<Arg<'a>> = Vec::new(alloc);
     let help = "The address and port to listen at";
-    let command = on_desk(alloc, "serve", "Serve a desk over HTTP", "ADDR", help)?;
+    push_on_desk(alloc, &mut args, "ADDR", help)?;
     let help = "End after so many connections";
-    with_optional(alloc, command, "REQUESTS", "requests", help)
+    push_option(alloc, &mut args, "REQUESTS", "requests", help)?;
+    command_of(alloc, "serve", about, args)
 }
 
-/// Adds a command under it, where it could be made.
-fn with_command<'a>(
-    command: Command<'a>,
+/// Adds a command, where it could be made.
+fn push_made<'a>(
+    commands: &mut Vec<Command<'a>>,
     made: Result<Command<'a>, AllocError>,
-) -> Result<Command<'a>, AllocError>
-    requires command { (fields_of command).has_globals ≡ false }
-    requires made { IfOk made (λ c. (fields_of c).has_globals ≡ false) }
-    ensures app { (sub : App) → IfOk made.entry (λ m. app_of m ≡ sub) → IfOk result (λ c. app_of c ≡ with_subcommand (app_of command.entry) sub.top) }
-    ensures globals { IfOk result (λ c. (fields_of c).has_globals ≡ false) }
+) -> Result<(), AllocError>
+    ensures { (apps : List App) (app : App) → AreCommands commands.old.items apps → IfOk made.entry (IsCommand app)
+        → OnOk result (AreCommands commands.new.items (apps ++ app ∷ [])) }
 {
-    command.subcommand(made?)
+    Ok(commands.push(made?)?)
 }
 
 /// Adds the commands on policies.
-fn with_policies<'a>(alloc: Global, command: Command<'a>) -> Result<Command<'a>, AllocError>
-    requires { (fields_of command).has_globals ≡ false }
-    ensures app { IfOk result (λ c. app_of c ≡ line.with_subcommands (app_of command.entry) line.on_policies) }
-    ensures globals { IfOk result (λ c. (fields_of c).has_globals ≡ false) }
+fn push_on_policies<'a>(alloc: Global, commands: &mut Vec<Command<'a>>) -> Result<(), AllocError>
+    ensures { (apps : List App) → AreCommands commands.old.items apps → OnOk result (AreCommands commands.new.items (apps ++ line.on_policies)) }
 {
-    let command = with_command(command, check(alloc))?;
-    let command = with_command(command, decide(alloc))?;
-    with_command(command, beyond(alloc))
-}
-
-/// Adds the commands that take messages, or make a host's file of them.
-fn with_messages<'a>(alloc: Global, command: Command<'a>) -> Result<Command<'a>, AllocError>
-    requires { (fields_of command).has_globals ≡ false }
-    ensures app { IfOk result (λ c. app_of c ≡ line.with_subcommands (app_of command.entry) (line.deliver ∷ line.print ∷ [])) }
-    ensures globals { IfOk result (λ c. (fields_of c).has_globals ≡ false) }
-{
-    let command = with_command(command, deliver(alloc))?;
-    with_command(command, print(alloc))
+    push_made(commands, check(alloc))?;
+    push_made(commands, decide(alloc))?;
+    push_made(commands, beyond(alloc))
 }
 
 /// Adds the commands on a desk.
-fn with_desks<'a>(alloc: Global, command: Command<'a>) -> Result<Command<'a>, AllocError>
-    requires { (fields_of command).has_globals ≡ false }
-    ensures app { IfOk result (λ c. app_of c ≡ line.with_subcommands (app_of command.entry) line.on_desks) }
-    ensures globals { IfOk result (λ c. (fields_of c).has_globals ≡ false) }
+fn push_on_desks<'a>(alloc: Global, commands: &mut Vec<Command<'a>>) -> Result<(), AllocError>
+    ensures { (apps : List App) → AreCommands commands.old.items apps → OnOk result (AreCommands commands.new.items (apps ++ line.on_desks)) }
 {
-    let command = with_messages(alloc, command)?;
-    let command = with_command(command, review(alloc))?;
-    with_command(command, serve(alloc))
+    push_made(commands, deliver(alloc))?;
+    push_made(commands, print(alloc))?;
+    push_made(commands, review(alloc))?;
+    push_made(commands, serve(alloc))
 }
 
 fn command<'a>(alloc: Global) -> Result<Command<'a>, AllocError>
-    ensures app { IfOk result (λ c. app_of c ≡ desk) }
-    ensures globals { IfOk result (λ c. (fields_of c).has_globals ≡ false) }
+    ensures { IfOk result (IsCommand desk) }
 {
-    let program = Command::new(alloc, "desk")
+    let mut commands = Vec::new(alloc);
+    push_on_policies(alloc, &mut commands)?;
+    push_on_desks(alloc, &mut commands)?;
+    Command::new(alloc, "desk")
         .about("A privileged access desk")
-        .subcommand_required(true);
-    with_desks(alloc, with_policies(alloc, program)?)
+        .subcommand_required(true)
+        .subcommands(commands)
 }
 
 fn fault_of_error(error: clap::Error) -> JobFault

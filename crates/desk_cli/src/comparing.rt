@@ -1,6 +1,7 @@
 //! Finding what one file's policy allows beyond another's.
 
-ghost use Rattle.std.specs.Prelude.{◌≡◌, ◌++◌, IfErr, IfOk, OnOk, codes, string_bytes};
+ghost use Rattle.std.specs.Prelude.{◌≡◌, ◌++◌, ℕ, List, IfErr, IfOk, OnOk, codes, string_bytes};
+ghost use Rattle.sudo_syntax.specs.Spelling.{Spells};
 ghost use Rattle.desk_cli.specs.Comparing.{ComparesFiles, EndsComparing, IsShown, case_text, spaced};
 
 use crate::answer::Answer;
@@ -10,7 +11,7 @@ use review::{Scope, beyond};
 use std::alloc::{AllocError, Global};
 use std::fmt::Write as _;
 use sudo_decide::Invocation;
-use sudo_syntax::read_policy;
+use sudo_syntax::{Policy, read_policy};
 use sudo_words::Arg;
 
 /// Adds the arguments, each behind a space.
@@ -52,6 +53,25 @@ fn shown(alloc: Global, found: &Option<Invocation>) -> Result<Answer, AllocError
     }
 }
 
+/// The answer of two policies.
+fn compare(alloc: Global, a: &Policy, b: &Policy, scope: &Scope) -> Result<Answer, Refusal>
+    ensures found { (a_file b_file : List ℕ) → Spells a_file a.now → Spells b_file b.now
+        → IfOk result (λ r. ComparesFiles scope.now a_file b_file r.status (string_bytes r.text)) }
+    ensures err { (a_file b_file : List ℕ) → Spells a_file a.now → Spells b_file b.now → IfErr result (EndsComparing scope.now a_file b_file) }
+{
+    let found = beyond(alloc, scope, a, b)?;
+    Ok(shown(alloc, &found)?)
+}
+
+/// The answer of a policy and that of a file.
+fn compare_with(alloc: Global, a: &Policy, b: &[u8], scope: &Scope) -> Result<Answer, Refusal>
+    ensures found { (a_file : List ℕ) → Spells a_file a.now → IfOk result (λ r. ComparesFiles scope.now a_file b.now r.status (string_bytes r.text)) }
+    ensures err { (a_file : List ℕ) → Spells a_file a.now → IfErr result (EndsComparing scope.now a_file b.now) }
+{
+    let b = read_policy(alloc, b)?;
+    compare(alloc, a, &b, scope)
+}
+
 /// An invocation in the scope that the first file's policy allows and the second's refuses, or `none`.
 ///
 /// The first file is read first. It is refused where a file spells no policy, where the policies have too many cases, and
@@ -61,7 +81,5 @@ pub fn compare_files(alloc: Global, a: &[u8], b: &[u8], scope: &Scope) -> Result
     ensures err { IfErr result (EndsComparing scope.now a.now b.now) }
 {
     let a = read_policy(alloc, a)?;
-    let b = read_policy(alloc, b)?;
-    let found = beyond(alloc, scope, &a, &b)?;
-    Ok(shown(alloc, &found)?)
+    compare_with(alloc, &a, b, scope)
 }

@@ -1,9 +1,11 @@
 //! Delivering the lines of the input, with an answer to each.
 
-ghost use Rattle.std.specs.Prelude.{◌≡◌, ◌++◌, ℕ, List, [], IfErr, IfOk, OnOk, is_ok, map, string_bytes};
+ghost use Rattle.std.specs.Prelude.{◌≡◌, ◌⊎◌, ◌++◌, ℕ, List, [], IfErr, IfOk, OnOk, is_ok, map, string_bytes};
 ghost use Rattle.std.specs.List.{list_all};
 ghost use Rattle.desk_cli.specs.Delivering.{DeliversLines, EndsDelivering, answer_line, answer_lines, status_after};
 ghost use Rattle.desk_cli.specs.Keeping.{AnswersLines};
+ghost use Rattle.desk.specs.declared.refusal.Refusal.TheVariants as refusal;
+ghost use Rattle.desk_cli.specs.declared.refusal.Refusal.TheVariants as reasons;
 
 use crate::answer::Answer;
 use crate::lines::read_lines;
@@ -67,6 +69,7 @@ pub fn deliver_to<K: Keeper, R: Read>(
 ) -> Result<Answer, Refusal>
     ensures found { K.is_up desk.new.keeper → IfOk result (λ a. AnswersLines desk.old.roster.says relay.now (K.holds desk.old.keeper) (R.remaining input.old)
         (K.holds desk.new.keeper) a.status (string_bytes a.text)) }
+    ensures err { IfErr result (λ e. (e ≡ reasons.FileFailed) ⊎ (e ≡ reasons.NoMemory) ⊎ (e ≡ reasons.Desk refusal.NoMemory)) }
     ensures was_up { K.is_up desk.new.keeper → K.is_up desk.old.keeper }
 {
     let lines = read_lines(alloc, relay, input)?;
@@ -91,10 +94,7 @@ pub fn deliver_lines<R: Read>(
     ensures err { IfErr result (EndsDelivering roster.now base.now) }
 {
     let mut desk = open(alloc, roster, base)?;
-    let lines = read_lines(alloc, relay, input)?;
-    let answers = desk.deliver_all(lines.as_slice())?;
-    Ok(Answer {
-        text: text_of(alloc, answers.as_slice())?,
-        status: status_of(answers.as_slice()),
-    })
+    let answer = deliver_to(alloc, &mut desk, relay, input);
+    let _ = desk.into_keeper();
+    answer
 }

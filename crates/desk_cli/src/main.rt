@@ -33,7 +33,8 @@ use crate::serving::serve;
 use crate::status::{Status, code};
 use crate::task::{Job, Store};
 use crate::text::Text;
-use desk_store::{MemoryKeeper, SqliteKeeper};
+use desk::{Keeper, MemoryKeeper};
+use desk_store::SqliteKeeper;
 use sqlite::{Connection, Error, ErrorCode};
 use sqlite_disk::Unknown;
 use sqlite_std_file::FileFrom;
@@ -103,20 +104,6 @@ fn keeper(rt: &HostRuntime, path: &Text) -> Result<Stored, Refusal> {
     }
 }
 
-/// Serves a desk over what is kept in the place.
-fn serve_over(
-    rt: &HostRuntime,
-    files: &[Vec<u8>],
-    store: &Store,
-    addr: &str,
-    requests: Option<u64>,
-) -> Result<Status, Refusal> {
-    match store {
-        Store::Memory => serve(rt, files, MemoryKeeper::new(rt.alloc()), addr, requests).0,
-        Store::File(path) => serve(rt, files, keeper(rt, path)?, addr, requests).0,
-    }
-}
-
 /// The database that the job's desk is kept in, if it is kept in one.
 fn kept(rt: &HostRuntime, job: &Job) -> Result<Option<Stored>, Refusal> {
     match store_of(job) {
@@ -125,10 +112,28 @@ fn kept(rt: &HostRuntime, job: &Job) -> Result<Option<Stored>, Refusal> {
     }
 }
 
+/// Serves a desk over what the keeper keeps, or in memory alone.
+fn serve_over<K: Keeper + Drop>(
+    rt: &HostRuntime,
+    files: &[Vec<u8>],
+    kept: Option<K>,
+    addr: &str,
+    requests: Option<u64>,
+) -> Result<Status, Refusal> {
+    match kept {
+        Some(keeper) => serve(rt, files, keeper, addr, requests).0,
+        None => serve(rt, files, MemoryKeeper::new(rt.alloc()), addr, requests).0,
+    }
+}
+
 /// Does a job that is no `serve`, over the process's streams.
-fn run_on_streams(rt: &HostRuntime, job: &Job, files: &mut [Vec<u8>]) -> Result<Status, Refusal> {
+fn run_on_streams<K: Keeper + Drop>(
+    rt: &HostRuntime,
+    job: &Job,
+    files: &mut [Vec<u8>],
+    kept: Option<K>,
+) -> Result<Status, Refusal> {
     let alloc = rt.alloc();
-    let kept = kept(rt, job)?;
     let Ok(mut input) = BufReader::new(alloc, rt.stdin()) else {
         return Err(Refusal::NoMemory);
     };
@@ -143,27 +148,40 @@ fn run_on_streams(rt: &HostRuntime, job: &Job, files: &mut [Vec<u8>]) -> Result<
     Ok(finish(status, &mut out, &mut err))
 }
 
+/// Does the job, over what the keeper keeps, or in memory alone.
+fn work_over<K: Keeper + Drop>(
+    rt: &HostRuntime,
+    job: &Job,
+    files: &mut [Vec<u8>],
+    kept: Option<K>,
+) -> Result<Status, Refusal> {
+    match job {
+        Job::Serve { addr, requests, .. } => {
+            serve_over(rt, files, kept, addr.as_str(), *requests)
+        }
+        _ => run_on_streams(rt, job, files, kept),
+    }
+}
+
 /// Does the job. Its files are read before its database is opened.
 fn work(rt: &HostRuntime, job: &Job) -> Result<Status, Refusal> {
     let mut files = files(rt, job)?;
-    let files = files.as_mut_slice();
-    match job {
-        Job::Serve {
-            places,
-            addr,
-            requests,
-        } => serve_over(rt, files, &places.store, addr.as_str(), *requests),
-        _ => run_on_streams(rt, job, files),
+    work_over(rt, job, files.as_mut_slice(), kept(rt, job)?)
+}
+
+/// How the program ends where the command line says nothing to do.
+fn idle(rt: &HostRuntime, fault: JobFault) -> Result<Status, Refusal> {
+    match fault {
+        JobFault::BadWord => Err(Refusal::BadWord),
+        JobFault::NoMemory => Err(Refusal::NoMemory),
+        JobFault::Usage(error) => Ok(show(rt, &error)),
     }
 }
 
 fn outcome(rt: &HostRuntime) -> Result<Status, Refusal> {
-    let words = words(rt)?;
-    match job(rt.alloc(), words) {
+    match job(rt.alloc(), words(rt)?) {
         Ok(job) => work(rt, &job),
-        Err(JobFault::BadWord) => Err(Refusal::BadWord),
-        Err(JobFault::NoMemory) => Err(Refusal::NoMemory),
-        Err(JobFault::Usage(error)) => Ok(show(rt, &error)),
+        Err(fault) => idle(rt, fault),
     }
 }
 

@@ -2,6 +2,7 @@
 
 ghost use Rattle.std.specs.Prelude.{◌≡◌, ◌⊎◌, ◌↔◌, ◌≤◌, ◌++◌, ℕ, List, false, length, Err, IfErr, IfOk, OnOk, string_bytes};
 ghost use Rattle.std.specs.Io.KnownBytes.{Appends};
+ghost use Rattle.desk_cli.specs.Files.{IsDeskOf};
 ghost use Rattle.desk_cli.specs.Printing.{EndsPrinting, EndsTaking, HadMemory, HasRights, IsPrinted, IsTaken, PrintsHost, complaint, complaints, lines_printed};
 ghost use Rattle.messages.specs.declared.message.Message.{Message};
 ghost use Rattle.roster.specs.Rules.{is_among};
@@ -121,6 +122,30 @@ pub fn file_of<K: Keeper>(
     }
 }
 
+/// The host's file of a desk that held nothing, once the lines of the input are delivered to it.
+fn print_taken<R: Read, E: Write>(
+    alloc: Global,
+    desk: &mut Desk<MemoryKeeper>,
+    host: &HostName,
+    after: Option<Moment>,
+    input: &mut R,
+    err: &mut E,
+) -> Result<String, Refusal>
+    requires { IsNothing (Holds desk.old.keeper) }
+    ensures printed { (roster_file base_file : List ℕ) → IsDeskOf roster_file base_file desk.old.roster.says desk.old.base
+        → IfOk result (λ s. (said : List ℕ)
+        × PrintsHost roster_file base_file host.now after (R.remaining input.old) Done (string_bytes s) said
+        × Appends (E.contents err.old) (E.contents err.new) said) }
+    ensures err { (roster_file base_file : List ℕ) → IsDeskOf roster_file base_file desk.old.roster.says desk.old.base
+        → IfErr result (EndsPrinting roster_file base_file host.now after (R.remaining input.old)) }
+{
+    take_lines(alloc, desk, input, err)?;
+    match file_of(desk, host, after) {
+        Ok(text) => Ok(text),
+        Err(refusal) => Err(Refusal::Desk(refusal)),
+    }
+}
+
 /// The host's file, over the desk that the files make and the messages of the input's lines. With a moment, the lines that end
 /// before it are left out.
 ///
@@ -142,9 +167,7 @@ pub fn print_host<R: Read, E: Write>(
     ensures err { IfErr result (EndsPrinting roster.now base.now host.now after (R.remaining input.old)) }
 {
     let mut desk = open(alloc, roster, base)?;
-    take_lines(alloc, &mut desk, input, err)?;
-    match file_of(&mut desk, host, after) {
-        Ok(text) => Ok(text),
-        Err(refusal) => Err(Refusal::Desk(refusal)),
-    }
+    let text = print_taken(alloc, &mut desk, host, after, input, err);
+    let _ = desk.into_keeper();
+    text
 }

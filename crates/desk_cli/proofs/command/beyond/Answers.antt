@@ -1,11 +1,7 @@
-use Rattle.std.proofs.Common.{◌≡◌, IfOk, ap, codes, subst, ◌∙◌}
-use Rattle.clap.specs.Words.{App, app_of, with_rule}
-use Rattle.desk_cli.specs.CommandLine as line
+use Rattle.std.proofs.Common.{[], rules}
 use Rattle.desk_cli.proofs.command.beyond.Goals as goal
 
-pub returns-clause-app : goal.returns-clause-app
-returns-clause-app c =
-    let user = c.in_ok-command-2.ensures.app ∙ ap (λ (a : App). with_rule a (line.optional (codes "USER") (codes "user"))) c.in_ok-command.ensures.app in
-    let host = c.in_ok-command-3.ensures.app ∙ ap (λ (a : App). with_rule a (line.optional (codes "HOST") (codes "host"))) user in
-    subst (λ (a : App). IfOk c.with_optional-3.result (λ r. app_of r ≡ with_rule a (line.optional (codes "RUNAS") (codes "runas")))) host
-    c.with_optional-3.ensures.app
+pub returns : goal.returns
+returns c =
+    c.command_of.ensures _
+    (c.in_ok-push_option-3.ensures _ (c.in_ok-push_option-2.ensures _ (c.in_ok-push_option.ensures _ (c.in_ok-push_wanted.ensures [] (search rules)))))
