@@ -44,7 +44,7 @@ peers: desk
 	python3 scripts/peers_store.py
 
 # Time and memory: `check` and `decide` beside visudo (Debian's package sudo) on up to 16,001 rules, on 8,000 aliases with 8,000 rules, and on
-# the greatest weight; `print` on 800 and 8,000 requests; `beyond` on 1,000,000 cases; `serve` beside nginx (Debian's package nginx-light); `deliver` to a
+# the greatest weight; `print` on 800 and 8,000 requests; `beyond` on 1,000,000 cases; `serve` beside nginx (Debian's package nginx-light) and, over a file, beside `deliver`; `deliver` to a
 # file beside C SQLite (Python's `sqlite3`), and what it costs to open one.
 bench: desk
 	python3 scripts/bench.py

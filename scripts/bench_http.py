@@ -2,7 +2,8 @@
 """Times `desk serve` over loopback beside nginx, one connection for each exchange.
 
 A desk over memory is asked for a list of grants (GET), and takes messages that it has not seen (POST). Beside each, in turn with it, nginx (Debian's
-nginx-light: one worker, no connection kept) gives the same client a file as long as the desk's reply. Then 100,000 exchanges, before and
+nginx-light: one worker, no connection kept) gives the same client a file as long as the desk's reply. Then a desk over a file takes messages, beside
+`desk deliver` of as many to another file on the same disk. Then 100,000 exchanges, before and
 behind which the memory of the desk's process is read; and a request of 24,576 bytes, read at once and one byte at a time, each counted in
 instructions (valgrind's callgrind), so that the machine's load does not matter. A part whose tools are missing is left out, and said to be.
 All of it goes to 127.0.0.1, and each loop is bounded.
@@ -140,13 +141,18 @@ class Serving:
         return tuple(int(re.search(rf"{name}:\s+(\d+)", text).group(1)) for name in ("VmRSS", "VmHWM"))
 
 
-def desk_words(folder, *more):
+def made_files(folder):
+    """The files of a roster and of a base."""
     roster, base = os.path.join(folder, "roster.toml"), os.path.join(folder, "base.sudo")
     with open(roster, "w") as file:
         file.write(ROSTER)
     with open(base, "w") as file:
         file.write("root ALL = (ALL) ALL\n")
-    return [DESK, "serve", roster, base, "-", "127.0.0.1:0", *more]
+    return roster, base
+
+
+def desk_words(folder, *more, store="-"):
+    return [DESK, "serve", *made_files(folder), store, "127.0.0.1:0", *more]
 
 
 class Files:
@@ -222,6 +228,27 @@ def beside_nginx(folder):
     return wrong
 
 
+def beside_deliver(folder):
+    """What a message costs that is posted to a desk over a file, beside one that is delivered to such a file; 1 where it is more than 1.3 times as much."""
+    bodies = [request(number) for number in range(EACH)]
+    given = os.path.join(folder, "given")
+    with open(given, "wb") as file:
+        file.writelines(body + b"\n" for body in bodies)
+    posted, delivered = [], []
+    for turn in range(ROUNDS):
+        with Serving(desk_words(folder, store=os.path.join(folder, f"posted{turn}.db"))) as desk:
+            posted.append(1 / rate(desk.port, [post(body) for body in bodies]))
+        words = [DESK, "deliver", *made_files(folder), os.path.join(folder, f"delivered{turn}.db"), "web"]
+        with open(given, "rb") as file:
+            begun = time.perf_counter()
+            subprocess.run(words, stdin=file, stdout=subprocess.DEVNULL, check=True)
+            delivered.append((time.perf_counter() - begun) / EACH)
+    print(f"a message to a file: {min(posted) * 1e6:.0f} us posted, {min(delivered) * 1e6:.0f} us delivered")
+    holds = min(posted) <= 1.3 * min(delivered)
+    print(f"a POST to a file, beside `deliver`: {min(posted) / min(delivered):.2f}, at most 1.3: {'holds' if holds else 'FAILS'}")
+    return int(not holds)
+
+
 def many(folder):
     """What memory the desk has after a thousand exchanges, and after a hundred thousand; 1 where it has more."""
     with Serving(desk_words(folder)) as desk:
@@ -285,6 +312,9 @@ def bytewise(folder):
 def main():
     with tempfile.TemporaryDirectory() as folder:
         wrong = beside_nginx(folder) + many(folder) + bytewise(folder)
+    # (a temporary folder may lie in memory)
+    with tempfile.TemporaryDirectory(dir=os.path.join(ROOT, "build")) as folder:
+        wrong += beside_deliver(folder)
     return 1 if wrong else 0
 
 

@@ -1,5 +1,5 @@
 #!/usr/bin/env python3
-"""Times a desk over a file: `desk deliver` of 10,000 messages beside C SQLite, and what it costs to open 100,000.
+"""Times a desk over a file: `desk deliver` of 10,000 messages, in rounds of 2,000, beside C SQLite, and what it costs to open 100,000.
 
 C SQLite is Python's `sqlite3`: it makes the same tables and the same commits, one a message, with the desk's journal mode (`wal`) and synchronous level (`full`),
 on the same disk. Beside both stands `fdatasync` alone, as often, each after a block of 4,096 bytes; and `deliver` to memory, which is what the desk does beside keeping.
@@ -23,7 +23,7 @@ ROOT = os.path.dirname(os.path.dirname(os.path.abspath(__file__)))
 DESK = sys.argv[1:] or [os.path.join(ROOT, "build", "desk")]
 ROSTER = os.path.join(ROOT, "examples", "roster.toml")
 BASE = os.path.join(ROOT, "examples", "site.sudo")
-DELIVERED, HELD, FEW, MORE, RUNS = 10_000, 100_000, 1_000, 10_000, 3
+DELIVERED, HELD, FEW, MORE, RUNS, ROUNDS = 10_000, 100_000, 1_000, 10_000, 3, 5
 NOBODY = 'relays = ["chat"]\nhosts = ["db1"]\nduties = []\nconflicts = []\n[people]\n[ceilings]\n'
 
 
@@ -77,16 +77,24 @@ def told(what, ratio, promised):
 
 
 def on_disk():
-    """Deliveries to a disk, one run of each behind the other."""
-    lines = bodies(0, DELIVERED)
+    """Deliveries to a disk, in rounds, each beside the same commits by C SQLite, so that what the disk does meanwhile falls on both."""
+    walls, used, theirs, synced = [], [], [], []
     with tempfile.TemporaryDirectory(dir=os.path.join(ROOT, "build")) as folder:
-        wall, used, peak = deliver(os.path.join(folder, "desk.db"), lines, folder)
-        theirs = by_sqlite(folder, lines)
-        synced = by_disk(folder, DELIVERED)
-        alone, _, _ = deliver("-", lines, folder)
-    print(f"deliver of {DELIVERED} messages to a file: {wall:.2f} s, of which {used:.2f} s of the processor; {peak:.0f} MiB")
-    print(f"C SQLite {sqlite3.sqlite_version}, the same commits: {theirs:.2f} s; fdatasync alone: {synced:.2f} s; deliver to memory: {alone:.2f} s")
-    told("deliver to a file beside C SQLite", wall / theirs, 1.2)
+        for turn in range(ROUNDS):
+            lines = bodies(turn * DELIVERED // ROUNDS, DELIVERED // ROUNDS)
+            place = os.path.join(folder, str(turn))
+            os.mkdir(place)
+            wall, busy, peak = deliver(os.path.join(place, "desk.db"), lines, place)
+            walls.append(wall)
+            used.append(busy)
+            theirs.append(by_sqlite(place, lines))
+            synced.append(by_disk(place, len(lines)))
+        alone, _, _ = deliver("-", bodies(0, DELIVERED), folder)
+    print(f"deliver of {DELIVERED} messages to files, {ROUNDS} rounds: {sum(walls):.2f} s, of which {sum(used):.2f} s of the processor; {peak:.0f} MiB")
+    print(f"C SQLite {sqlite3.sqlite_version}, the same commits: {sum(theirs):.2f} s; fdatasync alone: {sum(synced):.2f} s; deliver to memory: {alone:.2f} s")
+    each = ", ".join(f"{ours / other:.2f}" for ours, other in zip(walls, theirs))
+    print(f"of each round: {each}")
+    told("deliver to a file beside C SQLite", sum(walls) / sum(theirs), 1.2)
 
 
 def best(measure):
