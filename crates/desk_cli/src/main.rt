@@ -1,39 +1,15 @@
 //! The desk's program: reads its command line, and does what it says.
 #![tactic(auto)]
 
-mod answer;
-mod command;
-mod command_line;
-mod compare_laws;
-mod comparing;
-mod delivering;
-mod fault;
-mod keeping;
-mod laws;
-mod lines;
-mod opening;
-mod printing;
-mod refusal;
-mod reviewing;
-mod running;
 mod serving;
-mod status;
-mod task;
 #[cfg(test)]
 mod tests;
-mod text;
-mod values;
 
-use crate::command_line::job;
-use crate::fault::{JobFault, show};
-use crate::keeping::run_over;
-use crate::refusal::Refusal;
-use crate::running::{finish, refuse, run};
 use crate::serving::serve;
-use crate::status::{Status, code};
-use crate::task::{Job, Store};
-use crate::text::Text;
 use desk::{Keeper, MemoryKeeper};
+use desk_commands::{
+    Job, JobFault, Refusal, Status, Store, Text, code, finish, job, refuse, run, run_over, show,
+};
 use desk_store::SqliteKeeper;
 use sqlite::{Connection, Error, ErrorCode};
 use sqlite_disk::Unknown;

@@ -1,9 +1,7 @@
 //! Serving a desk over HTTP, one connection after the other.
 
-use crate::opening::open_over;
-use crate::refusal::Refusal;
-use crate::status::Status;
 use desk::{Desk, Keeper};
+use desk_commands::{Refusal, Status, open_over};
 use relay_http::{Counted, ServeFault, serve_one};
 use std::alloc::Global;
 use std::io::{self, Read};

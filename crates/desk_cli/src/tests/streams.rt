@@ -1,9 +1,6 @@
 //! Files that are missing, and inputs and outputs that fail in the middle or at their end.
 
-use crate::running::{finish, run};
-use crate::status::code;
-use crate::task::{Job, Places, Store};
-use crate::text::Text;
+use desk_commands::{Job, Places, Store, Text, code, finish, run};
 use std::alloc::Global;
 use std::io::{BufWriter, Read, Write};
 use std::test::Fail;

@@ -1,0 +1,27 @@
+//! What the answer of `beyond` tells, each law the contract of a function that does nothing.
+
+ghost use Rattle.std.specs.Prelude.{◌≡◌, ◌↔◌, ℕ, List, codes};
+ghost use Rattle.sudo_syntax.specs.Spelling.{Spells};
+ghost use Rattle.sudo_syntax.specs.declared.entry.Entry.{Entry};
+ghost use Rattle.sudo_decide.specs.declared.invocation.Invocation.{Invocation};
+ghost use Rattle.review.specs.Beyond.{IsInvocation, SomethingBeyond};
+ghost use Rattle.review.specs.declared.scope.Scope.{Scope};
+ghost use Rattle.desk_commands.specs.Comparing.{ComparesFiles, case_text};
+ghost use Rattle.desk_commands.specs.declared.status.Status.{Status};
+ghost use Rattle.desk_commands.specs.declared.status.Status.TheVariants.{Done};
+
+/// Two cases with one line are one, and no case has the line `none`.
+pub fn case_tells()
+    ensures one { (i j : Invocation) → IsInvocation i → IsInvocation j → case_text i ≡ case_text j → i ≡ j }
+    ensures not_none { (i : Invocation) → IsInvocation i → case_text i ≡ codes "none" → ⊥ }
+{}
+
+/// Of files that spell two policies, `none` is answered exactly where nothing of the first lies beyond the second. So it is with the status.
+pub fn none_tells()
+    ensures text { (scope : Scope) (a_file b_file : List ℕ) (a b : List Entry) (status : Status) (text : List ℕ) →
+        ComparesFiles scope a_file b_file status text → Spells a_file a → Spells b_file b →
+        (text ≡ codes "none\n") ↔ (SomethingBeyond scope a b → ⊥) }
+    ensures status { (scope : Scope) (a_file b_file : List ℕ) (a b : List Entry) (status : Status) (text : List ℕ) →
+        ComparesFiles scope a_file b_file status text → Spells a_file a → Spells b_file b →
+        (status ≡ Done) ↔ (SomethingBeyond scope a b → ⊥) }
+{}

@@ -1,0 +1,57 @@
+//! The lines of an input, as a relay brings them.
+
+ghost use Rattle.std.specs.Prelude.{◌≡◌, ◌⊎◌, IfErr, IfOk, IfSome, map};
+ghost use Rattle.desk.specs.Delivery.{delivery_of};
+ghost use Rattle.desk_commands.specs.Lines.{AreRead, from_relay, lines_of};
+ghost use Rattle.desk_commands.specs.declared.refusal.Refusal.TheVariants as reasons;
+
+use crate::refusal::Refusal;
+use std::alloc::{AllocError, Global};
+use std::io::Read;
+use std::{io, mem};
+
+/// All that an input has left.
+fn whole<R: Read>(alloc: Global, input: &mut R) -> Result<Vec<u8>, Refusal>
+    ensures bytes { IfOk result (λ v. IfSome (R.remaining input.old) (λ bytes. v.items ≡ bytes)) }
+    ensures err { IfErr result (λ e. (e ≡ reasons.FileFailed) ⊎ (e ≡ reasons.NoMemory)) }
+{
+    let mut bytes = Vec::new(alloc);
+    match input.read_to_end(&mut bytes) {
+        Ok(_) => Ok(bytes),
+        Err(error) if error.kind() == io::ErrorKind::OutOfMemory => Err(Refusal::NoMemory),
+        Err(_) => Err(Refusal::FileFailed),
+    }
+}
+
+/// The lines of a text, each as the relay's: what stands before each newline, and what stands after the last one, unless that is nothing.
+fn lines(alloc: Global, relay: &str, bytes: &[u8]) -> Result<Vec<(String, Vec<u8>)>, AllocError>
+    ensures { IfOk result (λ v. map delivery_of v.items ≡ from_relay relay.now (lines_of bytes.now)) }
+{
+    let mut lines = Vec::new(alloc);
+    let mut line = Vec::new(alloc);
+    for byte in bytes {
+        if *byte == b'\n' {
+            let name = String::from_str(alloc, relay)?;
+            lines.push((name, mem::replace(&mut line, Vec::new(alloc))))?;
+        } else {
+            line.push(*byte)?;
+        }
+    }
+    if !line.is_empty() {
+        lines.push((String::from_str(alloc, relay)?, line))?;
+    }
+    Ok(lines)
+}
+
+/// The lines that an input has left, each as the relay's.
+pub fn read_lines<R: Read>(
+    alloc: Global,
+    relay: &str,
+    input: &mut R,
+) -> Result<Vec<(String, Vec<u8>)>, Refusal>
+    ensures read { IfOk result (λ v. AreRead relay.now (R.remaining input.old) (map delivery_of v.items)) }
+    ensures err { IfErr result (λ e. (e ≡ reasons.FileFailed) ⊎ (e ≡ reasons.NoMemory)) }
+{
+    let bytes = whole(alloc, input)?;
+    Ok(lines(alloc, relay, bytes.as_slice())?)
+}

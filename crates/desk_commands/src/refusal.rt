@@ -1,0 +1,120 @@
+//! Why the program refuses.
+
+ghost use Rattle.std.specs.Prelude.{◌≡◌};
+
+use review::BeyondFault;
+use roster::RosterFault;
+use std::alloc::{AllocError, AllocFailed};
+use std::fmt;
+use sudo_syntax::{NoMemory, ReadFault};
+
+/// Why the program refuses what it is told to do.
+///
+/// It is printed as its code and name, as `F1 FileFailed`; a roster's fault, a comparison's and the desk's as their own, as
+/// `O1 NotToml`, `B1 TooManyCases` and `K6 BaseTooLarge`, and a policy's with its line, as `S5 UnknownAlias line 3`.
+#[derive(Clone, Copy, Debug, PartialEq, Eq)]
+pub enum Refusal {
+    /// A file could not be read, or an answer not be written.
+    FileFailed,
+    /// A word of the command line has not the form that its place asks for.
+    BadWord,
+    /// Memory ran out.
+    NoMemory,
+    /// A file's text is no roster.
+    Roster(RosterFault),
+    /// A file's text is no policy.
+    Policy(ReadFault),
+    /// Two policies were not compared.
+    Beyond(BeyondFault),
+    /// The desk refuses.
+    Desk(desk::Refusal),
+}
+
+impl fmt::Display for Refusal {
+    ghost use Rattle.std.specs.Prelude.{Some};
+    ghost use Rattle.desk_commands.specs.Refusals.{reason_text};
+
+    ghost output = { λ r. Some (reason_text r) };
+
+    fn fmt<W: fmt::Write>(&self, f: &mut fmt::Formatter<W>) -> fmt::Result {
+        match self {
+            Refusal::FileFailed => f.write_str("F1 FileFailed"),
+            Refusal::BadWord => f.write_str("F2 BadWord"),
+            Refusal::NoMemory => f.write_str("NoMemory"),
+            Refusal::Roster(fault) => write!(f, "{fault}"),
+            Refusal::Policy(fault) => write!(f, "{fault}"),
+            Refusal::Beyond(fault) => write!(f, "{fault}"),
+            Refusal::Desk(refusal) => write!(f, "{refusal}"),
+        }
+    }
+}
+
+impl From<RosterFault> for Refusal {
+    ghost use Rattle.desk_commands.specs.declared.refusal.Refusal.TheVariants.{Roster};
+
+    ghost from_gives = { λ f e. e ≡ Roster f };
+
+    fn from(e: RosterFault) -> Refusal {
+        Refusal::Roster(e)
+    }
+}
+
+impl From<ReadFault> for Refusal {
+    ghost use Rattle.desk_commands.specs.declared.refusal.Refusal.TheVariants.{Policy};
+
+    ghost from_gives = { λ f e. e ≡ Policy f };
+
+    fn from(e: ReadFault) -> Refusal {
+        Refusal::Policy(e)
+    }
+}
+
+impl From<BeyondFault> for Refusal {
+    ghost use Rattle.desk_commands.specs.declared.refusal.Refusal.TheVariants.{Beyond};
+
+    ghost from_gives = { λ f e. e ≡ Beyond f };
+
+    fn from(e: BeyondFault) -> Refusal {
+        Refusal::Beyond(e)
+    }
+}
+
+impl From<desk::Refusal> for Refusal {
+    ghost use Rattle.desk_commands.specs.declared.refusal.Refusal.TheVariants.{Desk};
+
+    ghost from_gives = { λ r e. e ≡ Desk r };
+
+    fn from(e: desk::Refusal) -> Refusal {
+        Refusal::Desk(e)
+    }
+}
+
+impl From<NoMemory> for Refusal {
+    ghost use Rattle.desk_commands.specs.declared.refusal.Refusal.TheVariants.{NoMemory};
+
+    ghost from_gives = { λ _ e. e ≡ NoMemory };
+
+    fn from(_e: NoMemory) -> Refusal {
+        Refusal::NoMemory
+    }
+}
+
+impl From<AllocError> for Refusal {
+    ghost use Rattle.desk_commands.specs.declared.refusal.Refusal.TheVariants.{NoMemory};
+
+    ghost from_gives = { λ _ e. e ≡ NoMemory };
+
+    fn from(_e: AllocError) -> Refusal {
+        Refusal::NoMemory
+    }
+}
+
+impl<T: Drop> From<AllocFailed<T>> for Refusal {
+    ghost use Rattle.desk_commands.specs.declared.refusal.Refusal.TheVariants.{NoMemory};
+
+    ghost from_gives = { λ _ e. e ≡ NoMemory };
+
+    fn from(_e: AllocFailed<T>) -> Refusal {
+        Refusal::NoMemory
+    }
+}
