@@ -13,11 +13,9 @@ import time
 
 
 def function_and_part(name):
-    """`command.with_arg` and `Lts`, of `Rattle-desk_cli-proofs.command.with_arg.Lts.oantt`."""
+    """`desk.Desk.deliver` and `Lts`, of `Rattle-desk-proofs.desk.Desk.deliver.Lts.oantt`."""
     parts = name.removesuffix(".oantt").split(".")[1:]
-    places = [place for place, part in enumerate(parts) if part[:1].isupper() and "++" not in part]
-    cut = places[0] if places else len(parts)
-    return ".".join(parts[:cut]), "".join(parts[cut : cut + 1]).split("-")[0]
+    return ".".join(parts[:-1]), parts[-1].split("-")[0] if parts else ""
 
 
 def main():
