@@ -1,7 +1,7 @@
 -- What is answered behind two runs that acknowledge the same.
 use Rattle.std.proofs.Common.{◌≡◌, ℕ, List, Option, length, ap}
 use Rattle.sudo_words.specs.declared.cmnd.Cmnd.{Cmnd}
-use Rattle.sudo_syntax.specs.declared.entry.Entry.{Entry}
+use Rattle.sudo_policy.specs.declared.entry.Entry.{Entry}
 use Rattle.messages.specs.Names.{RequestName, SameMessages}
 use Rattle.messages.specs.declared.message.Message.{Message}
 use Rattle.roster.specs.Fields.{RosterFields}

@@ -35,8 +35,8 @@ use Rattle.grants.proofs.SomeAnswer.{some_answer}
 use Rattle.grants.proofs.StandLemmas as standing
 use Rattle.grants.proofs.StatusLemmas.{admitted_is, disputed_is, lapsed_is}
 use Rattle.desk.specs.Gathered.{Give, live_for}
-use Rattle.sudo_syntax.specs.declared.entry.Entry.{Entry}
-use Rattle.sudo_syntax.specs.Printing.{canon}
+use Rattle.sudo_policy.specs.declared.entry.Entry.{Entry}
+use Rattle.sudo_policy.specs.Printing.{canon}
 use Rattle.desk.specs.HostFile.{Line, AreLines, IsHostFile, IsHostFileAfter, lines_after, with_lines}
 use Rattle.desk.specs.Order.{AreInOrder, NamePrecedes, TextPrecedes}
 use Rattle.desk.specs.Outcomes.{AreLive, ComesTo, LiveGrant, NobodyAsks}

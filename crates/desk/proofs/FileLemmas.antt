@@ -13,15 +13,15 @@ use Rattle.messages.specs.Fields.{IsRequest}
 use Rattle.messages.specs.Wire.{IsMessage}
 use Rattle.messages.specs.declared.message.Message.{Message}
 use Rattle.messages.specs.declared.message.Message.TheVariants.{Request}
-use Rattle.sudo_syntax.specs.declared.entry.Rule.{Rule}
-use Rattle.sudo_syntax.specs.declared.entry.Entry.{Entry}
-use Rattle.sudo_syntax.specs.declared.entry.Entry.TheVariants as entries
-use Rattle.sudo_syntax.specs.Policy.{IsPolicy}
-use Rattle.sudo_syntax.specs.Printing.{canon}
-use Rattle.sudo_syntax.specs.Reading.{with_rules}
-use Rattle.sudo_syntax.specs.Spelling.{Spells}
-use Rattle.sudo_syntax.proofs.Canon.{canon_spells}
-use Rattle.sudo_syntax.proofs.One.{text_one}
+use Rattle.sudo_policy.specs.declared.entry.Rule.{Rule}
+use Rattle.sudo_policy.specs.declared.entry.Entry.{Entry}
+use Rattle.sudo_policy.specs.declared.entry.Entry.TheVariants as entries
+use Rattle.sudo_policy.specs.Policy.{IsPolicy}
+use Rattle.sudo_policy.specs.Printing.{canon}
+use Rattle.sudo_policy.specs.Reading.{with_rules}
+use Rattle.sudo_policy.specs.Spelling.{Spells}
+use Rattle.sudo_policy.proofs.Canon.{canon_spells}
+use Rattle.sudo_policy.proofs.One.{text_one}
 use Rattle.roster.specs.Fields.{RosterFields}
 use Rattle.grants.specs.Bases.{FitsBase}
 use Rattle.grants.specs.GrantRules.{IsGrantRule}

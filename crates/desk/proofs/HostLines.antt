@@ -5,7 +5,7 @@ use Rattle.std.specs.Str.{bytes_eq}
 use Rattle.std.proofs.lemmas.List.{length-map, map-append}
 use Rattle.std.proofs.lemmas.List.Elements.{Contains-append_left}
 use Rattle.sudo_words.specs.declared.cmnd.Cmnd.{Cmnd}
-use Rattle.sudo_syntax.specs.declared.entry.Rule.{Rule}
+use Rattle.sudo_policy.specs.declared.entry.Rule.{Rule}
 use Rattle.messages.specs.Fields.{RequestFields}
 use Rattle.messages.specs.Names.{RequestName, name_of}
 use Rattle.messages.specs.declared.message.Message.{Message}

@@ -2,10 +2,10 @@
 -- and whose window is not empty, with the window's first and last moment as dates (sudoers(5), "NOTBEFORE").
 use Rattle.std.specs.Prelude.{◌≡◌, ℕ, ◌<◌, ◌⊎◌, List, ◌++◌, Contains, Some, filter, map, slice_get}
 use Rattle.sudo_words.specs.declared.cmnd.Cmnd.{Cmnd}
-use Rattle.sudo_syntax.specs.declared.entry.Rule.{Rule}
-use Rattle.sudo_syntax.specs.declared.entry.Entry.{Entry}
-use Rattle.sudo_syntax.specs.declared.entry.Entry.TheVariants as entries
-use Rattle.sudo_syntax.specs.Printing.{canon}
+use Rattle.sudo_policy.specs.declared.entry.Rule.{Rule}
+use Rattle.sudo_policy.specs.declared.entry.Entry.{Entry}
+use Rattle.sudo_policy.specs.declared.entry.Entry.TheVariants as entries
+use Rattle.sudo_policy.specs.Printing.{canon}
 use Rattle.sudo_decide.specs.Decision.{is_not_after}
 use Rattle.messages.specs.Fields.{RequestFields}
 use Rattle.messages.specs.Names.{RequestName, name_of}

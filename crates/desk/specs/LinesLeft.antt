@@ -1,10 +1,10 @@
 -- What is left of a host's lines: all of them, or those that end at a moment or later. For private clauses.
 use Rattle.std.specs.Prelude.{◌≡◌, ◌⊎◌, ℕ, ◌<◌, Bool, true, List, filter, length, Option, Some, None}
 use Rattle.sudo_words.specs.declared.cmnd.Cmnd.{Cmnd}
-use Rattle.sudo_syntax.specs.declared.entry.Entry.{Entry}
-use Rattle.sudo_syntax.specs.declared.entry.Rule.{Rule}
-use Rattle.sudo_syntax.specs.Printing.{canon}
-use Rattle.sudo_syntax.specs.Spelling.{Spells}
+use Rattle.sudo_policy.specs.declared.entry.Entry.{Entry}
+use Rattle.sudo_policy.specs.declared.entry.Rule.{Rule}
+use Rattle.sudo_policy.specs.Printing.{canon}
+use Rattle.sudo_policy.specs.Spelling.{Spells}
 use Rattle.sudo_decide.specs.Decision.{is_not_after}
 use Rattle.messages.specs.Fields.{RequestFields}
 use Rattle.messages.specs.declared.message.Message.{Message}

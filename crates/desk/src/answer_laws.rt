@@ -2,7 +2,7 @@
 
 ghost use Rattle.std.specs.Prelude.{◌≡◌, ℕ, List, Option, length};
 ghost use Rattle.sudo_words.specs.declared.cmnd.Cmnd.{Cmnd as AnyCmnd};
-ghost use Rattle.sudo_syntax.specs.declared.entry.Entry.{Entry};
+ghost use Rattle.sudo_policy.specs.declared.entry.Entry.{Entry};
 ghost use Rattle.messages.specs.Names.{RequestName as AnyName};
 ghost use Rattle.messages.specs.declared.message.Message.{Message as AnyMessage};
 ghost use Rattle.roster.specs.Fields.{RosterFields};

@@ -19,7 +19,7 @@ use grants::fits_base;
 use roster::Roster;
 use std::alloc::Global;
 use std::marker::Model;
-use sudo_syntax::Policy;
+use sudo_policy::Policy;
 
 /// A desk, which contracts see as its roster, its base policy and its keeper, which holds the set of messages.
 ///

@@ -2,7 +2,7 @@
 
 ghost use Rattle.std.specs.Prelude.{◌≡◌, ◌≢◌, ◌↔◌, ◌<◌, ◌≤◌, ℕ, List, [], ◌∷◌, ◌++◌, Contains, Option, Some, length};
 ghost use Rattle.sudo_words.specs.declared.cmnd.Cmnd.{Cmnd};
-ghost use Rattle.sudo_syntax.specs.declared.entry.Entry.{Entry};
+ghost use Rattle.sudo_policy.specs.declared.entry.Entry.{Entry};
 ghost use Rattle.messages.specs.Fields.{RequestFields, VerdictFields};
 ghost use Rattle.messages.specs.Names.{RequestName as AnyName, IsAbout, SameMessages, SameName, name_of};
 ghost use Rattle.messages.specs.Wire.{IsMessage, wire};

@@ -19,7 +19,7 @@ use messages::Message;
 use roster::Roster;
 use std::alloc::Global;
 use std::collections::BTreeMap;
-use sudo_syntax::{Policy, Rule, print_policy};
+use sudo_policy::{Policy, Rule, print_policy};
 use sudo_words::{HostName, Moment, NoMemory};
 
 /// The most lines of a host's file beside the base's.

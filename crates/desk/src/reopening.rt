@@ -16,7 +16,7 @@ use desk_store::{Keeper, SqliteKeeper};
 use roster::Roster;
 use sqlite::Alter;
 use std::alloc::Global;
-use sudo_syntax::Policy;
+use sudo_policy::Policy;
 
 /// Gives the desk's keeper up, and opens a desk over it again.
 ///

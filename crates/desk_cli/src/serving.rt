@@ -11,11 +11,14 @@ use std::time::Duration;
 /// The seconds that a peer may stall.
 const PATIENCE: u64 = 10;
 
+/// The seconds that a peer may stall once the reply is written.
+const LAST_PATIENCE: u64 = 1;
+
 /// The reads of what a peer sends behind its request, once the reply is written.
 const MOST_READS: usize = 64;
 
-fn limit(stream: &TcpStream, seconds: u64) -> io::Result<()> {
-    let most = Some(Duration::from_secs(seconds));
+fn limit(stream: &TcpStream) -> io::Result<()> {
+    let most = Some(Duration::from_secs(PATIENCE));
     stream.set_read_timeout(most)?;
     stream.set_write_timeout(most)
 }
@@ -23,7 +26,7 @@ fn limit(stream: &TcpStream, seconds: u64) -> io::Result<()> {
 /// Ends the reply, and takes what the peer still sends, so that it can read the reply before the connection is closed.
 fn hang_up(stream: &TcpStream) -> io::Result<()> {
     stream.shutdown(Shutdown::Write)?;
-    limit(stream, 1)?;
+    stream.set_read_timeout(Some(Duration::from_secs(LAST_PATIENCE)))?;
     let mut reader = stream;
     let mut rest = [0; 1024];
     for _ in 0..MOST_READS {
@@ -40,7 +43,7 @@ fn serve_stream<K: Keeper>(
     desk: &mut Desk<K>,
     stream: &TcpStream,
 ) -> Result<(), ServeFault> {
-    if limit(stream, PATIENCE).is_err() {
+    if limit(stream).is_err() {
         return Err(ServeFault::ReadFailed);
     }
     let mut reader = Counted::new(stream);

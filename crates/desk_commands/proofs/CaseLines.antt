@@ -11,9 +11,9 @@ use Rattle.sudo_words.proofs.MomentLemmas.{stamp_bytes, stamp_is, stamp_spells}
 use Rattle.sudo_words.proofs.MomentTexts.{one_spelled}
 use Rattle.sudo_words.proofs.PathLemmas.{file_each}
 use Rattle.sudo_words.proofs.PieceLemmas.{HasNoSpace, cut_words}
-use Rattle.sudo_syntax.specs.Spelling.{Spells}
-use Rattle.sudo_syntax.specs.declared.entry.Entry.{Entry}
-use Rattle.sudo_syntax.proofs.One.{text_one}
+use Rattle.sudo_policy.specs.Spelling.{Spells}
+use Rattle.sudo_policy.specs.declared.entry.Entry.{Entry}
+use Rattle.sudo_policy.proofs.One.{text_one}
 use Rattle.sudo_decide.specs.declared.invocation.Invocation.{Invocation}
 use Rattle.review.specs.Beyond.{IsInvocation, LiesBeyond, SomethingBeyond}
 use Rattle.review.specs.declared.scope.Scope.{Scope}

@@ -1,7 +1,7 @@
 -- Why files are not compared.
 use Rattle.std.proofs.Common.{◌≡◌, ℕ, List, refl}
-use Rattle.sudo_syntax.specs.Spelling.{Spells}
-use Rattle.sudo_syntax.specs.declared.entry.Entry.{Entry}
+use Rattle.sudo_policy.specs.Spelling.{Spells}
+use Rattle.sudo_policy.specs.declared.entry.Entry.{Entry}
 use Rattle.review.specs.Answer.{AreTooMany}
 use Rattle.review.specs.declared.fault.BeyondFault.{BeyondFault}
 use Rattle.review.specs.declared.fault.BeyondFault.TheVariants.{NoMemory, TooManyCases}

@@ -1,7 +1,7 @@
 -- `print`, from what its steps say.
 use Rattle.std.proofs.Common.{◌≡◌, ◌⊎◌, ◌↔◌, ℕ, ◌<◌, ◌≤◌, Bool, true, false, List, Option, Result, Ok, Err, String, ap, arith, inl, inr, length, refl, subst, sym, ◌∙◌}
 use Rattle.sudo_words.specs.declared.cmnd.Cmnd.{Cmnd}
-use Rattle.sudo_syntax.specs.declared.entry.Entry.{Entry}
+use Rattle.sudo_policy.specs.declared.entry.Entry.{Entry}
 use Rattle.messages.specs.declared.message.Message.{Message}
 use Rattle.roster.specs.Fields.{RosterFields}
 use Rattle.roster.specs.Rules.{is_among}

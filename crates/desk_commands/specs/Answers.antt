@@ -1,8 +1,8 @@
 -- What a job answers.
 use Rattle.std.specs.Prelude.{◌≡◌, ℕ, List, [], ◌∷◌, ◌++◌, Option}
-use Rattle.sudo_syntax.specs.Spelling.{Spells}
-use Rattle.sudo_syntax.specs.Printing.{canon}
-use Rattle.sudo_syntax.specs.declared.entry.Entry.{Entry}
+use Rattle.sudo_policy.specs.Spelling.{Spells}
+use Rattle.sudo_policy.specs.Printing.{canon}
+use Rattle.sudo_policy.specs.declared.entry.Entry.{Entry}
 use Rattle.sudo_decide.specs.Decision.{Decides, decision_text}
 use Rattle.sudo_decide.specs.declared.invocation.Invocation.{Invocation}
 use Rattle.sudo_decide.specs.declared.decision.Decision.{Decision}

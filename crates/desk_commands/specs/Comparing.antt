@@ -2,8 +2,8 @@
 use Rattle.std.specs.Prelude.{◌≡◌, ◌⊎◌, ℕ, List, ◌∷◌, ◌++◌, Option, Some, None, MatchOption, codes}
 use Rattle.std.specs.List.{flat_map}
 use Rattle.sudo_words.specs.Moment.{stamp}
-use Rattle.sudo_syntax.specs.Spelling.{Spells}
-use Rattle.sudo_syntax.specs.declared.entry.Entry.{Entry}
+use Rattle.sudo_policy.specs.Spelling.{Spells}
+use Rattle.sudo_policy.specs.declared.entry.Entry.{Entry}
 use Rattle.sudo_decide.specs.declared.invocation.Invocation.{Invocation}
 use Rattle.review.specs.Answer as review
 use Rattle.review.specs.Beyond.{LiesBeyond, SomethingBeyond}

@@ -2,7 +2,7 @@
 use Rattle.std.specs.Prelude.{◌≡◌, ℕ, List, [], ◌∷◌, ◌++◌, Option, Result, Err, Ok, IfSome, codes, if◌then◌else◌, is_ok}
 use Rattle.std.specs.List.{list_all}
 use Rattle.sudo_words.specs.declared.cmnd.Cmnd.{Cmnd}
-use Rattle.sudo_syntax.specs.declared.entry.Entry.{Entry}
+use Rattle.sudo_policy.specs.declared.entry.Entry.{Entry}
 use Rattle.roster.specs.Fields.{RosterFields}
 use Rattle.desk.specs.Delivery.{AreAnswers}
 use Rattle.desk.specs.Refusals.{refusal_text}

@@ -1,10 +1,10 @@
 -- The desk that files make: a roster, and a base policy.
 use Rattle.std.specs.Prelude.{◌≡◌, ◌≢◌, ◌⊎◌, ℕ, List, IsUtf8}
 use Rattle.sudo_words.specs.declared.cmnd.Cmnd.{Cmnd}
-use Rattle.sudo_syntax.specs.Spelling.{Spells}
-use Rattle.sudo_syntax.specs.declared.entry.Entry.{Entry}
-use Rattle.sudo_syntax.specs.declared.fault.FaultKind.TheVariants as kinds
-use Rattle.sudo_syntax.specs.declared.fault.ReadFault.{ReadFault}
+use Rattle.sudo_policy.specs.Spelling.{Spells}
+use Rattle.sudo_policy.specs.declared.entry.Entry.{Entry}
+use Rattle.sudo_policy.specs.declared.fault.FaultKind.TheVariants as kinds
+use Rattle.sudo_policy.specs.declared.fault.ReadFault.{ReadFault}
 use Rattle.roster.specs.Fields.{RosterFields}
 use Rattle.roster.specs.Faults.{IsLeastFault, IsRosterText}
 use Rattle.roster.specs.declared.fault.RosterFault.{RosterFault}

@@ -1,6 +1,6 @@
 -- How the program's refusals are shown.
 use Rattle.std.specs.Prelude.{ℕ, List, codes}
-use Rattle.sudo_syntax.specs.Faults.{fault_text}
+use Rattle.sudo_policy.specs.Faults.{fault_text}
 use Rattle.roster.specs.Faults as roster
 use Rattle.review.specs.Faults as review
 use Rattle.desk.specs.Refusals.{refusal_text}

@@ -1,8 +1,8 @@
 //! What the answer of `beyond` tells, each law the contract of a function that does nothing.
 
 ghost use Rattle.std.specs.Prelude.{◌≡◌, ◌↔◌, ℕ, List, codes};
-ghost use Rattle.sudo_syntax.specs.Spelling.{Spells};
-ghost use Rattle.sudo_syntax.specs.declared.entry.Entry.{Entry};
+ghost use Rattle.sudo_policy.specs.Spelling.{Spells};
+ghost use Rattle.sudo_policy.specs.declared.entry.Entry.{Entry};
 ghost use Rattle.sudo_decide.specs.declared.invocation.Invocation.{Invocation};
 ghost use Rattle.review.specs.Beyond.{IsInvocation, SomethingBeyond};
 ghost use Rattle.review.specs.declared.scope.Scope.{Scope};

@@ -1,7 +1,7 @@
 //! Finding what one file's policy allows beyond another's.
 
 ghost use Rattle.std.specs.Prelude.{◌≡◌, ◌++◌, ℕ, List, IfErr, IfOk, OnOk, codes, string_bytes};
-ghost use Rattle.sudo_syntax.specs.Spelling.{Spells};
+ghost use Rattle.sudo_policy.specs.Spelling.{Spells};
 ghost use Rattle.desk_commands.specs.Comparing.{ComparesFiles, EndsComparing, IsShown, case_text, spaced};
 
 use crate::answer::Answer;

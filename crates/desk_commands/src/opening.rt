@@ -2,7 +2,7 @@
 
 ghost use Rattle.std.specs.Prelude.{IfErr, IfOk};
 ghost use Rattle.desk_store.specs.Memory.{Holds};
-ghost use Rattle.sudo_syntax.specs.Spelling.{Spells};
+ghost use Rattle.sudo_policy.specs.Spelling.{Spells};
 ghost use Rattle.desk_store.specs.Sets.{IsNothing, SameSet};
 ghost use Rattle.desk_commands.specs.Files.{EndsMaking, IsDeskOf, IsRosterFile, IsRosterFault};
 ghost use Rattle.desk_commands.specs.Keeping.{held_in};

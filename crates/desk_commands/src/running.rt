@@ -4,7 +4,7 @@ ghost use Rattle.std.specs.Prelude.{◌≡◌, ◌≢◌, ◌⊎◌, ℕ, List, 
 ghost use Rattle.std.specs.Io.Buffered.{writer_buffer, writer_contents};
 ghost use Rattle.std.specs.Io.KnownBytes.{Appends, Keeps};
 ghost use Rattle.desk_commands.specs.Answers.{ChecksFile, DecidesByFile, EndsReading, HasAnswer, IsAnswer, IsCause, IsDecided, status_of};
-ghost use Rattle.sudo_syntax.specs.Spelling.{Spells};
+ghost use Rattle.sudo_policy.specs.Spelling.{Spells};
 ghost use Rattle.desk_commands.specs.declared.task.Job.TheVariants as jobs;
 ghost use Rattle.desk_commands.specs.declared.task.Places.{Places as Parts};
 

@@ -6,12 +6,12 @@ use Rattle.std.proofs.lemmas.Bool.{and_parts, leb-true}
 use Rattle.std.proofs.lemmas.List.{length-append, length-map}
 use Rattle.sudo_words.specs.Word.{is_lower, is_name, is_name_byte, is_host_byte, is_host_name}
 use Rattle.sudo_words.specs.Command.{cmnd_text}
-use Rattle.sudo_syntax.specs.declared.entry.Rule.{Rule}
-use Rattle.sudo_syntax.specs.declared.entry.Entry.{Entry}
-use Rattle.sudo_syntax.specs.declared.entry.Entry.TheVariants as entries
-use Rattle.sudo_syntax.specs.Policy.{IsRule, IsEntry, IsPlaced, ArePlaced, KnowsRule, IsPolicy, entry_weight, rule_weight, weight_below}
-use Rattle.sudo_syntax.specs.Printing.{canon, date_text, line_text, tag_text, what_text, who_text}
-use Rattle.sudo_syntax.specs.Reading.{with_rules}
+use Rattle.sudo_policy.specs.declared.entry.Rule.{Rule}
+use Rattle.sudo_policy.specs.declared.entry.Entry.{Entry}
+use Rattle.sudo_policy.specs.declared.entry.Entry.TheVariants as entries
+use Rattle.sudo_policy.specs.Policy.{IsRule, IsEntry, IsPlaced, ArePlaced, KnowsRule, IsPolicy, entry_weight, rule_weight, weight_below}
+use Rattle.sudo_policy.specs.Printing.{canon, date_text, line_text, tag_text, what_text, who_text}
+use Rattle.sudo_policy.specs.Reading.{with_rules}
 use Rattle.grants.specs.Bases.{FitsBase}
 use Rattle.grants.specs.GrantRules.{IsGrantRule, plain_rule}
 

@@ -9,7 +9,7 @@ use Rattle.sudo_words.specs.Command.{IsLawful}
 use Rattle.sudo_words.specs.Moment.{IsMoment}
 use Rattle.sudo_words.specs.Word.{is_host_name}
 use Rattle.sudo_words.specs.declared.cmnd.Cmnd.{Cmnd}
-use Rattle.sudo_syntax.specs.declared.entry.Rule.{Rule}
+use Rattle.sudo_policy.specs.declared.entry.Rule.{Rule}
 use Rattle.messages.specs.Fields.{RequestFields, IsRequest}
 use Rattle.messages.specs.Names.{IsNamed, name_of}
 use Rattle.messages.specs.declared.message.Message.{Message}

@@ -3,7 +3,7 @@
 ghost use Rattle.std.specs.Prelude.{◌↔◌, IsTrue};
 ghost use Rattle.grants.specs.Bases.{FitsBase};
 
-use sudo_syntax::Policy;
+use sudo_policy::Policy;
 
 /// The most entries of a base.
 const MOST_ENTRIES: usize = 4_096;

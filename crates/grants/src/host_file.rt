@@ -2,14 +2,14 @@
 
 ghost use Rattle.std.specs.Prelude.{◌≡◌, ◌<◌, ◌≤◌, Err, MatchResult, length};
 ghost use Rattle.std.specs.List.{AllByRecursion};
-ghost use Rattle.sudo_syntax.specs.Reading.{with_rules};
+ghost use Rattle.sudo_policy.specs.Reading.{with_rules};
 ghost use Rattle.grants.specs.Bases.{FitsBase};
 ghost use Rattle.grants.specs.GrantRules.{IsGrantRule};
 ghost use Rattle.grants.specs.declared.host_fault.HostFault.TheVariants as fault;
 
 use crate::host_fault::HostFault;
 use std::alloc::Global;
-use sudo_syntax::{FaultKind, Policy, Rule, extend};
+use sudo_policy::{FaultKind, Policy, Rule, extend};
 
 /// The most rules of grants behind a base.
 const MOST_RULES: usize = 8_192;

@@ -2,8 +2,8 @@
 
 ghost use Rattle.std.specs.Prelude.{◌≡◌, IfOk, List, map, false};
 ghost use Rattle.std.specs.List.{AllByRecursion};
-ghost use Rattle.sudo_syntax.specs.declared.entry.Item.TheVariants as items;
-ghost use Rattle.sudo_syntax.specs.declared.entry.CmndItem.TheVariants as cmnds;
+ghost use Rattle.sudo_policy.specs.declared.entry.Item.TheVariants as items;
+ghost use Rattle.sudo_policy.specs.declared.entry.CmndItem.TheVariants as cmnds;
 ghost use Rattle.messages.specs.declared.message.Message.{Message as AnyMessage};
 ghost use Rattle.grants.specs.private.Given as given;
 ghost use Rattle.grants.specs.GrantRules.{AreRules, IsGrantRule, grant_rule, one};
@@ -15,7 +15,7 @@ use crate::summary::Summary;
 use messages::Request;
 use roster::Roster;
 use std::alloc::Global;
-use sudo_syntax::{CmndItem, Item, Rule, Signed};
+use sudo_policy::{CmndItem, Item, Rule, Signed};
 use sudo_words::{Cmnd, HostName, Items, Name, NoMemory};
 
 fn one_name(alloc: Global, name: &Name) -> Result<Items<Signed<Item<Name>>>, NoMemory>

@@ -5,7 +5,7 @@ use Rattle.std.specs.Prelude.{◌↔◌, ◌≢◌, IfOk, IfErr, MatchResult, st
 use Rattle.std.specs.declared.alloc.Global.{Global}
 use Rattle.sudo_words.specs.Word.{is_host_name}
 use Rattle.sudo_words.specs.declared.cmnd.Cmnd.{Cmnd}
-use Rattle.sudo_syntax.specs.declared.entry.Entry.{Entry}
+use Rattle.sudo_policy.specs.declared.entry.Entry.{Entry}
 use Rattle.messages.specs.declared.message.Message.{Message}
 use Rattle.roster.specs.Fields.{RosterFields}
 use Rattle.roster.specs.Rules.{is_among}

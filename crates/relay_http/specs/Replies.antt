@@ -3,8 +3,8 @@ use Rattle.std.specs.Prelude.{◌≡◌, ◌≢◌, ◌⊎◌, ◌≤◌, ◌<�
 use Rattle.sudo_words.specs.Word.{is_host_name}
 use Rattle.sudo_words.specs.Moment.{stamp}
 use Rattle.sudo_words.specs.declared.cmnd.Cmnd.{Cmnd}
-use Rattle.sudo_syntax.specs.Printing.{canon}
-use Rattle.sudo_syntax.specs.declared.entry.Entry.{Entry}
+use Rattle.sudo_policy.specs.Printing.{canon}
+use Rattle.sudo_policy.specs.declared.entry.Entry.{Entry}
 use Rattle.messages.specs.Names.{RequestName}
 use Rattle.messages.specs.Wire.{IsMessage, wire}
 use Rattle.messages.specs.declared.message.Message.{Message}

@@ -7,7 +7,7 @@ use crate::status::{Status, allow_line, status_text};
 use itoa::Buffer;
 
 /// The bytes of a page, in which each head has room.
-pub const PAGE: usize = 512;
+pub const PAGE: usize = 4_096;
 
 /// Puts a part behind what is there, and answers where it ends.
 pub fn put(page: &mut [u8], at: usize, part: &[u8]) -> usize
@@ -34,7 +34,7 @@ fn put_decimal(page: &mut [u8], at: usize, n: usize) -> usize
 
 /// Puts the head of a reply, whose body has so many bytes, at the page's beginning, and answers where it ends.
 pub fn put_head(page: &mut [u8], status: Status, size: usize) -> usize
-    requires { length page.old ≡ 512 }
+    requires { length page.old ≡ 4_096 }
     ensures len { length page.new ≡ length page.old }
     ensures within { result ≤ length page.new }
     ensures head { take result page.new ≡ reply_head status size }

@@ -2,15 +2,15 @@
 use Rattle.std.proofs.Common.{ℕ, ◌+◌, ◌^◌, ◌<◌, ◌≤◌, List, [], ◌∷◌, ◌++◌, length, arith, length-append}
 use Rattle.std.specs.Prelude.{codes}
 use Rattle.std.specs.List.{flat_map}
-use Rattle.sudo_syntax.specs.declared.entry.Signed.{Signed}
-use Rattle.sudo_syntax.specs.declared.entry.Item.{Item}
-use Rattle.sudo_syntax.specs.declared.entry.Item.TheVariants as items
-use Rattle.sudo_syntax.specs.declared.entry.CmndItem.{CmndItem}
-use Rattle.sudo_syntax.specs.declared.entry.CmndItem.TheVariants as cmnd_items
-use Rattle.sudo_syntax.specs.declared.entry.Entry.{Entry}
-use Rattle.sudo_syntax.specs.declared.entry.Entry.TheVariants as entries
-use Rattle.sudo_syntax.specs.Policy.{IsPolicy}
-use Rattle.sudo_syntax.specs.Printing.{canon, line_text, alias_text, what_text, names_text, cmnds_text, list_text, tail_text, signed_text, item_text, cmnd_item_text}
+use Rattle.sudo_policy.specs.declared.entry.Signed.{Signed}
+use Rattle.sudo_policy.specs.declared.entry.Item.{Item}
+use Rattle.sudo_policy.specs.declared.entry.Item.TheVariants as items
+use Rattle.sudo_policy.specs.declared.entry.CmndItem.{CmndItem}
+use Rattle.sudo_policy.specs.declared.entry.CmndItem.TheVariants as cmnd_items
+use Rattle.sudo_policy.specs.declared.entry.Entry.{Entry}
+use Rattle.sudo_policy.specs.declared.entry.Entry.TheVariants as entries
+use Rattle.sudo_policy.specs.Policy.{IsPolicy}
+use Rattle.sudo_policy.specs.Printing.{canon, line_text, alias_text, what_text, names_text, cmnds_text, list_text, tail_text, signed_text, item_text, cmnd_item_text}
 use Rattle.review.specs.Standing.{name_in, names_in, cmnd_in, cmnds_in, users_of, hosts_of, runas_of, cmnds_of, users, hosts, runas, commands}
 use Rattle.review.proofs.OneCase.{IsCounted}
 use Rattle.review.proofs.CmndCases.{short_flat}

@@ -1,6 +1,6 @@
 -- A policy does not both allow and refuse.
 use Rattle.std.proofs.Common.{◌≡◌, List, reverse, inl, inr}
-use Rattle.sudo_syntax.specs.declared.entry.Entry.{Entry}
+use Rattle.sudo_policy.specs.declared.entry.Entry.{Entry}
 use Rattle.sudo_decide.specs.declared.decision.Decision.TheVariants.{Deny, Allow, AllowNoPassword}
 use Rattle.sudo_decide.specs.declared.invocation.Invocation.{Invocation}
 use Rattle.sudo_decide.specs.Decision.{Decides}

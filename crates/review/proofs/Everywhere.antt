@@ -4,8 +4,8 @@ use Rattle.std.specs.Str.{bytes_eq}
 use Rattle.sudo_words.specs.Word.{is_name, is_host_name}
 use Rattle.sudo_words.specs.Command.{matches}
 use Rattle.sudo_words.specs.declared.cmnd.Cmnd.{Cmnd}
-use Rattle.sudo_syntax.specs.declared.entry.Entry.{Entry}
-use Rattle.sudo_syntax.specs.Policy.{IsPolicy}
+use Rattle.sudo_policy.specs.declared.entry.Entry.{Entry}
+use Rattle.sudo_policy.specs.Policy.{IsPolicy}
 use Rattle.sudo_decide.specs.declared.decision.Decision.TheVariants.{Deny, Allow, AllowNoPassword}
 use Rattle.sudo_decide.specs.declared.invocation.Invocation.{Invocation}
 use Rattle.sudo_decide.specs.Decision.{takes_part}

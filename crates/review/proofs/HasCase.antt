@@ -3,8 +3,8 @@ use Rattle.std.proofs.Common.{◌≡◌, ℕ, ◌≤◌, true, List, ◌++◌, l
 use Rattle.std.specs.List.{AllByRecursion, Contains}
 use Rattle.sudo_words.specs.Word.{is_name, is_host_name, is_file_path, is_arg}
 use Rattle.sudo_words.specs.Moment.{IsMoment}
-use Rattle.sudo_syntax.specs.declared.entry.Entry.{Entry}
-use Rattle.sudo_syntax.specs.Policy.{IsPolicy}
+use Rattle.sudo_policy.specs.declared.entry.Entry.{Entry}
+use Rattle.sudo_policy.specs.Policy.{IsPolicy}
 use Rattle.sudo_decide.specs.Reach.{rules_in}
 use Rattle.review.specs.declared.cases.Cases.{Cases}
 use Rattle.review.specs.declared.scope.Scope.{Scope}

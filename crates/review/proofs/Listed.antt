@@ -16,7 +16,7 @@ use Rattle.sudo_words.specs.declared.cmnd.Cmnd.{Cmnd}
 use Rattle.sudo_words.specs.declared.cmnd.Cmnd.TheVariants.{All, Path, Dir}
 use Rattle.sudo_words.specs.declared.cmnd.ArgRule.{ArgRule}
 use Rattle.sudo_words.specs.declared.cmnd.ArgRule.TheVariants.{Any, Empty, Exactly}
-use Rattle.sudo_syntax.specs.declared.entry.Rule.{Rule}
+use Rattle.sudo_policy.specs.declared.entry.Rule.{Rule}
 use Rattle.review.specs.declared.run.Run.{Run}
 use Rattle.review.specs.Beyond.{Agrees}
 use Rattle.review.specs.Cases.{text_order, other, IsFirstOther, has, AreNameCases, run_of, paths, dirs, args_with, args_in, listed_args, has_args, IsEachOnce, ArePathCases, IsFreshFile, AreParts, AreCommandCases, AreMomentCases, turns}

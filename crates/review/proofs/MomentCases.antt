@@ -4,7 +4,7 @@ use Rattle.std.specs.List.{AllByRecursion, list_any}
 use Rattle.std.specs.Option.{option_to_list}
 use Rattle.std.proofs.lemmas.Bool.{cases_Bool, cases_lt, or_left, or_right, leb-true, leb-false, le-leb, lt-leb, eq-eqb}
 use Rattle.sudo_words.specs.Moment.{IsMoment}
-use Rattle.sudo_syntax.specs.declared.entry.Rule.{Rule}
+use Rattle.sudo_policy.specs.declared.entry.Rule.{Rule}
 use Rattle.sudo_decide.specs.Decision.{is_not_before, is_not_after, takes_part}
 use Rattle.review.specs.Alike.{AlikeMoments}
 use Rattle.review.specs.Cases.{behind, turns_of, turns}

@@ -1,7 +1,7 @@
 -- What a grant is, over hosts in turn.
 use Rattle.std.proofs.Common.{◌≡◌, ℕ, ◌<◌, ◌≤◌, List, [], ◌∷◌, ◌++◌, ◌+◌, length, get_or, take, refl, sym, subst, inl, inr, arith}
 use Rattle.std.specs.List.{Contains}
-use Rattle.sudo_syntax.specs.declared.entry.Entry.{Entry}
+use Rattle.sudo_policy.specs.declared.entry.Entry.{Entry}
 use Rattle.messages.specs.Fields.{RequestFields}
 use Rattle.grants.specs.declared.outcome.Window.{Window}
 use Rattle.review.specs.declared.cases.Cases.{Cases}

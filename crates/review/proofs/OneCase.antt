@@ -3,8 +3,8 @@ use Rattle.std.proofs.Common.{◌≡◌, ℕ, ◌^◌, ◌<◌, true, eqb, ◌�
 use Rattle.std.specs.List.{list_any}
 use Rattle.sudo_words.specs.Moment.{IsMoment}
 use Rattle.sudo_words.specs.declared.cmnd.Cmnd.{Cmnd}
-use Rattle.sudo_syntax.specs.declared.entry.Rule.{Rule}
-use Rattle.sudo_syntax.specs.declared.entry.Entry.{Entry}
+use Rattle.sudo_policy.specs.declared.entry.Rule.{Rule}
+use Rattle.sudo_policy.specs.declared.entry.Entry.{Entry}
 use Rattle.sudo_decide.specs.declared.invocation.Invocation.{Invocation}
 use Rattle.sudo_decide.specs.Reach.{rules_in}
 use Rattle.review.specs.declared.scope.Scope.{Scope}

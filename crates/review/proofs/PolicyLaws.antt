@@ -3,7 +3,7 @@ use Rattle.std.proofs.Common.{◌≡◌, ℕ, ◌*◌, List, [], ◌∷◌, leng
 use Rattle.std.specs.List.{flat_map}
 use Rattle.std.proofs.Math.Nat.{mul_assoc, suc-mul}
 use Rattle.std.proofs.lemmas.List.{length-map}
-use Rattle.sudo_syntax.specs.declared.entry.Entry.{Entry}
+use Rattle.sudo_policy.specs.declared.entry.Entry.{Entry}
 use Rattle.sudo_decide.specs.declared.decision.Decision.{Decision}
 use Rattle.sudo_decide.specs.declared.decision.Decision.TheVariants.{Deny, Allow, AllowNoPassword}
 use Rattle.sudo_decide.specs.declared.invocation.Invocation.{Invocation}

@@ -1,7 +1,7 @@
 -- What is answered of two policies: the first case that lies beyond, or none; or that the cases are too many.
 use Rattle.std.specs.Prelude.{◌≡◌, ℕ, ◌<◌, ◌≤◌, List, ◌∷◌, ◌++◌, Option, Some, None}
 use Rattle.std.specs.List.{AllByRecursion}
-use Rattle.sudo_syntax.specs.declared.entry.Entry.{Entry}
+use Rattle.sudo_policy.specs.declared.entry.Entry.{Entry}
 use Rattle.sudo_decide.specs.declared.invocation.Invocation.{Invocation}
 use Rattle.review.specs.declared.scope.Scope.{Scope}
 use Rattle.review.specs.declared.cases.Cases.{Cases}

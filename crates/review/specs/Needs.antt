@@ -1,7 +1,7 @@
 -- What a grant gives beyond the base, on the hosts that it names (least privilege, NIST SP 800-53 AC-6(7)).
 use Rattle.std.specs.Prelude.{ℕ, ◌≤◌, List, Contains, Some, map, codes}
-use Rattle.sudo_syntax.specs.declared.entry.Entry.{Entry}
-use Rattle.sudo_syntax.specs.declared.entry.Entry.TheVariants as entries
+use Rattle.sudo_policy.specs.declared.entry.Entry.{Entry}
+use Rattle.sudo_policy.specs.declared.entry.Entry.TheVariants as entries
 use Rattle.messages.specs.Fields.{RequestFields}
 use Rattle.grants.specs.GrantRules.{grant_rule}
 use Rattle.grants.specs.declared.outcome.Window.{Window}

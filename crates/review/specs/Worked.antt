@@ -1,12 +1,12 @@
 -- Worked cases: two policies and an invocation.
 use Rattle.std.specs.Prelude.{ℕ, true, false, List, [], ◌∷◌, None, codes}
 use Rattle.sudo_words.specs.declared.cmnd.Cmnd.TheVariants as commands
-use Rattle.sudo_syntax.specs.declared.entry.Signed.{Signed}
-use Rattle.sudo_syntax.specs.declared.entry.Item.{Item}
-use Rattle.sudo_syntax.specs.declared.entry.Item.TheVariants as items
-use Rattle.sudo_syntax.specs.declared.entry.CmndItem.TheVariants as cmnds
-use Rattle.sudo_syntax.specs.declared.entry.Entry.{Entry}
-use Rattle.sudo_syntax.specs.declared.entry.Entry.TheVariants as entries
+use Rattle.sudo_policy.specs.declared.entry.Signed.{Signed}
+use Rattle.sudo_policy.specs.declared.entry.Item.{Item}
+use Rattle.sudo_policy.specs.declared.entry.Item.TheVariants as items
+use Rattle.sudo_policy.specs.declared.entry.CmndItem.TheVariants as cmnds
+use Rattle.sudo_policy.specs.declared.entry.Entry.{Entry}
+use Rattle.sudo_policy.specs.declared.entry.Entry.TheVariants as entries
 use Rattle.sudo_decide.specs.declared.invocation.Invocation.{Invocation}
 use Rattle.review.specs.declared.scope.Scope.{Scope}
 

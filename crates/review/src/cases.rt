@@ -2,7 +2,7 @@
 
 ghost use Rattle.std.specs.Prelude.{◌≡◌, ◌++◌, ◌*◌, ◌-◌, ◌^◌, min, true, IfOk, IfSome, OnOk};
 ghost use Rattle.sudo_words.specs.Word.{is_name, is_host_name};
-ghost use Rattle.sudo_syntax.specs.Policy.{IsPolicy};
+ghost use Rattle.sudo_policy.specs.Policy.{IsPolicy};
 ghost use Rattle.review.specs.Beyond.{IsScope};
 ghost use Rattle.review.specs.Standing as standing;
 ghost use Rattle.review.specs.Cases as specs;
@@ -15,7 +15,7 @@ use crate::runs::run_cases;
 use crate::scope::Scope;
 use crate::standing::{push_hosts, push_targets, push_users};
 use std::alloc::Global;
-use sudo_syntax::Policy;
+use sudo_policy::Policy;
 use sudo_words::{HostName, Items, Moment, Name, NoMemory};
 
 /// A list of each part of an invocation; the cases are all combinations.

@@ -1,12 +1,12 @@
 //! The commands that stand in a policy.
 
 ghost use Rattle.std.specs.Prelude.{◌≡◌, ◌++◌, IfOk, OnOk};
-ghost use Rattle.sudo_syntax.specs.Policy.{IsPolicy};
+ghost use Rattle.sudo_policy.specs.Policy.{IsPolicy};
 ghost use Rattle.review.specs.Standing.{cmnd_in, cmnds_in, cmnds_of, commands};
 ghost use Rattle.review.specs.Cases as cases;
 
 use std::alloc::Global;
-use sudo_syntax::{CmndItem, Entry, Policy, Signed};
+use sudo_policy::{CmndItem, Entry, Policy, Signed};
 use sudo_words::{Cmnd, DirPath, FilePath, NoMemory};
 
 fn copied_cmnd(cmnd: &Cmnd) -> Result<Cmnd, NoMemory>

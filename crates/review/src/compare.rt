@@ -11,7 +11,7 @@ use crate::scope::Scope;
 use crate::search::first_gap;
 use std::alloc::Global;
 use sudo_decide::Invocation;
-use sudo_syntax::Policy;
+use sudo_policy::Policy;
 
 /// The most cases that are tried.
 const MOST_CASES: usize = 1_000_000;

@@ -7,7 +7,7 @@ ghost use Rattle.sudo_decide.specs.Decision.{Decides};
 ghost use Rattle.review.specs.Beyond.{Allows, IsGap};
 
 use sudo_decide::{Decision, Invocation, decide};
-use sudo_syntax::Policy;
+use sudo_policy::Policy;
 
 /// Whether the policy allows the invocation, with a password or without.
 fn allows(p: &Policy, i: &Invocation) -> bool

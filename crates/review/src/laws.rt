@@ -4,12 +4,12 @@ ghost use Rattle.std.specs.Prelude.{◌≡◌, ℕ, ◌≤◌, ◌++◌, true, L
 ghost use Rattle.std.specs.List.{AllByRecursion, Contains, flat_map};
 ghost use Rattle.sudo_words.specs.Moment.{IsMoment};
 ghost use Rattle.sudo_words.specs.Word.{is_name, is_host_name, is_file_path, is_arg};
-ghost use Rattle.sudo_syntax.specs.declared.entry.Entry.{Entry};
-ghost use Rattle.sudo_syntax.specs.declared.entry.Signed.{Signed};
-ghost use Rattle.sudo_syntax.specs.declared.entry.Item.{Item};
-ghost use Rattle.sudo_syntax.specs.declared.entry.CmndItem.{CmndItem};
-ghost use Rattle.sudo_syntax.specs.declared.tree.Definition.{Definition};
-ghost use Rattle.sudo_syntax.specs.Policy.{IsPolicy};
+ghost use Rattle.sudo_policy.specs.declared.entry.Entry.{Entry};
+ghost use Rattle.sudo_policy.specs.declared.entry.Signed.{Signed};
+ghost use Rattle.sudo_policy.specs.declared.entry.Item.{Item};
+ghost use Rattle.sudo_policy.specs.declared.entry.CmndItem.{CmndItem};
+ghost use Rattle.sudo_policy.specs.declared.tree.Definition.{Definition};
+ghost use Rattle.sudo_policy.specs.Policy.{IsPolicy};
 ghost use Rattle.sudo_decide.specs.declared.decision.Decision.{Decision};
 ghost use Rattle.sudo_decide.specs.declared.decision.Decision.TheVariants.{Deny};
 ghost use Rattle.sudo_decide.specs.declared.invocation.Invocation.{Invocation};

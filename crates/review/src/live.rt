@@ -16,7 +16,7 @@ use messages::Request;
 use roster::Roster;
 use std::alloc::Global;
 use std::fmt::Write as _;
-use sudo_syntax::Policy;
+use sudo_policy::Policy;
 use sudo_words::{Moment, NoMemory};
 
 /// The window of what is granted, where it holds the moment.

@@ -6,7 +6,7 @@ ghost use Rattle.review.specs.Cases.{AreMomentCases, behind, turns_of, turns};
 
 use crate::order::in_order;
 use std::alloc::Global;
-use sudo_syntax::{Entry, Policy, Rule};
+use sudo_policy::{Entry, Policy, Rule};
 use sudo_words::{Items, Moment, NoMemory};
 
 fn push_behind(moments: &mut Vec<Moment>, last: Option<Moment>) -> Result<(), NoMemory>

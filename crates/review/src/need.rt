@@ -12,7 +12,8 @@ use crate::scope::Scope;
 use grants::{Window, grant_rules, host_policy};
 use messages::Request;
 use std::alloc::Global;
-use sudo_syntax::{Policy, read_policy};
+use sudo_policy::Policy;
+use sudo_syntax::read_policy;
 use sudo_words::{HostName, NoMemory};
 
 /// What a grant is beside a base.

@@ -3,7 +3,7 @@
 ghost use Rattle.std.specs.Prelude.{◌≡◌, ◌↔◌, ℕ, ◌++◌, List, [], ◌∷◌, Contains, Some, None, codes, map, true, false};
 ghost use Rattle.std.specs.List.{flat_map};
 ghost use Rattle.sudo_words.specs.declared.cmnd.Cmnd.{Cmnd};
-ghost use Rattle.sudo_syntax.specs.declared.entry.Entry.{Entry};
+ghost use Rattle.sudo_policy.specs.declared.entry.Entry.{Entry};
 ghost use Rattle.sudo_decide.specs.declared.invocation.Invocation.{Invocation};
 ghost use Rattle.messages.specs.Fields.{RequestFields, VerdictFields};
 ghost use Rattle.messages.specs.Names.{IsAbout, RequestName, SameMessages};

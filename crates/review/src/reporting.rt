@@ -15,7 +15,7 @@ use grants::Summary;
 use roster::Roster;
 use std::alloc::Global;
 use std::fmt::Write as _;
-use sudo_syntax::Policy;
+use sudo_policy::Policy;
 use sudo_words::{Moment, NoMemory};
 
 /// Adds the first line and the first heading.

@@ -9,7 +9,7 @@ use crate::cases::Cases;
 use crate::decided::is_gap;
 use crate::run::{Args, Run};
 use sudo_decide::Invocation;
-use sudo_syntax::Policy;
+use sudo_policy::Policy;
 use sudo_words::{FilePath, HostName, Items, Moment, Name, NoMemory};
 
 fn copied_name(name: &Name) -> Result<Name, NoMemory>

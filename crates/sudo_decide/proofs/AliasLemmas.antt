@@ -8,10 +8,10 @@ use Rattle.std.proofs.lemmas.List.{append-nil, reverse-append, reverse-reverse, 
 use Rattle.std.proofs.lemmas.List.Folds.{list_any-append}
 use Rattle.std.proofs.lemmas.Slice.Eq.{bytes_eq-Decides}
 use Rattle.std.proofs.Math.Seq.{take-append-add}
-use Rattle.sudo_syntax.specs.declared.entry.Signed.{Signed}
-use Rattle.sudo_syntax.specs.declared.entry.Entry.{Entry}
-use Rattle.sudo_syntax.specs.declared.tree.Definition.{Definition}
-use Rattle.sudo_syntax.specs.Alias.{by_definition, is_defined, DefinedAt}
+use Rattle.sudo_policy.specs.declared.entry.Signed.{Signed}
+use Rattle.sudo_policy.specs.declared.entry.Entry.{Entry}
+use Rattle.sudo_policy.specs.declared.tree.Definition.{Definition}
+use Rattle.sudo_policy.specs.Alias.{by_definition, is_defined, DefinedAt}
 use Rattle.sudo_decide.specs.Decision.{list_answer}
 use Rattle.sudo_decide.specs.Kinds.{aliases_say, list_says_by, AreNew}
 

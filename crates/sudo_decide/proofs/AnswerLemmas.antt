@@ -2,7 +2,7 @@
 use Rattle.std.proofs.Common.{◌≡◌, ℕ, ◌+◌, ◌<◌, Bool, true, false, not, Option, Some, None, List, [], ◌∷◌, ◌++◌, length, take, get_or, map, refl, sym, ap, ◌∙◌}
 use Rattle.std.proofs.lemmas.List.{map_push, take_more}
 use Rattle.std.specs.Option.{option_map, option_or}
-use Rattle.sudo_syntax.specs.declared.entry.Signed.{Signed}
+use Rattle.sudo_policy.specs.declared.entry.Signed.{Signed}
 use Rattle.sudo_decide.specs.Decision.{last_given, signed_answer, list_answer}
 
 pub option_or-None : {X : Type 0} (o : Option X) → option_or o None ≡ o

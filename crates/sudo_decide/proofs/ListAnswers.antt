@@ -2,14 +2,14 @@
 use Rattle.std.proofs.Common.{◌≡◌, ℕ, Bool, true, List, [], ◌∷◌, Option, None, refl, ap, ◌∙◌}
 use Rattle.std.specs.Prelude.{IfSome}
 use Rattle.std.specs.Option.{option_or}
-use Rattle.sudo_syntax.specs.declared.entry.Item.{Item}
-use Rattle.sudo_syntax.specs.declared.entry.Item.TheVariants as items
-use Rattle.sudo_syntax.specs.declared.entry.CmndItem.TheVariants as cmnds
-use Rattle.sudo_syntax.specs.declared.entry.Entry.{Entry}
-use Rattle.sudo_syntax.specs.declared.tree.Definition.{Definition}
-use Rattle.sudo_syntax.specs.Alias.{is_defined, item_alias, cmnd_alias, user_def, runas_def, host_def, cmnd_def}
-use Rattle.sudo_syntax.specs.Policy.{IsPolicy}
-use Rattle.sudo_syntax.proofs.AliasPlaces.{DependsOnAliases, Step, by_all, user_step, runas_step, host_step, cmnd_step}
+use Rattle.sudo_policy.specs.declared.entry.Item.{Item}
+use Rattle.sudo_policy.specs.declared.entry.Item.TheVariants as items
+use Rattle.sudo_policy.specs.declared.entry.CmndItem.TheVariants as cmnds
+use Rattle.sudo_policy.specs.declared.entry.Entry.{Entry}
+use Rattle.sudo_policy.specs.declared.tree.Definition.{Definition}
+use Rattle.sudo_policy.specs.Alias.{is_defined, item_alias, cmnd_alias, user_def, runas_def, host_def, cmnd_def}
+use Rattle.sudo_policy.specs.Policy.{IsPolicy}
+use Rattle.sudo_policy.proofs.AliasPlaces.{DependsOnAliases, Step, by_all, user_step, runas_step, host_step, cmnd_step}
 use Rattle.sudo_decide.specs.Decision.{signed_answer, list_answer, item_answer, cmnd_answer}
 use Rattle.sudo_decide.specs.Answered.{EachAnswersItsList, EachCmndAnswersItsList}
 

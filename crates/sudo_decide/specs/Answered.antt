@@ -1,12 +1,12 @@
 -- What an alias of a policy answers, by all of the policy's definitions of its kind (sudoers(5), "Aliases").
 use Rattle.std.specs.Prelude.{◌≡◌, ℕ, List, reverse}
 use Rattle.std.specs.List.{flat_map}
-use Rattle.sudo_syntax.specs.declared.entry.Signed.{Signed}
-use Rattle.sudo_syntax.specs.declared.entry.Item.{Item}
-use Rattle.sudo_syntax.specs.declared.entry.CmndItem.{CmndItem}
-use Rattle.sudo_syntax.specs.declared.entry.Entry.{Entry}
-use Rattle.sudo_syntax.specs.declared.tree.Definition.{Definition}
-use Rattle.sudo_syntax.specs.Alias.{DefinedAt, cmnd_def, cmnd_defs}
+use Rattle.sudo_policy.specs.declared.entry.Signed.{Signed}
+use Rattle.sudo_policy.specs.declared.entry.Item.{Item}
+use Rattle.sudo_policy.specs.declared.entry.CmndItem.{CmndItem}
+use Rattle.sudo_policy.specs.declared.entry.Entry.{Entry}
+use Rattle.sudo_policy.specs.declared.tree.Definition.{Definition}
+use Rattle.sudo_policy.specs.Alias.{DefinedAt, cmnd_def, cmnd_defs}
 use Rattle.sudo_decide.specs.Decision.{list_answer, cmnd_answer, name_alias_says, cmnd_alias_says, names_say}
 
 -- `NAME = LIST`, wherever it stands among the entries: whoever is asked for, the alias answers what its list answers, both by all

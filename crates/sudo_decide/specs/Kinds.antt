@@ -1,12 +1,12 @@
 -- The kinds of aliases: what is common to their definitions and answers.
 use Rattle.std.specs.Prelude.{◌≡◌, ℕ, Bool, false, List, [], ◌∷◌, Option, None}
 use Rattle.std.specs.List.{AllByRecursion, flat_map}
-use Rattle.sudo_syntax.specs.declared.entry.Signed.{Signed}
-use Rattle.sudo_syntax.specs.declared.entry.Entry.{Entry}
-use Rattle.sudo_syntax.specs.declared.entry.Entry.TheVariants as entries
-use Rattle.sudo_syntax.specs.declared.tree.Definition.{Definition}
-use Rattle.sudo_syntax.specs.Alias.{by_definition, is_defined, user_def, runas_def, host_def, cmnd_def}
-use Rattle.sudo_syntax.specs.Policy.{IsPolicy, ArePlaced}
+use Rattle.sudo_policy.specs.declared.entry.Signed.{Signed}
+use Rattle.sudo_policy.specs.declared.entry.Entry.{Entry}
+use Rattle.sudo_policy.specs.declared.entry.Entry.TheVariants as entries
+use Rattle.sudo_policy.specs.declared.tree.Definition.{Definition}
+use Rattle.sudo_policy.specs.Alias.{by_definition, is_defined, user_def, runas_def, host_def, cmnd_def}
+use Rattle.sudo_policy.specs.Policy.{IsPolicy, ArePlaced}
 use Rattle.sudo_decide.specs.declared.kind.Meaning.{Meaning}
 use Rattle.sudo_decide.specs.declared.kind.Meaning.TheVariants.{Answer, Alias}
 use Rattle.sudo_decide.specs.Decision.{list_answer}

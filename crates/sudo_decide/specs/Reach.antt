@@ -1,10 +1,10 @@
 -- What a decision depends on: of each rule what its lists and its command answer, and no more.
 use Rattle.std.specs.Prelude.{◌≡◌, List, [], ◌∷◌, reverse}
 use Rattle.std.specs.List.{flat_map}
-use Rattle.sudo_syntax.specs.declared.entry.Rule.{Rule}
-use Rattle.sudo_syntax.specs.declared.entry.Entry.{Entry}
-use Rattle.sudo_syntax.specs.declared.entry.Entry.TheVariants as entries
-use Rattle.sudo_syntax.specs.Alias.{user_defs, host_defs, runas_defs}
+use Rattle.sudo_policy.specs.declared.entry.Rule.{Rule}
+use Rattle.sudo_policy.specs.declared.entry.Entry.{Entry}
+use Rattle.sudo_policy.specs.declared.entry.Entry.TheVariants as entries
+use Rattle.sudo_policy.specs.Alias.{user_defs, host_defs, runas_defs}
 use Rattle.sudo_decide.specs.declared.invocation.Invocation.{Invocation}
 use Rattle.sudo_decide.specs.Decision.{names_say, cmnd_says, takes_part}
 

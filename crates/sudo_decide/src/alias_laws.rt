@@ -1,12 +1,12 @@
 //! Laws of aliases, each the contract of a function that does nothing.
 
 ghost use Rattle.std.specs.Prelude.{◌≡◌, ℕ, Bool, true, false, List, [], ◌∷◌, ◌++◌, reverse, codes};
-ghost use Rattle.sudo_syntax.specs.Alias.{is_defined, user_defs};
-ghost use Rattle.sudo_syntax.specs.declared.entry.CmndItem.{CmndItem};
-ghost use Rattle.sudo_syntax.specs.declared.entry.CmndItem.TheVariants as cmnds;
-ghost use Rattle.sudo_syntax.specs.declared.entry.Item.{Item};
-ghost use Rattle.sudo_syntax.specs.declared.entry.Item.TheVariants as items;
-ghost use Rattle.sudo_syntax.specs.declared.tree.Definition.{Definition};
+ghost use Rattle.sudo_policy.specs.Alias.{is_defined, user_defs};
+ghost use Rattle.sudo_policy.specs.declared.entry.CmndItem.{CmndItem};
+ghost use Rattle.sudo_policy.specs.declared.entry.CmndItem.TheVariants as cmnds;
+ghost use Rattle.sudo_policy.specs.declared.entry.Item.{Item};
+ghost use Rattle.sudo_policy.specs.declared.entry.Item.TheVariants as items;
+ghost use Rattle.sudo_policy.specs.declared.tree.Definition.{Definition};
 ghost use Rattle.sudo_decide.specs.Decision.{signed_answer, list_answer, item_answer, cmnd_answer, name_alias_says, cmnd_alias_says, names_say};
 ghost use Rattle.sudo_decide.specs.Worked.{alias_only, others_alias, nested_aliases, not_ls_alias};
 

@@ -2,13 +2,14 @@
 
 ghost use Rattle.std.specs.Prelude.{◌≡◌, reverse, take};
 ghost use Rattle.std.specs.List.{flat_map};
-ghost use Rattle.sudo_syntax.specs.Policy.{IsPolicy};
+ghost use Rattle.sudo_policy.specs.Policy.{IsPolicy};
 ghost use Rattle.sudo_decide.specs.Decision as answers;
 ghost use Rattle.sudo_decide.specs.Kinds.{aliases_say, item_says_by, list_says_by};
 
 use crate::invocation::Invocation;
 use crate::kind::{Kind, Meaning};
-use sudo_syntax::{AliasName, Policy, Signed};
+use sudo_policy::{Policy, Signed};
+use sudo_words::AliasName;
 
 /// Only a yes is one: neither a no nor silence.
 pub(crate) fn is_yes(answer: Option<bool>) -> bool

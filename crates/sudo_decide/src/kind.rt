@@ -2,17 +2,17 @@
 
 ghost use Rattle.std.specs.Prelude.{◌≡◌, Bool, List, [], ℕ, Option, MatchOption, false};
 ghost use Rattle.std.specs.List.{flat_map};
-ghost use Rattle.sudo_syntax.specs.Alias.{DefinedAt, is_defined, user_def, runas_def, host_def, cmnd_def};
-ghost use Rattle.sudo_syntax.specs.Policy.{IsPolicy};
-ghost use Rattle.sudo_syntax.specs.declared.entry.Entry.{Entry};
-ghost use Rattle.sudo_syntax.specs.declared.tree.Definition.{Definition};
+ghost use Rattle.sudo_policy.specs.Alias.{DefinedAt, is_defined, user_def, runas_def, host_def, cmnd_def};
+ghost use Rattle.sudo_policy.specs.Policy.{IsPolicy};
+ghost use Rattle.sudo_policy.specs.declared.entry.Entry.{Entry};
+ghost use Rattle.sudo_policy.specs.declared.tree.Definition.{Definition};
 ghost use Rattle.sudo_decide.specs.declared.invocation.Invocation.{Invocation as Asked};
 ghost use Rattle.sudo_decide.specs.Decision.{item_answer, cmnd_answer};
 ghost use Rattle.sudo_decide.specs.Kinds.{meant, AreNew, user_aliases_new, runas_aliases_new, host_aliases_new, cmnd_aliases_new};
 
 use crate::invocation::Invocation;
-use sudo_syntax::{AliasName, CmndItem, Item, Policy, Signed};
-use sudo_words::{Form, HostName, Name, Word};
+use sudo_policy::{CmndItem, Item, Policy, Signed};
+use sudo_words::{AliasName, Form, HostName, Name, Word};
 
 /// What an item of a list means.
 pub(crate) enum Meaning<'a> {

@@ -1,9 +1,9 @@
 //! Laws of decisions, each the contract of a function that does nothing.
 
 ghost use Rattle.std.specs.Prelude.{◌≡◌, ℕ, ◌<◌, Bool, true, false, Option, List, [], ◌∷◌, ◌++◌, reverse, codes};
-ghost use Rattle.sudo_syntax.specs.declared.entry.Rule.{Rule};
-ghost use Rattle.sudo_syntax.specs.declared.entry.Entry.{Entry};
-ghost use Rattle.sudo_syntax.specs.declared.entry.Entry.TheVariants as entries;
+ghost use Rattle.sudo_policy.specs.declared.entry.Rule.{Rule};
+ghost use Rattle.sudo_policy.specs.declared.entry.Entry.{Entry};
+ghost use Rattle.sudo_policy.specs.declared.entry.Entry.TheVariants as entries;
 ghost use Rattle.sudo_decide.specs.declared.decision.Decision.{Decision};
 ghost use Rattle.sudo_decide.specs.declared.invocation.Invocation.{Invocation};
 ghost use Rattle.sudo_decide.specs.Decision.{signed_answer, names_say, takes_part, says, outcome, Decides};

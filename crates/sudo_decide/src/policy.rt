@@ -1,13 +1,13 @@
 //! What a policy decides.
 
 ghost use Rattle.std.specs.Prelude.{List, [], ◌∷◌, ◌++◌, reverse};
-ghost use Rattle.sudo_syntax.specs.declared.entry.Entry.{Entry as PolicyEntry};
+ghost use Rattle.sudo_policy.specs.declared.entry.Entry.{Entry as PolicyEntry};
 ghost use Rattle.sudo_decide.specs.Decision.{Decides, DecidesBy};
 
 use crate::decision::Decision;
 use crate::invocation::Invocation;
 use crate::rule::{outcome, says};
-use sudo_syntax::{Entry, Policy};
+use sudo_policy::{Entry, Policy};
 
 /// The decision of some entries and then this one, from the decision of those before it, where the policy defines the
 /// aliases.

@@ -1,9 +1,9 @@
 //! Laws of a policy's rules and aliases, each the contract of a function that does nothing.
 
 ghost use Rattle.std.specs.Prelude.{◌≡◌, List, reverse};
-ghost use Rattle.sudo_syntax.specs.declared.entry.Entry.{Entry};
-ghost use Rattle.sudo_syntax.specs.Alias.{user_def, runas_def, host_def};
-ghost use Rattle.sudo_syntax.specs.Policy.{IsPolicy};
+ghost use Rattle.sudo_policy.specs.declared.entry.Entry.{Entry};
+ghost use Rattle.sudo_policy.specs.Alias.{user_def, runas_def, host_def};
+ghost use Rattle.sudo_policy.specs.Policy.{IsPolicy};
 ghost use Rattle.sudo_decide.specs.declared.decision.Decision.{Decision};
 ghost use Rattle.sudo_decide.specs.declared.invocation.Invocation.{Invocation};
 ghost use Rattle.sudo_decide.specs.Answered.{EachAnswersItsList, EachCmndAnswersItsList};

@@ -7,7 +7,7 @@ use crate::answer::{is_yes, item_says, list_says, signed_answer};
 use crate::decision::Decision;
 use crate::invocation::Invocation;
 use crate::kind::{Cmnds, Hosts, Targets, Users};
-use sudo_syntax::{Policy, Rule};
+use sudo_policy::{Policy, Rule};
 use sudo_words::Moment;
 
 /// Whether the moment is within the rule's dates, both of them included.

@@ -4,7 +4,7 @@ use Rattle.std.specs.List.{AllByRecursion}
 use Rattle.std.proofs.lemmas.List.{append-nil, length-append}
 use Rattle.sudo_words.specs.Word.{is_arg}
 use Rattle.sudo_words.specs.Command.{arg_text}
-use Rattle.sudo_syntax.specs.Lex.{Tok, word}
+use Rattle.sudo_policy.specs.Lex.{Tok, word}
 use Rattle.sudo_syntax.specs.private.Fronts.{NoArg, arg_toks}
 use Rattle.sudo_syntax.proofs.Leads.{Leads}
 

@@ -9,11 +9,11 @@ use Rattle.sudo_words.specs.declared.cmnd.Cmnd.{Cmnd}
 use Rattle.sudo_words.specs.declared.cmnd.Cmnd.TheVariants as commands
 use Rattle.sudo_words.specs.declared.cmnd.ArgRule.{ArgRule}
 use Rattle.sudo_words.specs.declared.cmnd.ArgRule.TheVariants as rules
-use Rattle.sudo_syntax.specs.declared.entry.CmndItem.{CmndItem}
-use Rattle.sudo_syntax.specs.declared.entry.CmndItem.TheVariants as cmnds
-use Rattle.sudo_syntax.specs.Lex.{Tok, word, mark}
-use Rattle.sudo_syntax.specs.Policy.{IsCmndItem}
-use Rattle.sudo_syntax.specs.Grammar.{rule_toks, head_of, args_of, tag_word}
+use Rattle.sudo_policy.specs.declared.entry.CmndItem.{CmndItem}
+use Rattle.sudo_policy.specs.declared.entry.CmndItem.TheVariants as cmnds
+use Rattle.sudo_policy.specs.Lex.{Tok, word, mark}
+use Rattle.sudo_policy.specs.Policy.{IsCmndItem}
+use Rattle.sudo_policy.specs.Grammar.{rule_toks, head_of, args_of, tag_word}
 use Rattle.sudo_syntax.specs.private.Fronts.{EndsBy, NoArg, NoMark, arg_toks, rule_from, begins_upper}
 use Rattle.sudo_syntax.proofs.ArgLemmas.{AreArgs}
 use Rattle.sudo_syntax.proofs.NameLemmas.{all_reserved}

@@ -2,8 +2,8 @@
 use Rattle.std.proofs.Common.{◌≡◌, ℕ, Bool, true, false, List, [], ◌∷◌, Option, Some, refl, sym, ap, subst, ◌∙◌, inl, inr}
 use Rattle.std.specs.Prelude.{codes}
 use Rattle.sudo_words.specs.Moment as moments
-use Rattle.sudo_syntax.specs.Lex.{Tok, word, mark}
-use Rattle.sudo_syntax.specs.Grammar.{Date, GivesBound, Bounds, SpellsDates, begins_spaced}
+use Rattle.sudo_policy.specs.Lex.{Tok, word, mark}
+use Rattle.sudo_policy.specs.Grammar.{Date, GivesBound, Bounds, SpellsDates, begins_spaced}
 use Rattle.sudo_syntax.specs.private.Fronts.{AddsBound, Dated, NoDate}
 use Rattle.sudo_syntax.proofs.Leads.{Leads}
 

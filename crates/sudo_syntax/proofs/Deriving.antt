@@ -11,23 +11,23 @@ use Rattle.sudo_words.specs.declared.cmnd.Cmnd.{Cmnd}
 use Rattle.sudo_words.specs.declared.cmnd.Cmnd.TheVariants as commands
 use Rattle.sudo_words.specs.declared.cmnd.ArgRule.{ArgRule}
 use Rattle.sudo_words.specs.declared.cmnd.ArgRule.TheVariants as rules
-use Rattle.sudo_syntax.specs.declared.entry.Signed.{Signed}
-use Rattle.sudo_syntax.specs.declared.entry.Item.{Item}
-use Rattle.sudo_syntax.specs.declared.entry.Item.TheVariants as items
-use Rattle.sudo_syntax.specs.declared.entry.CmndItem.{CmndItem}
-use Rattle.sudo_syntax.specs.declared.entry.CmndItem.TheVariants as cmnds
-use Rattle.sudo_syntax.specs.declared.entry.Entry.{Entry}
-use Rattle.sudo_syntax.specs.declared.entry.Entry.TheVariants as entries
-use Rattle.sudo_syntax.specs.declared.tree.Definition.{Definition}
-use Rattle.sudo_syntax.specs.declared.tree.Spec.{Spec}
-use Rattle.sudo_syntax.specs.Alias.{is_defined, item_alias, cmnd_alias, KnowsList, depth_of, alias_depth, user_defs, runas_defs, host_defs, cmnd_defs}
-use Rattle.sudo_syntax.specs.Policy.{IsItem, IsCmndItem, IsList, IsEntry, IsNew, IsPlaced, ArePlaced, weight, IsPolicy}
-use Rattle.sudo_syntax.specs.Printing.{canon, item_text}
-use Rattle.sudo_syntax.specs.Span.{Each}
-use Rattle.sudo_syntax.specs.Lex.{Tok, word, mark, is_spaced, text_of, is_some_blank, is_blank, is_mark, is_word_text, goes_on, is_text_byte, IsTok, Lexes}
-use Rattle.sudo_syntax.specs.Lines.{is_no_hash, is_backslash, ends_with, lines_of, IsBody, Joined}
-use Rattle.sudo_syntax.specs.Grammar.{SpellsItem, SpellsCmnd, SpellsSpec, head_of, args_of, is_odd}
-use Rattle.sudo_syntax.specs.Spelling.{SpellsLines, Spells}
+use Rattle.sudo_policy.specs.declared.entry.Signed.{Signed}
+use Rattle.sudo_policy.specs.declared.entry.Item.{Item}
+use Rattle.sudo_policy.specs.declared.entry.Item.TheVariants as items
+use Rattle.sudo_policy.specs.declared.entry.CmndItem.{CmndItem}
+use Rattle.sudo_policy.specs.declared.entry.CmndItem.TheVariants as cmnds
+use Rattle.sudo_policy.specs.declared.entry.Entry.{Entry}
+use Rattle.sudo_policy.specs.declared.entry.Entry.TheVariants as entries
+use Rattle.sudo_policy.specs.declared.tree.Definition.{Definition}
+use Rattle.sudo_policy.specs.declared.tree.Spec.{Spec}
+use Rattle.sudo_policy.specs.Alias.{is_defined, item_alias, cmnd_alias, KnowsList, depth_of, alias_depth, user_defs, runas_defs, host_defs, cmnd_defs}
+use Rattle.sudo_policy.specs.Policy.{IsItem, IsCmndItem, IsList, IsEntry, IsNew, IsPlaced, ArePlaced, weight, IsPolicy}
+use Rattle.sudo_policy.specs.Printing.{canon, item_text}
+use Rattle.sudo_policy.specs.Span.{Each}
+use Rattle.sudo_policy.specs.Lex.{Tok, word, mark, is_spaced, text_of, is_some_blank, is_blank, is_mark, is_word_text, goes_on, is_text_byte, IsTok, Lexes}
+use Rattle.sudo_policy.specs.Lines.{is_no_hash, is_backslash, ends_with, lines_of, IsBody, Joined}
+use Rattle.sudo_policy.specs.Grammar.{SpellsItem, SpellsCmnd, SpellsSpec, head_of, args_of, is_odd}
+use Rattle.sudo_policy.specs.Spelling.{SpellsLines, Spells}
 
 pub each_of : (p : ℕ → Bool) (bs : List ℕ) → list_all p bs ≡ true → Each p bs
 each_of p [] h = tt

@@ -8,22 +8,22 @@ use Rattle.std.proofs.lemmas.Bool.{leb-true}
 use Rattle.std.proofs.lemmas.List.{reverse-append}
 use Rattle.std.proofs.lemmas.Slice.Eq.{bytes_eq-Decides}
 use Rattle.sudo_words.specs.Word.{is_reserved}
-use Rattle.sudo_syntax.specs.declared.entry.Item.{Item}
-use Rattle.sudo_syntax.specs.declared.entry.Entry.{Entry}
-use Rattle.sudo_syntax.specs.declared.entry.Entry.TheVariants as entries
-use Rattle.sudo_syntax.specs.declared.tree.Definition.{Definition}
-use Rattle.sudo_syntax.specs.Alias.{user_defs, is_defined, item_alias, KnowsList, item_weight, list_weight, alias_weight, item_depth, depth_of, alias_depth}
+use Rattle.sudo_policy.specs.declared.entry.Item.{Item}
+use Rattle.sudo_policy.specs.declared.entry.Entry.{Entry}
+use Rattle.sudo_policy.specs.declared.entry.Entry.TheVariants as entries
+use Rattle.sudo_policy.specs.declared.tree.Definition.{Definition}
+use Rattle.sudo_policy.specs.Alias.{user_defs, is_defined, item_alias, KnowsList, item_weight, list_weight, alias_weight, item_depth, depth_of, alias_depth}
 use Rattle.sudo_syntax.specs.Doubling.{double_name, double_item, double_alias, double_aliases, double_rule, doubled}
-use Rattle.sudo_syntax.specs.Policy.{IsEntry, ArePlaced, entry_weight, weight, IsPolicy}
-use Rattle.sudo_syntax.specs.Printing.{canon}
-use Rattle.sudo_syntax.specs.Lines.{lines_of}
-use Rattle.sudo_syntax.specs.Spelling.{Spells, SpellsLines}
+use Rattle.sudo_policy.specs.Policy.{IsEntry, ArePlaced, entry_weight, weight, IsPolicy}
+use Rattle.sudo_policy.specs.Printing.{canon}
+use Rattle.sudo_policy.specs.Lines.{lines_of}
+use Rattle.sudo_policy.specs.Spelling.{Spells, SpellsLines}
 use Rattle.sudo_syntax.specs.Worked.{SpellsNone}
-use Rattle.sudo_syntax.proofs.Canon.{texts, canon_joined, canon_entries, canon_spells}
+use Rattle.sudo_policy.proofs.Canon.{texts, canon_joined, canon_entries, canon_spells}
 use Rattle.sudo_syntax.proofs.Deriving.{entries_are}
-use Rattle.sudo_syntax.proofs.LineTexts.{joined_one}
-use Rattle.sudo_syntax.proofs.One.{lines_one}
-use Rattle.sudo_syntax.proofs.PolicyFronts.{placed_push, weight_push}
+use Rattle.sudo_policy.proofs.LineTexts.{joined_one}
+use Rattle.sudo_policy.proofs.One.{lines_one}
+use Rattle.sudo_policy.proofs.PolicyFronts.{placed_push, weight_push}
 
 -- what the canonical text of well-formed entries spells is these
 canon_only : (es fs : List Entry) → AllByRecursion IsEntry es → Spells (canon es) fs → fs ≡ es

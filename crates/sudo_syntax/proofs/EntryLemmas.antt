@@ -2,23 +2,23 @@
 use Rattle.std.proofs.Common.{◌≡◌, ℕ, List, [], ◌∷◌, ◌++◌, length, refl, sym, subst, ◌∙◌, append_assoc}
 use Rattle.std.specs.List.{AllByRecursion, flat_map}
 use Rattle.std.proofs.lemmas.List.Concat.{flat_map-cons}
-use Rattle.sudo_syntax.specs.declared.entry.Signed.{Signed}
-use Rattle.sudo_syntax.specs.declared.entry.Item.{Item}
-use Rattle.sudo_syntax.specs.declared.entry.CmndItem.{CmndItem}
-use Rattle.sudo_syntax.specs.declared.entry.Rule.{Rule}
-use Rattle.sudo_syntax.specs.declared.entry.Entry.{Entry}
-use Rattle.sudo_syntax.specs.declared.entry.Entry.TheVariants as entries
-use Rattle.sudo_syntax.specs.declared.tree.Spec.{Spec}
-use Rattle.sudo_syntax.specs.declared.tree.Part.{Part}
-use Rattle.sudo_syntax.specs.declared.tree.Settings.{Settings}
-use Rattle.sudo_syntax.specs.declared.tree.Line.{Line}
-use Rattle.sudo_syntax.specs.declared.token.Token.{Token}
-use Rattle.sudo_syntax.specs.private.Tokens.{toks}
-use Rattle.sudo_syntax.specs.Grammar.{SpellsTree}
-use Rattle.sudo_syntax.specs.Spelling.{SpellsEntries}
-use Rattle.sudo_syntax.specs.Inheritance.{with_spec, rule_with, rules_of, part_rules}
-use Rattle.sudo_syntax.specs.Policy.{IsEntry, IsPolicy}
-use Rattle.sudo_syntax.proofs.PolicyFronts.{all_front, all_rest, policy_front}
+use Rattle.sudo_policy.specs.declared.entry.Signed.{Signed}
+use Rattle.sudo_policy.specs.declared.entry.Item.{Item}
+use Rattle.sudo_policy.specs.declared.entry.CmndItem.{CmndItem}
+use Rattle.sudo_policy.specs.declared.entry.Rule.{Rule}
+use Rattle.sudo_policy.specs.declared.entry.Entry.{Entry}
+use Rattle.sudo_policy.specs.declared.entry.Entry.TheVariants as entries
+use Rattle.sudo_policy.specs.declared.tree.Spec.{Spec}
+use Rattle.sudo_policy.specs.declared.tree.Part.{Part}
+use Rattle.sudo_policy.specs.declared.tree.Settings.{Settings}
+use Rattle.sudo_policy.specs.declared.tree.Line.{Line}
+use Rattle.sudo_policy.specs.declared.token.Token.{Token}
+use Rattle.sudo_policy.specs.private.Tokens.{toks}
+use Rattle.sudo_policy.specs.Grammar.{SpellsTree}
+use Rattle.sudo_policy.specs.Spelling.{SpellsEntries}
+use Rattle.sudo_policy.specs.Inheritance.{with_spec, rule_with, rules_of, part_rules}
+use Rattle.sudo_policy.specs.Policy.{IsEntry, IsPolicy}
+use Rattle.sudo_policy.proofs.PolicyFronts.{all_front, all_rest, policy_front}
 
 pub all_append : {X : Type 0} (P : X → Type 0) (xs ys : List X) → AllByRecursion P xs → AllByRecursion P ys → AllByRecursion P (xs ++ ys)
 all_append P [] ys h k = k

@@ -2,13 +2,13 @@
 use Rattle.std.proofs.Common.{◌≡◌, ℕ, suc, List, [], ◌∷◌, ◌++◌, length, map, Option, Some, None, refl, sym, ap, ◌∙◌, subst}
 use Rattle.std.specs.Prelude.{unwrap_or}
 use Rattle.std.specs.Option.{option_or}
-use Rattle.sudo_syntax.specs.declared.entry.Signed.{Signed}
-use Rattle.sudo_syntax.specs.declared.entry.Item.{Item}
-use Rattle.sudo_syntax.specs.declared.entry.Entry.TheVariants as entries
-use Rattle.sudo_syntax.specs.declared.tree.Spec.{Spec}
-use Rattle.sudo_syntax.specs.declared.tree.Part.{Part}
-use Rattle.sudo_syntax.specs.declared.tree.Settings.{Settings}
-use Rattle.sudo_syntax.specs.Inheritance.{first_settings, with_spec, rule_with, rules_of, part_rules}
+use Rattle.sudo_policy.specs.declared.entry.Signed.{Signed}
+use Rattle.sudo_policy.specs.declared.entry.Item.{Item}
+use Rattle.sudo_policy.specs.declared.entry.Entry.TheVariants as entries
+use Rattle.sudo_policy.specs.declared.tree.Spec.{Spec}
+use Rattle.sudo_policy.specs.declared.tree.Part.{Part}
+use Rattle.sudo_policy.specs.declared.tree.Settings.{Settings}
+use Rattle.sudo_policy.specs.Inheritance.{first_settings, with_spec, rule_with, rules_of, part_rules}
 use Rattle.sudo_syntax.specs.Inherited.{LastGiven, Inherits, HasRule}
 
 -- ---- the last one given

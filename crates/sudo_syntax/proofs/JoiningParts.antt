@@ -6,24 +6,24 @@ use Rattle.std.proofs.lemmas.Grind.{flat_map-append}
 use Rattle.std.proofs.lemmas.List.{map-append}
 use Rattle.sudo_words.specs.Word.{is_name, is_host_name}
 use Rattle.sudo_words.specs.Command.{is_escaped}
-use Rattle.sudo_syntax.specs.declared.entry.Signed.{Signed}
-use Rattle.sudo_syntax.specs.declared.entry.Item.{Item}
-use Rattle.sudo_syntax.specs.declared.entry.CmndItem.{CmndItem}
-use Rattle.sudo_syntax.specs.declared.entry.Entry.{Entry}
-use Rattle.sudo_syntax.specs.declared.entry.Entry.TheVariants as entries
-use Rattle.sudo_syntax.specs.declared.tree.Definition.{Definition}
-use Rattle.sudo_syntax.specs.declared.tree.Part.{Part}
-use Rattle.sudo_syntax.specs.declared.tree.Line.{Line}
-use Rattle.sudo_syntax.specs.declared.tree.Line.TheVariants as lines
-use Rattle.sudo_syntax.specs.Span.{Each, Stops}
-use Rattle.sudo_syntax.specs.Lex.{Tok, word, mark, text_of, is_blank, is_some_blank, is_word_byte, goes_on, IsTok, Lexes}
-use Rattle.sudo_syntax.specs.Grammar.{begins_spaced, More, Listed, SpellsItem, SpellsCmnd, args_of, head_of, Users, SpellsRunas, SpellsDates, SpellsTags, SpellsSpec, SpellsPart, SpellsDef, SpellsAliases, SpellsTree}
-use Rattle.sudo_syntax.specs.Inheritance.{part_rules, entries_of}
-use Rattle.sudo_syntax.specs.Spelling.{SpellsEntries, SpellsLine}
+use Rattle.sudo_policy.specs.declared.entry.Signed.{Signed}
+use Rattle.sudo_policy.specs.declared.entry.Item.{Item}
+use Rattle.sudo_policy.specs.declared.entry.CmndItem.{CmndItem}
+use Rattle.sudo_policy.specs.declared.entry.Entry.{Entry}
+use Rattle.sudo_policy.specs.declared.entry.Entry.TheVariants as entries
+use Rattle.sudo_policy.specs.declared.tree.Definition.{Definition}
+use Rattle.sudo_policy.specs.declared.tree.Part.{Part}
+use Rattle.sudo_policy.specs.declared.tree.Line.{Line}
+use Rattle.sudo_policy.specs.declared.tree.Line.TheVariants as lines
+use Rattle.sudo_policy.specs.Span.{Each, Stops}
+use Rattle.sudo_policy.specs.Lex.{Tok, word, mark, text_of, is_blank, is_some_blank, is_word_byte, goes_on, IsTok, Lexes}
+use Rattle.sudo_policy.specs.Grammar.{begins_spaced, More, Listed, SpellsItem, SpellsCmnd, args_of, head_of, Users, SpellsRunas, SpellsDates, SpellsTags, SpellsSpec, SpellsPart, SpellsDef, SpellsAliases, SpellsTree}
+use Rattle.sudo_policy.specs.Inheritance.{part_rules, entries_of}
+use Rattle.sudo_policy.specs.Spelling.{SpellsEntries, SpellsLine}
 use Rattle.sudo_syntax.specs.Apart.{AreUsers, AreParts, AreDefs, SpellsBoth}
-use Rattle.sudo_syntax.proofs.Lexing.{starts}
-use Rattle.sudo_syntax.proofs.LineTexts.{each_append}
-use Rattle.sudo_syntax.proofs.One.{line_one}
+use Rattle.sudo_policy.proofs.Lexing.{starts}
+use Rattle.sudo_policy.proofs.LineTexts.{each_append}
+use Rattle.sudo_policy.proofs.One.{line_one}
 use Rattle.sudo_syntax.proofs.Deriving.{lexed}
 
 -- ---- tokens behind a blank

@@ -1,6 +1,6 @@
 -- A reader's way through tokens: what is spelled as a whole, and what is left of it.
 use Rattle.std.proofs.Common.{List}
-use Rattle.sudo_syntax.specs.Lex.{Tok}
+use Rattle.sudo_policy.specs.Lex.{Tok}
 
 -- What is left leads back to a whole, and a whole that is fit goes on with what is left.
 pub record Leads {V : Type 0} (Fit Whole Left : V → List Tok → Type 0) : Type 0 where

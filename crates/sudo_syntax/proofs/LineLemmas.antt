@@ -3,16 +3,16 @@ use Rattle.std.proofs.Common.{Bor, eqb, ◌⊎◌, ◌≡◌, ℕ, zero, suc, �
 use Rattle.std.proofs.lemmas.Bool.{false≢true}
 use Rattle.std.proofs.lemmas.List.{append-nil, length-append, drop_all, length-map}
 use Rattle.std.proofs.lemmas.List.Splits.{length-slice_split}
-use Rattle.sudo_syntax.specs.declared.entry.Entry.{Entry}
-use Rattle.sudo_syntax.specs.Span.{Each}
-use Rattle.sudo_syntax.specs.Lex.{is_text_byte}
-use Rattle.sudo_syntax.specs.Lines.{lines_of, IsBody, IsContinued, Joined}
+use Rattle.sudo_policy.specs.declared.entry.Entry.{Entry}
+use Rattle.sudo_policy.specs.Span.{Each}
+use Rattle.sudo_policy.specs.Lex.{is_text_byte}
+use Rattle.sudo_policy.specs.Lines.{lines_of, IsBody, IsContinued, Joined}
 use Rattle.sudo_syntax.specs.private.Pending.{JoinedBehind, SpellsBehind, Leads}
-use Rattle.sudo_syntax.specs.Policy.{IsPolicy}
-use Rattle.sudo_syntax.specs.Reading.{HasOtherByte, IsLineOf, SpellsBy}
-use Rattle.sudo_syntax.specs.Spelling.{SpellsLine, SpellsLines}
+use Rattle.sudo_policy.specs.Policy.{IsPolicy}
+use Rattle.sudo_policy.specs.Reading.{HasOtherByte, IsLineOf, SpellsBy}
+use Rattle.sudo_policy.specs.Spelling.{SpellsLine, SpellsLines}
 use Rattle.sudo_syntax.proofs.EntryLemmas.{front_is}
-use Rattle.sudo_syntax.proofs.LineTexts.{body_one, front_one, body_or_front}
+use Rattle.sudo_policy.proofs.LineTexts.{body_one, front_one, body_or_front}
 
 -- ---- the first of the lines
 

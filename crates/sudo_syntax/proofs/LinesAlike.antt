@@ -1,12 +1,12 @@
 -- A line with a comment is joined as the line without it, and a line that goes on as the one line in its place.
 use Rattle.std.proofs.Common.{◌≡◌, ℕ, Bool, true, false, ◌==◌, List, [], ◌∷◌, ◌++◌, refl, sym, ap, subst, ◌∙◌, inl, inr, append_assoc}
 use Rattle.std.proofs.lemmas.Bool.{false≢true, eqb-true, or_cases}
-use Rattle.sudo_syntax.specs.Span.{Each, IsCut}
-use Rattle.sudo_syntax.specs.Lex.{is_blank}
-use Rattle.sudo_syntax.specs.Lines.{is_no_hash, is_backslash, ends_with, may_go_on, is_before_comment, IsNote, IsBody, IsContinued, Joined}
+use Rattle.sudo_policy.specs.Span.{Each, IsCut}
+use Rattle.sudo_policy.specs.Lex.{is_blank}
+use Rattle.sudo_policy.specs.Lines.{is_no_hash, is_backslash, ends_with, may_go_on, is_before_comment, IsNote, IsBody, IsContinued, Joined}
 use Rattle.sudo_syntax.specs.Alike.{SpellAlike, DifferIn, MayHaveNote, GoesOnWith}
-use Rattle.sudo_syntax.proofs.Spans.{cut_is, one_cut}
-use Rattle.sudo_syntax.proofs.LineTexts.{ends_with_last, last_split, one_front, each_append, no_hash_cut, body_one, body_or_front, front_one}
+use Rattle.sudo_policy.proofs.Spans.{cut_is, one_cut}
+use Rattle.sudo_policy.proofs.LineTexts.{ends_with_last, last_split, one_front, each_append, no_hash_cut, body_one, body_or_front, front_one}
 
 -- ---- texts that are joined alike
 

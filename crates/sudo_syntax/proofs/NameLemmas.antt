@@ -3,10 +3,10 @@ use Rattle.std.proofs.Common.{◌≡◌, ℕ, Bool, true, false, List, refl, sym
 use Rattle.std.specs.Prelude.{codes}
 use Rattle.std.proofs.lemmas.Bool.{false≢true}
 use Rattle.sudo_words.specs.Word.{is_alias_name, is_reserved}
-use Rattle.sudo_syntax.specs.declared.entry.Item.{Item}
-use Rattle.sudo_syntax.specs.declared.entry.Item.TheVariants as items
-use Rattle.sudo_syntax.specs.Printing.{item_text}
-use Rattle.sudo_syntax.specs.Policy.{IsItem}
+use Rattle.sudo_policy.specs.declared.entry.Item.{Item}
+use Rattle.sudo_policy.specs.declared.entry.Item.TheVariants as items
+use Rattle.sudo_policy.specs.Printing.{item_text}
+use Rattle.sudo_policy.specs.Policy.{IsItem}
 use Rattle.sudo_syntax.specs.private.Fronts.{begins_upper}
 
 -- `ALL` is no alias

@@ -6,27 +6,27 @@ use Rattle.std.proofs.lemmas.Bool.{false≢true}
 use Rattle.sudo_words.specs.Word.{is_name, is_host_name, is_file_path, is_reserved}
 use Rattle.sudo_words.specs.declared.cmnd.Cmnd.TheVariants as commands
 use Rattle.sudo_words.specs.declared.cmnd.ArgRule.TheVariants as rules
-use Rattle.sudo_syntax.specs.declared.entry.Signed.{Signed}
-use Rattle.sudo_syntax.specs.declared.entry.Item.{Item}
-use Rattle.sudo_syntax.specs.declared.entry.Item.TheVariants as items
-use Rattle.sudo_syntax.specs.declared.entry.CmndItem.{CmndItem}
-use Rattle.sudo_syntax.specs.declared.entry.CmndItem.TheVariants as cmnds
-use Rattle.sudo_syntax.specs.declared.entry.Entry.{Entry}
-use Rattle.sudo_syntax.specs.declared.tree.Line.{Line}
-use Rattle.sudo_syntax.specs.declared.tree.Line.TheVariants as lines
-use Rattle.sudo_syntax.specs.declared.tree.Part.{Part}
-use Rattle.sudo_syntax.specs.declared.tree.Spec.{Spec}
-use Rattle.sudo_syntax.specs.Policy.{IsCmndItem, IsPolicy}
-use Rattle.sudo_syntax.specs.Lex.{Tok, word, mark, Lexes}
-use Rattle.sudo_syntax.specs.private.Tokens.{NoLexing}
-use Rattle.sudo_syntax.specs.Lines.{is_no_hash, is_backslash, ends_with, lines_of, Joined}
-use Rattle.sudo_syntax.specs.Grammar.{Listed, More, SpellsItem, SpellsCmnd, SpellsRunas, SpellsDates, SpellsTags, SpellsSpec, SpellsPart, SpellsRights, SpellsTree, Date, head_of, args_of, rule_toks}
-use Rattle.sudo_syntax.specs.Inheritance.{entries_of}
-use Rattle.sudo_syntax.specs.Spelling.{Spells, SpellsEntries, SpellsLine, SpellsLines}
+use Rattle.sudo_policy.specs.declared.entry.Signed.{Signed}
+use Rattle.sudo_policy.specs.declared.entry.Item.{Item}
+use Rattle.sudo_policy.specs.declared.entry.Item.TheVariants as items
+use Rattle.sudo_policy.specs.declared.entry.CmndItem.{CmndItem}
+use Rattle.sudo_policy.specs.declared.entry.CmndItem.TheVariants as cmnds
+use Rattle.sudo_policy.specs.declared.entry.Entry.{Entry}
+use Rattle.sudo_policy.specs.declared.tree.Line.{Line}
+use Rattle.sudo_policy.specs.declared.tree.Line.TheVariants as lines
+use Rattle.sudo_policy.specs.declared.tree.Part.{Part}
+use Rattle.sudo_policy.specs.declared.tree.Spec.{Spec}
+use Rattle.sudo_policy.specs.Policy.{IsCmndItem, IsPolicy}
+use Rattle.sudo_policy.specs.Lex.{Tok, word, mark, Lexes}
+use Rattle.sudo_policy.specs.private.Tokens.{NoLexing}
+use Rattle.sudo_policy.specs.Lines.{is_no_hash, is_backslash, ends_with, lines_of, Joined}
+use Rattle.sudo_policy.specs.Grammar.{Listed, More, SpellsItem, SpellsCmnd, SpellsRunas, SpellsDates, SpellsTags, SpellsSpec, SpellsPart, SpellsRights, SpellsTree, Date, head_of, args_of, rule_toks}
+use Rattle.sudo_policy.specs.Inheritance.{entries_of}
+use Rattle.sudo_policy.specs.Spelling.{Spells, SpellsEntries, SpellsLine, SpellsLines}
 use Rattle.sudo_syntax.specs.Worked.{SpellsNone}
-use Rattle.sudo_syntax.proofs.Lexing.{lex_none, lex_one}
-use Rattle.sudo_syntax.proofs.LineTexts.{joined_one, backslash_no_body, bad_front}
-use Rattle.sudo_syntax.proofs.One.{lines_one}
+use Rattle.sudo_policy.proofs.Lexing.{lex_none, lex_one}
+use Rattle.sudo_policy.proofs.LineTexts.{joined_one, backslash_no_body, bad_front}
+use Rattle.sudo_policy.proofs.One.{lines_one}
 use Rattle.sudo_syntax.proofs.Deriving.{each_of, lexed, item, cmnd, cmnd_is, only, only_spelled}
 use Rattle.sudo_syntax.proofs.WorkedTexts.{plain, one_line, spells_line, yes, part, rights, all, all_toks, user_toks, user_line, user_tree}
 

@@ -1,13 +1,13 @@
 -- Two more signs are none, and the last tag holds.
 use Rattle.std.proofs.Common.{◌≡◌, ℕ, ◌+◌, ◌%◌, ◌==◌, Bool, List, [], ◌∷◌, ◌++◌, Option, Some, refl, sym, ap, ◌∙◌, arith}
 use Rattle.std.specs.Option.{option_or}
-use Rattle.sudo_syntax.specs.declared.entry.Signed.{Signed}
-use Rattle.sudo_syntax.specs.declared.entry.Item.{Item}
-use Rattle.sudo_syntax.specs.declared.entry.CmndItem.{CmndItem}
-use Rattle.sudo_syntax.specs.declared.tree.Spec.{Spec}
-use Rattle.sudo_syntax.specs.Lex.{Tok, word}
-use Rattle.sudo_syntax.specs.Printing.{item_text}
-use Rattle.sudo_syntax.specs.Grammar.{SpellsItem, SpellsCmnd, SpellsSpec, last_tag, is_odd, head_of, args_of}
+use Rattle.sudo_policy.specs.declared.entry.Signed.{Signed}
+use Rattle.sudo_policy.specs.declared.entry.Item.{Item}
+use Rattle.sudo_policy.specs.declared.entry.CmndItem.{CmndItem}
+use Rattle.sudo_policy.specs.declared.tree.Spec.{Spec}
+use Rattle.sudo_policy.specs.Lex.{Tok, word}
+use Rattle.sudo_policy.specs.Printing.{item_text}
+use Rattle.sudo_policy.specs.Grammar.{SpellsItem, SpellsCmnd, SpellsSpec, last_tag, is_odd, head_of, args_of}
 
 odd_more : (n : ℕ) → is_odd (n + 2) ≡ is_odd n
 odd_more n = let same : (n + 2) % 2 ≡ n % 2 = omega arith in ap (λ (k : ℕ). k == 1) same

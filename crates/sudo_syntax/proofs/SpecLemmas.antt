@@ -1,11 +1,11 @@
 -- What stands behind the targets, the dates and the tags of a command.
 use Rattle.std.proofs.Common.{◌≡◌, ℕ, Bool, false, List, [], ◌∷◌, ◌++◌, refl, sym, ap, subst, ◌∙◌, Option, arith}
-use Rattle.sudo_syntax.specs.declared.entry.Signed.{Signed}
-use Rattle.sudo_syntax.specs.declared.entry.CmndItem.{CmndItem}
-use Rattle.sudo_syntax.specs.declared.entry.Item.{Item}
-use Rattle.sudo_syntax.specs.declared.tree.Spec.{Spec}
-use Rattle.sudo_syntax.specs.Lex.{Tok, word, mark}
-use Rattle.sudo_syntax.specs.Grammar.{Date, SpellsCmnd, SpellsDates, SpellsTags, head_of, args_of, tag_word}
+use Rattle.sudo_policy.specs.declared.entry.Signed.{Signed}
+use Rattle.sudo_policy.specs.declared.entry.CmndItem.{CmndItem}
+use Rattle.sudo_policy.specs.declared.entry.Item.{Item}
+use Rattle.sudo_policy.specs.declared.tree.Spec.{Spec}
+use Rattle.sudo_policy.specs.Lex.{Tok, word, mark}
+use Rattle.sudo_policy.specs.Grammar.{Date, SpellsCmnd, SpellsDates, SpellsTags, head_of, args_of, tag_word}
 use Rattle.sudo_syntax.specs.private.Fronts.{EndsBy, NoMark, NoTag, NoDate}
 use Rattle.sudo_syntax.proofs.ListLemmas.{no_mark}
 use Rattle.sudo_syntax.proofs.CmndLemmas.{cmnd_no_tag, args_no_equals}

@@ -1,8 +1,8 @@
 -- Tags at the front of tokens are read in one way.
 use Rattle.std.proofs.Common.{◌≡◌, Bool, true, false, List, [], ◌∷◌, Option, Some, None, refl, sym, ap, subst, ◌∙◌}
 use Rattle.std.specs.Option.{option_or}
-use Rattle.sudo_syntax.specs.Lex.{Tok, word, mark}
-use Rattle.sudo_syntax.specs.Grammar.{SpellsTags, tag_word, last_tag}
+use Rattle.sudo_policy.specs.Lex.{Tok, word, mark}
+use Rattle.sudo_policy.specs.Grammar.{SpellsTags, tag_word, last_tag}
 use Rattle.sudo_syntax.specs.private.Fronts.{NoTag, Tagged}
 use Rattle.sudo_syntax.proofs.Leads.{Leads}
 

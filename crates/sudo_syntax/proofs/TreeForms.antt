@@ -6,19 +6,19 @@ use Rattle.std.specs.List.{AllByRecursion, flat_map}
 use Rattle.std.proofs.lemmas.List.Concat.{flat_map-cons}
 use Rattle.sudo_words.specs.Word.{is_name, is_host_name, is_alias_name}
 use Rattle.sudo_words.specs.Moment.{IsMoment}
-use Rattle.sudo_syntax.specs.declared.entry.Signed.{Signed}
-use Rattle.sudo_syntax.specs.declared.entry.Item.{Item}
-use Rattle.sudo_syntax.specs.declared.entry.Entry.TheVariants as entries
-use Rattle.sudo_syntax.specs.declared.tree.Definition.{Definition}
-use Rattle.sudo_syntax.specs.declared.tree.Settings.{Settings}
-use Rattle.sudo_syntax.specs.declared.tree.Spec.{Spec}
-use Rattle.sudo_syntax.specs.declared.tree.Part.{Part}
-use Rattle.sudo_syntax.specs.declared.tree.Line.{Line}
-use Rattle.sudo_syntax.specs.declared.tree.Line.TheVariants as lines
-use Rattle.sudo_syntax.specs.Lex.{Tok}
-use Rattle.sudo_syntax.specs.Grammar.{More, Listed, SpellsItem, SpellsCmnd, SpellsRunas, Date, SpellsDates, Bounds, SpellsSpec, SpellsPart, SpellsDef, SpellsAliases, SpellsTree}
-use Rattle.sudo_syntax.specs.Inheritance.{first_settings, with_spec, rules_of, part_rules, entries_of}
-use Rattle.sudo_syntax.specs.Policy.{IsItem, IsCmndItem, IsList, IsEntry}
+use Rattle.sudo_policy.specs.declared.entry.Signed.{Signed}
+use Rattle.sudo_policy.specs.declared.entry.Item.{Item}
+use Rattle.sudo_policy.specs.declared.entry.Entry.TheVariants as entries
+use Rattle.sudo_policy.specs.declared.tree.Definition.{Definition}
+use Rattle.sudo_policy.specs.declared.tree.Settings.{Settings}
+use Rattle.sudo_policy.specs.declared.tree.Spec.{Spec}
+use Rattle.sudo_policy.specs.declared.tree.Part.{Part}
+use Rattle.sudo_policy.specs.declared.tree.Line.{Line}
+use Rattle.sudo_policy.specs.declared.tree.Line.TheVariants as lines
+use Rattle.sudo_policy.specs.Lex.{Tok}
+use Rattle.sudo_policy.specs.Grammar.{More, Listed, SpellsItem, SpellsCmnd, SpellsRunas, Date, SpellsDates, Bounds, SpellsSpec, SpellsPart, SpellsDef, SpellsAliases, SpellsTree}
+use Rattle.sudo_policy.specs.Inheritance.{first_settings, with_spec, rules_of, part_rules, entries_of}
+use Rattle.sudo_policy.specs.Policy.{IsItem, IsCmndItem, IsList, IsEntry}
 use Rattle.sudo_syntax.proofs.EntryLemmas.{all_append}
 
 -- ---- lists

@@ -3,18 +3,18 @@ use Rattle.std.proofs.Common.{◌≡◌, ℕ, false, List, [], ◌∷◌, refl, 
 use Rattle.std.specs.Prelude.{codes}
 use Rattle.std.proofs.lemmas.Bool.{false≢true}
 use Rattle.sudo_words.specs.Word.{is_name, is_alias_name}
-use Rattle.sudo_syntax.specs.declared.entry.Signed.{Signed}
-use Rattle.sudo_syntax.specs.declared.entry.Item.{Item}
-use Rattle.sudo_syntax.specs.declared.entry.Item.TheVariants as items
-use Rattle.sudo_syntax.specs.declared.entry.CmndItem.{CmndItem}
-use Rattle.sudo_syntax.specs.declared.tree.Definition.{Definition}
-use Rattle.sudo_syntax.specs.declared.tree.Part.{Part}
-use Rattle.sudo_syntax.specs.declared.tree.Line.{Line}
-use Rattle.sudo_syntax.specs.declared.tree.Line.TheVariants as lines
-use Rattle.sudo_syntax.specs.Lex.{Tok}
-use Rattle.sudo_syntax.specs.Printing.{item_text}
-use Rattle.sudo_syntax.specs.Policy.{IsItem}
-use Rattle.sudo_syntax.specs.Grammar.{Users, SpellsAliases, SpellsRights, SpellsTree}
+use Rattle.sudo_policy.specs.declared.entry.Signed.{Signed}
+use Rattle.sudo_policy.specs.declared.entry.Item.{Item}
+use Rattle.sudo_policy.specs.declared.entry.Item.TheVariants as items
+use Rattle.sudo_policy.specs.declared.entry.CmndItem.{CmndItem}
+use Rattle.sudo_policy.specs.declared.tree.Definition.{Definition}
+use Rattle.sudo_policy.specs.declared.tree.Part.{Part}
+use Rattle.sudo_policy.specs.declared.tree.Line.{Line}
+use Rattle.sudo_policy.specs.declared.tree.Line.TheVariants as lines
+use Rattle.sudo_policy.specs.Lex.{Tok}
+use Rattle.sudo_policy.specs.Printing.{item_text}
+use Rattle.sudo_policy.specs.Policy.{IsItem}
+use Rattle.sudo_policy.specs.Grammar.{Users, SpellsAliases, SpellsRights, SpellsTree}
 use Rattle.sudo_syntax.specs.private.Fronts.{NoKind}
 
 -- ---- the words of the four kinds

@@ -9,21 +9,21 @@ use Rattle.sudo_words.proofs.MomentLemmas.{date_text_is, spells_from}
 use Rattle.std.specs.Prelude.{codes}
 use Rattle.sudo_words.specs.declared.cmnd.Cmnd.TheVariants as commands
 use Rattle.sudo_words.specs.declared.cmnd.ArgRule.TheVariants as rules
-use Rattle.sudo_syntax.specs.declared.entry.Signed.{Signed}
-use Rattle.sudo_syntax.specs.declared.entry.Item.{Item}
-use Rattle.sudo_syntax.specs.declared.entry.Item.TheVariants as items
-use Rattle.sudo_syntax.specs.declared.entry.CmndItem.{CmndItem}
-use Rattle.sudo_syntax.specs.declared.entry.CmndItem.TheVariants as cmnds
-use Rattle.sudo_syntax.specs.declared.entry.Entry.{Entry}
-use Rattle.sudo_syntax.specs.declared.tree.Line.{Line}
-use Rattle.sudo_syntax.specs.declared.tree.Line.TheVariants as lines
-use Rattle.sudo_syntax.specs.declared.tree.Part.{Part}
-use Rattle.sudo_syntax.specs.declared.tree.Spec.{Spec}
-use Rattle.sudo_syntax.specs.Lines.{is_no_hash, is_backslash, ends_with, Joined}
-use Rattle.sudo_syntax.specs.Lex.{Tok, word, mark, Lexes}
-use Rattle.sudo_syntax.specs.Grammar.{SpellsTree}
-use Rattle.sudo_syntax.specs.Inheritance.{entries_of}
-use Rattle.sudo_syntax.specs.Spelling.{Spells, SpellsLine, SpellsLines}
+use Rattle.sudo_policy.specs.declared.entry.Signed.{Signed}
+use Rattle.sudo_policy.specs.declared.entry.Item.{Item}
+use Rattle.sudo_policy.specs.declared.entry.Item.TheVariants as items
+use Rattle.sudo_policy.specs.declared.entry.CmndItem.{CmndItem}
+use Rattle.sudo_policy.specs.declared.entry.CmndItem.TheVariants as cmnds
+use Rattle.sudo_policy.specs.declared.entry.Entry.{Entry}
+use Rattle.sudo_policy.specs.declared.tree.Line.{Line}
+use Rattle.sudo_policy.specs.declared.tree.Line.TheVariants as lines
+use Rattle.sudo_policy.specs.declared.tree.Part.{Part}
+use Rattle.sudo_policy.specs.declared.tree.Spec.{Spec}
+use Rattle.sudo_policy.specs.Lines.{is_no_hash, is_backslash, ends_with, Joined}
+use Rattle.sudo_policy.specs.Lex.{Tok, word, mark, Lexes}
+use Rattle.sudo_policy.specs.Grammar.{SpellsTree}
+use Rattle.sudo_policy.specs.Inheritance.{entries_of}
+use Rattle.sudo_policy.specs.Spelling.{Spells, SpellsLine, SpellsLines}
 use Rattle.sudo_syntax.specs.Worked.{SpellsAs, may_run}
 use Rattle.sudo_syntax.proofs.Deriving.{each_of, lexed, lexed_more, plain_body, item, cmnd, only, only_spelled, cmnd_is, spelled}
 

@@ -1,11 +1,11 @@
 -- Texts that spell the same, and lines that differ in their comment or in how they go on
 -- (sudoers(5), "Other special characters and reserved words").
 use Rattle.std.specs.Prelude.{◌≡◌, ℕ, ◌≤◌, true, List, [], ◌∷◌, ◌++◌, length}
-use Rattle.sudo_syntax.specs.declared.entry.Entry.{Entry}
-use Rattle.sudo_syntax.specs.Span.{Each}
-use Rattle.sudo_syntax.specs.Lex.{is_text_byte}
-use Rattle.sudo_syntax.specs.Lines.{lines_of, is_no_hash, is_before_comment, is_comment, IsContinued}
-use Rattle.sudo_syntax.specs.Spelling.{Spells}
+use Rattle.sudo_policy.specs.declared.entry.Entry.{Entry}
+use Rattle.sudo_policy.specs.Span.{Each}
+use Rattle.sudo_policy.specs.Lex.{is_text_byte}
+use Rattle.sudo_policy.specs.Lines.{lines_of, is_no_hash, is_before_comment, is_comment, IsContinued}
+use Rattle.sudo_policy.specs.Spelling.{Spells}
 
 -- a text may have these bytes, and so many
 abbrev pub IsText : List ℕ → Type 0

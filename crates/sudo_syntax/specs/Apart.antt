@@ -1,13 +1,13 @@
 -- Specifications and definitions that are joined by `:`, and on lines of their own (sudoers(5), "Aliases", "User specification").
 use Rattle.std.specs.Prelude.{ℕ, List, [], ◌∷◌, ◌++◌, codes}
-use Rattle.sudo_syntax.specs.declared.entry.Signed.{Signed}
-use Rattle.sudo_syntax.specs.declared.entry.Item.{Item}
-use Rattle.sudo_syntax.specs.declared.entry.Entry.{Entry}
-use Rattle.sudo_syntax.specs.declared.tree.Definition.{Definition}
-use Rattle.sudo_syntax.specs.declared.tree.Part.{Part}
-use Rattle.sudo_syntax.specs.Lex.{Tok, Lexes}
-use Rattle.sudo_syntax.specs.Grammar.{Listed, Users, SpellsPart, SpellsDef}
-use Rattle.sudo_syntax.specs.Spelling.{SpellsLine}
+use Rattle.sudo_policy.specs.declared.entry.Signed.{Signed}
+use Rattle.sudo_policy.specs.declared.entry.Item.{Item}
+use Rattle.sudo_policy.specs.declared.entry.Entry.{Entry}
+use Rattle.sudo_policy.specs.declared.tree.Definition.{Definition}
+use Rattle.sudo_policy.specs.declared.tree.Part.{Part}
+use Rattle.sudo_policy.specs.Lex.{Tok, Lexes}
+use Rattle.sudo_policy.specs.Grammar.{Listed, Users, SpellsPart, SpellsDef}
+use Rattle.sudo_policy.specs.Spelling.{SpellsLine}
 
 -- the bytes, all of them, are these users
 abbrev pub AreUsers : List ℕ → List (Signed (Item (List ℕ))) → Type 0

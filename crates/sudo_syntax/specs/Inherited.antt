@@ -1,14 +1,14 @@
 -- What holds of each command of a list, wherever it stands (sudoers(5), "Cmnd_Spec_List").
 use Rattle.std.specs.Prelude.{◌≡◌, ℕ, false, List, [], ◌∷◌, ◌++◌, length, map, Option, Some, None, unwrap_or}
 use Rattle.std.specs.List.{AllByRecursion}
-use Rattle.sudo_syntax.specs.declared.entry.Signed.{Signed}
-use Rattle.sudo_syntax.specs.declared.entry.Item.{Item}
-use Rattle.sudo_syntax.specs.declared.entry.Rule.{Rule}
-use Rattle.sudo_syntax.specs.declared.entry.Entry.{Entry}
-use Rattle.sudo_syntax.specs.declared.entry.Entry.TheVariants as entries
-use Rattle.sudo_syntax.specs.declared.tree.Spec.{Spec}
-use Rattle.sudo_syntax.specs.declared.tree.Part.{Part}
-use Rattle.sudo_syntax.specs.Inheritance.{root, part_rules}
+use Rattle.sudo_policy.specs.declared.entry.Signed.{Signed}
+use Rattle.sudo_policy.specs.declared.entry.Item.{Item}
+use Rattle.sudo_policy.specs.declared.entry.Rule.{Rule}
+use Rattle.sudo_policy.specs.declared.entry.Entry.{Entry}
+use Rattle.sudo_policy.specs.declared.entry.Entry.TheVariants as entries
+use Rattle.sudo_policy.specs.declared.tree.Spec.{Spec}
+use Rattle.sudo_policy.specs.declared.tree.Part.{Part}
+use Rattle.sudo_policy.specs.Inheritance.{root, part_rules}
 
 abbrev pub NoneGiven : {X : Type 0} → List (Option X) → Type 0
 NoneGiven given = AllByRecursion (λ o. o ≡ None) given

@@ -1,18 +1,4 @@
--- what a policy is made of, and its text
-pub mod Printing
-pub mod Alias
-pub mod Policy
--- which texts spell it
-pub mod Span
-pub mod Lex
-pub mod Lines
-pub mod Grammar
-pub mod Inheritance
-pub mod Spelling
-pub mod Reading
-pub mod Faults
 -- laws in the subject's words, and worked texts
-pub mod Aliased
 pub mod Inherited
 pub mod Alike
 pub mod Apart

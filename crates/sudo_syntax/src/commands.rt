@@ -6,22 +6,20 @@ ghost use Rattle.sudo_words.specs.Command.{IsArgRule, IsLawful, arg_text, head_t
 ghost use Rattle.sudo_words.specs.Word.{is_arg};
 ghost use Rattle.sudo_words.specs.declared.cmnd.ArgRule.{ArgRule as Ruled};
 ghost use Rattle.sudo_words.specs.declared.cmnd.Cmnd.{Cmnd as Command};
-ghost use Rattle.sudo_syntax.specs.declared.entry.CmndItem.{CmndItem as Said};
-ghost use Rattle.sudo_syntax.specs.declared.fault.LineFault.TheVariants.{NoMemory};
+ghost use Rattle.sudo_policy.specs.declared.entry.CmndItem.{CmndItem as Said};
+ghost use Rattle.sudo_policy.specs.declared.fault.LineFault.TheVariants.{NoMemory};
 ghost use Rattle.sudo_syntax.specs.private.Fronts.{EndsBy, NoArg, arg_toks, rule_from};
-ghost use Rattle.sudo_syntax.specs.Grammar.{SpellsCmnd, args_of, head_of, rule_toks};
-ghost use Rattle.sudo_syntax.specs.Lex.{Tok};
-ghost use Rattle.sudo_syntax.specs.private.Tokens.{toks};
-ghost use Rattle.sudo_syntax.specs.Policy.{IsCmndItem};
+ghost use Rattle.sudo_policy.specs.Grammar.{SpellsCmnd, args_of, head_of, rule_toks};
+ghost use Rattle.sudo_policy.specs.Lex.{Tok};
+ghost use Rattle.sudo_policy.specs.private.Tokens.{toks};
+ghost use Rattle.sudo_policy.specs.Policy.{IsCmndItem};
 
-use crate::entry::{CmndItem, Signed};
-use crate::fault::LineFault;
 use crate::fronts::{arg_at, behind_empty, word_at};
 use crate::items::word_of;
 use crate::listing::Spelled;
 use crate::misplaced::{bad_cmnd, bad_word, misplaced};
-use crate::token::Token;
 use std::alloc::Global;
+use sudo_policy::{CmndItem, LineFault, Signed, Token};
 use sudo_words::{
     AliasForm, Arg, ArgRule, Cmnd, CmndFault, Form, Items, WordFault, command_of, read_arg,
 };

@@ -1,24 +1,21 @@
 //! Definitions of aliases read from tokens.
 
 ghost use Rattle.std.specs.Prelude.{◌≡◌, ◌<◌, List, ℕ, length, IfOk, MatchOption, MatchResult, Ok, Some, None};
-ghost use Rattle.sudo_syntax.specs.declared.entry.Signed.{Signed as Sign};
-ghost use Rattle.sudo_syntax.specs.declared.fault.LineFault.TheVariants.{NoMemory};
-ghost use Rattle.sudo_syntax.specs.declared.tree.Definition.{Definition as Defined};
+ghost use Rattle.sudo_policy.specs.declared.entry.Signed.{Signed as Sign};
+ghost use Rattle.sudo_policy.specs.declared.fault.LineFault.TheVariants.{NoMemory};
+ghost use Rattle.sudo_policy.specs.declared.tree.Definition.{Definition as Defined};
 ghost use Rattle.sudo_syntax.specs.private.Fronts.{Defines, EndsBy, NoKind};
-ghost use Rattle.sudo_syntax.specs.Grammar.{SpellsCmnd, SpellsDef, SpellsItem};
-ghost use Rattle.sudo_syntax.specs.Lex.{Tok};
-ghost use Rattle.sudo_syntax.specs.private.Tokens.{toks};
+ghost use Rattle.sudo_policy.specs.Grammar.{SpellsCmnd, SpellsDef, SpellsItem};
+ghost use Rattle.sudo_policy.specs.Lex.{Tok};
+ghost use Rattle.sudo_policy.specs.private.Tokens.{toks};
 
-use crate::entry::{CmndItem, Item, Signed};
-use crate::fault::LineFault;
 use crate::fronts::{behind_word, head_at};
 use crate::items::{NameForm, word_of};
 use crate::listing::{Spelled, list_at};
 use crate::misplaced::misplaced;
 use crate::options::begins_spaced;
-use crate::token::Token;
-use crate::tree::Definition;
 use std::alloc::Global;
+use sudo_policy::{CmndItem, Definition, Item, LineFault, Signed, Token};
 use sudo_words::{Items, Word};
 
 /// A definition at the front, and what follows it.

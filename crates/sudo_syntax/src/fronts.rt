@@ -2,10 +2,10 @@
 
 ghost use Rattle.std.specs.Prelude.{◌≡◌, ◌≢◌, ◌<◌, ◌∷◌, Bool, true, false, List, ℕ, length, IfSome, MatchOption};
 ghost use Rattle.sudo_syntax.specs.private.Fronts.{NoArg, NoDate, NoHead, NoKind, NoMark, NoWord};
-ghost use Rattle.sudo_syntax.specs.Lex.{Tok, word, mark};
-ghost use Rattle.sudo_syntax.specs.private.Tokens.{toks};
+ghost use Rattle.sudo_policy.specs.Lex.{Tok, word, mark};
+ghost use Rattle.sudo_policy.specs.private.Tokens.{toks};
 
-use crate::token::Token;
+use sudo_policy::Token;
 
 /// How many `!` stand before the word at the front, the word, and what follows it.
 pub(crate) fn word_at<'a, 'b>(tokens: &'b [Token<'a>]) -> Option<(usize, &'a str, &'b [Token<'a>])>

@@ -1,20 +1,18 @@
 //! Words of a form and items of lists read from tokens.
 
 ghost use Rattle.std.specs.Prelude.{◌≡◌, List, ℕ, IfOk, MatchResult, true, false};
-ghost use Rattle.sudo_syntax.specs.declared.entry.Item.{Item as Said};
-ghost use Rattle.sudo_syntax.specs.declared.fault.LineFault.TheVariants.{NoMemory};
+ghost use Rattle.sudo_policy.specs.declared.entry.Item.{Item as Said};
+ghost use Rattle.sudo_policy.specs.declared.fault.LineFault.TheVariants.{NoMemory};
 ghost use Rattle.sudo_syntax.specs.private.Fronts.{begins_upper};
-ghost use Rattle.sudo_syntax.specs.Grammar.{SpellsItem};
-ghost use Rattle.sudo_syntax.specs.Policy.{IsItem};
-ghost use Rattle.sudo_syntax.specs.Printing.{item_text};
+ghost use Rattle.sudo_policy.specs.Grammar.{SpellsItem};
+ghost use Rattle.sudo_policy.specs.Policy.{IsItem};
+ghost use Rattle.sudo_policy.specs.Printing.{item_text};
 
-use crate::entry::{Item, Signed};
-use crate::fault::LineFault;
 use crate::fronts::word_at;
 use crate::listing::Spelled;
 use crate::misplaced::{bad_word, misplaced};
-use crate::token::Token;
 use std::alloc::Global;
+use sudo_policy::{Item, LineFault, Signed, Token};
 use sudo_words::{Form, HostForm, UserForm, Word, WordFault};
 
 /// A form of names: none begins with an upper-case letter, as `ALL` and the aliases do.

@@ -1,19 +1,10 @@
-//! Policies: sudoers texts read, printed and kept in normal form.
+//! Policies' texts, read. What policies are, and how they are printed, stands in `sudo_policy`, which is given on.
 #![tactic(auto)]
 
-mod alias_laws;
-mod aliases;
 mod commands;
-mod copying;
 mod definitions;
-mod draft;
-mod entry;
-mod extending;
-mod fault;
 mod fronts;
 mod items;
-mod laws;
-mod lengths;
 mod line_entries;
 mod line_laws;
 mod listing;
@@ -21,27 +12,19 @@ mod misplaced;
 mod options;
 mod parts;
 mod pieces;
-mod policy;
-mod printing;
 mod read;
-mod scope;
 mod spec;
-mod token;
-mod tree;
 mod tree_reading;
 mod worked_laws;
 
-pub use alias_laws::alias_weighs_its_list;
-pub use entry::{CmndItem, Entry, Item, Rule, Signed};
-pub use extending::extend;
-pub use fault::{FaultKind, ReadFault};
-pub use laws::{canon_is_one, canon_spells, one_policy};
 pub use line_laws::{
     comments, continuations, inheritance, joined_definitions, joined_parts, signs, tags,
 };
-pub use policy::Policy;
-pub use printing::print_policy;
 pub use read::read_policy;
+pub use sudo_policy::{
+    CmndItem, Entry, FaultKind, Item, Policy, ReadFault, Rule, Signed, alias_weighs_its_list,
+    canon_is_one, canon_spells, extend, one_policy, print_policy,
+};
 pub use sudo_words::{
     AliasName, Arg, ArgRule, Cmnd, CmndFault, DirPath, FilePath, HostName, Items, Moment, Name,
     NoMemory, WordFault, is_lawful, print_cmnd, read_cmnd,

@@ -2,18 +2,17 @@
 
 ghost use Rattle.std.specs.Prelude.{◌≡◌, ◌++◌, ◌∷◌, [], IfOk, IfErr, OnOk, map, unwrap_or};
 ghost use Rattle.std.specs.List.{AllByRecursion, flat_map};
-ghost use Rattle.sudo_syntax.specs.declared.entry.Entry.TheVariants as entries;
-ghost use Rattle.sudo_syntax.specs.declared.fault.LineFault.TheVariants as fault;
-ghost use Rattle.sudo_syntax.specs.Inheritance as inheritance;
-ghost use Rattle.sudo_syntax.specs.Policy.{IsEntry, IsPolicy};
-ghost use Rattle.sudo_syntax.specs.private.Scope.{Adds, IsDraft};
+ghost use Rattle.sudo_policy.specs.declared.entry.Entry.TheVariants as entries;
+ghost use Rattle.sudo_policy.specs.declared.fault.LineFault.TheVariants as fault;
+ghost use Rattle.sudo_policy.specs.Inheritance as inheritance;
+ghost use Rattle.sudo_policy.specs.Policy.{IsEntry, IsPolicy};
+ghost use Rattle.sudo_policy.specs.private.Scope.{Adds, IsDraft};
 
-use crate::copying::{copied_lists, copied_names};
-use crate::draft::Draft;
-use crate::entry::{CmndItem, Entry, Item, Rule, Signed};
-use crate::fault::LineFault;
-use crate::tree::{Definition, Line, Part, Settings, Spec};
 use std::alloc::{AllocError, Global};
+use sudo_policy::{
+    CmndItem, Definition, Draft, Entry, Item, Line, LineFault, Part, Rule, Settings, Signed, Spec,
+    copied_lists, copied_names,
+};
 use sudo_words::{HostName, Items, Name};
 
 /// The targets where a command gives none and inherits none: `root` alone.

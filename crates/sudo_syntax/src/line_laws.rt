@@ -1,19 +1,19 @@
 //! Laws of what lines stand for, each the contract of a function that does nothing.
 
 ghost use Rattle.std.specs.Prelude.{◌≡◌, ℕ, ◌+◌, Bool, Some, List, [], ◌∷◌, ◌++◌, length, codes};
-ghost use Rattle.sudo_syntax.specs.declared.entry.CmndItem.{CmndItem as AnyCmnd};
-ghost use Rattle.sudo_syntax.specs.declared.entry.Item.{Item as AnyItem};
-ghost use Rattle.sudo_syntax.specs.declared.entry.Signed.{Signed as AnySigned};
+ghost use Rattle.sudo_policy.specs.declared.entry.CmndItem.{CmndItem as AnyCmnd};
+ghost use Rattle.sudo_policy.specs.declared.entry.Item.{Item as AnyItem};
+ghost use Rattle.sudo_policy.specs.declared.entry.Signed.{Signed as AnySigned};
 ghost use Rattle.sudo_words.specs.Word.{is_name, is_host_name};
-ghost use Rattle.sudo_syntax.specs.declared.tree.Definition.{Definition as AnyDefinition};
-ghost use Rattle.sudo_syntax.specs.declared.tree.Part.{Part};
-ghost use Rattle.sudo_syntax.specs.declared.tree.Spec.{Spec};
+ghost use Rattle.sudo_policy.specs.declared.tree.Definition.{Definition as AnyDefinition};
+ghost use Rattle.sudo_policy.specs.declared.tree.Part.{Part};
+ghost use Rattle.sudo_policy.specs.declared.tree.Spec.{Spec};
 ghost use Rattle.sudo_syntax.specs.Alike.{SpellAlike, DifferIn, MayHaveNote, GoesOnWith};
 ghost use Rattle.sudo_syntax.specs.Apart.{AreUsers, AreParts, AreDefs, SpellsBoth};
-ghost use Rattle.sudo_syntax.specs.Grammar.{SpellsItem, SpellsCmnd, SpellsSpec};
-ghost use Rattle.sudo_syntax.specs.Inheritance.{part_rules};
+ghost use Rattle.sudo_policy.specs.Grammar.{SpellsItem, SpellsCmnd, SpellsSpec};
+ghost use Rattle.sudo_policy.specs.Inheritance.{part_rules};
 ghost use Rattle.sudo_syntax.specs.Inherited.{HasRule};
-ghost use Rattle.sudo_syntax.specs.Lex.{Tok, word};
+ghost use Rattle.sudo_policy.specs.Lex.{Tok, word};
 
 /// Each command of a list has one rule, at its own place, with the target, the bounds and the tag that were given last
 /// in the list up to and including it (sudoers(5), "Cmnd_Spec_List").

@@ -1,16 +1,15 @@
 //! Lists read from tokens.
 
 ghost use Rattle.std.specs.Prelude.{◌≡◌, ◌<◌, ◌∷◌, Bool, List, ℕ, length, IfOk, MatchResult};
-ghost use Rattle.sudo_syntax.specs.declared.fault.LineFault.TheVariants.{NoMemory};
+ghost use Rattle.sudo_policy.specs.declared.fault.LineFault.TheVariants.{NoMemory};
 ghost use Rattle.sudo_syntax.specs.private.Fronts.{NoMark};
-ghost use Rattle.sudo_syntax.specs.Grammar.{Listed};
-ghost use Rattle.sudo_syntax.specs.Lex.{Tok, mark};
-ghost use Rattle.sudo_syntax.specs.private.Tokens.{toks};
+ghost use Rattle.sudo_policy.specs.Grammar.{Listed};
+ghost use Rattle.sudo_policy.specs.Lex.{Tok, mark};
+ghost use Rattle.sudo_policy.specs.private.Tokens.{toks};
 
-use crate::fault::LineFault;
 use crate::fronts::behind_mark;
-use crate::token::Token;
 use std::alloc::Global;
+use sudo_policy::{LineFault, Token};
 use sudo_words::Items;
 
 /// What tokens spell in one way.

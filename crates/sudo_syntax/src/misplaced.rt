@@ -1,7 +1,6 @@
 //! The fault that fits words and marks which the grammar has not.
 
-use crate::fault::LineFault;
-use crate::token::Token;
+use sudo_policy::{LineFault, Token};
 use sudo_words::{AliasForm, Form};
 
 /// Whether the word begins a line that sudoers has and the desk leaves out.

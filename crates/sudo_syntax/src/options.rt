@@ -2,17 +2,16 @@
 
 ghost use Rattle.std.specs.Prelude.{◌≡◌, ◌≤◌, ◌<◌, ◌∷◌, List, ℕ, Bool, length, IfOk, IfSome, MatchOption, MatchResult, Option, Some, None, Ok, true, false};
 ghost use Rattle.sudo_words.specs.Moment.{Spells};
-ghost use Rattle.sudo_syntax.specs.declared.fault.LineFault.TheVariants.{NoMemory};
+ghost use Rattle.sudo_policy.specs.declared.fault.LineFault.TheVariants.{NoMemory};
 ghost use Rattle.sudo_syntax.specs.private.Fronts.{AddsBound, Dated, NoDate, NoTag, Tagged};
-ghost use Rattle.sudo_syntax.specs.Grammar as grammar;
-ghost use Rattle.sudo_syntax.specs.Grammar.{tag_word};
-ghost use Rattle.sudo_syntax.specs.Lex.{Tok, word, mark};
-ghost use Rattle.sudo_syntax.specs.private.Tokens.{toks};
+ghost use Rattle.sudo_policy.specs.Grammar as grammar;
+ghost use Rattle.sudo_policy.specs.Grammar.{tag_word};
+ghost use Rattle.sudo_policy.specs.Lex.{Tok, word, mark};
+ghost use Rattle.sudo_policy.specs.private.Tokens.{toks};
 
-use crate::fault::LineFault;
 use crate::fronts::{date_at, head_at};
 use crate::misplaced::bad_option;
-use crate::token::Token;
+use sudo_policy::{LineFault, Token};
 use sudo_words::Moment;
 
 /// The first and the last moment at which a command may run.

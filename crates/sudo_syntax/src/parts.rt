@@ -1,24 +1,21 @@
 //! User specifications read from tokens.
 
 ghost use Rattle.std.specs.Prelude.{◌≡◌, List, ℕ, IfOk, MatchResult};
-ghost use Rattle.sudo_syntax.specs.declared.entry.Item.{Item as Said};
-ghost use Rattle.sudo_syntax.specs.declared.entry.Signed.{Signed as Sign};
-ghost use Rattle.sudo_syntax.specs.declared.fault.LineFault.TheVariants.{NoMemory};
-ghost use Rattle.sudo_syntax.specs.declared.tree.Part.{Part as Parted};
+ghost use Rattle.sudo_policy.specs.declared.entry.Item.{Item as Said};
+ghost use Rattle.sudo_policy.specs.declared.entry.Signed.{Signed as Sign};
+ghost use Rattle.sudo_policy.specs.declared.fault.LineFault.TheVariants.{NoMemory};
+ghost use Rattle.sudo_policy.specs.declared.tree.Part.{Part as Parted};
 ghost use Rattle.sudo_syntax.specs.private.Fronts.{EndsBy};
-ghost use Rattle.sudo_syntax.specs.Grammar.{SpellsPart, SpellsRights};
-ghost use Rattle.sudo_syntax.specs.Lex.{Tok};
-ghost use Rattle.sudo_syntax.specs.private.Tokens.{toks};
+ghost use Rattle.sudo_policy.specs.Grammar.{SpellsPart, SpellsRights};
+ghost use Rattle.sudo_policy.specs.Lex.{Tok};
+ghost use Rattle.sudo_policy.specs.private.Tokens.{toks};
 
-use crate::entry::{Item, Signed};
-use crate::fault::LineFault;
 use crate::fronts::behind_mark;
 use crate::listing::{Spelled, list_at};
 use crate::misplaced::misplaced;
 use crate::options::begins_spaced;
-use crate::token::Token;
-use crate::tree::Part;
 use std::alloc::Global;
+use sudo_policy::{Item, LineFault, Part, Signed, Token};
 use sudo_words::{Items, Name};
 
 impl Spelled for Part {

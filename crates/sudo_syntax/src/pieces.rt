@@ -1,13 +1,12 @@
 //! Lines of a text: what stands before a comment, and whether a line goes on in the next.
 
 ghost use Rattle.std.specs.Prelude.{◌≡◌, ℕ, false, List, [], ◌∷◌, ◌++◌, IfOk, IfErr, MatchOption, length, take_while};
-ghost use Rattle.sudo_syntax.specs.Lines.{IsBody, IsContinued};
-ghost use Rattle.sudo_syntax.specs.Lines as lines;
+ghost use Rattle.sudo_policy.specs.Lines.{IsBody, IsContinued};
+ghost use Rattle.sudo_policy.specs.Lines as lines;
 ghost use Rattle.sudo_syntax.specs.private.Pieces.{IsPiece};
-ghost use Rattle.sudo_syntax.specs.Span.{Each, IsCut};
+ghost use Rattle.sudo_policy.specs.Span.{Each, IsCut};
 
-use crate::fault::LineFault;
-use crate::token::is_blank;
+use sudo_policy::{LineFault, is_blank};
 
 /// What a line of the text says.
 #[derive(Clone, Copy)]

@@ -1,26 +1,23 @@
 //! Policies read from text.
 
 ghost use Rattle.std.specs.Prelude.{◌≡◌, ◌+◌, ◌<◌, ◌≤◌, ◌==◌, ◌⊎◌, List, ℕ, IfOk, IfErr, IsErrAnd, MatchResult, OnOk, map, length, count_by, ◌++◌, [], ◌∷◌};
-ghost use Rattle.sudo_syntax.specs.declared.entry.Entry.{Entry as Entered};
-ghost use Rattle.sudo_syntax.specs.declared.fault.FaultKind.TheVariants.{TooLong, BadByte, TooLarge, NoMemory};
-ghost use Rattle.sudo_syntax.specs.declared.fault.LineFault.TheVariants.{NoMemory as OutOfMemory};
-ghost use Rattle.sudo_syntax.specs.Spelling.{Spells, SpellsLine};
+ghost use Rattle.sudo_policy.specs.declared.entry.Entry.{Entry as Entered};
+ghost use Rattle.sudo_policy.specs.declared.fault.FaultKind.TheVariants.{TooLong, BadByte, TooLarge, NoMemory};
+ghost use Rattle.sudo_policy.specs.declared.fault.LineFault.TheVariants.{NoMemory as OutOfMemory};
+ghost use Rattle.sudo_policy.specs.Spelling.{Spells, SpellsLine};
 ghost use Rattle.sudo_syntax.specs.private.Pending.{Leads, SpellsBehind};
-ghost use Rattle.sudo_syntax.specs.Lex as lex;
-ghost use Rattle.sudo_syntax.specs.Reading.{HasOtherByte, IsInLine, IsLineOf, SpellsBy};
-ghost use Rattle.sudo_syntax.specs.Policy.{IsPolicy};
-ghost use Rattle.sudo_syntax.specs.private.Scope.{Adds, IsDraft};
-ghost use Rattle.sudo_syntax.specs.Span.{Each};
-ghost use Rattle.sudo_syntax.specs.Lines.{lines_of};
+ghost use Rattle.sudo_policy.specs.Lex as lex;
+ghost use Rattle.sudo_policy.specs.Reading.{HasOtherByte, IsInLine, IsLineOf, SpellsBy};
+ghost use Rattle.sudo_policy.specs.Policy.{IsPolicy};
+ghost use Rattle.sudo_policy.specs.private.Scope.{Adds, IsDraft};
+ghost use Rattle.sudo_policy.specs.Span.{Each};
+ghost use Rattle.sudo_policy.specs.Lines.{lines_of};
 
-use crate::draft::Draft;
-use crate::fault::{FaultKind, LineFault, ReadFault};
 use crate::line_entries::add_line;
 use crate::pieces::{Piece, piece_of};
-use crate::policy::Policy;
-use crate::token::{cut_text, is_text, tokens};
 use crate::tree_reading::tree_of;
 use std::alloc::{AllocError, Global};
+use sudo_policy::{Draft, FaultKind, LineFault, Policy, ReadFault, cut_text, is_text, tokens};
 
 /// The most bytes that a text has: 16 MiB.
 const MOST_BYTES: usize = 16_777_216;

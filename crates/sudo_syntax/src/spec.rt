@@ -1,23 +1,20 @@
 //! Commands of user specifications read from tokens, with what each gives of its own.
 
 ghost use Rattle.std.specs.Prelude.{◌≡◌, ◌≤◌, List, ℕ, length, IfOk, MatchResult, Option, true};
-ghost use Rattle.sudo_syntax.specs.declared.entry.Item.{Item as Said};
-ghost use Rattle.sudo_syntax.specs.declared.entry.Signed.{Signed as Sign};
-ghost use Rattle.sudo_syntax.specs.declared.fault.LineFault.TheVariants.{NoMemory};
+ghost use Rattle.sudo_policy.specs.declared.entry.Item.{Item as Said};
+ghost use Rattle.sudo_policy.specs.declared.entry.Signed.{Signed as Sign};
+ghost use Rattle.sudo_policy.specs.declared.fault.LineFault.TheVariants.{NoMemory};
 ghost use Rattle.sudo_syntax.specs.private.Fronts.{EndsBy, NoMark, NoWord};
-ghost use Rattle.sudo_syntax.specs.Grammar.{SpellsRunas, SpellsSpec};
-ghost use Rattle.sudo_syntax.specs.Lex.{Tok};
-ghost use Rattle.sudo_syntax.specs.private.Tokens.{toks};
+ghost use Rattle.sudo_policy.specs.Grammar.{SpellsRunas, SpellsSpec};
+ghost use Rattle.sudo_policy.specs.Lex.{Tok};
+ghost use Rattle.sudo_policy.specs.private.Tokens.{toks};
 
-use crate::entry::{CmndItem, Item, Signed};
-use crate::fault::LineFault;
 use crate::fronts::{behind_mark, word_at};
 use crate::listing::{Spelled, list_at};
 use crate::misplaced::unclosed;
 use crate::options::{bounds_at, tags_at};
-use crate::token::Token;
-use crate::tree::Spec;
 use std::alloc::Global;
+use sudo_policy::{CmndItem, Item, LineFault, Signed, Spec, Token};
 use sudo_words::{Items, Name};
 
 /// Whether no word stands at the front.

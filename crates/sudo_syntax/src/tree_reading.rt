@@ -1,18 +1,15 @@
 //! Lines read from tokens.
 
 ghost use Rattle.std.specs.Prelude.{◌≡◌, IfOk, MatchResult};
-ghost use Rattle.sudo_syntax.specs.declared.fault.LineFault.TheVariants.{NoMemory};
-ghost use Rattle.sudo_syntax.specs.declared.tree.Line.{Line as Said};
-ghost use Rattle.sudo_syntax.specs.Grammar.{SpellsTree};
-ghost use Rattle.sudo_syntax.specs.private.Tokens.{toks};
+ghost use Rattle.sudo_policy.specs.declared.fault.LineFault.TheVariants.{NoMemory};
+ghost use Rattle.sudo_policy.specs.declared.tree.Line.{Line as Said};
+ghost use Rattle.sudo_policy.specs.Grammar.{SpellsTree};
+ghost use Rattle.sudo_policy.specs.private.Tokens.{toks};
 
 use crate::definitions::aliases_of;
-use crate::entry::{CmndItem, Item};
-use crate::fault::LineFault;
 use crate::parts::rights_of;
-use crate::token::Token;
-use crate::tree::Line;
 use std::alloc::Global;
+use sudo_policy::{CmndItem, Item, Line, LineFault, Token};
 use sudo_words::{HostName, Name};
 
 /// The line that the tokens spell.

@@ -4,9 +4,9 @@ ghost use Rattle.std.specs.Prelude.{◌≡◌, [], ◌∷◌, codes};
 ghost use Rattle.sudo_words.specs.declared.cmnd.ArgRule.TheVariants as rules;
 ghost use Rattle.sudo_words.specs.declared.cmnd.Cmnd.TheVariants as commands;
 ghost use Rattle.sudo_syntax.specs.Doubling.{doubled};
-ghost use Rattle.sudo_syntax.specs.Policy.{weight};
-ghost use Rattle.sudo_syntax.specs.Printing.{canon};
-ghost use Rattle.sudo_syntax.specs.Spelling.{Spells};
+ghost use Rattle.sudo_policy.specs.Policy.{weight};
+ghost use Rattle.sudo_policy.specs.Printing.{canon};
+ghost use Rattle.sudo_policy.specs.Spelling.{Spells};
 ghost use Rattle.sudo_syntax.specs.Worked.{SpellsAs, SpellsNone, may_run};
 
 /// Worked texts, and the canonical texts of the policies that they spell: aliases and parts joined by `:`, a date that is

@@ -5,8 +5,8 @@ use Rattle.sudo_words.specs.Moment as moments
 use Rattle.sudo_words.specs.Command.{arg_text}
 use Rattle.sudo_words.specs.declared.cmnd.ArgRule.{ArgRule}
 use Rattle.sudo_words.specs.declared.cmnd.ArgRule.TheVariants as rules
-use Rattle.sudo_syntax.specs.Lex.{Tok, word, mark}
-use Rattle.sudo_syntax.specs.Grammar.{Date, GivesBound, Bounds, SpellsDates, SpellsTags, tag_word, last_tag, begins_spaced, Listed}
+use Rattle.sudo_policy.specs.Lex.{Tok, word, mark}
+use Rattle.sudo_policy.specs.Grammar.{Date, GivesBound, Bounds, SpellsDates, SpellsTags, tag_word, last_tag, begins_spaced, Listed}
 
 abbrev pub NoWord : List Tok → Type 0
 NoWord [] = Unit {0}

@@ -1,8 +1,8 @@
 -- Lines of a text of which those before are read, and the front that they left where the last of them goes on. For private clauses.
 use Rattle.std.specs.Prelude.{◌≡◌, ℕ, ◌<◌, ◌⊎◌, List, [], ◌∷◌, ◌++◌, length}
-use Rattle.sudo_syntax.specs.declared.entry.Entry.{Entry}
-use Rattle.sudo_syntax.specs.Lines.{Joined}
-use Rattle.sudo_syntax.specs.Spelling.{SpellsLines}
+use Rattle.sudo_policy.specs.declared.entry.Entry.{Entry}
+use Rattle.sudo_policy.specs.Lines.{Joined}
+use Rattle.sudo_policy.specs.Spelling.{SpellsLines}
 
 -- The lines are these when joined, where a front that is not empty stands before the first.
 abbrev pub JoinedBehind : List ℕ → List (List ℕ) → List (List ℕ) → Type 0

@@ -1,9 +1,9 @@
 use Rattle.std.proofs.Common.{◌≡◌, ap, subst, ◌∙◌, arith}
 use Rattle.std.specs.Prelude.{string_bytes}
 use Rattle.std.proofs.lemmas.Result.{err_from_is_err_and}
-use Rattle.sudo_syntax.specs.Printing.{canon}
-use Rattle.sudo_syntax.specs.Reading.{with_rules}
-use Rattle.sudo_syntax.specs.Spelling.{Spells}
+use Rattle.sudo_policy.specs.Printing.{canon}
+use Rattle.sudo_policy.specs.Reading.{with_rules}
+use Rattle.sudo_policy.specs.Spelling.{Spells}
 use Rattle.desk.proofs.FileLemmas.{HasRules, has_rules, is_left, memory_alone, same_count}
 use Rattle.desk.proofs.host_file.host_file_in.Goals as goal
 use Rattle.desk.proofs.host_file.host_file_in.Goals.{After-drop-summaries-2}

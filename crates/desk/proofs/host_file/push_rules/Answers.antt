@@ -1,6 +1,6 @@
 use Rattle.std.proofs.Common.{List, ◌++◌, sym, ap, ◌∙◌, subst}
 use Rattle.std.specs.List.{AllByRecursion, filter}
-use Rattle.sudo_syntax.specs.declared.entry.Rule.{Rule}
+use Rattle.sudo_policy.specs.declared.entry.Rule.{Rule}
 use Rattle.grants.specs.GrantRules.{IsGrantRule}
 use Rattle.desk.specs.LinesLeft.{stays}
 use Rattle.desk.proofs.Filters.{each_left}

@@ -1,5 +1,5 @@
 use Rattle.std.proofs.Common.{[], ◌∷◌, ◌++◌, reverse}
-use Rattle.sudo_syntax.specs.declared.entry.Entry.TheVariants as entries
+use Rattle.sudo_policy.specs.declared.entry.Entry.TheVariants as entries
 use Rattle.sudo_decide.proofs.DecisionLemmas.{decides_rule_last}
 use Rattle.sudo_decide.proofs.laws.last_speaks.Goals as goal
 

@@ -1,5 +1,5 @@
 use Rattle.std.proofs.Common.{true, false, [], ◌∷◌, reverse, refl}
-use Rattle.sudo_syntax.specs.declared.entry.Entry.TheVariants as entries
+use Rattle.sudo_policy.specs.declared.entry.Entry.TheVariants as entries
 use Rattle.sudo_decide.specs.Worked.{rule_for, asks}
 use Rattle.sudo_decide.proofs.DecisionLemmas.{decides_rule_last}
 use Rattle.sudo_decide.proofs.laws.worked_decisions.Goals as goal

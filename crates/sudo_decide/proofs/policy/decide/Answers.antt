@@ -1,5 +1,5 @@
 use Rattle.std.proofs.Common.{reverse, take, sym, subst, List}
-use Rattle.sudo_syntax.specs.declared.entry.Entry.{Entry}
+use Rattle.sudo_policy.specs.declared.entry.Entry.{Entry}
 use Rattle.sudo_decide.specs.Decision.{DecidesBy}
 use Rattle.sudo_decide.proofs.AnswerLemmas.{take_one_more}
 use Rattle.sudo_decide.proofs.policy.decide.Goals as goal

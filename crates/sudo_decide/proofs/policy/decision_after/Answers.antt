@@ -1,5 +1,5 @@
 use Rattle.std.proofs.Common.{reverse, ◌∙◌, ap, sym}
-use Rattle.sudo_syntax.specs.declared.entry.Entry.{Entry}
+use Rattle.sudo_policy.specs.declared.entry.Entry.{Entry}
 use Rattle.sudo_decide.specs.Decision.{entry_says}
 use Rattle.sudo_decide.proofs.DecisionLemmas.{decides_silent_last}
 use Rattle.sudo_decide.proofs.policy.decision_after.Goals as goal

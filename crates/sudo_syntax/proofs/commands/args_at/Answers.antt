@@ -1,7 +1,7 @@
 use Rattle.std.proofs.Common.{[], ◌∷◌, ◌++◌, ap, length, arith}
 use Rattle.std.proofs.lemmas.List.{length-append}
 use Rattle.std.proofs.lemmas.Result.{err_from_is_err_and}
-use Rattle.sudo_syntax.specs.private.Tokens.{toks}
+use Rattle.sudo_policy.specs.private.Tokens.{toks}
 use Rattle.sudo_syntax.proofs.Leads.{leads_on}
 use Rattle.sudo_syntax.proofs.ArgLemmas.{Fit, Whole, Left, next_arg, arg_read, args_end}
 use Rattle.sudo_syntax.proofs.commands.args_at.Goals as goal

@@ -1,5 +1,5 @@
 use Rattle.std.proofs.Common.{◌≡◌, ◌≤◌, length}
-use Rattle.sudo_syntax.specs.private.Tokens.{toks}
+use Rattle.sudo_policy.specs.private.Tokens.{toks}
 use Rattle.sudo_syntax.proofs.Leads.{Leads}
 use Rattle.sudo_syntax.proofs.ArgLemmas.{Fit, Whole, Left}
 use Rattle.sudo_syntax.proofs.commands.args_at.Given as goal

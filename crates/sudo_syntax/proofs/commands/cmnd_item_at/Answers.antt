@@ -1,4 +1,4 @@
-use Rattle.sudo_syntax.specs.private.Tokens.{toks}
+use Rattle.sudo_policy.specs.private.Tokens.{toks}
 use Rattle.sudo_syntax.proofs.CmndLemmas.{alias_is}
 use Rattle.sudo_syntax.proofs.commands.cmnd_item_at.Goals as goal
 

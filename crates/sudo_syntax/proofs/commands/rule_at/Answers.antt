@@ -1,4 +1,4 @@
-use Rattle.sudo_syntax.specs.private.Tokens.{toks}
+use Rattle.sudo_policy.specs.private.Tokens.{toks}
 use Rattle.sudo_syntax.proofs.CmndLemmas.{empty_is, listed_args, ends_no_arg}
 use Rattle.sudo_syntax.proofs.commands.rule_at.Goals as goal
 

@@ -2,7 +2,7 @@ use Rattle.std.proofs.Common.{[], sym, ap, ◌∙◌}
 use Rattle.std.proofs.lemmas.Bool.{false≢true}
 use Rattle.std.proofs.lemmas.Result.{err_from_is_err_and}
 use Rattle.std.specs.Prelude.{Some}
-use Rattle.sudo_syntax.specs.private.Tokens.{toks}
+use Rattle.sudo_policy.specs.private.Tokens.{toks}
 use Rattle.sudo_syntax.proofs.ListLemmas.{defined_behind, none_left, some_left}
 use Rattle.sudo_syntax.proofs.definitions.aliases_of.Goals as goal
 

@@ -1,9 +1,9 @@
 use Rattle.std.proofs.Common.{◌≡◌, ◌++◌, ◌∷◌, [], length}
 use Rattle.std.specs.List.{AllByRecursion, flat_map}
 use Rattle.std.specs.Vec.Iter.{into_iter_items, into_iter_len}
-use Rattle.sudo_syntax.specs.Inheritance.{part_rules}
-use Rattle.sudo_syntax.specs.Policy.{IsEntry}
-use Rattle.sudo_syntax.specs.private.Scope.{IsDraft}
+use Rattle.sudo_policy.specs.Inheritance.{part_rules}
+use Rattle.sudo_policy.specs.Policy.{IsEntry}
+use Rattle.sudo_policy.specs.private.Scope.{IsDraft}
 use Rattle.sudo_syntax.proofs.line_entries.add_parts.Given as goal
 
 abbrev pub invariant-loop-part : goal.invariant-loop-part

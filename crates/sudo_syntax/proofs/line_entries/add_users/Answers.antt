@@ -1,7 +1,7 @@
 use Rattle.std.proofs.Common.{◌≡◌, ◌∷◌, [], map}
 use Rattle.std.proofs.lemmas.Result.{err_from_is_err_and}
 use Rattle.std.specs.Vec.Iter.{into_iter_items}
-use Rattle.sudo_syntax.specs.declared.entry.Entry.TheVariants as entries
+use Rattle.sudo_policy.specs.declared.entry.Entry.TheVariants as entries
 use Rattle.sudo_syntax.proofs.EntryLemmas.{front_is}
 use Rattle.sudo_syntax.proofs.line_entries.add_users.Goals as goal
 

@@ -1,9 +1,9 @@
 use Rattle.std.proofs.Common.{◌≡◌, ◌++◌, length, map}
 use Rattle.std.specs.List.{AllByRecursion}
 use Rattle.std.specs.Vec.Iter.{into_iter_items, into_iter_len}
-use Rattle.sudo_syntax.specs.declared.entry.Entry.TheVariants as entries
-use Rattle.sudo_syntax.specs.Policy.{IsEntry}
-use Rattle.sudo_syntax.specs.private.Scope.{IsDraft}
+use Rattle.sudo_policy.specs.declared.entry.Entry.TheVariants as entries
+use Rattle.sudo_policy.specs.Policy.{IsEntry}
+use Rattle.sudo_policy.specs.private.Scope.{IsDraft}
 use Rattle.sudo_syntax.proofs.line_entries.add_users.Given as goal
 
 abbrev pub invariant-loop-def : goal.invariant-loop-def

@@ -1,7 +1,7 @@
 use Rattle.std.proofs.Common.{arith}
 use Rattle.std.proofs.lemmas.Result.{err_from_is_err_and}
-use Rattle.sudo_syntax.specs.private.Tokens.{toks}
-use Rattle.sudo_syntax.specs.Grammar.{Listed}
+use Rattle.sudo_policy.specs.private.Tokens.{toks}
+use Rattle.sudo_policy.specs.Grammar.{Listed}
 use Rattle.sudo_syntax.proofs.ListLemmas.{first_of_list, first_read, next_of_list, next_read, list_ends, list_is}
 use Rattle.sudo_syntax.proofs.listing.list_at.Goals as goal
 

@@ -1,6 +1,6 @@
 use Rattle.std.proofs.Common.{◌<◌, length}
-use Rattle.sudo_syntax.specs.private.Tokens.{toks}
-use Rattle.sudo_syntax.specs.Grammar.{Listed}
+use Rattle.sudo_policy.specs.private.Tokens.{toks}
+use Rattle.sudo_policy.specs.Grammar.{Listed}
 use Rattle.sudo_syntax.proofs.Leads.{Leads}
 use Rattle.sudo_syntax.proofs.ListLemmas.{Behind, Left}
 use Rattle.sudo_syntax.proofs.listing.list_at.Given as goal

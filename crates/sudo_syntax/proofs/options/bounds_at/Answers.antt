@@ -1,7 +1,7 @@
 use Rattle.std.proofs.Common.{◌≡◌, ◌∙◌, true, None, sym, arith}
 use Rattle.std.proofs.lemmas.Bool.{false≢true}
-use Rattle.sudo_syntax.specs.private.Tokens.{toks}
-use Rattle.sudo_syntax.specs.Grammar.{begins_spaced}
+use Rattle.sudo_policy.specs.private.Tokens.{toks}
+use Rattle.sudo_policy.specs.Grammar.{begins_spaced}
 use Rattle.sudo_syntax.proofs.Leads.{leads_on}
 use Rattle.sudo_syntax.proofs.DateLemmas.{Ends, Left, next_date, date_read, dates_end, dates_done}
 use Rattle.sudo_syntax.proofs.options.bounds_at.Goals as goal

@@ -1,5 +1,5 @@
 use Rattle.std.proofs.Common.{◌≤◌, None, length}
-use Rattle.sudo_syntax.specs.private.Tokens.{toks}
+use Rattle.sudo_policy.specs.private.Tokens.{toks}
 use Rattle.sudo_syntax.proofs.Leads.{Leads}
 use Rattle.sudo_syntax.proofs.DateLemmas.{Ends, Left}
 use Rattle.sudo_syntax.proofs.options.bounds_at.Given as goal

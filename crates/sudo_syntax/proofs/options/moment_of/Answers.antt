@@ -1,6 +1,6 @@
 use Rattle.std.proofs.Common.{◌∙◌, ap}
 use Rattle.std.specs.Option.{ok_or}
-use Rattle.sudo_syntax.specs.declared.fault.LineFault.TheVariants.{BadMoment}
+use Rattle.sudo_policy.specs.declared.fault.LineFault.TheVariants.{BadMoment}
 use Rattle.sudo_syntax.proofs.options.moment_of.Goals as goal
 
 pub returns-clause-only : goal.returns-clause-only

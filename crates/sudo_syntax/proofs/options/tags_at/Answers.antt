@@ -1,5 +1,5 @@
 use Rattle.std.proofs.Common.{Some, arith}
-use Rattle.sudo_syntax.specs.private.Tokens.{toks}
+use Rattle.sudo_policy.specs.private.Tokens.{toks}
 use Rattle.sudo_syntax.specs.private.Fronts.{Tagged}
 use Rattle.sudo_syntax.proofs.Leads.{leads_on}
 use Rattle.sudo_syntax.proofs.TagLemmas.{Ends, Left, tag_read, tags_end}

@@ -1,7 +1,7 @@
 use Rattle.std.proofs.Common.{[], ◌∷◌}
 use Rattle.std.proofs.lemmas.Bool.Decides.{Decides-eqb}
 use Rattle.std.proofs.lemmas.Slice.Eq.{strip_suffix_is}
-use Rattle.sudo_syntax.proofs.LineTexts.{backslash_off}
+use Rattle.sudo_policy.proofs.LineTexts.{backslash_off}
 use Rattle.sudo_syntax.proofs.pieces.before_backslash.Goals as goal
 
 pub returns : goal.returns

@@ -1,5 +1,5 @@
 use Rattle.std.proofs.Common.{[], sym}
-use Rattle.sudo_syntax.proofs.LineTexts.{no_hash_cut, front_is, backslash_no_body, bad_front}
+use Rattle.sudo_policy.proofs.LineTexts.{no_hash_cut, front_is, backslash_no_body, bad_front}
 use Rattle.sudo_syntax.proofs.pieces.without_comment.Goals as goal
 
 pub returns-in-None-clause-found : goal.returns-in-None-clause-found

@@ -1,7 +1,7 @@
 use Rattle.std.proofs.Common.{◌≡◌, ◌+◌, ◌<◌, [], Bor, List, ℕ, length, drop, map, refl, arith, rules}
 use Rattle.std.proofs.lemmas.Grind.{common_steps}
 use Rattle.std.proofs.lemmas.List.{nil_from_length}
-use Rattle.sudo_syntax.specs.declared.fault.LineFault.TheVariants.{NoMemory as OutOfMemory}
+use Rattle.sudo_policy.specs.declared.fault.LineFault.TheVariants.{NoMemory as OutOfMemory}
 use Rattle.sudo_syntax.proofs.LineLemmas.{at_line, no_lines, leads_more, leads_end, leads_nowhere, leads_stuck}
 use Rattle.sudo_syntax.proofs.read.add_lines.Goals as goal
 

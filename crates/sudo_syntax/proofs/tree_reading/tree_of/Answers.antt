@@ -1,9 +1,9 @@
 use Rattle.std.proofs.Common.{◌≡◌, ap, refl}
 use Rattle.std.proofs.lemmas.Result.{err_from_is_err_and}
-use Rattle.sudo_syntax.specs.declared.fault.LineFault.TheVariants.{NoMemory}
-use Rattle.sudo_syntax.specs.declared.tree.Line.{Line}
-use Rattle.sudo_syntax.specs.declared.tree.Line.TheVariants as lines
-use Rattle.sudo_syntax.specs.private.Tokens.{toks}
+use Rattle.sudo_policy.specs.declared.fault.LineFault.TheVariants.{NoMemory}
+use Rattle.sudo_policy.specs.declared.tree.Line.{Line}
+use Rattle.sudo_policy.specs.declared.tree.Line.TheVariants as lines
+use Rattle.sudo_policy.specs.private.Tokens.{toks}
 use Rattle.sudo_syntax.specs.private.Fronts.{NoKind}
 use Rattle.sudo_syntax.proofs.TreeLemmas.{users_kind, runas_kind, hosts_kind, cmnds_kind, by_users, by_runas, by_hosts, by_cmnds, by_rights, err_no_ok, some_no_none, some_is}
 use Rattle.sudo_syntax.proofs.tree_reading.tree_of.Goals as goal

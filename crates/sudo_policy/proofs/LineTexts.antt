@@ -1,0 +1,113 @@
+-- The lines of a text are taken apart and joined in one way.
+use Rattle.std.proofs.Common.{◌≡◌, ℕ, ◌-◌, ◌<◌, Bool, true, false, List, [], ◌∷◌, ◌++◌, length, get_or, take, Bor, Option, Some, None, refl, sym, ap, subst, ◌∙◌, inl, inr, arith}
+use Rattle.std.specs.Prelude.{MatchOption, ◌≢◌}
+use Rattle.std.proofs.lemmas.Bool.{false≢true, false_from_ne_true, eqb-true}
+use Rattle.std.proofs.lemmas.List.{append-nil, append_cancel_right, length-append}
+use Rattle.std.proofs.Math.Seq.{get_or-append_seam, take-suc, take-length}
+use Rattle.sudo_policy.specs.Span.{Each, IsCut}
+use Rattle.sudo_policy.specs.Lines.{is_no_hash, is_backslash, ends_with, may_go_on, is_before_comment, is_comment, IsNote, IsBody, IsContinued, Joined}
+use Rattle.sudo_policy.proofs.Spans.{one_cut}
+
+-- ---- the last byte
+
+last_of : (xs : List ℕ) (x : ℕ) → get_or (xs ++ x ∷ []) (length (xs ++ x ∷ []) - 1) 0 ≡ x
+last_of xs x =
+    let size : length (xs ++ x ∷ []) - 1 ≡ length xs = omega (arith, length-append xs (x ∷ [])) in
+    rw size (get_or-append_seam xs x [] 0)
+
+pub ends_with_last : (p : ℕ → Bool) (xs : List ℕ) (x : ℕ) → ends_with p (xs ++ x ∷ []) ≡ p x
+ends_with_last p [] x = refl
+ends_with_last p (y ∷ ys) x = ap p (last_of (y ∷ ys) x)
+
+-- a line with a last byte that passes
+pub last_split : (p : ℕ → Bool) (line : List ℕ) → ends_with p line ≡ true → (front : List ℕ) × (x : ℕ) × (line ≡ front ++ x ∷ []) × (p x ≡ true)
+last_split p [] h = absurd (false≢true h)
+last_split p (b ∷ bs) h =
+    let back : length (b ∷ bs) - 1 ≡ length bs = omega arith in
+    let whole : b ∷ bs ≡ take (length bs) (b ∷ bs) ++ get_or (b ∷ bs) (length bs) 0 ∷ [] = sym (take-length (b ∷ bs)) ∙ take-suc (b ∷ bs) (length bs) 0 (omega arith) in
+    (take (length bs) (b ∷ bs), get_or (b ∷ bs) (length bs) 0, whole, ap (λ (i : ℕ). p (get_or (b ∷ bs) i 0)) (sym back) ∙ h)
+
+-- where one last byte is taken off, one front is left
+pub one_front : (xs ys : List ℕ) (x : ℕ) → xs ++ x ∷ [] ≡ ys ++ x ∷ [] → xs ≡ ys
+one_front xs ys x e = append_cancel_right xs ys (x ∷ []) e
+
+-- what is taken off from the end, where it is a backslash
+pub backslash_off : (line : List ℕ) (r : Option (Bor (List ℕ))) → MatchOption r ((front : List ℕ) → line ≢ front ++ 92 ∷ []) (λ x. line ≡ x.now ++ 92 ∷ []) → MatchOption r (ends_with is_backslash line ≡ false) (λ front. line ≡ front.now ++ 92 ∷ [])
+backslash_off line None h = false_from_ne_true (ends_with is_backslash line) (λ e. let t = last_split is_backslash line e in h t.0 (t.2 ∙ ap (λ (x : ℕ). t.0 ++ x ∷ []) (eqb-true t.1 92 t.3)))
+backslash_off line (Some x) h = h
+
+-- ---- a line without its comment
+
+-- the cut at the first `#` of a line that has none
+pub no_hash_cut : (line : List ℕ) → Each is_no_hash line → IsCut is_no_hash line line []
+no_hash_cut line h = record { whole = sym (append-nil line); each = h; stops = tt }
+
+pub each_append : (p : ℕ → Bool) (xs ys : List ℕ) → Each p xs → Each p ys → Each p (xs ++ ys)
+each_append p [] ys h k = k
+each_append p (x ∷ xs) ys h k = (h.0, each_append p xs ys h.1 k)
+
+-- a body is the front of the cut
+pub body_cut : (line body rest : List ℕ) → IsCut is_no_hash line body rest → (other : List ℕ) → IsBody line other → (body ≡ other) × IsNote body rest
+body_cut line body rest c other (behind, d, n) =
+    let t = one_cut is_no_hash body rest other behind c.each c.stops d.each d.stops (sym c.whole ∙ d.whole) in
+    (t.0, subst (λ (b : List ℕ). IsNote b rest) (sym t.0) (subst (IsNote other) (sym t.1) n))
+
+pub body_one : (line a b : List ℕ) → IsBody line a → IsBody line b → a ≡ b
+body_one line a b (rest, c, n) h = (body_cut line a rest c b h).0
+
+-- ---- a line that goes on
+
+pub front_one : (line a b : List ℕ) → IsContinued line a → IsContinued line b → a ≡ b
+front_one line a b h k = one_front a b 92 (sym h.whole ∙ k.whole)
+
+-- it has no comment
+pub no_hash_in : (line front : List ℕ) → IsContinued line front → Each is_no_hash line
+no_hash_in line front h = subst (Each is_no_hash) (sym h.whole) (each_append is_no_hash front (92 ∷ []) h.each (refl, tt))
+
+each_front : (p : ℕ → Bool) (xs ys : List ℕ) → Each p (xs ++ ys) → Each p xs
+each_front p [] ys h = tt
+each_front p (x ∷ xs) ys h = (h.0, each_front p xs ys h.1)
+
+-- and what stands before its last byte has none
+pub front_is : (line front : List ℕ) → Each is_no_hash line → line ≡ front ++ 92 ∷ [] → Each is_no_hash front
+front_is line front each e = each_front is_no_hash front (92 ∷ []) (subst (Each is_no_hash) e each)
+
+-- a line that ends in a backslash has no body
+pub backslash_no_body : (line front : List ℕ) → Each is_no_hash line → line ≡ front ++ 92 ∷ [] → (body : List ℕ) → IsBody line body → ⊥
+backslash_no_body line front each e body h =
+    let note = (body_cut line line [] (no_hash_cut line each) body h).1 in
+    false≢true (sym note ∙ ap (ends_with is_backslash) e ∙ ends_with_last is_backslash front 92)
+
+pub body_or_front : (line body front : List ℕ) → IsBody line body → IsContinued line front → ⊥
+body_or_front line body front h k = backslash_no_body line front (no_hash_in line front k) k.whole body h
+
+-- a line with a `#` does not go on
+pub hash_no_front : (line body rest : List ℕ) → IsCut is_no_hash line body rest → 0 < length rest → (front : List ℕ) → IsContinued line front → ⊥
+hash_no_front line body rest c some front k =
+    let t = one_cut is_no_hash body rest line [] c.each c.stops (no_hash_in line front k) tt (sym c.whole ∙ sym (append-nil line)) in
+    omega (arith, some, ap length t.1)
+
+-- what the first `#` behind a body needs
+pub hash_bad : (line body rest : List ℕ) → IsCut is_no_hash line body rest → (x : ℕ) (note : List ℕ) → rest ≡ x ∷ note → ((is_before_comment body ≡ true) → (is_comment note ≡ true) → ⊥) → (other : List ℕ) → IsBody line other → ⊥
+hash_bad line body rest c x note e bad other h = let t = subst (IsNote body) e (body_cut line body rest c other h).1 in bad t.0 t.1
+
+-- a line that ends in a backslash, behind a byte that it may not go on behind
+pub bad_front : (line front : List ℕ) → line ≡ front ++ 92 ∷ [] → ends_with may_go_on front ≡ false → (other : List ℕ) → IsContinued line other → ⊥
+bad_front line front e bad other k =
+    let same = one_front front other 92 (sym e ∙ k.whole) in
+    false≢true (sym bad ∙ ap (ends_with may_go_on) same ∙ k.behind)
+
+-- ---- joined lines
+
+pub joined_one : (lines a b : List (List ℕ)) → Joined lines a → Joined lines b → a ≡ b
+joined_one [] a b h k = h ∙ sym k
+joined_one (line ∷ lines) a b (inl (body, more, is, e, rest)) (inl (body_b, more_b, is_b, e_b, rest_b)) =
+    let one = body_one line body body_b is is_b in
+    let others = joined_one lines more more_b rest rest_b in
+    cc
+joined_one (line ∷ lines) a b (inl (body, more, is, e, rest)) (inr (front, body_b, more_b, is_b, e_b, rest_b)) = absurd (body_or_front line body front is is_b)
+joined_one (line ∷ lines) a b (inr (front, body, more, is, e, rest)) (inl (body_b, more_b, is_b, e_b, rest_b)) = absurd (body_or_front line body_b front is_b is)
+joined_one (line ∷ lines) a b (inr (front, body, more, is, e, rest)) (inr (front_b, body_b, more_b, is_b, e_b, rest_b)) =
+    let one = front_one line front front_b is is_b in
+    let others = joined_one lines (body ∷ more) (body_b ∷ more_b) rest rest_b in
+    cc

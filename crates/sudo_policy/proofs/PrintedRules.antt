@@ -1,0 +1,238 @@
+-- The line of a rule is read as tokens that spell the rule.
+use Rattle.std.proofs.Common.{◌≡◌, ℕ, ◌≤◌, Bool, true, false, List, [], ◌∷◌, ◌++◌, length, Option, Some, None, refl, sym, ap, subst, ◌∙◌, inl, inr, append_assoc, append-nil, arith}
+use Rattle.std.specs.Prelude.{codes, IfSome, unwrap_or}
+use Rattle.std.specs.Option.{option_or}
+use Rattle.sudo_words.specs.Word.{is_name, is_host_name}
+use Rattle.sudo_words.specs.Moment.{IsMoment, stamp}
+use Rattle.sudo_words.proofs.MomentLemmas.{stamp_is, stamp_spells}
+use Rattle.sudo_policy.specs.declared.entry.Signed.{Signed}
+use Rattle.sudo_policy.specs.declared.entry.Item.{Item}
+use Rattle.sudo_policy.specs.declared.entry.CmndItem.{CmndItem}
+use Rattle.sudo_policy.specs.declared.entry.Rule.{Rule}
+use Rattle.sudo_policy.specs.declared.entry.Entry.TheVariants as entries
+use Rattle.sudo_policy.specs.declared.tree.Spec.{Spec}
+use Rattle.sudo_policy.specs.declared.tree.Part.{Part}
+use Rattle.sudo_policy.specs.declared.tree.Line.TheVariants as lines
+use Rattle.sudo_policy.specs.Lex.{Tok, word, mark, Lexes}
+use Rattle.sudo_policy.specs.Printing.{item_text, cmnd_item_text, signed_text, names_text, date_text, tag_text, rule_text}
+use Rattle.sudo_policy.specs.Policy.{IsItem, IsList, IsRule}
+use Rattle.sudo_policy.specs.Grammar.{Date, Bounds, Users, Hosts, begins_spaced, SpellsItem, SpellsDates, SpellsTags, SpellsSpec, SpellsPart, SpellsTree, last_tag}
+use Rattle.sudo_policy.specs.Inheritance.{entries_of}
+use Rattle.sudo_policy.proofs.SpecTexts.{BeginsWord}
+use Rattle.sudo_policy.proofs.PrintedWords.{IsWord, name_word, host_word, literal, stamp_word}
+use Rattle.sudo_policy.proofs.PrintedLists.{stop, lex_word, lex_mark, list_toks, lex_list, list_spelled, item_toks, lex_item, item_spelled, cmnd_toks, lex_cmnd, cmnd_spelled, IsPrinted, IsSpelled}
+
+-- ---- lists of users and of hosts
+
+pub lex_users : IsPrinted (IsList (IsItem is_name)) names_text (list_toks item_toks)
+lex_users = lex_list (λ (s : Signed (Item (List ℕ))). IsItem is_name s.item) (signed_text item_text) item_toks (lex_item is_name name_word)
+
+pub lex_hosts : IsPrinted (IsList (IsItem is_host_name)) names_text (list_toks item_toks)
+lex_hosts = lex_list (λ (s : Signed (Item (List ℕ))). IsItem is_host_name s.item) (signed_text item_text) item_toks (lex_item is_host_name host_word)
+
+pub users_spelled : IsSpelled (IsList (IsItem is_name)) Users (list_toks item_toks)
+users_spelled = list_spelled (λ (s : Signed (Item (List ℕ))). IsItem is_name s.item) (SpellsItem is_name) item_toks (item_spelled is_name)
+
+pub hosts_spelled : IsSpelled (IsList (IsItem is_host_name)) Hosts (list_toks item_toks)
+hosts_spelled = list_spelled (λ (s : Signed (Item (List ℕ))). IsItem is_host_name s.item) (SpellsItem is_host_name) item_toks (item_spelled is_host_name)
+
+items_spaced : (xs : List (Signed (Item (List ℕ)))) (rest : List Tok) → 1 ≤ length xs → begins_spaced (list_toks item_toks true xs ++ rest) ≡ true
+items_spaced [] rest h = absurd (omega arith)
+items_spaced (x ∷ xs) rest h = refl
+
+items_word : (a : Bool) (xs : List (Signed (Item (List ℕ)))) (rest : List Tok) → 1 ≤ length xs → BeginsWord (list_toks item_toks a xs ++ rest)
+items_word a [] rest h = absurd (omega arith)
+items_word a (x ∷ xs) rest h = tt
+
+-- ---- dates
+
+date_toks : List ℕ → Option ℕ → List Tok
+date_toks option None = []
+date_toks option (Some moment) = word true 0 option ∷ mark false 61 ∷ word false 0 (stamp moment) ∷ []
+
+given : List ℕ → Option ℕ → List Date
+given option None = []
+given option (Some moment) = record { word = option; moment = moment } ∷ []
+
+date_front : (option time rest : List ℕ) → (option ++ codes "=" ++ time ++ codes " ") ++ rest ≡ option ++ (61 ∷ (time ++ (32 ∷ rest)))
+date_front option time rest = simp append_assoc
+
+lex_date : (option time rest : List ℕ) (ts : List Tok) → IsWord option → IsWord time → Lexes (32 ∷ rest) ts
+    → Lexes (32 ∷ ((option ++ codes "=" ++ time ++ codes " ") ++ rest)) (word true 0 option ∷ mark false 61 ∷ word false 0 time ∷ ts)
+lex_date option time rest ts name is h =
+    subst (λ (x : List ℕ). Lexes (32 ∷ x) (word true 0 option ∷ mark false 61 ∷ word false 0 time ∷ ts)) (sym (date_front option time rest))
+    (lex_word true 0 option (61 ∷ (time ++ (32 ∷ rest))) (mark false 61 ∷ word false 0 time ∷ ts) name (stop 61 (time ++ (32 ∷ rest)) refl refl)
+    (lex_mark false 61 (time ++ (32 ∷ rest)) (word false 0 time ∷ ts) refl (lex_word false 0 time (32 ∷ rest) ts is (stop 32 rest refl refl) h)))
+
+lex_option : (option : List ℕ) (o : Option ℕ) (rest : List ℕ) (ts : List Tok) → IsWord option → IfSome o IsMoment → Lexes (32 ∷ rest) ts → Lexes (32 ∷ (date_text option o ++ rest)) (date_toks option o ++ ts)
+unfolding date_toks
+lex_option option None rest ts name is h = h
+lex_option option (Some t) rest ts name is h = lex_date option (stamp t) rest ts name (stamp_word t is) h
+
+option_spelled : (option : List ℕ) (o : Option ℕ) (ts : List Tok) (dates : List Date) (rest : List Tok) → IfSome o IsMoment → begins_spaced ts ≡ true → SpellsDates ts dates rest
+    → SpellsDates (date_toks option o ++ ts) (given option o ++ dates) rest
+unfolding date_toks given
+option_spelled option None ts dates rest is spaced h = h
+option_spelled option (Some t) ts dates rest is spaced h = (true, stamp t, ts, stamp_spells (stamp t) t (stamp_is t is), refl, spaced, h)
+
+option_spaced : (option : List ℕ) (o : Option ℕ) (ts : List Tok) → begins_spaced ts ≡ true → begins_spaced (date_toks option o ++ ts) ≡ true
+unfolding date_toks
+option_spaced option None ts h = h
+option_spaced option (Some t) ts h = refl
+
+dates_of : Option ℕ → Option ℕ → List Date
+dates_of before after = given (codes "NOTBEFORE") before ++ (given (codes "NOTAFTER") after ++ [])
+
+dates_bounds : (before after : Option ℕ) → Bounds None None (dates_of before after) before after
+unfolding given dates_of
+dates_bounds None None = (refl, refl)
+dates_bounds None (Some n) = (None, Some n, inr (refl, refl, refl, refl), (refl, refl))
+dates_bounds (Some m) None = (Some m, None, inl (refl, refl, refl, refl), (refl, refl))
+dates_bounds (Some m) (Some n) = (Some m, None, inl (refl, refl, refl, refl), (Some m, Some n, inr (refl, refl, refl, refl), (refl, refl)))
+
+dates_spelled : (before after : Option ℕ) (rest : List Tok) → IfSome before IsMoment → IfSome after IsMoment → begins_spaced rest ≡ true
+    → SpellsDates (date_toks (codes "NOTBEFORE") before ++ (date_toks (codes "NOTAFTER") after ++ rest)) (dates_of before after) rest
+unfolding dates_of
+dates_spelled before after rest b a spaced =
+    option_spelled (codes "NOTBEFORE") before (date_toks (codes "NOTAFTER") after ++ rest) (given (codes "NOTAFTER") after ++ []) rest b (option_spaced (codes "NOTAFTER") after rest spaced)
+    (option_spelled (codes "NOTAFTER") after rest [] rest a spaced refl)
+
+-- ---- tags
+
+tag_toks : Bool → List Tok
+tag_toks true = word true 0 (codes "NOPASSWD") ∷ mark false 58 ∷ []
+tag_toks false = []
+
+tags_of : Bool → List Bool
+tags_of true = true ∷ []
+tags_of false = []
+
+lex_tag : (t : Bool) (rest : List ℕ) (ts : List Tok) → Lexes (32 ∷ rest) ts → Lexes (32 ∷ (tag_text t ++ rest)) (tag_toks t ++ ts)
+unfolding tag_toks
+lex_tag true rest ts h =
+    lex_word true 0 (codes "NOPASSWD") (58 ∷ 32 ∷ rest) (mark false 58 ∷ ts) (literal (codes "NOPASSWD") (omega arith) refl) (stop 58 (32 ∷ rest) refl refl) (lex_mark false 58 (32 ∷ rest) ts refl h)
+lex_tag false rest ts h = h
+
+tag_spelled : (t : Bool) (rest : List Tok) → SpellsTags (tag_toks t ++ rest) (tags_of t) rest
+unfolding tag_toks tags_of
+tag_spelled true rest = (true, false, rest, refl, refl)
+tag_spelled false rest = refl
+
+tag_spaced : (t : Bool) (rest : List Tok) → begins_spaced rest ≡ true → begins_spaced (tag_toks t ++ rest) ≡ true
+unfolding tag_toks
+tag_spaced true rest h = refl
+tag_spaced false rest h = h
+
+tag_given : (t : Bool) → unwrap_or (last_tag (tags_of t)) false ≡ t
+unfolding tags_of
+tag_given true = refl
+tag_given false = refl
+
+-- ---- the line
+
+-- what is printed behind the targets, and how it is read
+what_toks : Rule → List Tok
+what_toks r = date_toks (codes "NOTBEFORE") r.not_before ++ (date_toks (codes "NOTAFTER") r.not_after ++ (tag_toks r.nopasswd ++ (cmnd_toks true r.cmnd ++ [])))
+
+lex_what : (r : Rule) → IsRule r
+    → Lexes (32 ∷ (date_text (codes "NOTBEFORE") r.not_before ++ (date_text (codes "NOTAFTER") r.not_after ++ (tag_text r.nopasswd ++ (signed_text cmnd_item_text r.cmnd ++ []))))) (what_toks r)
+unfolding what_toks
+lex_what r is =
+    let cmnd_text = signed_text cmnd_item_text r.cmnd ++ [] in
+    let cmnd = lex_cmnd true r.cmnd [] [] is.cmnd refl tt in
+    let tagged = lex_tag r.nopasswd cmnd_text (cmnd_toks true r.cmnd ++ []) cmnd in
+    let dated = lex_option (codes "NOTAFTER") r.not_after (tag_text r.nopasswd ++ cmnd_text) (tag_toks r.nopasswd ++ (cmnd_toks true r.cmnd ++ [])) (literal (codes "NOTAFTER") (omega arith) refl) is.not_after tagged in
+    lex_option (codes "NOTBEFORE") r.not_before (date_text (codes "NOTAFTER") r.not_after ++ (tag_text r.nopasswd ++ cmnd_text)) (date_toks (codes "NOTAFTER") r.not_after ++ (tag_toks r.nopasswd ++ (cmnd_toks true r.cmnd ++ [])))
+    (literal (codes "NOTBEFORE") (omega arith) refl) is.not_before dated
+
+behind_users : Rule → List Tok
+behind_users r = list_toks item_toks true r.hosts ++ (mark true 61 ∷ mark true 40 ∷ (list_toks item_toks false r.runas ++ (mark false 41 ∷ what_toks r)))
+
+pub line_toks : Rule → List Tok
+line_toks r = list_toks item_toks false r.users ++ behind_users r
+
+who_lexes : (r : Rule) (what : List ℕ) → IsRule r → Lexes (32 ∷ what) (what_toks r)
+    → Lexes (names_text r.users ++ (32 ∷ (names_text r.hosts ++ (32 ∷ 61 ∷ 32 ∷ 40 ∷ (names_text r.runas ++ (41 ∷ 32 ∷ what)))))) (line_toks r)
+unfolding line_toks behind_users
+who_lexes r what is h =
+    let closed = lex_mark false 41 (32 ∷ what) (what_toks r) refl h in
+    let inner = lex_users false r.runas (41 ∷ 32 ∷ what) (mark false 41 ∷ what_toks r) is.runas (stop 41 (32 ∷ what) refl refl) closed in
+    let opened = lex_mark true 40 (names_text r.runas ++ (41 ∷ 32 ∷ what)) (list_toks item_toks false r.runas ++ (mark false 41 ∷ what_toks r)) refl inner in
+    let equals = lex_mark true 61 (32 ∷ 40 ∷ (names_text r.runas ++ (41 ∷ 32 ∷ what))) (mark true 40 ∷ (list_toks item_toks false r.runas ++ (mark false 41 ∷ what_toks r))) refl opened in
+    let hosts = lex_hosts true r.hosts (32 ∷ 61 ∷ 32 ∷ 40 ∷ (names_text r.runas ++ (41 ∷ 32 ∷ what))) (mark true 61 ∷ mark true 40 ∷ (list_toks item_toks false r.runas ++ (mark false 41 ∷ what_toks r))) is.hosts
+    (stop 32 (61 ∷ 32 ∷ 40 ∷ (names_text r.runas ++ (41 ∷ 32 ∷ what))) refl refl) equals in
+    lex_users false r.users (32 ∷ (names_text r.hosts ++ (32 ∷ 61 ∷ 32 ∷ 40 ∷ (names_text r.runas ++ (41 ∷ 32 ∷ what))))) (behind_users r) is.users
+    (stop 32 (names_text r.hosts ++ (32 ∷ 61 ∷ 32 ∷ 40 ∷ (names_text r.runas ++ (41 ∷ 32 ∷ what)))) refl refl) hosts
+
+rule_front : (users hosts runas before after tag cmnd : List ℕ)
+    → (users ++ codes " " ++ hosts ++ codes " = (" ++ runas ++ codes ") ") ++ (before ++ after ++ tag ++ cmnd)
+    ≡ users ++ (32 ∷ (hosts ++ (32 ∷ 61 ∷ 32 ∷ 40 ∷ (runas ++ (41 ∷ 32 ∷ (before ++ (after ++ (tag ++ (cmnd ++ [])))))))))
+rule_front users hosts runas before after tag cmnd = simp (append_assoc, append-nil)
+
+pub rule_lexes : (r : Rule) → IsRule r → Lexes (rule_text r) (line_toks r)
+rule_lexes r is =
+    subst (λ (x : List ℕ). Lexes x (line_toks r))
+    (sym (rule_front (names_text r.users) (names_text r.hosts) (names_text r.runas) (date_text (codes "NOTBEFORE") r.not_before) (date_text (codes "NOTAFTER") r.not_after) (tag_text r.nopasswd) (signed_text cmnd_item_text r.cmnd)))
+    (who_lexes r (date_text (codes "NOTBEFORE") r.not_before ++ (date_text (codes "NOTAFTER") r.not_after ++ (tag_text r.nopasswd ++ (signed_text cmnd_item_text r.cmnd ++ [])))) is (lex_what r is))
+
+-- ---- the tree
+
+spec_of : Rule → Spec
+spec_of r = record { runas = Some r.runas; not_before = r.not_before; not_after = r.not_after; nopasswd = last_tag (tags_of r.nopasswd); cmnd = r.cmnd }
+
+pub part_of : Rule → Part
+part_of r = record { hosts = r.hosts; specs = spec_of r ∷ [] }
+
+spec_spelled : (r : Rule) → IsRule r → SpellsSpec (mark true 40 ∷ (list_toks item_toks false r.runas ++ (mark false 41 ∷ what_toks r))) (spec_of r) []
+unfolding what_toks spec_of
+spec_spelled r is =
+    let cmnd = cmnd_toks true r.cmnd ++ [] in
+    record {
+      behind_runas = what_toks r;
+      dates = dates_of r.not_before r.not_after;
+      behind_dates = tag_toks r.nopasswd ++ cmnd;
+      tags = tags_of r.nopasswd;
+      behind_tags = cmnd;
+      runas = (true, false, list_toks item_toks false r.runas ++ (mark false 41 ∷ what_toks r), mark false 41 ∷ what_toks r, refl, users_spelled false r.runas (mark false 41 ∷ what_toks r) is.runas, refl);
+      dated = dates_spelled r.not_before r.not_after (tag_toks r.nopasswd ++ cmnd) is.not_before is.not_after (tag_spaced r.nopasswd cmnd refl);
+      bounds = dates_bounds r.not_before r.not_after;
+      tagged = tag_spelled r.nopasswd cmnd;
+      passwd = refl;
+      cmnd = cmnd_spelled true r.cmnd [] is.cmnd;
+    }
+
+pub rule_spelled : (r : Rule) → IsRule r → SpellsTree (line_toks r) (lines.Rights r.users (part_of r ∷ []))
+unfolding line_toks behind_users part_of
+rule_spelled r is =
+    let behind = mark true 40 ∷ (list_toks item_toks false r.runas ++ (mark false 41 ∷ what_toks r)) in
+    let part : SpellsPart (behind_users r) (part_of r) [] = record {
+      spaced = true;
+      next = behind;
+      hosts = hosts_spelled true r.hosts (mark true 61 ∷ behind) is.hosts;
+      specs = ([], spec_spelled r is, refl);
+    } in
+    (behind_users r, users_spelled false r.users (behind_users r) is.users, items_spaced r.hosts (mark true 61 ∷ behind) is.hosts.0, ([], part, refl))
+
+pub rule_begins : (r : Rule) → IsRule r → BeginsWord (line_toks r)
+unfolding line_toks
+rule_begins r is = items_word false r.users (behind_users r) is.users.0
+
+-- ---- its one entry is the rule
+
+rule_of_parts : List (Signed (Item (List ℕ))) → List (Signed (Item (List ℕ))) → List (Signed (Item (List ℕ))) → Option ℕ → Option ℕ → Bool → Signed CmndItem → Rule
+rule_of_parts users hosts runas not_before not_after nopasswd cmnd =
+    record { users = users; hosts = hosts; runas = runas; not_before = not_before; not_after = not_after; nopasswd = nopasswd; cmnd = cmnd }
+
+or_none : (o : Option ℕ) → o ≡ option_or o None
+or_none None = refl
+or_none (Some n) = refl
+
+pub rule_entries : (r : Rule) → entries.Rule r ∷ [] ≡ entries_of (lines.Rights r.users (part_of r ∷ []))
+unfolding part_of spec_of rule_of_parts
+rule_entries r =
+    let same : rule_of_parts r.users r.hosts r.runas r.not_before r.not_after r.nopasswd r.cmnd
+    ≡ rule_of_parts r.users r.hosts r.runas (option_or r.not_before None) (option_or r.not_after None) (unwrap_or (last_tag (tags_of r.nopasswd)) false) r.cmnd =
+    ap (λ (x : Option ℕ). rule_of_parts r.users r.hosts r.runas x r.not_after r.nopasswd r.cmnd) (or_none r.not_before)
+    ∙ ap (λ (x : Option ℕ). rule_of_parts r.users r.hosts r.runas (option_or r.not_before None) x r.nopasswd r.cmnd) (or_none r.not_after)
+    ∙ ap (λ (x : Bool). rule_of_parts r.users r.hosts r.runas (option_or r.not_before None) (option_or r.not_after None) x r.cmnd) (sym (tag_given r.nopasswd)) in
+    ap (λ (x : Rule). entries.Rule x ∷ []) same

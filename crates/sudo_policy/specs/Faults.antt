@@ -1,0 +1,23 @@
+-- How faults are shown.
+use Rattle.std.specs.Prelude.{ℕ, List, ◌++◌, codes, decimal}
+use Rattle.sudo_policy.specs.declared.fault.FaultKind.{FaultKind}
+use Rattle.sudo_policy.specs.declared.fault.FaultKind.TheVariants.{TooLong, BadByte, BadWord, Unexpected, UnknownAlias, AliasTwice, Reserved, BadMoment, LeftOut, TooLarge, NoMemory}
+use Rattle.sudo_policy.specs.declared.fault.ReadFault.{ReadFault}
+
+-- its code and name
+abbrev pub kind_text : FaultKind → List ℕ
+kind_text TooLong = codes "S1 TooLong"
+kind_text BadByte = codes "S2 BadByte"
+kind_text BadWord = codes "S3 BadWord"
+kind_text Unexpected = codes "S4 Unexpected"
+kind_text UnknownAlias = codes "S5 UnknownAlias"
+kind_text AliasTwice = codes "S6 AliasTwice"
+kind_text Reserved = codes "S7 Reserved"
+kind_text BadMoment = codes "S8 BadMoment"
+kind_text LeftOut = codes "S9 LeftOut"
+kind_text TooLarge = codes "S10 TooLarge"
+kind_text NoMemory = codes "S11 NoMemory"
+
+-- its kind, and its line in decimal: 0 where there is no text
+abbrev pub fault_text : ReadFault → List ℕ
+fault_text f = kind_text f.kind ++ codes " line " ++ decimal f.line

@@ -1,0 +1,68 @@
+-- A line as words and marks, and where blanks stand between them.
+use Rattle.std.specs.Prelude.{◌≡◌, ℕ, zero, suc, ◌<◌, Bool, true, false, ◌&&◌, ◌||◌, ◌==◌, nat_le, if◌then◌else◌, List, [], ◌∷◌, ◌++◌, length}
+use Rattle.sudo_words.specs.Word.{is_letter_or_digit}
+use Rattle.sudo_words.specs.Command.{is_escaped}
+use Rattle.sudo_policy.specs.Span.{Each}
+
+-- the bytes of a text: tab, newline, and the printed ones of ASCII
+abbrev pub is_text_byte : ℕ → Bool
+is_text_byte b = (b == 9) || (b == 10) || (nat_le 32 b && nat_le b 126)
+
+-- a blank is a space or a tab
+abbrev pub is_blank : ℕ → Bool
+is_blank b = (b == 32) || (b == 9)
+
+-- `=`, `,`, `:`, `(`, `)` and `"` stand for themselves
+abbrev pub is_mark : ℕ → Bool
+is_mark b = (b == 61) || (b == 44) || (b == 58) || (b == 40) || (b == 41) || (b == 34)
+
+-- a word is made of letters, digits and `. _ / + - @ %`
+abbrev pub is_word_byte : ℕ → Bool
+is_word_byte b = is_letter_or_digit b || (b == 46) || (b == 95) || (b == 47) || (b == 43) || (b == 45) || (b == 64) || (b == 37)
+
+-- and of `,`, `:` and `=`, each behind a backslash
+abbrev pub is_word_text : List ℕ → Bool
+is_word_text [] = true
+is_word_text (b ∷ []) = is_word_byte b
+is_word_text (b ∷ c ∷ rest) = if b == 92 then is_escaped c && is_word_text rest else is_word_byte b && is_word_text (c ∷ rest)
+
+-- whether a word before these bytes would go on with them
+abbrev pub goes_on : List ℕ → Bool
+goes_on [] = false
+goes_on (b ∷ []) = is_word_byte b
+goes_on (b ∷ c ∷ rest) = is_word_byte b || ((b == 92) && is_escaped c)
+
+-- so many `!`
+abbrev pub bangs : ℕ → List ℕ
+bangs zero = []
+bangs (suc n) = 33 ∷ bangs n
+
+-- A word, with how many `!` stand directly before it, or a mark. The Bool says whether blanks stand before.
+pub data Tok : Type 0 where
+  word : Bool → ℕ → List ℕ → Tok
+  mark : Bool → ℕ → Tok
+
+abbrev pub is_spaced : Tok → Bool
+is_spaced (word spaced n text) = spaced
+is_spaced (mark spaced byte) = spaced
+
+abbrev pub text_of : Tok → List ℕ
+text_of (word spaced n text) = bangs n ++ text
+text_of (mark spaced byte) = byte ∷ []
+
+-- whether there is any
+abbrev pub is_some_blank : List ℕ → Bool
+is_some_blank [] = false
+is_some_blank (b ∷ bs) = true
+
+-- the token is one, and ends where the rest begins
+abbrev pub IsTok : Tok → List ℕ → Type 0
+IsTok (word spaced n text) rest = (0 < length text) × (is_word_text text ≡ true) × (goes_on rest ≡ false)
+IsTok (mark spaced byte) rest = is_mark byte ≡ true
+
+-- The bytes are these tokens in order, with blanks before those that say so and after the last.
+abbrev pub Lexes : List ℕ → List Tok → Type 0
+Lexes bytes [] = Each is_blank bytes
+Lexes bytes (t ∷ ts) =
+    (blanks rest : List ℕ) × Each is_blank blanks × (is_spaced t ≡ is_some_blank blanks) × IsTok t rest
+    × (bytes ≡ blanks ++ (text_of t ++ rest)) × Lexes rest ts

@@ -1,0 +1,8 @@
+-- What only private clauses and proofs cite: no public contract of the desk speaks of it.
+-- the tokens of a line
+pub mod Tokens
+pub mod Cuts
+-- what is kept beside a policy's entries
+pub mod Measures
+pub mod Lengths
+pub mod Scope

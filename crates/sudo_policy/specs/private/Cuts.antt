@@ -1,0 +1,18 @@
+-- Fronts that a line is cut at. For private clauses.
+use Rattle.std.specs.Prelude.{◌≡◌, ℕ, ◌<◌, Bool, true, false, ◌==◌, List, ◌++◌, length}
+use Rattle.sudo_policy.specs.Lex.{is_word_text, goes_on}
+
+abbrev pub is_bang : ℕ → Bool
+is_bang b = b == 33
+
+-- the bytes are the text of a word, which may be empty, and a rest that does not go on with it
+pub record IsWordCut (bytes word rest : List ℕ) : Type 0 where
+  pub whole : bytes ≡ word ++ rest
+  pub text : is_word_text word ≡ true
+  pub stops : goes_on rest ≡ false
+
+-- the bytes are a part of a word, and a rest
+pub record IsBehindPart (bytes part rest : List ℕ) : Type 0 where
+  pub whole : bytes ≡ part ++ rest
+  pub text : is_word_text part ≡ true
+  pub some : 0 < length part

@@ -1,0 +1,90 @@
+//! Policies as they grow, entry by entry.
+
+ghost use Rattle.std.specs.Prelude.{◌≡◌, ◌++◌, ◌∷◌, [], IfErr, OnOk};
+ghost use Rattle.sudo_policy.specs.declared.fault.LineFault.TheVariants as fault;
+ghost use Rattle.sudo_policy.specs.Policy.{IsEntry, IsPolicy};
+ghost use Rattle.sudo_policy.specs.private.Scope.{Adds, IsDraft, IsWhole};
+
+use crate::entry::Entry;
+use crate::fault::LineFault;
+use crate::lengths::line_len;
+use crate::scope::Scope;
+use std::alloc::Global;
+
+/// The most entries that a policy has.
+const MOST_ENTRIES: usize = 16_384;
+
+/// The most that a policy weighs.
+const MOST_WEIGHT: usize = 131_072;
+
+/// The most bytes that its canonical text has: 16 MiB.
+const MOST_TEXT: usize = 16_777_216;
+
+/// Adds one more to a list.
+fn push<T: Drop>(items: &mut Vec<T>, item: T) -> Result<(), LineFault>
+    ensures found { OnOk result (items.new.items ≡ items.old.items ++ item ∷ []) }
+    ensures only { IfErr result (λ e. e ≡ fault.NoMemory) }
+{
+    items.push(item)?;
+    Ok(())
+}
+
+/// Entries that are a policy, what is kept of their aliases, their weight, and the length of their canonical text.
+#[derive(Drop)]
+pub struct Draft {
+    pub entries: Vec<Entry>,
+    pub scope: Scope,
+    pub weight: usize,
+    pub text_len: usize,
+}
+
+impl Draft {
+    /// The draft without entries.
+    pub fn new(alloc: Global) -> Draft
+        ensures draft { IsDraft result }
+        ensures none { result.entries.items ≡ [] }
+    {
+        Draft {
+            entries: Vec::new(alloc),
+            scope: Scope::new(alloc),
+            weight: 0,
+            text_len: 0,
+        }
+    }
+
+    /// Adds one more entry behind its own.
+    ///
+    /// `AliasTwice` comes where the entry defines an alias that is defined in its kind, else `UnknownAlias` where it uses one
+    /// that is not, else `TooLarge` where the whole is past a limit. After a fault it is a draft no longer.
+    pub fn add(&mut self, alloc: Global, entry: Entry) -> Result<(), LineFault>
+        requires draft { IsDraft self.old }
+        requires entry { IsEntry entry }
+        ensures found { OnOk result (Adds self.old self.new (entry ∷ [])) }
+        ensures only { IsPolicy (self.old.entries.items ++ entry ∷ []) → IfErr result (λ e. e ≡ fault.NoMemory) }
+    {
+        self.enter(alloc, &entry)?;
+        push(&mut self.entries, entry)
+    }
+
+    /// Enters what an entry defines, weighs and is long, and leaves the entries as they are. Its faults are those of `add`.
+    fn enter(&mut self, alloc: Global, entry: &Entry) -> Result<(), LineFault>
+        requires draft { IsDraft self.old }
+        requires entry { IsEntry entry.now }
+        ensures found { OnOk result (IsWhole (self.old.entries.items ++ entry.now ∷ []) self.new.scope self.new.weight self.new.text_len) }
+        ensures only { IsPolicy (self.old.entries.items ++ entry.now ∷ []) → IfErr result (λ e. e ≡ fault.NoMemory) }
+        ensures entries { self.new.entries ≡ self.old.entries }
+    {
+        let place = self.entries.len();
+        let more = self.scope.enter(alloc, place, entry)?;
+        let len = line_len(entry);
+        if place >= MOST_ENTRIES
+            || more > MOST_WEIGHT - self.weight
+            || len > MOST_TEXT - self.text_len
+        {
+            return Err(LineFault::TooLarge);
+        }
+        self.weight += more;
+        self.text_len += len;
+        Ok(())
+    }
+}

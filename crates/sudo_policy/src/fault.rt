@@ -1,0 +1,115 @@
+//! Why a text is no policy.
+
+ghost use Rattle.std.specs.Prelude.{◌≡◌};
+ghost use Rattle.sudo_policy.specs.declared.fault.LineFault.TheVariants.{NoMemory};
+
+use std::alloc::{AllocError, AllocFailed};
+use std::error::Error;
+use std::fmt;
+use sudo_words::{CmndFault, WordFault};
+
+/// What is wrong with a text that is no policy. It is shown as its code and name.
+#[derive(Clone, Copy, Debug, PartialEq, Eq)]
+pub enum FaultKind {
+    /// The text has more than 16 MiB.
+    TooLong,
+    /// A byte is neither a tab, a newline nor a printed one of ASCII.
+    BadByte,
+    /// A word is not of the form that its place asks for.
+    BadWord,
+    /// A word or mark stands where the grammar has none, or one is missing.
+    Unexpected,
+    /// An alias is used that no line above defines.
+    UnknownAlias,
+    /// An alias is defined twice in its kind.
+    AliasTwice,
+    /// A reserved word stands in the place of an alias's name.
+    Reserved,
+    /// A time is none, or out of range.
+    BadMoment,
+    /// The form is one of sudoers that the desk leaves out.
+    LeftOut,
+    /// The policy is past a limit.
+    TooLarge,
+    /// Memory ran out.
+    NoMemory,
+}
+
+impl fmt::Display for FaultKind {
+    ghost use Rattle.std.specs.Prelude.{Some};
+    ghost use Rattle.sudo_policy.specs.Faults.{kind_text};
+
+    ghost output = { λ k. Some (kind_text k) };
+
+    fn fmt<W: fmt::Write>(&self, f: &mut fmt::Formatter<W>) -> fmt::Result {
+        f.write_str(match self {
+            FaultKind::TooLong => "S1 TooLong",
+            FaultKind::BadByte => "S2 BadByte",
+            FaultKind::BadWord => "S3 BadWord",
+            FaultKind::Unexpected => "S4 Unexpected",
+            FaultKind::UnknownAlias => "S5 UnknownAlias",
+            FaultKind::AliasTwice => "S6 AliasTwice",
+            FaultKind::Reserved => "S7 Reserved",
+            FaultKind::BadMoment => "S8 BadMoment",
+            FaultKind::LeftOut => "S9 LeftOut",
+            FaultKind::TooLarge => "S10 TooLarge",
+            FaultKind::NoMemory => "S11 NoMemory",
+        })
+    }
+}
+
+impl Error for FaultKind {}
+
+/// Why a text was not read: what is wrong, and in which line, from 1. It is shown as `S5 UnknownAlias line 3`.
+#[derive(Clone, Copy, Debug, PartialEq, Eq)]
+pub struct ReadFault {
+    /// The line.
+    pub line: usize,
+    /// What is wrong.
+    pub kind: FaultKind,
+}
+
+impl fmt::Display for ReadFault {
+    ghost use Rattle.std.specs.Prelude.{Some};
+    ghost use Rattle.sudo_policy.specs.Faults.{fault_text};
+
+    ghost output = { λ f. Some (fault_text f) };
+
+    fn fmt<W: fmt::Write>(&self, f: &mut fmt::Formatter<W>) -> fmt::Result {
+        let kind = self.kind;
+        let line = self.line;
+        write!(f, "{kind} line {line}")
+    }
+}
+
+impl Error for ReadFault {}
+
+/// What is wrong with a line.
+#[derive(Clone, Copy)]
+pub enum LineFault {
+    BadWord,
+    Unexpected,
+    UnknownAlias,
+    AliasTwice,
+    Reserved,
+    BadMoment,
+    LeftOut,
+    TooLarge,
+    NoMemory,
+}
+
+impl From<AllocError> for LineFault {
+    ghost from_gives = { λ _ e. e ≡ NoMemory };
+
+    fn from(_e: AllocError) -> LineFault {
+        LineFault::NoMemory
+    }
+}
+
+impl<T: Drop> From<AllocFailed<T>> for LineFault {
+    ghost from_gives = { λ _ e. e ≡ NoMemory };
+
+    fn from(_e: AllocFailed<T>) -> LineFault {
+        LineFault::NoMemory
+    }
+}

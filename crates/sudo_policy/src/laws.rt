@@ -1,0 +1,22 @@
+//! Laws of policies' texts, each the contract of a function that does nothing.
+
+ghost use Rattle.std.specs.Prelude.{◌≡◌, ℕ, List};
+ghost use Rattle.sudo_policy.specs.declared.entry.Entry.{Entry as Entered};
+ghost use Rattle.sudo_policy.specs.Spelling.{Spells};
+ghost use Rattle.sudo_policy.specs.Policy.{IsPolicy};
+ghost use Rattle.sudo_policy.specs.Printing.{canon};
+
+/// No text spells two policies.
+pub fn one_policy()
+    ensures { (text : List ℕ) (a b : List Entered) → Spells text a → Spells text b → a ≡ b }
+{}
+
+/// The canonical text of a policy spells it.
+pub fn canon_spells()
+    ensures { (es : List Entered) → IsPolicy es → Spells (canon es) es }
+{}
+
+/// Two policies of one canonical text are one policy.
+pub fn canon_is_one()
+    ensures { (a b : List Entered) → IsPolicy a → IsPolicy b → canon a ≡ canon b → a ≡ b }
+{}

@@ -1,0 +1,29 @@
+//! Policies: what they are made of, which texts spell them, and how they grow and are printed. Reading a text is left to `sudo_syntax`.
+#![tactic(auto)]
+
+mod alias_laws;
+mod aliases;
+mod copying;
+mod draft;
+mod entry;
+mod extending;
+mod fault;
+mod laws;
+mod lengths;
+mod policy;
+mod printing;
+mod scope;
+mod token;
+mod tree;
+
+pub use alias_laws::alias_weighs_its_list;
+pub use copying::{copied_lists, copied_names};
+pub use draft::Draft;
+pub use entry::{CmndItem, Entry, Item, Rule, Signed};
+pub use extending::extend;
+pub use fault::{FaultKind, LineFault, ReadFault};
+pub use laws::{canon_is_one, canon_spells, one_policy};
+pub use policy::Policy;
+pub use printing::print_policy;
+pub use token::{Token, cut_text, is_blank, is_text, tokens};
+pub use tree::{Definition, Line, Part, Settings, Spec};

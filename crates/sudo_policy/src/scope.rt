@@ -1,0 +1,91 @@
+//! The aliases that the entries of a policy define, of all four kinds.
+
+ghost use Rattle.std.specs.Prelude.{◌≡◌, ◌++◌, ◌∷◌, [], ◌↔◌, IsTrue, List, length, reverse, MatchOption, IfOk, IfErr};
+ghost use Rattle.std.specs.List.{AllByRecursion};
+ghost use Rattle.sudo_policy.specs.private.Measures.{stopped};
+ghost use Rattle.sudo_policy.specs.Policy.{IsPlaced, entry_weight};
+ghost use Rattle.sudo_policy.specs.private.Scope.{IsScope, RuleIsKnown, rule_weight_in};
+ghost use Rattle.sudo_policy.specs.declared.entry.Entry.{Entry as Entered};
+ghost use Rattle.sudo_policy.specs.declared.fault.LineFault.TheVariants as fault;
+
+use crate::aliases::Aliases;
+use crate::entry::{Entry, Rule};
+use crate::fault::LineFault;
+use std::alloc::Global;
+use std::slice;
+
+/// The aliases of all four kinds. One name may stand in several.
+#[derive(Drop)]
+pub struct Scope {
+    pub users: Aliases,
+    pub runas: Aliases,
+    pub hosts: Aliases,
+    pub cmnds: Aliases,
+}
+
+impl Scope {
+    /// No aliases.
+    pub fn new(alloc: Global) -> Scope
+        ensures { IsScope [] result }
+    {
+        Scope {
+            users: Aliases::new(alloc),
+            runas: Aliases::new(alloc),
+            hosts: Aliases::new(alloc),
+            cmnds: Aliases::new(alloc),
+        }
+    }
+
+    /// How much the rule weighs, where each alias in it is defined in the kind of its place.
+    pub fn rule_weight(&self, rule: &Rule) -> Option<usize>
+        ensures { MatchOption result (¬ RuleIsKnown self.now rule.now) (λ w. RuleIsKnown self.now rule.now × (w ≡ stopped (rule_weight_in self.now rule.now))) }
+    {
+        let users = self.users.measured(rule.users.as_slice())?;
+        let hosts = self.hosts.measured(rule.hosts.as_slice())?;
+        let runas = self.runas.measured(rule.runas.as_slice())?;
+        let cmnd = self.cmnds.measured(slice::from_ref(&rule.cmnd))?;
+        Some(users.with(hosts).with(runas).with(cmnd).weight)
+    }
+
+    /// Whether each alias in the rules is defined in the kind of its place.
+    pub fn knows(&self, rules: &[Rule]) -> bool
+        ensures { IsTrue result ↔ AllByRecursion (RuleIsKnown self.now) rules.now }
+    {
+        for rule in rules {
+            if self.rule_weight(rule).is_none() {
+                return false;
+            }
+        }
+        true
+    }
+
+    /// Adds what an entry at this place defines, and gives what the entry weighs.
+    ///
+    /// `AliasTwice` comes where its name is defined in its kind, else `UnknownAlias` where it uses an alias that is not, else
+    /// `TooLarge` where its depth is past the limit.
+    pub fn enter(&mut self, alloc: Global, place: usize, entry: &Entry) -> Result<usize, LineFault>
+        ensures found { (es : List Entered) → IsScope es self.old → place ≡ length es
+            → IfOk result (λ w. IsPlaced (reverse es) entry.now × IsScope (es ++ entry.now ∷ []) self.new × (w ≡ stopped (entry_weight (reverse es) entry.now))) }
+        ensures only { (es : List Entered) → IsScope es self.old → IsPlaced (reverse es) entry.now → IfErr result (λ e. e ≡ fault.NoMemory) }
+    {
+        match entry {
+            Entry::UserAlias(name, list) => {
+                self.users.define(alloc, name, place, list.as_slice())?;
+                Ok(0)
+            }
+            Entry::RunasAlias(name, list) => {
+                self.runas.define(alloc, name, place, list.as_slice())?;
+                Ok(0)
+            }
+            Entry::HostAlias(name, list) => {
+                self.hosts.define(alloc, name, place, list.as_slice())?;
+                Ok(0)
+            }
+            Entry::CmndAlias(name, list) => {
+                self.cmnds.define(alloc, name, place, list.as_slice())?;
+                Ok(0)
+            }
+            Entry::Rule(rule) => self.rule_weight(rule).ok_or(LineFault::UnknownAlias),
+        }
+    }
+}

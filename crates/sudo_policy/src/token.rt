@@ -1,0 +1,205 @@
+//! The words and marks of a line.
+
+ghost use Rattle.std.specs.Prelude.{◌≡◌, ◌≤◌, true, false, length, take, drop, take_while, MatchResult, MatchOption, List, IfOk, IfErr, IfSome, IsSome, None, ℕ, ◌++◌};
+ghost use Rattle.std.specs.List.{list_all};
+ghost use Rattle.sudo_policy.specs.declared.fault.LineFault.TheVariants.{NoMemory};
+ghost use Rattle.sudo_words.specs.Command as command;
+ghost use Rattle.sudo_policy.specs.Span.{IsCut};
+ghost use Rattle.sudo_policy.specs.private.Cuts.{is_bang, IsBehindPart, IsWordCut};
+ghost use Rattle.sudo_policy.specs.Lex as lex;
+ghost use Rattle.sudo_policy.specs.private.Tokens as lexing;
+
+use crate::fault::LineFault;
+use std::alloc::Global;
+use std::str;
+
+/// A word or a mark of a line, each with whether blanks stand before it, and a word with how many `!` stand directly before it.
+#[derive(Clone, Copy)]
+pub enum Token<'a> {
+    Word(bool, usize, &'a str),
+    Mark(bool, u8),
+}
+
+fn is_text_byte(b: u8) -> bool
+    ensures { result ≡ lex.is_text_byte b }
+{
+    b == b'\t' || b == b'\n' || (b >= b' ' && b <= b'~')
+}
+
+pub fn is_blank(b: u8) -> bool
+    ensures { result ≡ lex.is_blank b }
+{
+    b == b' ' || b == b'\t'
+}
+
+fn is_mark(b: u8) -> bool
+    ensures { result ≡ lex.is_mark b }
+{
+    b == b'=' || b == b',' || b == b':' || b == b'(' || b == b')' || b == b'"'
+}
+
+fn is_word_byte(b: u8) -> bool
+    ensures { result ≡ lex.is_word_byte b }
+{
+    match b {
+        b'a'..=b'z' | b'A'..=b'Z' | b'0'..=b'9' => true,
+        b'.' | b'_' | b'/' | b'+' | b'-' | b'@' | b'%' => true,
+        _ => false,
+    }
+}
+
+/// A byte that a word has behind a backslash alone.
+fn is_escaped(b: u8) -> bool
+    ensures { result ≡ command.is_escaped b }
+{
+    b == b',' || b == b':' || b == b'='
+}
+
+/// How many blanks stand at the front.
+fn blank_len(bytes: &[u8]) -> usize
+    ensures { result ≡ length (take_while lex.is_blank bytes.now) }
+{
+    bytes.iter().take_while(|b| is_blank(**b)).count()
+}
+
+/// How many `!` stand at the front.
+fn bang_len(bytes: &[u8]) -> usize
+    ensures { result ≡ length (take_while is_bang bytes.now) }
+{
+    bytes.iter().take_while(|b| **b == b'!').count()
+}
+
+/// How many bytes at the front a text may have.
+fn text_len(bytes: &[u8]) -> usize
+    ensures { result ≡ length (take_while lex.is_text_byte bytes.now) }
+{
+    bytes.iter().take_while(|b| is_text_byte(**b)).count()
+}
+
+/// Whether a text may have each of the bytes. Each is looked at, also behind one that no text has: so many are tested at once.
+pub fn is_text(bytes: &[u8]) -> bool
+    ensures { result ≡ list_all lex.is_text_byte bytes.now }
+{
+    let mut each = true;
+    for byte in bytes {
+        each &= is_text_byte(*byte);
+    }
+    each
+}
+
+/// The bytes at the front that a text may have, and what follows them.
+pub fn cut_text(bytes: &[u8]) -> (&[u8], &[u8])
+    ensures { IsCut lex.is_text_byte bytes.now result.0.now result.1.now }
+{
+    bytes.split_at(text_len(bytes))
+}
+
+/// The blanks at the front, and what follows them.
+pub fn cut_blanks(bytes: &[u8]) -> (&[u8], &[u8])
+    ensures { IsCut lex.is_blank bytes.now result.0.now result.1.now }
+{
+    bytes.split_at(blank_len(bytes))
+}
+
+/// The `!` at the front, and what follows them.
+fn cut_bangs(bytes: &[u8]) -> (&[u8], &[u8])
+    ensures { IsCut is_bang bytes.now result.0.now result.1.now }
+{
+    bytes.split_at(bang_len(bytes))
+}
+
+/// What follows a byte of a word, or a backslash and the byte that it escapes, where such a part of a word stands at the front.
+fn behind_part(bytes: &[u8]) -> Option<&[u8]>
+    ensures found { IfSome result (λ rest. (part : List ℕ) × IsBehindPart bytes.now part rest.now) }
+    ensures none { result ≡ None → lex.goes_on bytes.now ≡ false }
+{
+    match bytes {
+        [byte, rest @ ..] if is_word_byte(*byte) => Some(rest),
+        [b'\\', escaped, rest @ ..] if is_escaped(*escaped) => Some(rest),
+        _ => None,
+    }
+}
+
+/// How long the word at the front is, which may be empty.
+fn word_len(bytes: &[u8]) -> usize
+    ensures within { result ≤ length bytes.now }
+    ensures cut { IsWordCut bytes.now (take result bytes.now) (drop result bytes.now) }
+{
+    let mut rest = bytes;
+    while let Some(after) = behind_part(rest) {
+        rest = after;
+    }
+    bytes.len() - rest.len()
+}
+
+/// The word at the front, which may be empty, and what follows it.
+fn cut_word(bytes: &[u8]) -> (&[u8], &[u8])
+    ensures { IsWordCut bytes.now result.0.now result.1.now }
+{
+    bytes.split_at(word_len(bytes))
+}
+
+/// A word's bytes as text: they are ASCII.
+fn text_of(word: &[u8]) -> Option<&str>
+    ensures found { IfSome result (λ s. s.now ≡ word.now) }
+    ensures only { lex.is_word_text word.now ≡ true → IsSome result }
+{
+    str::from_utf8(word).ok()
+}
+
+/// What is wrong where no word begins with this byte, which is no `!`: wildcards, quotes, escapes and comments are left out,
+/// marks and blanks may not follow a `!`, and no other byte has a place.
+fn stray(byte: u8) -> LineFault {
+    match byte {
+        b'*' | b'?' | b'[' | b']' | b'"' | b'\\' | b'#' => LineFault::LeftOut,
+        _ if is_blank(byte) || is_mark(byte) => LineFault::Unexpected,
+        _ => LineFault::BadWord,
+    }
+}
+
+/// What is wrong with bytes that begin with no word.
+fn no_word(bytes: &[u8]) -> LineFault {
+    match bytes {
+        [] => LineFault::Unexpected,
+        [first, ..] => stray(*first),
+    }
+}
+
+/// The first token, if there is one, and what follows it.
+pub fn next_token(bytes: &[u8]) -> Result<Option<(Token<'_>, &[u8])>, LineFault>
+    ensures first { IfOk result (λ o. MatchOption o (lexing.IsLast bytes.now) (λ x. lexing.IsFirst bytes.now (lexing.tok x.0) x.1.now)) }
+    ensures fault { IfErr result (λ e. lexing.NoLexing bytes.now) }
+{
+    let (blanks, rest) = cut_blanks(bytes);
+    let spaced = !blanks.is_empty();
+    let [first, others @ ..] = rest else {
+        return Ok(None);
+    };
+    if is_mark(*first) {
+        return Ok(Some((Token::Mark(spaced, *first), others)));
+    }
+    let (bangs, behind) = cut_bangs(rest);
+    let (word, after) = cut_word(behind);
+    if word.is_empty() {
+        return Err(no_word(behind));
+    }
+    match text_of(word) {
+        Some(text) => Ok(Some((Token::Word(spaced, bangs.len(), text), after))),
+        None => Err(LineFault::BadWord),
+    }
+}
+
+/// The tokens of a line.
+#[tactic(auto, using(crate::proofs::Lexing::leads_end))]
+pub fn tokens(alloc: Global, line: &[u8]) -> Result<Vec<Token<'_>>, LineFault>
+    ensures found { IfOk result (λ v. lex.Lexes line.now (lexing.toks v.items)) }
+    ensures only { (ts : List lex.Tok) → lex.Lexes line.now ts → MatchResult result (λ v. lexing.toks v.items ≡ ts) (λ e. e ≡ NoMemory) }
+{
+    let mut out = Vec::with_capacity(alloc, line.len() / 4)?;
+    let mut rest = line;
+    while let Some((token, after)) = next_token(rest)? {
+        out.push(token)?;
+        rest = after;
+    }
+    Ok(out)
+}

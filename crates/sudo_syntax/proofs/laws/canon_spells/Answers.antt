@@ -1,5 +1,0 @@
-use Rattle.sudo_syntax.proofs.Canon as canonical
-use Rattle.sudo_syntax.proofs.laws.canon_spells.Goals as goal
-
-pub returns : goal.returns
-returns c = canonical.canon_spells
