@@ -16,11 +16,11 @@ use Rattle.sudo_policy.specs.declared.entry.Entry.{Entry}
 use Rattle.sudo_policy.proofs.One.{text_one}
 use Rattle.sudo_decide.specs.declared.invocation.Invocation.{Invocation}
 use Rattle.review.specs.Beyond.{IsInvocation, LiesBeyond, SomethingBeyond}
-use Rattle.review.specs.declared.scope.Scope.{Scope}
+use Rattle.sudo_decide.specs.declared.scope.Scope.{Scope}
 use Rattle.desk_commands.specs.Comparing.{ComparesFiles, IsShown, case_text}
-use Rattle.desk_commands.specs.declared.status.Status.{Status}
-use Rattle.desk_commands.specs.declared.status.Status.TheVariants.{Done, Found}
-use Rattle.desk_commands.proofs.Runs.{same_run}
+use Rattle.desk_jobs.specs.declared.status.Status.{Status}
+use Rattle.desk_jobs.specs.declared.status.Status.TheVariants.{Done, Found}
+use Rattle.desk_jobs.proofs.Runs.{same_run}
 
 -- ---- no space stands in what a case says
 

@@ -5,7 +5,7 @@ use Rattle.sudo_policy.specs.declared.entry.Entry.{Entry}
 use Rattle.review.specs.Answer.{AreTooMany}
 use Rattle.review.specs.declared.fault.BeyondFault.{BeyondFault}
 use Rattle.review.specs.declared.fault.BeyondFault.TheVariants.{NoMemory, TooManyCases}
-use Rattle.review.specs.declared.scope.Scope.{Scope}
+use Rattle.sudo_decide.specs.declared.scope.Scope.{Scope}
 use Rattle.desk_commands.specs.Comparing.{EndsComparing}
 use Rattle.desk_commands.specs.declared.refusal.Refusal.TheVariants.{Beyond}
 

@@ -8,9 +8,9 @@ use Rattle.desk_store.specs.Sets.{IsNothing, Lists, SameSet}
 use Rattle.desk.specs.Opening.{Opens}
 use Rattle.desk_commands.specs.Files.{IsDeskOf}
 use Rattle.desk_commands.specs.Keeping.{AnswersLines, IsAnswerOfDesk, IsDeskAnswer, PrintsFile, PrintsReport, held_in}
-use Rattle.desk_commands.specs.declared.status.Status.{Status}
-use Rattle.desk_commands.specs.declared.task.Job.{Job}
-use Rattle.desk_commands.specs.declared.task.Job.TheVariants.{Beyond, Check, Decide, Deliver, Print, Review, Serve}
+use Rattle.desk_jobs.specs.declared.status.Status.{Status}
+use Rattle.desk_jobs.specs.declared.task.Job.{Job}
+use Rattle.desk_jobs.specs.declared.task.Job.TheVariants.{Beyond, Check, Decide, Deliver, Print, Review, Serve}
 
 pub opened : (Empty Desk : Type 0) (recorded text : List ℕ) (old new : Message → Type 0) → Opens Empty Desk recorded text old new → SameSet (held_in Desk old) new
 opened Empty Desk recorded text old new opens = elim opens [

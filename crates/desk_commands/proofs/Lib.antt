@@ -1,17 +1,3 @@
-pub mod Rows
-pub mod Wanted
-pub mod Stamps
-pub mod Options
-pub mod Commands
-pub mod Building
-pub mod Args
-pub mod Runs
-pub mod Filled
-pub mod Complete
-pub mod ReviewWords
-pub mod Placed
-pub mod ArgsPlaced
-pub mod ByPlace
 pub mod LineLemmas
 pub mod KeepingLemmas
 pub mod ComplaintLemmas

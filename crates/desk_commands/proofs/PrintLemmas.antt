@@ -13,7 +13,7 @@ use Rattle.desk_commands.specs.Files.{EndsMaking, IsDeskOf}
 use Rattle.desk_commands.specs.Printing.{EndsPrinting, EndsTaking, HasManyLines, HasRights, HasUnknownHost, IsPrinted, IsTaken, PrintsHost, lines_printed}
 use Rattle.desk_commands.specs.declared.refusal.Refusal.{Refusal as Reason}
 use Rattle.desk_commands.specs.declared.refusal.Refusal.TheVariants as reasons
-use Rattle.desk_commands.specs.declared.status.Status.TheVariants.{Done}
+use Rattle.desk_jobs.specs.declared.status.Status.TheVariants.{Done}
 
 -- the host is known where its being unknown is not the answer
 known_where : {P : Type 0} (known : Bool) → (P ↔ (known ≡ false)) → (P → ⊥) → known ≡ true

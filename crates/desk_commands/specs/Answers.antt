@@ -14,18 +14,10 @@ use Rattle.desk_commands.specs.Printing.{EndsPrinting, PrintsHost}
 use Rattle.desk_commands.specs.Reviewing.{EndsReviewing, ReviewsDesk}
 use Rattle.desk_commands.specs.declared.refusal.Refusal.{Refusal as Reason}
 use Rattle.desk_commands.specs.declared.refusal.Refusal.TheVariants.{BadWord, Beyond as Compared, Desk, FileFailed, NoMemory, Policy, Roster}
-use Rattle.desk_commands.specs.declared.status.Status.{Status}
-use Rattle.desk_commands.specs.declared.status.Status.TheVariants.{Denied, Done, Found, LinesRefused, Refused}
-use Rattle.desk_commands.specs.declared.task.Job.{Job}
-use Rattle.desk_commands.specs.declared.task.Job.TheVariants.{Beyond, Check, Decide, Deliver, Print, Review}
-
--- the program's exit status
-abbrev pub exit_status : Status → ℕ
-exit_status Done = 0
-exit_status Denied = 1
-exit_status Found = 1
-exit_status LinesRefused = 2
-exit_status Refused = 2
+use Rattle.desk_jobs.specs.declared.status.Status.{Status}
+use Rattle.desk_jobs.specs.declared.status.Status.TheVariants.{Denied, Done}
+use Rattle.desk_jobs.specs.declared.task.Job.{Job}
+use Rattle.desk_jobs.specs.declared.task.Job.TheVariants.{Beyond, Check, Decide, Deliver, Print, Review}
 
 -- how the program ends after it
 abbrev pub status_of : Decision → Status

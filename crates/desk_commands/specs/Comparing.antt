@@ -8,12 +8,12 @@ use Rattle.sudo_decide.specs.declared.invocation.Invocation.{Invocation}
 use Rattle.review.specs.Answer as review
 use Rattle.review.specs.Beyond.{LiesBeyond, SomethingBeyond}
 use Rattle.review.specs.declared.fault.BeyondFault.TheVariants as faults
-use Rattle.review.specs.declared.scope.Scope.{Scope}
+use Rattle.sudo_decide.specs.declared.scope.Scope.{Scope}
 use Rattle.desk_commands.specs.Files.{IsFaultOf}
 use Rattle.desk_commands.specs.declared.refusal.Refusal.{Refusal as Reason}
 use Rattle.desk_commands.specs.declared.refusal.Refusal.TheVariants as reasons
-use Rattle.desk_commands.specs.declared.status.Status.{Status}
-use Rattle.desk_commands.specs.declared.status.Status.TheVariants.{Done, Found}
+use Rattle.desk_jobs.specs.declared.status.Status.{Status}
+use Rattle.desk_jobs.specs.declared.status.Status.TheVariants.{Done, Found}
 
 -- each word behind a space
 abbrev pub spaced : List (List ℕ) → List ℕ

@@ -14,10 +14,10 @@ use Rattle.desk_commands.specs.Delivering.{answer_lines, status_after}
 use Rattle.desk_commands.specs.Files.{IsDeskOf}
 use Rattle.desk_commands.specs.Lines.{from_relay, lines_of}
 use Rattle.desk_commands.specs.Printing.{HasRights, IsPrinted}
-use Rattle.desk_commands.specs.declared.status.Status.{Status}
-use Rattle.desk_commands.specs.declared.status.Status.TheVariants.{Done}
-use Rattle.desk_commands.specs.declared.task.Job.{Job}
-use Rattle.desk_commands.specs.declared.task.Job.TheVariants.{Deliver, Print, Review}
+use Rattle.desk_jobs.specs.declared.status.Status.{Status}
+use Rattle.desk_jobs.specs.declared.status.Status.TheVariants.{Done}
+use Rattle.desk_jobs.specs.declared.task.Job.{Job}
+use Rattle.desk_jobs.specs.declared.task.Job.TheVariants.{Deliver, Print, Review}
 
 -- what is held of a desk: nothing, where none is kept
 abbrev pub held_in : (Desk : Type 0) → (holds : Message → Type 0) → Message → Type 0

@@ -1,7 +1,4 @@
-pub mod Faults
 pub mod Refusals
-pub mod CommandLine
-pub mod Operands
 pub mod Files
 pub mod Lines
 pub mod Delivering
@@ -10,4 +7,3 @@ pub mod Reviewing
 pub mod Comparing
 pub mod Keeping
 pub mod Answers
-pub mod private

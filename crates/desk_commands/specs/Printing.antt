@@ -18,8 +18,8 @@ use Rattle.desk_commands.specs.Files.{EndsMaking, IsDeskOf}
 use Rattle.desk_commands.specs.Lines.{AreBrought, from_relay, lines_of}
 use Rattle.desk_commands.specs.declared.refusal.Refusal.{Refusal as Reason}
 use Rattle.desk_commands.specs.declared.refusal.Refusal.TheVariants as reasons
-use Rattle.desk_commands.specs.declared.status.Status.{Status}
-use Rattle.desk_commands.specs.declared.status.Status.TheVariants.{Done}
+use Rattle.desk_jobs.specs.declared.status.Status.{Status}
+use Rattle.desk_jobs.specs.declared.status.Status.TheVariants.{Done}
 
 -- `line 3: M2 NotCanonical` and a newline
 abbrev pub complaint : ℕ → Refusal → List ℕ

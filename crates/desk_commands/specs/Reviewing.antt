@@ -10,8 +10,8 @@ use Rattle.desk_commands.specs.Files.{EndsMaking, IsDeskOf}
 use Rattle.desk_commands.specs.Printing.{IsTaken}
 use Rattle.desk_commands.specs.declared.refusal.Refusal.{Refusal as Reason}
 use Rattle.desk_commands.specs.declared.refusal.Refusal.TheVariants as reasons
-use Rattle.desk_commands.specs.declared.status.Status.{Status}
-use Rattle.desk_commands.specs.declared.status.Status.TheVariants.{Done}
+use Rattle.desk_jobs.specs.declared.status.Status.{Status}
+use Rattle.desk_jobs.specs.declared.status.Status.TheVariants.{Done}
 
 -- `review` answers with the report at the moment, over the desk that the files make and the messages that lines of the input
 -- bring. It says why the other lines bring none.

@@ -1,6 +1,6 @@
 //! Answers of jobs.
 
-use crate::status::Status;
+use desk_jobs::Status;
 
 /// What a job answers.
 #[derive(Drop)]

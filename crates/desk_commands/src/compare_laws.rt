@@ -5,10 +5,10 @@ ghost use Rattle.sudo_policy.specs.Spelling.{Spells};
 ghost use Rattle.sudo_policy.specs.declared.entry.Entry.{Entry};
 ghost use Rattle.sudo_decide.specs.declared.invocation.Invocation.{Invocation};
 ghost use Rattle.review.specs.Beyond.{IsInvocation, SomethingBeyond};
-ghost use Rattle.review.specs.declared.scope.Scope.{Scope};
+ghost use Rattle.sudo_decide.specs.declared.scope.Scope.{Scope};
 ghost use Rattle.desk_commands.specs.Comparing.{ComparesFiles, case_text};
-ghost use Rattle.desk_commands.specs.declared.status.Status.{Status};
-ghost use Rattle.desk_commands.specs.declared.status.Status.TheVariants.{Done};
+ghost use Rattle.desk_jobs.specs.declared.status.Status.{Status};
+ghost use Rattle.desk_jobs.specs.declared.status.Status.TheVariants.{Done};
 
 /// Two cases with one line are one, and no case has the line `none`.
 pub fn case_tells()

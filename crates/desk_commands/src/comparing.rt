@@ -6,7 +6,7 @@ ghost use Rattle.desk_commands.specs.Comparing.{ComparesFiles, EndsComparing, Is
 
 use crate::answer::Answer;
 use crate::refusal::Refusal;
-use crate::status::Status;
+use desk_jobs::Status;
 use review::{Scope, beyond};
 use std::alloc::{AllocError, Global};
 use std::fmt::Write as _;

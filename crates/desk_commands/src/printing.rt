@@ -11,7 +11,7 @@ ghost use Rattle.desk_store.specs.Sets.{IsNothing, Lists};
 ghost use Rattle.desk.specs.HostFile.{AreLines, Line};
 ghost use Rattle.desk.specs.Refusals.{IsWant};
 ghost use Rattle.desk.specs.declared.refusal.Refusal.TheVariants as refusal;
-ghost use Rattle.desk_commands.specs.declared.status.Status.TheVariants.{Done};
+ghost use Rattle.desk_jobs.specs.declared.status.Status.TheVariants.{Done};
 
 use crate::lines::read_lines;
 use crate::opening::open;

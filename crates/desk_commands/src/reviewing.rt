@@ -6,7 +6,7 @@ ghost use Rattle.desk_store.specs.Memory.{Holds};
 ghost use Rattle.desk_store.specs.Sets.{IsNothing};
 ghost use Rattle.desk_commands.specs.Files.{IsDeskOf};
 ghost use Rattle.desk_commands.specs.Reviewing.{EndsReviewing, ReviewsDesk};
-ghost use Rattle.desk_commands.specs.declared.status.Status.TheVariants.{Done};
+ghost use Rattle.desk_jobs.specs.declared.status.Status.TheVariants.{Done};
 
 use crate::opening::open;
 use crate::printing::take_lines;

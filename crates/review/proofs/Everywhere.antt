@@ -10,7 +10,7 @@ use Rattle.sudo_decide.specs.declared.decision.Decision.TheVariants.{Deny, Allow
 use Rattle.sudo_decide.specs.declared.invocation.Invocation.{Invocation}
 use Rattle.sudo_decide.specs.Decision.{takes_part}
 use Rattle.sudo_decide.specs.Reach.{rules_in}
-use Rattle.review.specs.declared.scope.Scope.{Scope}
+use Rattle.sudo_decide.specs.declared.scope.Scope.{Scope}
 use Rattle.review.specs.Standing.{users, hosts, runas, commands}
 use Rattle.review.specs.Alike.{Alike}
 use Rattle.review.specs.Beyond.{IsInvocation, IsInScope, Allows, LiesBeyond, SomethingBeyond}

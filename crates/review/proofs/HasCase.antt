@@ -7,7 +7,7 @@ use Rattle.sudo_policy.specs.declared.entry.Entry.{Entry}
 use Rattle.sudo_policy.specs.Policy.{IsPolicy}
 use Rattle.sudo_decide.specs.Reach.{rules_in}
 use Rattle.review.specs.declared.cases.Cases.{Cases}
-use Rattle.review.specs.declared.scope.Scope.{Scope}
+use Rattle.sudo_decide.specs.declared.scope.Scope.{Scope}
 use Rattle.review.specs.Standing.{users, hosts, runas, commands}
 use Rattle.review.specs.Beyond.{Agrees}
 use Rattle.review.specs.Cases.{AreCases, run_of}

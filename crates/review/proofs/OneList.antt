@@ -15,7 +15,7 @@ use Rattle.sudo_words.specs.declared.cmnd.Cmnd.{Cmnd}
 use Rattle.sudo_policy.specs.declared.entry.Entry.{Entry}
 use Rattle.review.specs.declared.cases.Cases.{Cases}
 use Rattle.review.specs.declared.run.Run.{Run}
-use Rattle.review.specs.declared.scope.Scope.{Scope}
+use Rattle.sudo_decide.specs.declared.scope.Scope.{Scope}
 use Rattle.review.specs.Standing.{users, hosts, runas, commands}
 use Rattle.review.specs.Cases.{args_order, IsEachOnce, has, has_args, args_with, paths, dirs, run_of, AreNameCases, ArePathCases, IsFreshFile, AreParts, AreCommandCases, AreCases}
 use Rattle.review.proofs.Lists.{contains_head}

@@ -10,7 +10,7 @@ use Rattle.sudo_decide.specs.declared.invocation.Invocation.{Invocation}
 use Rattle.sudo_decide.specs.Decision.{Decides}
 use Rattle.sudo_decide.proofs.Speakers.{one_decision, some_decision}
 use Rattle.review.specs.declared.cases.Cases.{Cases}
-use Rattle.review.specs.declared.scope.Scope.{Scope}
+use Rattle.sudo_decide.specs.declared.scope.Scope.{Scope}
 use Rattle.review.specs.Beyond.{IsInScope, LiesBeyond, SomethingBeyond}
 use Rattle.review.specs.Cases.{product, invocation_of, of_run, of_target, of_host, of_user, invocations}
 use Rattle.review.proofs.DecisionLemmas.{not_both}

@@ -10,7 +10,7 @@ use Rattle.sudo_decide.specs.declared.invocation.Invocation.{Invocation}
 use Rattle.sudo_decide.specs.Reach.{rules_in}
 use Rattle.review.specs.declared.cases.Cases.{Cases}
 use Rattle.review.specs.declared.run.Run.{Run}
-use Rattle.review.specs.declared.scope.Scope.{Scope}
+use Rattle.sudo_decide.specs.declared.scope.Scope.{Scope}
 use Rattle.review.specs.Standing.{users, hosts, runas, commands}
 use Rattle.review.specs.Beyond.{Agrees, IsScope, IsInvocation, IsInScope, IsGap, LiesBeyond, SomethingBeyond}
 use Rattle.review.specs.Cases.{AreCases, invocation_of, of_run, of_target, of_host, of_user, invocations}

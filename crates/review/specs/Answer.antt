@@ -3,7 +3,7 @@ use Rattle.std.specs.Prelude.{◌≡◌, ℕ, ◌<◌, ◌≤◌, List, ◌∷�
 use Rattle.std.specs.List.{AllByRecursion}
 use Rattle.sudo_policy.specs.declared.entry.Entry.{Entry}
 use Rattle.sudo_decide.specs.declared.invocation.Invocation.{Invocation}
-use Rattle.review.specs.declared.scope.Scope.{Scope}
+use Rattle.sudo_decide.specs.declared.scope.Scope.{Scope}
 use Rattle.review.specs.declared.cases.Cases.{Cases}
 use Rattle.review.specs.Beyond.{IsGap}
 use Rattle.review.specs.Cases.{AreCases, product, invocations}

@@ -18,7 +18,7 @@ use Rattle.sudo_decide.specs.declared.invocation.Invocation.{Invocation}
 use Rattle.sudo_decide.specs.Reach.{rules_in}
 use Rattle.review.specs.declared.cases.Cases.{Cases}
 use Rattle.review.specs.declared.run.Run.{Run}
-use Rattle.review.specs.declared.scope.Scope.{Scope}
+use Rattle.sudo_decide.specs.declared.scope.Scope.{Scope}
 use Rattle.review.specs.Standing.{users, hosts, runas, commands}
 
 -- ---- orders: texts in byte order, and lists of texts by the first that differs

@@ -8,7 +8,7 @@ use Rattle.grants.specs.declared.outcome.Window.{Window}
 use Rattle.review.specs.declared.cases.Cases.{Cases}
 use Rattle.review.specs.declared.need.Need.{Need}
 use Rattle.review.specs.declared.need.Need.TheVariants.{Needed, Needless, Unknown}
-use Rattle.review.specs.declared.scope.Scope.{Scope}
+use Rattle.sudo_decide.specs.declared.scope.Scope.{Scope}
 use Rattle.review.specs.Answer.{AreTooMany, most_cases}
 use Rattle.review.specs.Beyond.{SomethingBeyond}
 use Rattle.review.specs.Cases.{AreCases, product}

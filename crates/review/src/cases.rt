@@ -12,9 +12,9 @@ use crate::moments::moment_cases;
 use crate::names::name_cases;
 use crate::run::Run;
 use crate::runs::run_cases;
-use crate::scope::Scope;
 use crate::standing::{push_hosts, push_targets, push_users};
 use std::alloc::Global;
+use sudo_decide::Scope;
 use sudo_policy::Policy;
 use sudo_words::{HostName, Items, Moment, Name, NoMemory};
 

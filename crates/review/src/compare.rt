@@ -7,10 +7,9 @@ ghost use Rattle.review.specs.Answer.{IsAnswer, AreTooMany};
 
 use crate::cases::Cases;
 use crate::fault::BeyondFault;
-use crate::scope::Scope;
 use crate::search::first_gap;
 use std::alloc::Global;
-use sudo_decide::Invocation;
+use sudo_decide::{Invocation, Scope};
 use sudo_policy::Policy;
 
 /// The most cases that are tried.

@@ -17,7 +17,7 @@ ghost use Rattle.sudo_decide.specs.Decision.{names_say, cmnd_answer, Decides};
 ghost use Rattle.sudo_decide.specs.Kinds.{list_says_by};
 ghost use Rattle.sudo_decide.specs.Reach.{rules_in};
 ghost use Rattle.review.specs.declared.cases.Cases.{Cases};
-ghost use Rattle.review.specs.declared.scope.Scope.{Scope};
+ghost use Rattle.sudo_decide.specs.declared.scope.Scope.{Scope};
 ghost use Rattle.review.specs.Standing.{names_in, cmnds_in, users, hosts, runas, commands};
 ghost use Rattle.review.specs.Beyond.{Agrees, IsScope, IsInvocation, IsInScope, IsGap, LiesBeyond, SomethingBeyond};
 ghost use Rattle.review.specs.Cases.{AreCases, run_of, behind, product, invocations};

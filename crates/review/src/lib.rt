@@ -23,7 +23,6 @@ mod report_laws;
 mod reporting;
 mod run;
 mod runs;
-mod scope;
 mod search;
 mod standing;
 
@@ -38,4 +37,4 @@ pub use laws::{
 pub use of_desk::report;
 pub use report_laws::{barred_changes_nothing, needless_gives_nothing, one_report, worked_lines};
 pub use reporting::report_of;
-pub use scope::Scope;
+pub use sudo_decide::Scope;

@@ -8,10 +8,10 @@ ghost use Rattle.review.specs.Reporting.{IsSpan, over_both};
 
 use crate::compare::beyond;
 use crate::fault::BeyondFault;
-use crate::scope::Scope;
 use grants::{Window, grant_rules, host_policy};
 use messages::Request;
 use std::alloc::Global;
+use sudo_decide::Scope;
 use sudo_policy::Policy;
 use sudo_syntax::read_policy;
 use sudo_words::{HostName, NoMemory};

@@ -10,6 +10,7 @@ mod laws;
 mod policy;
 mod policy_laws;
 mod rule;
+mod scope;
 
 pub use alias_laws::{
     alias_answers_its_list, alias_keeps_silence, worked_cmnd_aliases, worked_user_aliases,
@@ -22,3 +23,4 @@ pub use laws::{
 };
 pub use policy::decide;
 pub use policy_laws::{aliases_answer_their_lists, one_rule_decides};
+pub use scope::Scope;

@@ -1,8 +1,8 @@
 use Rattle.std.proofs.Common.{◌≡◌, ◌∙◌, List, ℕ, ap, map, string_bytes, sym}
 use Rattle.desk_commands.specs.Answers.{IsAnswer}
 use Rattle.desk_commands.specs.declared.answer.Answer.{Answer}
-use Rattle.desk_commands.specs.declared.task.Job.{Job}
-use Rattle.desk_commands.specs.declared.task.Job.TheVariants.{Deliver}
+use Rattle.desk_jobs.specs.declared.task.Job.{Job}
+use Rattle.desk_jobs.specs.declared.task.Job.TheVariants.{Deliver}
 use Rattle.desk_commands.proofs.AnswerLemmas.{of_job, quietly}
 use Rattle.desk_commands.proofs.running.answered.Goals as goal
 

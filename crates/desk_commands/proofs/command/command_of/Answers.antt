@@ -1,8 +1,0 @@
-use Rattle.std.proofs.Common.{◌≡◌, ap, refl}
-use Rattle.std.proofs.lemmas.Result.{IfOk-weaker}
-use Rattle.desk_commands.proofs.Building.{rules_added}
-use Rattle.desk_commands.proofs.command.command_of.Goals as goal
-
-pub returns : goal.returns
-returns c rules has =
-    IfOk-weaker c.args-2.result _ _ (λ after adds. rules_added c.about.result after _ c.args.args.items rules adds has (rw (c.about.ensures) c.new.ensures.app, rw (c.about.ensures) c.new.ensures.local)) c.args-2.ensures

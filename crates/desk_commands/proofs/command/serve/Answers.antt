@@ -1,5 +1,0 @@
-use Rattle.std.proofs.Common.{[], rules}
-use Rattle.desk_commands.proofs.command.serve.Goals as goal
-
-pub returns : goal.returns
-returns c = c.command_of.ensures _ (c.in_ok-push_option.ensures _ (c.in_ok-push_on_desk.ensures [] (search rules)))

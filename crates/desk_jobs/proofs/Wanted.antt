@@ -1,0 +1,32 @@
+-- A complete command has a value for each argument that the command of its name wants.
+use Rattle.std.specs.Prelude.{◌≡◌, List, Some, codes, if◌then◌else◌}
+use Rattle.std.specs.Str.{bytes_eq}
+use Rattle.std.proofs.Common.{inl, inr, subst, sym}
+use Rattle.clap.specs.Words.{Row, Text}
+use Rattle.desk_jobs.specs.CommandLine.{HaveSome, IsComplete, beyond_args, check_args, decide_args, desk_args}
+
+abbrev pub wants : Text → List Text
+wants name =
+    if bytes_eq name (codes "check") then check_args
+    else (if bytes_eq name (codes "decide") then decide_args
+    else (if bytes_eq name (codes "beyond") then beyond_args
+    else (if bytes_eq name (codes "deliver") then desk_args (codes "RELAY")
+    else (if bytes_eq name (codes "print") then desk_args (codes "HOST")
+    else (if bytes_eq name (codes "review") then desk_args (codes "AT")
+    else desk_args (codes "ADDR"))))))
+
+as_named : (name command : Text) (rows : List Row) → name ≡ command → HaveSome (wants command) rows → HaveSome (wants name) rows
+as_named name command rows is have = subst (λ (n : Text). HaveSome (wants n) rows) (sym is) have
+
+have_wanted : (name : Text) (rows : List Row) → IsComplete (Some (name, rows)) → HaveSome (wants name) rows
+have_wanted name rows (inl p) = as_named name (codes "check") rows p.0 p.1
+have_wanted name rows (inr (inl p)) = as_named name (codes "decide") rows p.0 p.1
+have_wanted name rows (inr (inr (inl p))) = as_named name (codes "beyond") rows p.0 p.1
+have_wanted name rows (inr (inr (inr (inl p)))) = as_named name (codes "deliver") rows p.0 p.1
+have_wanted name rows (inr (inr (inr (inr (inl p))))) = as_named name (codes "print") rows p.0 p.1
+have_wanted name rows (inr (inr (inr (inr (inr (inl p)))))) = as_named name (codes "review") rows p.0 p.1
+have_wanted name rows (inr (inr (inr (inr (inr (inr p)))))) = as_named name (codes "serve") rows p.0 p.1
+
+-- what the command of this name wants
+pub wanted_at : (command name : Text) (rows : List Row) → command ≡ name → IsComplete (Some (name, rows)) → HaveSome (wants command) rows
+wanted_at command name rows same complete = subst (λ (n : Text). HaveSome (wants n) rows) (sym same) (have_wanted name rows complete)

@@ -1,0 +1,5 @@
+pub mod Faults
+pub mod CommandLine
+pub mod Operands
+pub mod Ends
+pub mod private

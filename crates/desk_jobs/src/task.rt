@@ -1,0 +1,83 @@
+//! What the program is told to do.
+
+use crate::text::Text;
+use sudo_decide::{Invocation, Scope};
+use sudo_words::{HostName, Moment};
+
+/// Where a desk keeps its messages.
+#[derive(Drop)]
+pub enum Store {
+    /// In memory alone.
+    Memory,
+    /// In the database of this path.
+    File(Text),
+}
+
+/// Where the parts of a desk stand.
+#[derive(Drop)]
+pub struct Places {
+    /// The path of the roster's file.
+    pub roster: Text,
+    /// The path of the base policy's file.
+    pub base: Text,
+    /// Where its messages are kept.
+    pub store: Store,
+}
+
+/// What the command line says to do.
+#[derive(Drop)]
+pub enum Job {
+    /// Print the canonical text of a file's policy.
+    Check {
+        /// The path of the policy's file.
+        file: Text,
+    },
+    /// Decide one run of a command by a file's policy.
+    Decide {
+        /// The path of the policy's file.
+        file: Text,
+        /// The run.
+        invocation: Invocation,
+    },
+    /// Find what one file's policy allows beyond another's.
+    Beyond {
+        /// The path of the file whose policy may allow more.
+        a: Text,
+        /// The path of the file whose policy it is compared with.
+        b: Text,
+        /// What is fixed of the invocations that are looked at.
+        scope: Scope,
+    },
+    /// Deliver the lines of the input to a desk, and print the answer to each.
+    Deliver {
+        /// The desk's files.
+        places: Places,
+        /// The relay that the lines come from, which the roster may lack.
+        relay: Text,
+    },
+    /// Deliver the lines of the input to a desk, and print a host's file.
+    Print {
+        /// The desk's files.
+        places: Places,
+        /// The host.
+        host: HostName,
+        /// The moment before which no line ends that is printed; all are, where it is left out.
+        after: Option<Moment>,
+    },
+    /// Deliver the lines of the input to a desk, and print its report.
+    Review {
+        /// The desk's files.
+        places: Places,
+        /// The moment that is looked at.
+        at: Moment,
+    },
+    /// Serve a desk over HTTP.
+    Serve {
+        /// The desk's files.
+        places: Places,
+        /// The address to listen at.
+        addr: Text,
+        /// How many connections are served; as many as come, where it is left out.
+        requests: Option<u64>,
+    },
+}
