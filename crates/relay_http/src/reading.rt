@@ -12,10 +12,14 @@ use crate::counted::Counted;
 use crate::line::{Line, scan};
 use crate::request::{MOST_HEAD_BYTES, More, wanted_so_far};
 use crate::routes::Routes;
+use std::alloc::{AllocError, Global};
 use std::io::{self, Read};
 
 /// The most bytes that count: a longest head and a longest content.
-pub const MOST_READ: usize = 24_576;
+const MOST_READ: usize = 24_576;
+
+/// As many zeros.
+const ZEROS: [u8; MOST_READ] = [0; MOST_READ];
 
 /// What is waited for before the bytes are looked at again.
 #[derive(Clone, Copy)]
@@ -28,6 +32,13 @@ enum Awaited {
     Content(usize),
     /// Nothing: it is settled what the bytes ask for.
     Nothing,
+}
+
+/// A buffer for the bytes that count. Zeros that stand somewhere are copied, which costs less than to write one after the other.
+pub fn buffer(alloc: Global) -> Result<Vec<u8>, AllocError>
+    ensures { IfOk result (λ buf. length buf.items ≡ most_read) }
+{
+    Vec::from_slice(alloc, &ZEROS)
 }
 
 /// What is waited for, once these bytes were looked at.

@@ -13,7 +13,7 @@ ghost use Rattle.relay_http.specs.declared.serving.ServeFault.TheVariants.{NoMem
 
 use crate::answering::answered;
 use crate::counted::Counted;
-use crate::reading::{MOST_READ, read_request};
+use crate::reading::{buffer, read_request};
 use crate::request::wanted;
 use crate::routes::Routes;
 use crate::sending::{self, send_reply};
@@ -111,7 +111,7 @@ pub fn serve_one<K: Keeper, R: Read, W: Write>(
         → K.is_up desk.new.keeper ⊎ HasFailed (K.failures desk.old.keeper) (K.failures desk.new.keeper) }
     ensures counts { K.failures desk.old.keeper ≤ K.failures desk.new.keeper }
 {
-    let Ok(mut buf) = vec![in alloc; 0; MOST_READ] else {
+    let Ok(mut buf) = buffer(alloc) else {
         return Err(ServeFault::NoMemory);
     };
     let Ok(routes) = Routes::new(alloc) else {
