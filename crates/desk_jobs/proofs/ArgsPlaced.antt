@@ -1,12 +1,11 @@
 -- The words of `decide` by their places, with any number of arguments at the end.
-use Rattle.std.specs.Prelude.{◌≡◌, ◌++◌, List, [], ◌∷◌, Option, Some, None, ℕ, codes, fold, slice_index_or, true, false, refl}
-use Rattle.std.specs.List.{list_all}
-use Rattle.std.proofs.Common.{◌∙◌, ap, ap₂, append_assoc, sym}
+use Rattle.std.specs.Prelude.{◌≡◌, ◌++◌, List, [], ◌∷◌, Some, None, codes, fold, slice_index_or, false, refl}
+use Rattle.std.proofs.Common.{◌∙◌, ap, ap₂, append_assoc}
 use Rattle.clap.proofs.OnLiterals.{clap_on_literals}
 use Rattle.clap.specs.Faults.{step_fault}
-use Rattle.clap.specs.Kinds.{Kinds, or_else}
+use Rattle.clap.specs.Kinds.{or_else}
 use Rattle.clap.specs.Simple.{Shape, built}
-use Rattle.clap.specs.Walk.{Row, Rule, Text, Walk, finished, nothing_held, positional, rows_after, value}
+use Rattle.clap.specs.Walk.{Row, Text, Walk, finished, positional, value}
 use Rattle.clap.specs.declared.parser.matches.ValueSource.TheVariants.{CommandLine}
 use Rattle.clap.specs.declared.builder.value_parser.Reading.TheVariants as reading
 use Rattle.desk_jobs.specs.CommandLine.{check, desk, values}

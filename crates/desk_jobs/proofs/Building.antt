@@ -1,11 +1,11 @@
 -- What clap's commands stand for once lists of arguments and of commands were added.
-use Rattle.std.proofs.Common.{◌≡◌, ◌++◌, ℕ, List, Bool, Bor, [], ◌∷◌, false, ap, map, refl, ◌∙◌}
+use Rattle.std.proofs.Common.{◌++◌, List, [], ◌∷◌, ap, refl, ◌∙◌}
 use Rattle.std.specs.List.{AllZip}
-use Rattle.clap.specs.Words.{AddsArg, AddsInTurn, AddsSubcommand, App, Rule, app_of, rule_of, shape_of, with_rule, with_subcommand}
+use Rattle.clap.specs.Words.{AddsArg, AddsInTurn, AddsSubcommand, App, Rule, rule_of, shape_of, with_rule, with_subcommand}
 use Rattle.clap.specs.declared.builder.Command.{Command}
 use Rattle.clap.specs.declared.builder.arg.Arg.{Arg}
 use Rattle.desk_jobs.specs.CommandLine as line
-use Rattle.desk_jobs.specs.private.Commands.{AreCommands, HasRule, HasRules, IsCommand, with_rules}
+use Rattle.desk_jobs.specs.private.Commands.{AreCommands, HasRules, IsCommand, with_rules}
 
 -- What holds of two lists, place by place, holds of them with one more item each of which it holds.
 pub one_more : {A B : Type 0} (R : A → B → Type 0) (xs : List A) (ys : List B) (x : A) (y : B) → AllZip R xs ys → R x y → AllZip R (xs ++ x ∷ []) (ys ++ y ∷ [])

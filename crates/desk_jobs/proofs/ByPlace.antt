@@ -1,5 +1,5 @@
 -- Each of the program's commands takes words that are no options by their places.
-use Rattle.std.specs.Prelude.{◌≡◌, ℕ, List, [], ◌∷◌, Some, None, true, codes, slice_index_or, string_bytes, refl}
+use Rattle.std.specs.Prelude.{◌≡◌, ℕ, List, [], ◌∷◌, Some, None, true, codes, slice_index_or, refl}
 use Rattle.std.specs.List.{list_all}
 use Rattle.std.proofs.Common.{◌∙◌, ap, subst, sym}
 use Rattle.clap.proofs.OnLiterals.{clap_on_literals}

@@ -1,5 +1,5 @@
 -- Words that are no options are taken by their places.
-use Rattle.std.specs.Prelude.{◌≡◌, ◌&&◌, ◌||◌, ◌==◌, Bool, true, false, not, List, [], ◌∷◌, ◌++◌, ℕ, Option, Some, None, is_some, if◌then◌else◌, find, fold, option_and_then, option_map, refl}
+use Rattle.std.specs.Prelude.{◌≡◌, ◌&&◌, ◌==◌, Bool, true, false, not, List, [], ◌∷◌, ◌++◌, ℕ, Option, Some, None, is_some, if◌then◌else◌, find, fold, option_and_then, option_map, refl}
 use Rattle.std.specs.List.{list_all}
 use Rattle.std.specs.Option.{option_map_or}
 use Rattle.std.specs.Str.{bytes_eq}

@@ -1,4 +1,3 @@
-use Rattle.std.proofs.Common.{◌≡◌, ap, refl}
 use Rattle.std.proofs.lemmas.Result.{IfOk-weaker}
 use Rattle.desk_jobs.proofs.Building.{rules_added}
 use Rattle.desk_jobs.proofs.command.command_of.Goals as goal

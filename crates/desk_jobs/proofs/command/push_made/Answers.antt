@@ -1,4 +1,4 @@
-use Rattle.std.proofs.Common.{◌≡◌, IfOk, subst}
+use Rattle.std.proofs.Common.{IfOk, subst}
 use Rattle.desk_jobs.specs.private.Commands.{IsCommand}
 use Rattle.desk_jobs.proofs.Building.{one_more}
 use Rattle.desk_jobs.proofs.command.push_made.Goals as goal

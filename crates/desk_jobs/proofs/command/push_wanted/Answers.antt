@@ -1,4 +1,4 @@
-use Rattle.std.proofs.Common.{◌≡◌, ◌++◌, ◌<◌, ◌+◌, ℕ, List, Bor, map, take, get_or, length, sym, [], ◌∷◌, append_assoc}
+use Rattle.std.proofs.Common.{◌++◌, ◌<◌, ◌+◌, ℕ, List, Bor, map, take, get_or, length, [], ◌∷◌, append_assoc}
 use Rattle.std.proofs.lemmas.List.{take_more, map-append}
 use Rattle.clap.specs.Words.{Rule}
 use Rattle.clap.specs.declared.builder.arg.Arg.{Arg}

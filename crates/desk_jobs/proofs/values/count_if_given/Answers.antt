@@ -1,6 +1,6 @@
 use Rattle.std.proofs.Common.{◌≡◌, ◌∙◌, ℕ, Some, true, false, ap, refl, sym}
 use Rattle.std.specs.Str.Parse.{digits_value}
-use Rattle.clap.specs.Words.{first_of, found_of, rows_of}
+use Rattle.clap.specs.Words.{found_of, rows_of}
 use Rattle.desk_jobs.specs.CommandLine.{is_count}
 use Rattle.desk_jobs.proofs.Options.{counted, counts, no_count, not_counted}
 use Rattle.desk_jobs.proofs.Rows.{first_rows}
