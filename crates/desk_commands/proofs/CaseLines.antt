@@ -15,7 +15,7 @@ use Rattle.sudo_policy.specs.Spelling.{Spells}
 use Rattle.sudo_policy.specs.declared.entry.Entry.{Entry}
 use Rattle.sudo_policy.proofs.One.{text_one}
 use Rattle.sudo_decide.specs.declared.invocation.Invocation.{Invocation}
-use Rattle.review.specs.Beyond.{IsInvocation, LiesBeyond, SomethingBeyond}
+use Rattle.sudo_beyond.specs.Beyond.{IsInvocation, LiesBeyond, SomethingBeyond}
 use Rattle.sudo_decide.specs.declared.scope.Scope.{Scope}
 use Rattle.desk_commands.specs.Comparing.{ComparesFiles, IsShown, case_text}
 use Rattle.desk_jobs.specs.declared.status.Status.{Status}

@@ -2,9 +2,9 @@
 use Rattle.std.proofs.Common.{◌≡◌, ℕ, List, refl}
 use Rattle.sudo_policy.specs.Spelling.{Spells}
 use Rattle.sudo_policy.specs.declared.entry.Entry.{Entry}
-use Rattle.review.specs.Answer.{AreTooMany}
-use Rattle.review.specs.declared.fault.BeyondFault.{BeyondFault}
-use Rattle.review.specs.declared.fault.BeyondFault.TheVariants.{NoMemory, TooManyCases}
+use Rattle.sudo_beyond.specs.Answer.{AreTooMany}
+use Rattle.sudo_beyond.specs.declared.fault.BeyondFault.{BeyondFault}
+use Rattle.sudo_beyond.specs.declared.fault.BeyondFault.TheVariants.{NoMemory, TooManyCases}
 use Rattle.sudo_decide.specs.declared.scope.Scope.{Scope}
 use Rattle.desk_commands.specs.Comparing.{EndsComparing}
 use Rattle.desk_commands.specs.declared.refusal.Refusal.TheVariants.{Beyond}

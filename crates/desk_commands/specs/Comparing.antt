@@ -5,9 +5,9 @@ use Rattle.sudo_words.specs.Moment.{stamp}
 use Rattle.sudo_policy.specs.Spelling.{Spells}
 use Rattle.sudo_policy.specs.declared.entry.Entry.{Entry}
 use Rattle.sudo_decide.specs.declared.invocation.Invocation.{Invocation}
-use Rattle.review.specs.Answer as review
-use Rattle.review.specs.Beyond.{LiesBeyond, SomethingBeyond}
-use Rattle.review.specs.declared.fault.BeyondFault.TheVariants as faults
+use Rattle.sudo_beyond.specs.Answer as review
+use Rattle.sudo_beyond.specs.Beyond.{LiesBeyond, SomethingBeyond}
+use Rattle.sudo_beyond.specs.declared.fault.BeyondFault.TheVariants as faults
 use Rattle.sudo_decide.specs.declared.scope.Scope.{Scope}
 use Rattle.desk_commands.specs.Files.{IsFaultOf}
 use Rattle.desk_commands.specs.declared.refusal.Refusal.{Refusal as Reason}

@@ -2,7 +2,7 @@
 use Rattle.std.specs.Prelude.{ℕ, List, codes}
 use Rattle.sudo_policy.specs.Faults.{fault_text}
 use Rattle.roster.specs.Faults as roster
-use Rattle.review.specs.Faults as review
+use Rattle.sudo_beyond.specs.Faults as review
 use Rattle.desk.specs.Refusals.{refusal_text}
 use Rattle.desk_commands.specs.declared.refusal.Refusal.{Refusal}
 use Rattle.desk_commands.specs.declared.refusal.Refusal.TheVariants.{BadWord, Beyond, Desk, FileFailed, NoMemory, Policy, Roster}

@@ -4,7 +4,7 @@ ghost use Rattle.std.specs.Prelude.{◌≡◌, ◌↔◌, ℕ, List, codes};
 ghost use Rattle.sudo_policy.specs.Spelling.{Spells};
 ghost use Rattle.sudo_policy.specs.declared.entry.Entry.{Entry};
 ghost use Rattle.sudo_decide.specs.declared.invocation.Invocation.{Invocation};
-ghost use Rattle.review.specs.Beyond.{IsInvocation, SomethingBeyond};
+ghost use Rattle.sudo_beyond.specs.Beyond.{IsInvocation, SomethingBeyond};
 ghost use Rattle.sudo_decide.specs.declared.scope.Scope.{Scope};
 ghost use Rattle.desk_commands.specs.Comparing.{ComparesFiles, case_text};
 ghost use Rattle.desk_jobs.specs.declared.status.Status.{Status};

@@ -10,10 +10,10 @@ use Rattle.grants.specs.Summaries.{AreApprovals, IsEarliest}
 use Rattle.grants.specs.declared.marks.Mark.{Mark}
 use Rattle.grants.proofs.ApprovalLemmas.{has_earliest}
 use Rattle.review.specs.Barred.{HasApproved}
-use Rattle.review.specs.Cases.{IsEachOnce, text_order}
+use Rattle.sudo_beyond.specs.Cases.{IsEachOnce, text_order}
 use Rattle.review.specs.Report.{AreAll}
-use Rattle.review.proofs.Lists.{contains_head, contains_map}
-use Rattle.review.proofs.OneList.{cons_cases, no_element}
+use Rattle.sudo_beyond.proofs.Lists.{contains_head, contains_map}
+use Rattle.sudo_beyond.proofs.OneList.{cons_cases, no_element}
 
 -- who stands in a list of people with a moment each stands there with some moment
 with_moment : (list : List (List ℕ × ℕ)) (person : List ℕ) → Contains (map (λ x. x.0) list) person → (moment : ℕ) × Contains list (person, moment)

@@ -4,17 +4,17 @@ use Rattle.std.specs.List.{Contains}
 use Rattle.sudo_policy.specs.declared.entry.Entry.{Entry}
 use Rattle.messages.specs.Fields.{RequestFields}
 use Rattle.grants.specs.declared.outcome.Window.{Window}
-use Rattle.review.specs.declared.cases.Cases.{Cases}
+use Rattle.sudo_beyond.specs.declared.cases.Cases.{Cases}
 use Rattle.review.specs.declared.need.Need.{Need}
 use Rattle.review.specs.declared.need.Need.TheVariants.{Needed, Needless, Unknown}
 use Rattle.sudo_decide.specs.declared.scope.Scope.{Scope}
-use Rattle.review.specs.Answer.{AreTooMany, most_cases}
-use Rattle.review.specs.Cases.{product}
+use Rattle.sudo_beyond.specs.Answer.{AreTooMany, most_cases}
+use Rattle.sudo_beyond.specs.Cases.{product}
 use Rattle.review.specs.Needs.{AreFew, IsNeedBeyond, IsNeedOn, IsNeedOver, grant_scope, own_policy}
 use Rattle.review.specs.Reporting.{over_both}
 use Rattle.std.proofs.lemmas.List.Elements.{Contains-append_left, Contains-push, Contains-push_cases}
-use Rattle.review.proofs.Lists.{take_next}
-use Rattle.review.proofs.OneList.{no_element, one_list_of_each}
+use Rattle.sudo_beyond.proofs.Lists.{take_next}
+use Rattle.sudo_beyond.proofs.OneList.{no_element, one_list_of_each}
 
 -- few cases are not too many
 pub few_or_many : (s : Scope) (a b : List Entry) → AreFew s a b → AreTooMany s a b → ⊥

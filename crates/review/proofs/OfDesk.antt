@@ -16,9 +16,9 @@ use Rattle.desk_store.specs.Sets.{Lists, SameSet}
 use Rattle.desk.specs.Order.{AllBehind, AreInOrder, NamePrecedes, TextPrecedes}
 use Rattle.desk.specs.Parked.{AreParked}
 use Rattle.desk.specs.Summaries.{AreSummaries as AreLent, SummaryPrecedes}
-use Rattle.review.specs.Cases.{text_order}
-use Rattle.review.proofs.Lists.{contains_head, contains_map}
-use Rattle.review.proofs.OneList.{cons_cases, no_element}
+use Rattle.sudo_beyond.specs.Cases.{text_order}
+use Rattle.sudo_beyond.proofs.Lists.{contains_head, contains_map}
+use Rattle.sudo_beyond.proofs.OneList.{cons_cases, no_element}
 use Rattle.review.specs.Report.{AreAll, AreSummaries, IsAsked, IsParkedText, name_order}
 
 below : (o : Ordering) → is_lt o ≡ true → o ≡ Less

@@ -28,7 +28,7 @@ use Rattle.review.specs.declared.need.Need.TheVariants.{Needless}
 use Rattle.review.specs.declared.reason.Reason.{Reason}
 use Rattle.review.specs.declared.reason.Reason.TheVariants.{Asker, Duty, Conflict}
 use Rattle.review.specs.Barred.{reason}
-use Rattle.review.specs.Beyond.{Allows, IsInvocation}
+use Rattle.sudo_beyond.specs.Beyond.{Allows, IsInvocation}
 use Rattle.review.specs.Needs.{IsNeed, own_policy}
 
 -- ---- needless

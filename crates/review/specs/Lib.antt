@@ -1,15 +1,6 @@
-pub mod Beyond
-pub mod Standing
-pub mod Cases
-pub mod Answer
-pub mod Alike
-pub mod Worked
-pub mod Faults
--- the report
 pub mod Needs
 pub mod Columns
 pub mod Barred
 pub mod Report
 pub mod WorkedReport
-pub mod Gathering
 pub mod Reporting

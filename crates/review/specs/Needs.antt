@@ -5,13 +5,13 @@ use Rattle.sudo_policy.specs.declared.entry.Entry.TheVariants as entries
 use Rattle.messages.specs.Fields.{RequestFields}
 use Rattle.grants.specs.GrantRules.{grant_rule}
 use Rattle.grants.specs.declared.outcome.Window.{Window}
-use Rattle.review.specs.declared.cases.Cases.{Cases}
+use Rattle.sudo_beyond.specs.declared.cases.Cases.{Cases}
 use Rattle.review.specs.declared.need.Need.{Need}
 use Rattle.review.specs.declared.need.Need.TheVariants.{Needed, Needless, Unknown}
 use Rattle.sudo_decide.specs.declared.scope.Scope.{Scope}
-use Rattle.review.specs.Answer.{AreTooMany, most_cases}
-use Rattle.review.specs.Beyond.{SomethingBeyond}
-use Rattle.review.specs.Cases.{AreCases, product}
+use Rattle.sudo_beyond.specs.Answer.{AreTooMany, most_cases}
+use Rattle.sudo_beyond.specs.Beyond.{SomethingBeyond}
+use Rattle.sudo_beyond.specs.Cases.{AreCases, product}
 
 -- the rules of a grant on one host, as a policy of their own
 abbrev pub own_policy : RequestFields → Window → (host : List ℕ) → List Entry

@@ -5,18 +5,18 @@ ghost use Rattle.std.specs.List.{AllByRecursion, flat_map};
 ghost use Rattle.messages.specs.declared.message.Message.{Message as AnyMessage};
 ghost use Rattle.grants.specs.Summaries.{StandsFor};
 ghost use Rattle.review.specs.Barred.{HasApproved, barred_lines};
-ghost use Rattle.review.specs.Cases.{AreParts, text_order};
+ghost use Rattle.sudo_beyond.specs.Cases.{AreParts, text_order};
 ghost use Rattle.review.specs.Columns.{lines_text};
 ghost use Rattle.review.specs.Report as report;
 ghost use Rattle.review.specs.Reporting.{AddsLines, IsOpenOf, kept_name};
 
 use crate::columns::{push_left, push_name};
-use crate::order::in_order;
 use crate::reason::why_barred;
 use grants::{Status, Summary, status};
 use messages::Request;
 use roster::{Ceiling, Roster};
 use std::alloc::Global;
+use sudo_beyond::in_order;
 use sudo_words::{Moment, Name, NoMemory};
 
 /// A request that is neither disputed nor lapsed, and its ceiling.

@@ -5,7 +5,7 @@ ghost use Rattle.std.specs.List.{AllByRecursion, flat_map};
 ghost use Rattle.messages.specs.Names.{name_of};
 ghost use Rattle.messages.specs.declared.message.Message.{Message as AnyMessage};
 ghost use Rattle.grants.specs.Summaries.{StandsFor};
-ghost use Rattle.review.specs.Cases.{AreParts};
+ghost use Rattle.sudo_beyond.specs.Cases.{AreParts};
 ghost use Rattle.review.specs.Columns.{lines_text, name_columns};
 ghost use Rattle.review.specs.Report as report;
 ghost use Rattle.review.specs.Reporting.{AddsLines, kept_name};

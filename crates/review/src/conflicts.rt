@@ -6,9 +6,9 @@ ghost use Rattle.review.specs.Columns.{lines_text};
 ghost use Rattle.review.specs.Report as report;
 
 use crate::columns::push_left;
-use crate::order::in_order;
 use roster::Roster;
 use std::alloc::Global;
+use sudo_beyond::in_order;
 use sudo_words::{Label, Name, NoMemory};
 
 /// The two duties, the lesser first.

@@ -4,7 +4,7 @@ ghost use Rattle.std.specs.Prelude.{◌≡◌, List, [], ◌++◌, IfSome, OnOk,
 ghost use Rattle.std.specs.List.{AllByRecursion, flat_map};
 ghost use Rattle.messages.specs.declared.message.Message.{Message as AnyMessage};
 ghost use Rattle.grants.specs.Summaries.{StandsFor};
-ghost use Rattle.review.specs.Cases.{AreParts};
+ghost use Rattle.sudo_beyond.specs.Cases.{AreParts};
 ghost use Rattle.review.specs.Columns.{lines_text};
 ghost use Rattle.review.specs.Report as report;
 ghost use Rattle.review.specs.Reporting.{AddsLines, IsInForceOf, IsSpan, IsWindowAt, kept_name};
@@ -126,7 +126,7 @@ pub(crate) fn push_all_live(
     ensures { (set : List AnyMessage) → AllByRecursion (StandsFor set) summaries.now
         → OnOk result (AddsLines (AreParts (λ k. report.AreInForce roster.now.says set at (report.IsLiveLine base.now) (kept_name k)) summaries.now) (string_bytes out.old) (string_bytes out.new)) }
 {
-    let empty = no_policy(alloc)?;
+    let empty = no_policy(alloc);
     for summary in summaries {
         push_live(alloc, out, roster, base, &empty, summary, at)?;
     }

@@ -6,14 +6,12 @@ ghost use Rattle.messages.specs.Fields.{IsRequest};
 ghost use Rattle.review.specs.Needs as needs;
 ghost use Rattle.review.specs.Reporting.{IsSpan, over_both};
 
-use crate::compare::beyond;
-use crate::fault::BeyondFault;
 use grants::{Window, grant_rules, host_policy};
 use messages::Request;
 use std::alloc::Global;
+use sudo_beyond::{BeyondFault, beyond};
 use sudo_decide::Scope;
-use sudo_policy::Policy;
-use sudo_syntax::read_policy;
+use sudo_policy::{Draft, Policy};
 use sudo_words::{HostName, NoMemory};
 
 /// What a grant is beside a base.
@@ -52,13 +50,10 @@ impl Need {
 }
 
 /// The policy without entries.
-pub(crate) fn no_policy(alloc: Global) -> Result<Policy, NoMemory>
-    ensures { IfOk result (λ p. p ≡ []) }
+pub(crate) fn no_policy(alloc: Global) -> Policy
+    ensures { result ≡ [] }
 {
-    match read_policy(alloc, b"") {
-        Ok(policy) => Ok(policy),
-        Err(_) => Err(NoMemory),
-    }
+    Policy::of(Draft::new(alloc))
 }
 
 /// The user, the host and the target of the grant.
@@ -93,6 +88,18 @@ fn own_policy(
     }
 }
 
+/// What the first policy is beyond the second, in the scope.
+fn need_beyond(alloc: Global, scope: &Scope, a: &Policy, b: &Policy) -> Result<Need, NoMemory>
+    ensures { IfOk result (needs.IsNeedBeyond scope.now a.now b.now) }
+{
+    match beyond(alloc, scope, a, b) {
+        Ok(Some(_)) => Ok(Need::Needed),
+        Ok(None) => Ok(Need::Needless),
+        Err(BeyondFault::TooManyCases) => Ok(Need::Unknown),
+        Err(BeyondFault::NoMemory) => Err(NoMemory),
+    }
+}
+
 /// What the grant is on the host.
 fn need_on(
     alloc: Global,
@@ -110,12 +117,7 @@ fn need_on(
 {
     let own = own_policy(alloc, empty, request, window, host)?;
     let scope = grant_scope(request, host)?;
-    match beyond(alloc, &scope, &own, base) {
-        Ok(Some(_)) => Ok(Need::Needed),
-        Ok(None) => Ok(Need::Needless),
-        Err(BeyondFault::TooManyCases) => Ok(Need::Unknown),
-        Err(BeyondFault::NoMemory) => Err(NoMemory),
-    }
+    need_beyond(alloc, &scope, &own, base)
 }
 
 /// What it is on these hosts. Where it is needed on one, no other is looked at.

@@ -23,7 +23,7 @@ ghost use Rattle.grants.specs.WorkedStatuses.{by_two, team};
 ghost use Rattle.review.specs.declared.reason.Reason.{Reason};
 ghost use Rattle.review.specs.declared.reason.Reason.TheVariants.{Asker, Duty, Conflict};
 ghost use Rattle.review.specs.Barred.{reason};
-ghost use Rattle.review.specs.Beyond.{Allows, IsInvocation};
+ghost use Rattle.sudo_beyond.specs.Beyond.{Allows, IsInvocation};
 ghost use Rattle.review.specs.Needs.{IsNeed, own_policy};
 ghost use Rattle.review.specs.Report.{IsReport, broad_for, lesser_first};
 ghost use Rattle.review.specs.WorkedReport.{lesser_first_pairs, team_text, three_commands};

@@ -1,5 +1,5 @@
 use Rattle.std.proofs.Common.{List, ℕ, map, ap, ◌∙◌, subst}
-use Rattle.review.specs.Cases.{IsEachOnce, text_order}
+use Rattle.sudo_beyond.specs.Cases.{IsEachOnce, text_order}
 use Rattle.review.proofs.Approvers.{approvers}
 use Rattle.review.proofs.barred.approvers.Goals as goal
 

@@ -2,7 +2,7 @@ use Rattle.std.proofs.Common.{List, string_bytes, take}
 use Rattle.std.specs.List.{AllByRecursion}
 use Rattle.messages.specs.declared.message.Message.{Message}
 use Rattle.grants.specs.Summaries.{StandsFor}
-use Rattle.review.specs.Cases.{AreParts}
+use Rattle.sudo_beyond.specs.Cases.{AreParts}
 use Rattle.review.specs.Report.{AreBarred}
 use Rattle.review.specs.Reporting.{AddsLines, kept_name}
 use Rattle.review.proofs.barred.push_all_barred.Given as goal

@@ -2,11 +2,11 @@ use Rattle.std.proofs.Common.{◌++◌, string_bytes, refl, sym, ap, subst, ◌�
 use Rattle.std.specs.List.{flat_map}
 use Rattle.messages.specs.Fields.{RequestFields}
 use Rattle.review.specs.Barred.{HasApproved, barred_lines}
-use Rattle.review.specs.Cases.{text_order}
+use Rattle.sudo_beyond.specs.Cases.{text_order}
 use Rattle.review.specs.Columns.{lines_text}
 use Rattle.review.specs.Report.{AreAll, AreBarred}
 use Rattle.review.specs.Reporting.{AddsLines, kept_name}
-use Rattle.review.proofs.Lists.{on_ok}
+use Rattle.sudo_beyond.proofs.Lists.{on_ok}
 use Rattle.review.proofs.ReportParts.{none_barred, some_barred}
 use Rattle.review.proofs.barred.push_barred.Goals as goal
 

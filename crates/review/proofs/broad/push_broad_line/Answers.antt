@@ -4,7 +4,7 @@ use Rattle.std.proofs.lemmas.List.{append-nil}
 use Rattle.messages.specs.Names.{name_of}
 use Rattle.review.specs.Columns.{lines_text, name_columns}
 use Rattle.review.specs.Report.{broad_for}
-use Rattle.review.proofs.Lists.{on_ok}
+use Rattle.sudo_beyond.proofs.Lists.{on_ok}
 use Rattle.review.proofs.ReportLists.{one_line}
 use Rattle.review.proofs.broad.push_broad_line.Goals as goal
 

@@ -1,6 +1,6 @@
 use Rattle.std.proofs.Common.{string_bytes, sym, ◌∙◌}
 use Rattle.review.specs.Report.{conflict_line, holds_both}
-use Rattle.review.proofs.Lists.{on_ok}
+use Rattle.sudo_beyond.proofs.Lists.{on_ok}
 use Rattle.review.proofs.ReportLists.{line_where, no_line_where}
 use Rattle.review.proofs.conflicts.push_conflict.Goals as goal
 

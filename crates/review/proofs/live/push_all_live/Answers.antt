@@ -1,6 +1,6 @@
 use Rattle.std.proofs.Common.{List, string_bytes}
 use Rattle.grants.specs.Summaries.{Kept, StandsFor}
-use Rattle.review.specs.Cases.{AreParts}
+use Rattle.sudo_beyond.specs.Cases.{AreParts}
 use Rattle.review.specs.Report.{AreInForce, IsLiveLine}
 use Rattle.review.specs.Reporting.{AddsLines, kept_name}
 use Rattle.review.proofs.ReportLists.{at_place, more_lines, whole_list}

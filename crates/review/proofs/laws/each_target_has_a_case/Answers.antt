@@ -1,5 +1,0 @@
-use Rattle.review.proofs.HasCase.{target_has_a_case}
-use Rattle.review.proofs.laws.each_target_has_a_case.Goals as goal
-
-pub returns : goal.returns
-returns c = target_has_a_case

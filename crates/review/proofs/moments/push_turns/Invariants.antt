@@ -1,7 +1,0 @@
-use Rattle.std.proofs.Common.{◌≡◌, ◌++◌, take}
-use Rattle.sudo_decide.specs.Reach.{rules_in}
-use Rattle.review.specs.Cases.{turns}
-use Rattle.review.proofs.moments.push_turns.Given as goal
-
-abbrev pub invariant-loop-entry : goal.invariant-loop-entry
-invariant-loop-entry l = l.moments.items ≡ l.fn.moments.items ++ turns (rules_in (take l.entry-index l.entry-items))

@@ -1,6 +1,0 @@
-use Rattle.std.proofs.Common.{◌≡◌, take}
-use Rattle.review.specs.Gathering.{listings}
-use Rattle.review.proofs.runs.listings.Given as goal
-
-abbrev pub invariant-loop-cmnd : goal.invariant-loop-cmnd
-invariant-loop-cmnd l = l.listed.items ≡ listings (take l.cmnd-index l.cmnds)

@@ -1,9 +1,0 @@
-use Rattle.std.proofs.Common.{◌≡◌, List, ℕ, ◌++◌, true, sym, subst}
-use Rattle.sudo_words.specs.Word.{is_file_path}
-use Rattle.review.specs.Cases.{other}
-use Rattle.review.proofs.CmndCases.{files_in_dir}
-use Rattle.review.proofs.runs.push_directory.Goals as goal
-
-pub push_fresh-requires-clause-form : goal.push_fresh-requires-clause-form
-push_fresh-requires-clause-form c = λ k small.
-    subst (λ (w : List ℕ). is_file_path (w ++ other k) ≡ true) (sym c.as_str.ensures.value) (files_in_dir c.args.dir.now c.requires.lawful k small)

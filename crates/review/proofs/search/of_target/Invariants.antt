@@ -1,8 +1,0 @@
-use Rattle.std.proofs.Common.{take}
-use Rattle.std.specs.List.{flat_map}
-use Rattle.review.specs.Cases.{of_run}
-use Rattle.review.proofs.Gaps.{NoGap}
-use Rattle.review.proofs.search.of_target.Given as goal
-
-abbrev pub invariant-loop-run : goal.invariant-loop-run
-invariant-loop-run l = NoGap l.a l.b (flat_map (of_run l.cases l.user l.host l.runas) (take l.run-index l.cases.runs))

@@ -1,8 +1,0 @@
-use Rattle.std.proofs.Common.{take}
-use Rattle.std.specs.List.{flat_map}
-use Rattle.review.specs.Cases.{of_host}
-use Rattle.review.proofs.Gaps.{NoGap}
-use Rattle.review.proofs.search.of_user.Given as goal
-
-abbrev pub invariant-loop-host : goal.invariant-loop-host
-invariant-loop-host l = NoGap l.a l.b (flat_map (of_host l.cases l.user) (take l.host-index l.cases.hosts))

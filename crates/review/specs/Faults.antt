@@ -1,8 +1,0 @@
--- The codes and names that faults are shown as.
-use Rattle.std.specs.Prelude.{ℕ, List, codes}
-use Rattle.review.specs.declared.fault.BeyondFault.{BeyondFault}
-use Rattle.review.specs.declared.fault.BeyondFault.TheVariants.{TooManyCases, NoMemory}
-
-abbrev pub fault_text : BeyondFault → List ℕ
-fault_text TooManyCases = codes "B1 TooManyCases"
-fault_text NoMemory = codes "B2 NoMemory"

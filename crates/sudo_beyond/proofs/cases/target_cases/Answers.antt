@@ -1,0 +1,5 @@
+use Rattle.sudo_beyond.proofs.NameCases.{other_name}
+use Rattle.sudo_beyond.proofs.cases.target_cases.Goals as goal
+
+pub name_cases-requires : goal.name_cases-requires
+name_cases-requires c = other_name

@@ -1,0 +1,7 @@
+use Rattle.std.proofs.Common.{take}
+use Rattle.sudo_beyond.specs.Cases.{IsFreshFile, AreParts}
+use Rattle.sudo_beyond.specs.Gathering.{Adds}
+use Rattle.sudo_beyond.proofs.runs.push_directories.Given as goal
+
+abbrev pub invariant-loop-dir : goal.invariant-loop-dir
+invariant-loop-dir l = Adds (AreParts (IsFreshFile l.files) (take l.dir-index l.directories)) l.fn.runs.items l.runs.items

@@ -1,0 +1,63 @@
+//! The moments that are tried.
+
+ghost use Rattle.std.specs.Prelude.{◌≡◌, ◌++◌, IfOk, OnOk};
+ghost use Rattle.sudo_decide.specs.Reach.{rule_in, rules_in};
+ghost use Rattle.sudo_beyond.specs.Cases.{AreMomentCases, behind, turns_of, turns};
+
+use crate::order::in_order;
+use std::alloc::Global;
+use sudo_policy::{Entry, Policy, Rule};
+use sudo_words::{Items, Moment, NoMemory};
+
+fn push_behind(moments: &mut Vec<Moment>, last: Option<Moment>) -> Result<(), NoMemory>
+    ensures { OnOk result (moments.new.items ≡ moments.old.items ++ behind last) }
+{
+    let Some(last) = last else {
+        return Ok(());
+    };
+    if let Some(next) = Moment::from_secs(last.secs() + 1) {
+        moments.push(next)?;
+    }
+    Ok(())
+}
+
+fn push_turns_of(moments: &mut Vec<Moment>, rule: &Rule) -> Result<(), NoMemory>
+    ensures { OnOk result (moments.new.items ≡ moments.old.items ++ turns_of rule.now) }
+{
+    if let Some(first) = rule.not_before {
+        moments.push(first)?;
+    }
+    push_behind(moments, rule.not_after)
+}
+
+fn push_entry_turns(moments: &mut Vec<Moment>, entry: &Entry) -> Result<(), NoMemory>
+    ensures { OnOk result (moments.new.items ≡ moments.old.items ++ turns (rule_in entry.now)) }
+{
+    match entry {
+        Entry::Rule(rule) => push_turns_of(moments, rule),
+        _ => Ok(()),
+    }
+}
+
+fn push_turns(moments: &mut Vec<Moment>, p: &Policy) -> Result<(), NoMemory>
+    ensures { OnOk result (moments.new.items ≡ moments.old.items ++ turns (rules_in p.now)) }
+{
+    for entry in p.entries() {
+        push_entry_turns(moments, entry)?;
+    }
+    Ok(())
+}
+
+/// The first moment of all, each at which a rule begins to take part, and each behind the last at which one does.
+pub fn moment_cases(alloc: Global, a: &Policy, b: &Policy) -> Result<Items<Moment>, NoMemory>
+    ensures { IfOk result (λ cases. AreMomentCases (rules_in a.now ++ rules_in b.now) cases) }
+{
+    let mut moments = Vec::new(alloc);
+    let Some(first) = Moment::from_secs(0) else {
+        unreachable!()
+    };
+    moments.push(first)?;
+    push_turns(&mut moments, a)?;
+    push_turns(&mut moments, b)?;
+    Ok(Items::new(in_order(moments)))
+}
