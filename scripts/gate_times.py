@@ -14,7 +14,7 @@ import threading
 import time
 
 MARK = "STEELNEWT_GATE"
-# what a check with one job takes of memory at most, with room to spare: some 2.4 GB for `sudo_syntax`, some 3 for `desk_cli`
+# what a check with one job takes of memory at most, with room to spare: some 2.7 GB for `desk`, some 3 for `desk_cli`
 MEMORY = 5 << 30
 TICKS = os.sysconf("SC_CLK_TCK")
 KINDS = ("proof", "tests", "edits")

@@ -15,7 +15,7 @@ import sys
 import tempfile
 
 ROOT = os.path.dirname(os.path.dirname(os.path.abspath(__file__)))
-MOST_EDITS = {"sudo_syntax": 20}
+MOST_EDITS = 12
 
 
 def read(path):
@@ -67,7 +67,7 @@ def misfit(crate, edit):
 def misfits():
     for crate in crates():
         sharp, more = edits(f"{crate}/must-fail"), edits(f"{crate}/more-edits")
-        if len(sharp) > MOST_EDITS.get(crate, 12):
+        if len(sharp) > MOST_EDITS:
             yield f"{crate}: {len(sharp)} edits in must-fail, more than the gate's budget"
         for name in sorted(set(sharp) & set(more)):
             yield f"{crate}: the edit {name} stands in both folders"

@@ -32,9 +32,13 @@ fn push<T: Drop>(items: &mut Vec<T>, item: T) -> Result<(), LineFault>
 /// Entries that are a policy, what is kept of their aliases, their weight, and the length of their canonical text.
 #[derive(Drop)]
 pub struct Draft {
+    /// The entries, in order.
     pub entries: Vec<Entry>,
+    /// Where each alias is defined, its weight and its depth.
     pub scope: Scope,
+    /// What the rules weigh.
     pub weight: usize,
+    /// How many bytes the canonical text has.
     pub text_len: usize,
 }
 

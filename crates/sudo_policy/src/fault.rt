@@ -84,17 +84,26 @@ impl fmt::Display for ReadFault {
 
 impl Error for ReadFault {}
 
-/// What is wrong with a line.
+/// What is wrong with a line: the kinds that a line has of itself, each as the `FaultKind` of its name.
 #[derive(Clone, Copy)]
 pub enum LineFault {
+    /// A word is not of the form that its place asks for.
     BadWord,
+    /// A word or mark stands where the grammar has none, or one is missing.
     Unexpected,
+    /// An alias is used that no line above defines.
     UnknownAlias,
+    /// An alias is defined twice in its kind.
     AliasTwice,
+    /// A reserved word stands in the place of an alias's name.
     Reserved,
+    /// A time is none, or out of range.
     BadMoment,
+    /// The form is one of sudoers that the desk leaves out.
     LeftOut,
+    /// The policy would be past a limit.
     TooLarge,
+    /// Memory ran out.
     NoMemory,
 }
 

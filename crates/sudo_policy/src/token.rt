@@ -16,7 +16,9 @@ use std::str;
 /// A word or a mark of a line, each with whether blanks stand before it, and a word with how many `!` stand directly before it.
 #[derive(Clone, Copy)]
 pub enum Token<'a> {
+    /// A word: whether blanks stand before it, how many `!` stand directly before it, and its bytes as they stand.
     Word(bool, usize, &'a str),
+    /// A mark: whether blanks stand before it, and its byte.
     Mark(bool, u8),
 }
 
@@ -26,6 +28,7 @@ fn is_text_byte(b: u8) -> bool
     b == b'\t' || b == b'\n' || (b >= b' ' && b <= b'~')
 }
 
+/// Whether the byte is a blank: a space or a tab.
 pub fn is_blank(b: u8) -> bool
     ensures { result ≡ lex.is_blank b }
 {

@@ -15,35 +15,51 @@ pub struct Definition<T> {
 /// A command of a user specification, with what it gives of its own.
 #[derive(Drop)]
 pub struct Spec {
+    /// The targets in parentheses, if it has any.
     pub runas: Option<Items<Signed<Item<Name>>>>,
+    /// The date of `NOTBEFORE`, if it has that option.
     pub not_before: Option<Moment>,
+    /// The date of `NOTAFTER`, if it has that option.
     pub not_after: Option<Moment>,
+    /// Whether its last tag is `NOPASSWD`, if it has any.
     pub nopasswd: Option<bool>,
+    /// The command, or its alias.
     pub cmnd: Signed<CmndItem>,
 }
 
 /// Hosts and the commands that may run on them.
 #[derive(Drop)]
 pub struct Part {
+    /// The hosts.
     pub hosts: Items<Signed<Item<HostName>>>,
+    /// The commands.
     pub specs: Items<Spec>,
 }
 
 /// What holds behind some commands of a list, for those that follow.
 #[derive(Drop)]
 pub struct Settings {
+    /// The targets that were given last, `root` before any.
     pub runas: Items<Signed<Item<Name>>>,
+    /// The date of `NOTBEFORE` that was given last.
     pub not_before: Option<Moment>,
+    /// The date of `NOTAFTER` that was given last.
     pub not_after: Option<Moment>,
+    /// Whether the last tag was `NOPASSWD`.
     pub nopasswd: bool,
 }
 
 /// A line: definitions of aliases of one kind, or a user specification.
 #[derive(Drop)]
 pub enum Line {
+    /// `User_Alias`.
     Users(Items<Definition<Item<Name>>>),
+    /// `Runas_Alias`.
     Runas(Items<Definition<Item<Name>>>),
+    /// `Host_Alias`.
     Hosts(Items<Definition<Item<HostName>>>),
+    /// `Cmnd_Alias`.
     Cmnds(Items<Definition<CmndItem>>),
+    /// Users, and what they may run on which hosts.
     Rights(Items<Signed<Item<Name>>>, Items<Part>),
 }
