@@ -8,8 +8,8 @@ use Rattle.roster.specs.Fields.{RosterFields}
 use Rattle.desk_store.specs.Sets.{Lists, SameSet}
 use Rattle.desk.specs.Opening.{Opens}
 use Rattle.desk.specs.Same.{AnswerAlike}
-use Rattle.desk.proofs.LawLemmas.{order_free}
-use Rattle.desk.proofs.SetLemmas.{parked_of_set}
+use Rattle.desk_outcomes.proofs.LawLemmas.{order_free}
+use Rattle.desk_outcomes.proofs.SetLemmas.{parked_of_set}
 
 listed : (S T : Message → Type 0) → SameSet S T → (s t : List Message) → Lists S s → Lists T t → SameMessages s t
 listed S T same s t x y m = (λ c. (y m).0 ((same m).0 ((x m).1 c)), λ c. (x m).0 ((same m).1 ((y m).1 c)))

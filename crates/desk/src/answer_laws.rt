@@ -7,9 +7,9 @@ ghost use Rattle.messages.specs.Names.{RequestName as AnyName};
 ghost use Rattle.messages.specs.declared.message.Message.{Message as AnyMessage};
 ghost use Rattle.roster.specs.Fields.{RosterFields};
 ghost use Rattle.grants.specs.declared.outcome.Status.{Status as AnyStatus};
-ghost use Rattle.desk.specs.HostFile.{Line, AreLines, IsHostFile, IsHostFileAfter, lines_after};
-ghost use Rattle.desk.specs.Outcomes.{AreLive, ComesTo, LiveGrant};
-ghost use Rattle.desk.specs.Parked.{AreParked};
+ghost use Rattle.desk_outcomes.specs.HostFile.{Line, AreLines, IsHostFile, IsHostFileAfter, lines_after};
+ghost use Rattle.desk_outcomes.specs.Outcomes.{AreLive, ComesTo, LiveGrant};
+ghost use Rattle.desk_outcomes.specs.Parked.{AreParked};
 ghost use Rattle.desk.specs.Runs.{Event, IsRun, SameAcked};
 
 /// Behind two runs that begin with the same messages and acknowledge the same, every question is answered alike: each name's status,

@@ -6,31 +6,22 @@ mod ack;
 mod answer_laws;
 mod delivery;
 mod desk;
-mod gathering;
-mod grant_laws;
-mod host_file;
-mod live;
 mod loading;
-mod naming;
 mod opening;
-mod outcomes;
-mod parked;
 mod queries;
 mod refusal;
 mod reopening;
 mod run_laws;
-mod summaries;
 
 pub use ack::Ack;
 pub use answer_laws::runs_answer_alike;
 pub use desk::Desk;
-pub use desk_store::{Keeper, MemoryKeeper};
-pub use grant_laws::{
-    disputed_gives_nothing, each_has_one, ended_lines_give_nothing, file_gives_rights, one_of_each,
-    order_free, parked_until_asked, refusal_in_time, revocation_ends, who_changes_nothing,
+pub use desk_outcomes::{
+    Live, RequestName, disputed_gives_nothing, each_has_one, ended_lines_give_nothing,
+    file_gives_rights, one_of_each, order_free, parked_until_asked, refusal_in_time,
+    revocation_ends, who_changes_nothing,
 };
-pub use live::Live;
-pub use naming::RequestName;
+pub use desk_store::{Keeper, MemoryKeeper};
 pub use refusal::Refusal;
 pub use reopening::{restart, restart_over};
 pub use run_laws::{one_answer, run_free};

@@ -5,7 +5,7 @@ use Rattle.sudo_policy.specs.declared.entry.Entry.{Entry}
 use Rattle.messages.specs.declared.message.Message.{Message}
 use Rattle.roster.specs.Fields.{RosterFields}
 use Rattle.roster.specs.Rules.{is_among}
-use Rattle.desk.specs.HostFile.{AreLines, Line}
+use Rattle.desk_outcomes.specs.HostFile.{AreLines, Line}
 use Rattle.desk.specs.Refusals.{IsWant}
 use Rattle.desk.specs.declared.refusal.Refusal.{Refusal}
 use Rattle.desk.specs.declared.refusal.Refusal.TheVariants as desk

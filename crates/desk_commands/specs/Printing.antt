@@ -8,9 +8,9 @@ use Rattle.roster.specs.Fields.{RosterFields}
 use Rattle.roster.specs.Relations.{IsFirst}
 use Rattle.roster.specs.Rules.{is_among}
 use Rattle.desk.specs.Delivery.{Answers, WasWanting}
-use Rattle.desk.specs.HostFile.{AreLines, IsHostFile, IsHostFileAfter, Line, lines_after}
+use Rattle.desk_outcomes.specs.HostFile.{AreLines, IsHostFile, IsHostFileAfter, Line, lines_after}
 use Rattle.desk.specs.Refusals.{IsWant, refusal_text}
-use Rattle.desk.specs.Rights.{GivesRights, GivesRightsAfter}
+use Rattle.desk_outcomes.specs.Rights.{GivesRights, GivesRightsAfter}
 use Rattle.desk.specs.declared.ack.Ack.{Ack}
 use Rattle.desk.specs.declared.refusal.Refusal.{Refusal}
 use Rattle.desk.specs.declared.refusal.Refusal.TheVariants as desk

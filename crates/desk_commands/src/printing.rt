@@ -8,7 +8,7 @@ ghost use Rattle.messages.specs.declared.message.Message.{Message};
 ghost use Rattle.roster.specs.Rules.{is_among};
 ghost use Rattle.desk_store.specs.Memory.{Holds};
 ghost use Rattle.desk_store.specs.Sets.{IsNothing, Lists};
-ghost use Rattle.desk.specs.HostFile.{AreLines, Line};
+ghost use Rattle.desk_outcomes.specs.HostFile.{AreLines, Line};
 ghost use Rattle.desk.specs.Refusals.{IsWant};
 ghost use Rattle.desk.specs.declared.refusal.Refusal.TheVariants as refusal;
 ghost use Rattle.desk_jobs.specs.declared.status.Status.TheVariants.{Done};

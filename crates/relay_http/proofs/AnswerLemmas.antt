@@ -10,7 +10,7 @@ use Rattle.messages.specs.declared.message.Message.{Message}
 use Rattle.roster.specs.Fields.{RosterFields}
 use Rattle.roster.specs.Rules.{is_among}
 use Rattle.grants.specs.declared.denial.Denial.TheVariants as denials
-use Rattle.desk.specs.HostFile.{Line, AreLines, IsHostFile}
+use Rattle.desk_outcomes.specs.HostFile.{Line, AreLines, IsHostFile}
 use Rattle.desk.specs.Refusals.{IsWant}
 use Rattle.desk.specs.declared.refusal.Refusal.{Refusal}
 use Rattle.desk.specs.declared.refusal.Refusal.TheVariants.{UnknownRelay, UnknownHost, TooLong, NotCanonical, BadField, Denied, TooManyRules, RosterChanged, NotADesk, Storage, NoMemory, BaseTooLarge}

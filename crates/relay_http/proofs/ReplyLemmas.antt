@@ -5,11 +5,11 @@ use Rattle.sudo_policy.specs.Printing.{canon}
 use Rattle.sudo_policy.specs.declared.entry.Entry.{Entry}
 use Rattle.messages.specs.declared.message.Message.{Message}
 use Rattle.roster.specs.Fields.{RosterFields}
-use Rattle.desk.specs.HostFile.{Line, with_lines}
-use Rattle.desk.specs.Outcomes.{LiveGrant}
+use Rattle.desk_outcomes.specs.HostFile.{Line, with_lines}
+use Rattle.desk_outcomes.specs.Outcomes.{LiveGrant}
 use Rattle.desk.proofs.DeliveryLemmas.{one_answer}
-use Rattle.desk.proofs.FileLemmas.{one_lines}
-use Rattle.desk.proofs.SetLemmas.{one_live, one_parked}
+use Rattle.desk_outcomes.proofs.FileLemmas.{one_lines}
+use Rattle.desk_outcomes.proofs.SetLemmas.{one_live, one_parked}
 use Rattle.review.proofs.ReportOne.{one_report}
 use Rattle.relay_http.specs.Asked.{Asked, deliver, grants, parked, host_file, report, refused}
 use Rattle.relay_http.specs.Replies.{IsFileReply, IsReply, Reply, delivery, done, is_known_host, lines_of, live_line, to_delivery}

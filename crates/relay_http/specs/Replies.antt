@@ -13,9 +13,9 @@ use Rattle.roster.specs.Rules.{is_among}
 use Rattle.grants.specs.declared.outcome.Window.{Window}
 use Rattle.desk_store.specs.Sets.{SameSet}
 use Rattle.desk.specs.Delivery.{Answers, Delivery}
-use Rattle.desk.specs.HostFile.{Line, AreLines, with_lines}
-use Rattle.desk.specs.Outcomes.{AreLive, LiveGrant}
-use Rattle.desk.specs.Parked.{AreParked}
+use Rattle.desk_outcomes.specs.HostFile.{Line, AreLines, with_lines}
+use Rattle.desk_outcomes.specs.Outcomes.{AreLive, LiveGrant}
+use Rattle.desk_outcomes.specs.Parked.{AreParked}
 use Rattle.desk.specs.Refusals.{refusal_text}
 use Rattle.desk.specs.declared.ack.Ack.{Ack}
 use Rattle.desk.specs.declared.refusal.Refusal.{Refusal}

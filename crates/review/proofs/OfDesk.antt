@@ -13,9 +13,9 @@ use Rattle.messages.specs.Names.{RequestName, name_of}
 use Rattle.messages.specs.declared.message.Message.{Message}
 use Rattle.grants.specs.Summaries.{Kept, StandsFor}
 use Rattle.desk_store.specs.Sets.{Lists, SameSet}
-use Rattle.desk.specs.Order.{AllBehind, AreInOrder, NamePrecedes, TextPrecedes}
-use Rattle.desk.specs.Parked.{AreParked}
-use Rattle.desk.specs.Summaries.{AreSummaries as AreLent, SummaryPrecedes}
+use Rattle.desk_outcomes.specs.Order.{AllBehind, AreInOrder, NamePrecedes, TextPrecedes}
+use Rattle.desk_outcomes.specs.Parked.{AreParked}
+use Rattle.desk_outcomes.specs.Summaries.{AreSummaries as AreLent, SummaryPrecedes}
 use Rattle.sudo_beyond.specs.Cases.{text_order}
 use Rattle.sudo_beyond.proofs.Lists.{contains_head, contains_map}
 use Rattle.sudo_beyond.proofs.OneList.{cons_cases, no_element}

@@ -1,9 +1,9 @@
 use Rattle.std.proofs.Common.{List}
 use Rattle.messages.specs.declared.message.Message.{Message}
 use Rattle.desk_store.specs.Sets.{Lists}
-use Rattle.desk.specs.Summaries.{AreSummaries}
+use Rattle.desk_outcomes.specs.Summaries.{AreSummaries}
 use Rattle.desk.proofs.QueryLemmas.{same_messages}
-use Rattle.desk.proofs.SummaryLemmas.{summaries_of_set}
+use Rattle.desk_outcomes.proofs.SummaryLemmas.{summaries_of_set}
 use Rattle.desk.proofs.desk.Desk.summaries.Goals as goal
 
 pub returns-clause-summaries : goal.returns-clause-summaries

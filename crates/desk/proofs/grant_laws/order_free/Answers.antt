@@ -1,9 +1,0 @@
-use Rattle.desk.proofs.LawLemmas.{order_free}
-use Rattle.desk.proofs.SetLemmas.{parked_of_set}
-use Rattle.desk.proofs.grant_laws.order_free.Goals as goal
-
-pub returns-clause-grants : goal.returns-clause-grants
-returns-clause-grants c = order_free
-
-pub returns-clause-parked : goal.returns-clause-parked
-returns-clause-parked c = λ s t texts same are. parked_of_set s t texts same are

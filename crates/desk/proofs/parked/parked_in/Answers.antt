@@ -1,6 +1,0 @@
-use Rattle.desk.proofs.ParkedLemmas.{are_parked}
-use Rattle.desk.proofs.parked.parked_in.Goals as goal
-
-pub returns : goal.returns
-returns c =
-    are_parked c.args.set.now c.in_ok-asked.asked c.in_ok-asked.ensures c.in_ok-texts.texts.items c.sort_unstable.new.self.items c.dedup.new.self.items c.in_ok-texts.ensures c.sort_unstable.ensures.permutation c.sort_unstable.ensures.sorted c.dedup.ensures.filtered

@@ -1,0 +1,9 @@
+use Rattle.desk_outcomes.proofs.LawLemmas.{order_free}
+use Rattle.desk_outcomes.proofs.SetLemmas.{parked_of_set}
+use Rattle.desk_outcomes.proofs.grant_laws.order_free.Goals as goal
+
+pub returns-clause-grants : goal.returns-clause-grants
+returns-clause-grants c = order_free
+
+pub returns-clause-parked : goal.returns-clause-parked
+returns-clause-parked c = λ s t texts same are. parked_of_set s t texts same are
