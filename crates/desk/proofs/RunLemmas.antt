@@ -9,7 +9,7 @@ use Rattle.roster.specs.Fields.{RosterFields}
 use Rattle.desk_store.specs.Sets.{SameSet, IsWith}
 use Rattle.desk.specs.declared.ack.Ack.{Ack}
 use Rattle.desk.specs.declared.refusal.Refusal.{Refusal}
-use Rattle.desk.specs.Delivery.{AcknowledgesAmong, AreAnswers, Delivery, HeldAfter, HeldAfterAll, IsAnswer}
+use Rattle.desk.specs.Delivery.{AcknowledgesAmong, AreAnswers, Delivery, HeldAfter, HeldAfterAll, IsDeliveryAnswer}
 use Rattle.desk.specs.Runs.{Event, Delivered, Asked, IsRun, IsAckedIn, SameAcked, run_of}
 use Rattle.desk.proofs.DeliveryLemmas.{held_at_ok}
 
@@ -66,7 +66,7 @@ pushed old m = λ n. (
 )
 
 -- a list of what is held once a delivery is answered
-next : (f : RosterFields Cmnd) (old : List Message) (d : Delivery) (answer : Result Ack Refusal) → IsAnswer f d answer
+next : (f : RosterFields Cmnd) (old : List Message) (d : Delivery) (answer : Result Ack Refusal) → IsDeliveryAnswer f d answer
     → (held : List Message) × HeldAfter (λ m. Contains old m) d answer (λ m. Contains held m)
 next f old d (Err e) is = (old, λ m. (λ h. elim h as (λ _. Contains old m) [ inl held ↦ held | inr acked ↦ let wrong = acked.2 in absurd cc ], λ h. inl h))
 next f old d (Ok ack) is = elim is.sound as (λ _. (held : List Message) × HeldAfter (λ m. Contains old m) d (Ok ack) (λ m. Contains held m)) [

@@ -49,7 +49,7 @@ WasWanting (Ok ack) = ⊥
 WasWanting (Err e) = IsWant e
 
 -- What is answered is right, unless memory or the storage was wanting; and where an answer is right, it is given, unless they were.
-pub record IsAnswer (f : RosterFields Cmnd) (d : Delivery) (answer : Result Ack Refusal) : Type 0 where
+pub record IsDeliveryAnswer (f : RosterFields Cmnd) (d : Delivery) (answer : Result Ack Refusal) : Type 0 where
   pub sound : WasWanting answer ⊎ Answers f d answer
   pub complete : (right : Result Ack Refusal) → Answers f d right → WasWanting answer ⊎ (answer ≡ right)
 
@@ -73,7 +73,7 @@ AcknowledgesAmong (d ∷ ds) (answer ∷ answers) m = Acknowledges d answer m �
 
 -- each delivery has its answer, in order
 abbrev pub AreAnswers : RosterFields Cmnd → List Delivery → List (Result Ack Refusal) → Type 0
-AreAnswers f ds answers = AllZip (IsAnswer f) ds answers
+AreAnswers f ds answers = AllZip (IsDeliveryAnswer f) ds answers
 
 -- What is held then is exactly what was held, and each message that was acknowledged.
 abbrev pub HeldAfterAll : (old : Message → Type 0) → List Delivery → List (Result Ack Refusal) → (new : Message → Type 0) → Type 0

@@ -5,7 +5,7 @@ use Rattle.messages.specs.Names.{SameMessages}
 use Rattle.messages.specs.declared.message.Message.{Message}
 use Rattle.roster.specs.Fields.{RosterFields}
 use Rattle.desk_store.specs.Sets.{SameSet}
-use Rattle.desk.specs.Delivery.{Acknowledges, Delivery, HeldAfter, IsAnswer}
+use Rattle.desk.specs.Delivery.{Acknowledges, Delivery, HeldAfter, IsDeliveryAnswer}
 use Rattle.desk.specs.declared.ack.Ack.{Ack}
 use Rattle.desk.specs.declared.refusal.Refusal.{Refusal}
 
@@ -19,7 +19,7 @@ pub data Event : Type 0 where
 abbrev pub IsRun : RosterFields Cmnd → (old : List Message) → List Event → (new : List Message) → Type 0
 IsRun f old [] new = SameMessages old new
 IsRun f old (Delivered d answer ∷ run) new =
-    (held : List Message) × IsAnswer f d answer × HeldAfter (λ m. Contains old m) d answer (λ m. Contains held m) × IsRun f held run new
+    (held : List Message) × IsDeliveryAnswer f d answer × HeldAfter (λ m. Contains old m) d answer (λ m. Contains held m) × IsRun f held run new
 IsRun f old (Asked ∷ run) new = IsRun f old run new
 
 -- some delivery of the run brought the message, and was acknowledged

@@ -5,7 +5,7 @@ ghost use Rattle.grants.specs.Bases.{FitsBase};
 ghost use Rattle.desk_store.specs.Keeping.{HasFailed};
 ghost use Rattle.desk_store.specs.Left.{IsDeskOf, LeavesOnly};
 ghost use Rattle.desk.specs.Crash.{IsLeftByDelivery, IsLeftByOpening};
-ghost use Rattle.desk.specs.Delivery.{Acknowledges, AreAnswers, HeldAfter, HeldAfterAll, IsAnswer, delivery_of};
+ghost use Rattle.desk.specs.Delivery.{Acknowledges, AreAnswers, HeldAfter, HeldAfterAll, IsDeliveryAnswer, delivery_of};
 ghost use Rattle.desk.specs.Opening.{Opens, Refuses};
 ghost use Rattle.desk.specs.Refusals.{IsWant};
 ghost use Rattle.desk.specs.declared.refusal.Refusal.TheVariants as refusal;
@@ -110,7 +110,7 @@ impl<K: Keeper> Desk<K> {
     /// Whenever the call ends, a crash leaves the whole desk without the message, or the whole desk with it; behind Ok only the latter.
     /// While the keeper is up, a crash leaves what the desk holds.
     pub fn deliver(&mut self, relay: &str, body: &[u8]) -> Result<Ack, Refusal>
-        ensures answer { IsAnswer self.old.roster.says (record { relay = relay.now; body = body.now }) result }
+        ensures answer { IsDeliveryAnswer self.old.roster.says (record { relay = relay.now; body = body.now }) result }
         ensures held { K.is_up self.new.keeper
             → HeldAfter (K.holds self.old.keeper) (record { relay = relay.now; body = body.now }) result (K.holds self.new.keeper) }
         ensures unchanged { K.is_up self.new.keeper → OnErr result (K.is_same self.old.keeper self.new.keeper) }

@@ -3,7 +3,7 @@ use Rattle.std.proofs.Common.{◌≡◌, ◌≢◌, ℕ, ◌+◌, ◌==◌, ◌<
 use Rattle.std.proofs.lemmas.Bool.Decides.{nat_tests}
 use Rattle.std.specs.List.{onto_first}
 use Rattle.std.proofs.lemmas.List.{append-nil, drop_all, map_push}
-use Rattle.desk_commands.specs.Lines.{lines_of}
+use Rattle.desk_commands.specs.Lines.{input_lines}
 
 -- the lines, the first of which begins with these bytes
 abbrev pub with_front : List ℕ → List (List ℕ) → List (List ℕ)
@@ -23,35 +23,35 @@ front_last [] some = absurd (some refl)
 front_last (f ∷ []) some = refl
 front_last (f ∷ g ∷ gs) some = ap (onto_first f) (front_last (g ∷ gs) (λ e. cc))
 
-lines-newline : (rest : List ℕ) → lines_of (10 ∷ rest) ≡ [] ∷ lines_of rest
-unfolding lines_of
+lines-newline : (rest : List ℕ) → input_lines (10 ∷ rest) ≡ [] ∷ input_lines rest
+unfolding input_lines
 lines-newline rest = refl
 
-lines-other : (b : ℕ) (rest : List ℕ) → b ≢ 10 → lines_of (b ∷ rest) ≡ onto_first b (lines_of rest)
-unfolding lines_of
+lines-other : (b : ℕ) (rest : List ℕ) → b ≢ 10 → input_lines (b ∷ rest) ≡ onto_first b (input_lines rest)
+unfolding input_lines
 lines-other b rest other =
     let no : (b == 10) ≡ false = grind (arith, nat_tests) in
     rw no refl
 
-lines-none : lines_of [] ≡ []
-unfolding lines_of
+lines-none : input_lines [] ≡ []
+unfolding input_lines
 lines-none = refl
 
 -- what is read of a text: what each line that ended makes, and the bytes after them
 pub record AreSplit {X : Type 0} (each : List ℕ → X) (text : List ℕ) (ended : List X) (line rest : List ℕ) : Type 0 where
-  pub same : ended ++ map each (with_front line (lines_of rest)) ≡ map each (lines_of text)
+  pub same : ended ++ map each (with_front line (input_lines rest)) ≡ map each (input_lines text)
 
 module _ {X : Type 0} (each : List ℕ → X) where
   step : (text : List ℕ) (ended : List X) (line : List ℕ) (i : ℕ) → i < length text → AreSplit each text ended line (drop i text)
-      → ended ++ map each (with_front line (lines_of (get_or text i 0 ∷ drop (i + 1) text))) ≡ map each (lines_of text)
+      → ended ++ map each (with_front line (input_lines (get_or text i 0 ∷ drop (i + 1) text))) ≡ map each (input_lines text)
   step text ended line i lt read =
       let here : drop i text ≡ get_or text i 0 ∷ drop (i + 1) text = rw add-one (drop-cons text i 0 lt) in
-      subst (λ (rest : List ℕ). ended ++ map each (with_front line (lines_of rest)) ≡ map each (lines_of text)) here read.same
+      subst (λ (rest : List ℕ). ended ++ map each (with_front line (input_lines rest)) ≡ map each (input_lines text)) here read.same
 
-  ending : (line : List ℕ) (b : ℕ) (rest : List ℕ) → b ≡ 10 → with_front line (lines_of (b ∷ rest)) ≡ line ∷ lines_of rest
+  ending : (line : List ℕ) (b : ℕ) (rest : List ℕ) → b ≡ 10 → with_front line (input_lines (b ∷ rest)) ≡ line ∷ input_lines rest
   ending line b rest newline =
-      let split : lines_of (b ∷ rest) ≡ [] ∷ lines_of rest = rw newline (lines-newline rest) in
-      rw split (front_line line (lines_of rest))
+      let split : input_lines (b ∷ rest) ≡ [] ∷ input_lines rest = rw newline (lines-newline rest) in
+      rw split (front_line line (input_lines rest))
 
   pub line_ends : (text : List ℕ) (ended : List X) (line : List ℕ) (i : ℕ) (now : List X) (then : List ℕ) → i < length text
       → get_or text i 0 ≡ 10 → now ≡ ended ++ each line ∷ [] → then ≡ [] → AreSplit each text ended line (drop i text)
@@ -59,7 +59,7 @@ module _ {X : Type 0} (each : List ℕ → X) where
   line_ends text ended line i now then lt newline more none read =
       let rest = drop (i + 1) text in
       rw (more, none) (record {
-        same = append_assoc ended (each line ∷ []) (map each (lines_of rest))
+        same = append_assoc ended (each line ∷ []) (map each (input_lines rest))
             ∙ ap (λ (tail : List (List ℕ)). ended ++ map each tail) (sym (ending line (get_or text i 0) rest newline))
             ∙ step text ended line i lt read;
       })
@@ -71,26 +71,26 @@ module _ {X : Type 0} (each : List ℕ → X) where
       let rest = drop (i + 1) text in
       let b = get_or text i 0 in
       rw (same, more) (record {
-        same = ap (λ (tail : List (List ℕ)). ended ++ map each tail) (front_push line b (lines_of rest) ∙ ap (with_front line) (sym (lines-other b rest other)))
+        same = ap (λ (tail : List (List ℕ)). ended ++ map each tail) (front_push line b (input_lines rest) ∙ ap (with_front line) (sym (lines-other b rest other)))
             ∙ step text ended line i lt read;
       })
 
   pub last_read : (text : List ℕ) (ended : List X) (line : List ℕ) (i : ℕ) (now : List X) → length text ≤ i → line ≢ []
-      → now ≡ ended ++ each line ∷ [] → AreSplit each text ended line (drop i text) → now ≡ map each (lines_of text)
+      → now ≡ ended ++ each line ∷ [] → AreSplit each text ended line (drop i text) → now ≡ map each (input_lines text)
   last_read text ended line i now past some is read =
       let at_end : drop i text ≡ [] = drop_all i text past in
-      let whole : ended ++ map each (with_front line (lines_of [])) ≡ map each (lines_of text) =
-      subst (λ (rest : List ℕ). ended ++ map each (with_front line (lines_of rest)) ≡ map each (lines_of text)) at_end read.same in
-      let here : with_front line (lines_of []) ≡ line ∷ [] = rw lines-none (front_last line some) in
+      let whole : ended ++ map each (with_front line (input_lines [])) ≡ map each (input_lines text) =
+      subst (λ (rest : List ℕ). ended ++ map each (with_front line (input_lines rest)) ≡ map each (input_lines text)) at_end read.same in
+      let here : with_front line (input_lines []) ≡ line ∷ [] = rw lines-none (front_last line some) in
       is ∙ ap (λ (tail : List (List ℕ)). ended ++ map each tail) (sym here) ∙ whole
 
   pub all_read : (text : List ℕ) (ended : List X) (line : List ℕ) (i : ℕ) → length text ≤ i → line ≡ [] → AreSplit each text ended line (drop i text)
-      → ended ≡ map each (lines_of text)
+      → ended ≡ map each (input_lines text)
   all_read text ended line i past none read =
       let at_end : drop i text ≡ [] = drop_all i text past in
-      let whole : ended ++ map each (with_front line (lines_of [])) ≡ map each (lines_of text) =
-      subst (λ (rest : List ℕ). ended ++ map each (with_front line (lines_of rest)) ≡ map each (lines_of text)) at_end read.same in
-      let here : with_front line (lines_of []) ≡ [] = rw (none, lines-none) refl in
+      let whole : ended ++ map each (with_front line (input_lines [])) ≡ map each (input_lines text) =
+      subst (λ (rest : List ℕ). ended ++ map each (with_front line (input_lines rest)) ≡ map each (input_lines text)) at_end read.same in
+      let here : with_front line (input_lines []) ≡ [] = rw (none, lines-none) refl in
       sym (append-nil ended) ∙ ap (λ (tail : List (List ℕ)). ended ++ map each tail) (sym here) ∙ whole
 
 -- what lines make, after one more

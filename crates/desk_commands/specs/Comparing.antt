@@ -37,7 +37,7 @@ pub record ComparesFiles (scope : Scope) (a_file b_file : List ℕ) (status : St
   pub a_spelled : Spells a_file a
   pub b_spelled : Spells b_file b
   pub exact : MatchOption found (SomethingBeyond scope a b → ⊥) (LiesBeyond scope a b)
-  pub first : review.IsAnswer scope a b found
+  pub first : review.IsFirstBeyond scope a b found
   pub shown : IsShown found status text
 
 -- ---- what else may come of it

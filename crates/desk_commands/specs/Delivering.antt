@@ -9,7 +9,7 @@ use Rattle.desk.specs.Refusals.{refusal_text}
 use Rattle.desk.specs.declared.ack.Ack.{Ack}
 use Rattle.desk.specs.declared.refusal.Refusal.{Refusal}
 use Rattle.desk_commands.specs.Files.{EndsMaking, IsDeskOf}
-use Rattle.desk_commands.specs.Lines.{from_relay, lines_of}
+use Rattle.desk_commands.specs.Lines.{from_relay, input_lines}
 use Rattle.desk_commands.specs.declared.refusal.Refusal.{Refusal as Reason}
 use Rattle.desk_commands.specs.declared.refusal.Refusal.TheVariants as reasons
 use Rattle.desk_jobs.specs.declared.status.Status.{Status}
@@ -36,7 +36,7 @@ pub record DeliversLines (roster_file base_file relay : List ℕ) (input : Optio
   pub lines : List (List ℕ)
   pub answers : List (Result Ack Refusal)
   pub made : IsDeskOf roster_file base_file roster base
-  pub lines_are : IfSome input (λ bytes. lines ≡ lines_of bytes)
+  pub lines_are : IfSome input (λ bytes. lines ≡ input_lines bytes)
   pub answered : AreAnswers roster (from_relay relay lines) answers
   pub status_is : status ≡ status_after answers
   pub text_is : text ≡ answer_lines answers

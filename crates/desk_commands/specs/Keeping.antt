@@ -12,7 +12,7 @@ use Rattle.desk.specs.declared.refusal.Refusal.{Refusal}
 use Rattle.review.specs.Report.{IsReport}
 use Rattle.desk_commands.specs.Delivering.{answer_lines, status_after}
 use Rattle.desk_commands.specs.Files.{IsDeskOf}
-use Rattle.desk_commands.specs.Lines.{from_relay, lines_of}
+use Rattle.desk_commands.specs.Lines.{from_relay, input_lines}
 use Rattle.desk_commands.specs.Printing.{HasRights, IsPrinted}
 use Rattle.desk_jobs.specs.declared.status.Status.{Status}
 use Rattle.desk_jobs.specs.declared.status.Status.TheVariants.{Done}
@@ -30,7 +30,7 @@ pub record AnswersLines (f : RosterFields Cmnd) (relay : List ℕ) (old : Messag
     (status : Status) (text : List ℕ) : Type 0 where
   pub lines : List (List ℕ)
   pub answers : List (Result Ack Refusal)
-  pub lines_are : IfSome input (λ bytes. lines ≡ lines_of bytes)
+  pub lines_are : IfSome input (λ bytes. lines ≡ input_lines bytes)
   pub answered : AreAnswers f (from_relay relay lines) answers
   pub held : HeldAfterAll old (from_relay relay lines) answers new
   pub status_is : status ≡ status_after answers

@@ -9,9 +9,9 @@ use Rattle.desk_store.specs.Sets.{Lists}
 use Rattle.desk.specs.Delivery.{Delivery, IsBodyOf}
 
 -- The lines of an input: the bytes before each newline, and those after the last one, if there are any.
-unfoldable pub lines_of : List ℕ → List (List ℕ)
-lines_of [] = []
-lines_of (b ∷ bs) = if b == 10 then [] ∷ lines_of bs else onto_first b (lines_of bs)
+unfoldable pub input_lines : List ℕ → List (List ℕ)
+input_lines [] = []
+input_lines (b ∷ bs) = if b == 10 then [] ∷ input_lines bs else onto_first b (input_lines bs)
 
 -- each line, as the relay brings it
 abbrev pub from_relay : (relay : List ℕ) → List (List ℕ) → List Delivery
@@ -20,7 +20,7 @@ from_relay relay = map (λ line. record { relay = relay; body = line })
 -- the deliveries are the lines of the input, if it is known
 pub record AreRead (relay : List ℕ) (input : Option (List ℕ)) (deliveries : List Delivery) : Type 0 where
   pub lines : List (List ℕ)
-  pub lines_are : IfSome input (λ bytes. lines ≡ lines_of bytes)
+  pub lines_are : IfSome input (λ bytes. lines ≡ input_lines bytes)
   pub deliveries_are : deliveries ≡ from_relay relay lines
 
 -- some line is the text of the message, which the roster admits

@@ -15,7 +15,7 @@ use Rattle.desk.specs.declared.ack.Ack.{Ack}
 use Rattle.desk.specs.declared.refusal.Refusal.{Refusal}
 use Rattle.desk.specs.declared.refusal.Refusal.TheVariants as desk
 use Rattle.desk_commands.specs.Files.{EndsMaking, IsDeskOf}
-use Rattle.desk_commands.specs.Lines.{AreBrought, from_relay, lines_of}
+use Rattle.desk_commands.specs.Lines.{AreBrought, from_relay, input_lines}
 use Rattle.desk_commands.specs.declared.refusal.Refusal.{Refusal as Reason}
 use Rattle.desk_commands.specs.declared.refusal.Refusal.TheVariants as reasons
 use Rattle.desk_jobs.specs.declared.status.Status.{Status}
@@ -37,7 +37,7 @@ pub record IsTaken (roster : RosterFields Cmnd) (input : Option (List ℕ)) (mes
   pub lines : List (List ℕ)
   pub answers : List (Result Ack Refusal)
   pub relay_is : IsFirst roster.relays relay
-  pub lines_are : IfSome input (λ bytes. lines ≡ lines_of bytes)
+  pub lines_are : IfSome input (λ bytes. lines ≡ input_lines bytes)
   pub brought : AreBrought roster lines messages
   pub answered : AllZip (Answers roster) (from_relay relay lines) answers
   pub said_is : said ≡ complaints 1 answers

@@ -2,7 +2,7 @@
 
 ghost use Rattle.std.specs.Prelude.{◌≡◌, ◌⊎◌, IfErr, IfOk, IfSome, map};
 ghost use Rattle.desk.specs.Delivery.{delivery_of};
-ghost use Rattle.desk_commands.specs.Lines.{AreRead, from_relay, lines_of};
+ghost use Rattle.desk_commands.specs.Lines.{AreRead, from_relay, input_lines};
 ghost use Rattle.desk_commands.specs.declared.refusal.Refusal.TheVariants as reasons;
 
 use crate::refusal::Refusal;
@@ -25,7 +25,7 @@ fn whole<R: Read>(alloc: Global, input: &mut R) -> Result<Vec<u8>, Refusal>
 
 /// The lines of a text, each as the relay's: what stands before each newline, and what stands after the last one, unless that is nothing.
 fn lines(alloc: Global, relay: &str, bytes: &[u8]) -> Result<Vec<(String, Vec<u8>)>, AllocError>
-    ensures { IfOk result (λ v. map delivery_of v.items ≡ from_relay relay.now (lines_of bytes.now)) }
+    ensures { IfOk result (λ v. map delivery_of v.items ≡ from_relay relay.now (input_lines bytes.now)) }
 {
     let mut lines = Vec::new(alloc);
     let mut line = Vec::new(alloc);

@@ -13,7 +13,7 @@ use Rattle.clap.specs.Kinds.{Kinds, check_kinds, or_else}
 use Rattle.clap.specs.Lexer.{long_of, short_of}
 use Rattle.clap.specs.Simple.{Shape, matches_of, argument_words, built, entered, label_of, names_of, rows_at, subcommand_of}
 use Rattle.clap.specs.Takes.{is_given}
-use Rattle.desk_jobs.specs.CommandLine.{HaveSome, IsComplete, check, desk}
+use Rattle.desk_jobs.specs.CommandLine.{HaveSome, HasAllValues, check, desk}
 use Rattle.desk_jobs.proofs.Filled.{AreFull, IsFull, defaults-full, is_giving, no_first, no_second, settled-full, walk-full}
 
 -- ---- a row that is given has a value
@@ -225,7 +225,7 @@ leaf n = nth n (built desk).subs
 
 -- words in which the command finds no fault are complete
 abbrev Completes : Shape → Type 0
-Completes s = (words : List Text) → level_fault s [] nothing_held words false [] ≡ [] → IsComplete (Some (rows_at s words))
+Completes s = (words : List Text) → level_fault s [] nothing_held words false [] ≡ [] → HasAllValues (Some (rows_at s words))
 
 check_complete : Completes (leaf 0)
 check_complete words none = inl (refl, leaf_complete (leaf 0) words refl none)
@@ -256,13 +256,13 @@ AllComplete name (s ∷ rest) = ((answers_to name (label_of s) ≡ false) ⊎ Co
 found_complete : (name : Text) (shapes : List Shape) (words : List Text) → AllComplete name shapes
     → is_some (option_map (λ s. rows_at s words) (find (λ s. answers_to name (label_of s)) shapes)) ≡ true
     → option_map_or (λ s. level_fault s [] nothing_held words false []) (find (λ s. answers_to name (label_of s)) shapes) [] ≡ []
-    → IsComplete (option_map (λ s. rows_at s words) (find (λ s. answers_to name (label_of s)) shapes))
+    → HasAllValues (option_map (λ s. rows_at s words) (find (λ s. answers_to name (label_of s)) shapes))
 found_complete name [] words all is none = absurd cc
 found_complete name (s ∷ rest) words all is none =
     (elim (answers_to name (label_of s)) as (λ b. answers_to name (label_of s) ≡ b
     → is_some (option_map (λ x. rows_at x words) (if b then Some s else find (λ x. answers_to name (label_of x)) rest)) ≡ true
     → option_map_or (λ x. level_fault x [] nothing_held words false []) (if b then Some s else find (λ x. answers_to name (label_of x)) rest) [] ≡ []
-    → IsComplete (option_map (λ x. rows_at x words) (if b then Some s else find (λ x. answers_to name (label_of x)) rest))) [
+    → HasAllValues (option_map (λ x. rows_at x words) (if b then Some s else find (λ x. answers_to name (label_of x)) rest))) [
       | true ↦ λ met some faultless. elim all.0 [ inl other ↦ absurd cc | inr completes ↦ completes words faultless ]
       | false ↦ λ met some faultless. found_complete name rest words all.1 some faultless
     ]) refl is none
@@ -277,13 +277,13 @@ other_name name other = flipped _ (λ e.
     cc)
 
 stop_complete : (stop : Option (Text × List Text)) → IsOther stop → is_some (entered (built desk) stop) ≡ true → entered_fault (built desk) stop ≡ []
-    → IsComplete (entered (built desk) stop)
+    → HasAllValues (entered (built desk) stop)
 stop_complete None other is none = absurd cc
 stop_complete (Some p) other is none =
     found_complete p.0 (built desk).subs p.1
     (inr check_complete, (inr decide_complete, (inr beyond_complete, (inr deliver_complete, (inr print_complete, (inr review_complete, (inr serve_complete, (inl (other_name p.0 other), tt)))))))) is none
 
-pub complete : (words : List Text) → fault_of desk words ≡ [] → IsComplete (subcommand_of desk words)
+pub complete : (words : List Text) → fault_of desk words ≡ [] → HasAllValues (subcommand_of desk words)
 complete words none =
     let a = built desk in
     let given = argument_words a words in

@@ -3,7 +3,7 @@ use Rattle.std.specs.Prelude.{◌≡◌, List, Some, codes, if◌then◌else◌}
 use Rattle.std.specs.Str.{bytes_eq}
 use Rattle.std.proofs.Common.{inl, inr, subst, sym}
 use Rattle.clap.specs.Words.{Row, Text}
-use Rattle.desk_jobs.specs.CommandLine.{HaveSome, IsComplete, beyond_args, check_args, decide_args, desk_args}
+use Rattle.desk_jobs.specs.CommandLine.{HaveSome, HasAllValues, beyond_args, check_args, decide_args, desk_args}
 
 abbrev pub wants : Text → List Text
 wants name =
@@ -18,7 +18,7 @@ wants name =
 as_named : (name command : Text) (rows : List Row) → name ≡ command → HaveSome (wants command) rows → HaveSome (wants name) rows
 as_named name command rows is have = subst (λ (n : Text). HaveSome (wants n) rows) (sym is) have
 
-have_wanted : (name : Text) (rows : List Row) → IsComplete (Some (name, rows)) → HaveSome (wants name) rows
+have_wanted : (name : Text) (rows : List Row) → HasAllValues (Some (name, rows)) → HaveSome (wants name) rows
 have_wanted name rows (inl p) = as_named name (codes "check") rows p.0 p.1
 have_wanted name rows (inr (inl p)) = as_named name (codes "decide") rows p.0 p.1
 have_wanted name rows (inr (inr (inl p))) = as_named name (codes "beyond") rows p.0 p.1
@@ -28,5 +28,5 @@ have_wanted name rows (inr (inr (inr (inr (inr (inl p)))))) = as_named name (cod
 have_wanted name rows (inr (inr (inr (inr (inr (inr p)))))) = as_named name (codes "serve") rows p.0 p.1
 
 -- what the command of this name wants
-pub wanted_at : (command name : Text) (rows : List Row) → command ≡ name → IsComplete (Some (name, rows)) → HaveSome (wants command) rows
+pub wanted_at : (command name : Text) (rows : List Row) → command ≡ name → HasAllValues (Some (name, rows)) → HaveSome (wants command) rows
 wanted_at command name rows same complete = subst (λ (n : Text). HaveSome (wants n) rows) (sym same) (have_wanted name rows complete)

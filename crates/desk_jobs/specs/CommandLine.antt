@@ -269,9 +269,9 @@ HaveSome [] rows = Unit {0}
 HaveSome (id ∷ ids) rows = HasSome id rows × HaveSome ids rows
 
 -- the command is one of the program's, with a value for each argument that it wants
-abbrev pub IsComplete : Option (Text × List Row) → Type 0
-IsComplete None = ⊥
-IsComplete (Some line) =
+abbrev pub HasAllValues : Option (Text × List Row) → Type 0
+HasAllValues None = ⊥
+HasAllValues (Some line) =
     ((line.0 ≡ codes "check") × HaveSome check_args line.1)
     ⊎ ((line.0 ≡ codes "decide") × HaveSome decide_args line.1)
     ⊎ ((line.0 ≡ codes "beyond") × HaveSome beyond_args line.1)

@@ -5,7 +5,7 @@ ghost use Rattle.clap.specs.Words.{fault_of, found_of, rows_of, subcommand_rows_
 ghost use Rattle.sudo_decide.specs.declared.invocation.Invocation.{Invocation as Run};
 ghost use Rattle.sudo_decide.specs.declared.scope.Scope.{Scope as Fixed};
 ghost use Rattle.desk_jobs.specs.CommandLine as line;
-ghost use Rattle.desk_jobs.specs.CommandLine.{ArePlaces, HasBadScope, HasBadValue, HaveSome, IsBadLine, IsCommandLine, IsComplete, IsInvocation, IsScopeOf, Says, SaysBadly, desk};
+ghost use Rattle.desk_jobs.specs.CommandLine.{ArePlaces, HasBadScope, HasBadValue, HaveSome, IsBadLine, IsCommandLine, HasAllValues, IsInvocation, IsScopeOf, Says, SaysBadly, desk};
 ghost use Rattle.desk_jobs.specs.Faults.{IsUsage};
 ghost use Rattle.desk_jobs.specs.declared.fault.JobFault.TheVariants.{BadWord, NoMemory};
 ghost use Rattle.desk_jobs.specs.declared.task.Job.{Job as Task};
@@ -165,7 +165,7 @@ fn serve(alloc: Global, matches: &ArgMatches<'_>) -> Result<Job, JobFault>
 }
 
 fn by_name(alloc: Global, name: &str, matches: &ArgMatches<'_>) -> Result<Job, JobFault>
-    requires { IsComplete (Some (name.now, rows_of (found_of matches.now))) }
+    requires { HasAllValues (Some (name.now, rows_of (found_of matches.now))) }
     ensures found { IfOk result (λ j. Says (Some (name.now, rows_of (found_of matches.now))) j) }
     ensures only { (j : Task) → Says (Some (name.now, rows_of (found_of matches.now))) j → MatchResult result (λ k. k ≡ j) (λ e. e ≡ NoMemory) }
     ensures word { IfErr result (λ e. e ≡ BadWord → SaysBadly (Some (name.now, rows_of (found_of matches.now)))) }
@@ -189,7 +189,7 @@ fn by_name(alloc: Global, name: &str, matches: &ArgMatches<'_>) -> Result<Job, J
 }
 
 fn named(alloc: Global, matches: &ArgMatches<'_>) -> Result<Job, JobFault>
-    requires { IsComplete (subcommand_rows_of matches.now) }
+    requires { HasAllValues (subcommand_rows_of matches.now) }
     ensures found { IfOk result (λ j. Says (subcommand_rows_of matches.now) j) }
     ensures only { (j : Task) → Says (subcommand_rows_of matches.now) j → MatchResult result (λ k. k ≡ j) (λ e. e ≡ NoMemory) }
     ensures word { IfErr result (λ e. e ≡ BadWord → SaysBadly (subcommand_rows_of matches.now)) }

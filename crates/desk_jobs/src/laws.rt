@@ -3,7 +3,7 @@
 ghost use Rattle.std.specs.Prelude.{◌≡◌, List, [], ◌∷◌, None, Some, codes, true};
 ghost use Rattle.std.specs.List.{list_all};
 ghost use Rattle.clap.specs.Words.{Text as Word, fault_of, subcommand_of};
-ghost use Rattle.desk_jobs.specs.CommandLine.{IsCommandLine, IsComplete, desk};
+ghost use Rattle.desk_jobs.specs.CommandLine.{IsCommandLine, HasAllValues, desk};
 ghost use Rattle.desk_jobs.specs.Operands.{SaysByPlace, is_operand};
 ghost use Rattle.desk_jobs.specs.declared.task.Job.{Job as Task};
 ghost use Rattle.desk_jobs.specs.declared.task.Job.TheVariants as jobs;
@@ -37,5 +37,5 @@ pub fn compares()
 
 /// A line in which clap finds no fault is a command of the program, with a value for each argument that it wants.
 pub fn no_fault_is_complete()
-    ensures { (words : List Word) → fault_of desk words ≡ [] → IsComplete (subcommand_of desk words) }
+    ensures { (words : List Word) → fault_of desk words ≡ [] → HasAllValues (subcommand_of desk words) }
 {}

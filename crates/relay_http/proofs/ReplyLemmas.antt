@@ -12,7 +12,7 @@ use Rattle.desk_outcomes.proofs.FileLemmas.{one_lines}
 use Rattle.desk_outcomes.proofs.SetLemmas.{one_live, one_parked}
 use Rattle.review.proofs.ReportOne.{one_report}
 use Rattle.relay_http.specs.Asked.{Asked, deliver, grants, parked, host_file, report, refused}
-use Rattle.relay_http.specs.Replies.{IsFileReply, IsReply, Reply, delivery, done, is_known_host, lines_of, live_line, to_delivery}
+use Rattle.relay_http.specs.Replies.{IsFileReply, IsReply, Reply, delivery, done, is_known_host, each_on_a_line, live_line, to_delivery}
 
 -- a host is known, or it is not
 one_known : (f : RosterFields Cmnd) (host : List ℕ) → is_known_host f host ≡ false → is_known_host f host ≡ true → ⊥
@@ -33,8 +33,8 @@ one_file_reply f base set host a b (inr (inr x)) (inr (inr y)) = x.2 ∙ sym y.2
 pub one_reply : (f : RosterFields Cmnd) (base : List Entry) (set : List Message) (asked : Asked ℕ) (a b : Reply) → IsReply f base set asked a → IsReply f base set asked b → a ≡ b
 one_reply f base set (deliver relay body) a b x y = x.2 ∙ ap to_delivery (one_answer f (delivery relay body) x.0 y.0 x.1 y.1) ∙ sym y.2
 one_reply f base set (grants at) a b x y =
-    x.2 ∙ ap (λ (list : List LiveGrant). done (lines_of (map live_line list))) (one_live f set at x.0 y.0 x.1 y.1) ∙ sym y.2
-one_reply f base set parked a b x y = x.2 ∙ ap (λ (texts : List (List ℕ)). done (lines_of texts)) (one_parked set x.0 y.0 x.1 y.1) ∙ sym y.2
+    x.2 ∙ ap (λ (list : List LiveGrant). done (each_on_a_line (map live_line list))) (one_live f set at x.0 y.0 x.1 y.1) ∙ sym y.2
+one_reply f base set parked a b x y = x.2 ∙ ap (λ (texts : List (List ℕ)). done (each_on_a_line texts)) (one_parked set x.0 y.0 x.1 y.1) ∙ sym y.2
 one_reply f base set (host_file host) a b x y = one_file_reply f base set host a b x y
 one_reply f base set (report at) a b x y = x.2 ∙ ap done (one_report f base set set at x.0 y.0 (λ m. (λ held. held, λ held. held)) x.1 y.1) ∙ sym y.2
 one_reply f base set (refused fault) a b x y = x ∙ sym y

@@ -40,9 +40,9 @@ abbrev pub space : ℕ
 space = 32
 
 -- each text on a line of its own
-abbrev pub lines_of : List (List ℕ) → List ℕ
-lines_of [] = []
-lines_of (text ∷ more) = text ++ newline ∷ [] ++ lines_of more
+abbrev pub each_on_a_line : List (List ℕ) → List ℕ
+each_on_a_line [] = []
+each_on_a_line (text ∷ more) = text ++ newline ∷ [] ++ each_on_a_line more
 
 -- a moment's canonical text
 unfoldable pub moment_text : ℕ → List ℕ
@@ -107,8 +107,8 @@ IsFileReply f base set host reply =
 -- The reply to what is asked, by a roster, a base and the messages of a set, where memory lasts and the storage holds: at most one, by a law.
 abbrev pub IsReply : RosterFields Cmnd → (base : List Entry) → List Message → Asked ℕ → Reply → Type 0
 IsReply f base set (deliver relay body) reply = (answer : Result Ack Refusal) × Answers f (delivery relay body) answer × (reply ≡ to_delivery answer)
-IsReply f base set (grants at) reply = (list : List LiveGrant) × AreLive f set at list × (reply ≡ done (lines_of (map live_line list)))
-IsReply f base set parked reply = (texts : List (List ℕ)) × AreParked set texts × (reply ≡ done (lines_of texts))
+IsReply f base set (grants at) reply = (list : List LiveGrant) × AreLive f set at list × (reply ≡ done (each_on_a_line (map live_line list)))
+IsReply f base set parked reply = (texts : List (List ℕ)) × AreParked set texts × (reply ≡ done (each_on_a_line texts))
 IsReply f base set (host_file host) reply = IsFileReply f base set host reply
 IsReply f base set (report at) reply = (text : List ℕ) × IsReport f base set at text × (reply ≡ done text)
 IsReply f base set (refused fault) reply = reply ≡ record { status = status_of fault; body = fault_line fault }

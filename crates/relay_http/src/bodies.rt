@@ -1,7 +1,7 @@
 //! The bodies of replies to questions.
 
 ghost use Rattle.std.specs.Prelude.{◌≡◌, ◌++◌, ◌∷◌, [], IfOk, OnOk, map, string_bytes};
-ghost use Rattle.relay_http.specs.Replies.{lines_of, live_line, moment_text, name_text, newline, window_text};
+ghost use Rattle.relay_http.specs.Replies.{each_on_a_line, live_line, moment_text, name_text, newline, window_text};
 
 use desk::{Live, RequestName};
 use grants::Window;
@@ -51,7 +51,7 @@ fn push_live(out: &mut String, live: &Live) -> Result<(), AllocError>
 
 /// A line for each grant in force.
 pub fn live_text(alloc: Global, list: &[Live]) -> Result<String, AllocError>
-    ensures { IfOk result (λ s. string_bytes s ≡ lines_of (map live_line list.now)) }
+    ensures { IfOk result (λ s. string_bytes s ≡ each_on_a_line (map live_line list.now)) }
 {
     let mut out = String::new(alloc);
     for live in list {
@@ -69,7 +69,7 @@ fn push_line(out: &mut String, text: &str) -> Result<(), AllocError>
 
 /// Each text on a line of its own.
 pub fn lines_text(alloc: Global, texts: &[String]) -> Result<String, AllocError>
-    ensures { IfOk result (λ s. string_bytes s ≡ lines_of (map string_bytes texts.now)) }
+    ensures { IfOk result (λ s. string_bytes s ≡ each_on_a_line (map string_bytes texts.now)) }
 {
     let mut out = String::new(alloc);
     for text in texts {

@@ -26,7 +26,7 @@ abbrev pub most_cases : ℕ
 most_cases = 1_000_000
 
 -- there are at most so many cases, and this is the first of them that a allows and b refuses
-pub record IsAnswer (s : Scope) (a b : List Entry) (found : Option Invocation) : Type 0 where
+pub record IsFirstBeyond (s : Scope) (a b : List Entry) (found : Option Invocation) : Type 0 where
   pub cases : Cases
   pub are_cases : AreCases s a b cases
   pub few : product cases ≤ most_cases

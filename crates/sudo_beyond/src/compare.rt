@@ -3,7 +3,7 @@
 ghost use Rattle.std.specs.Prelude.{◌≡◌, IfOk, MatchOption, MatchResult};
 ghost use Rattle.sudo_beyond.specs.declared.fault.BeyondFault.TheVariants as fault;
 ghost use Rattle.sudo_beyond.specs.Beyond.{LiesBeyond, SomethingBeyond};
-ghost use Rattle.sudo_beyond.specs.Answer.{IsAnswer, AreTooMany};
+ghost use Rattle.sudo_beyond.specs.Answer.{IsFirstBeyond, AreTooMany};
 
 use crate::cases::Cases;
 use crate::fault::BeyondFault;
@@ -30,7 +30,7 @@ pub fn beyond(
     ensures exact { IfOk result (λ found. MatchOption found
         (SomethingBeyond scope.now a.now b.now → ⊥) (LiesBeyond scope.now a.now b.now)) }
     // the first of the cases, of which there are at most 1,000,000; and they are called too many only where there are more
-    ensures answer { MatchResult result (IsAnswer scope.now a.now b.now)
+    ensures answer { MatchResult result (IsFirstBeyond scope.now a.now b.now)
         (λ e. e ≡ fault.TooManyCases → AreTooMany scope.now a.now b.now) }
 {
     let cases = Cases::of(alloc, scope, a, b)?;

@@ -1,7 +1,7 @@
 use Rattle.std.proofs.Common.{◌≡◌, Ok, true, rules}
 use Rattle.std.proofs.lemmas.Result.{err_from_is_err_and}
 use Rattle.roster.specs.Rules.{is_among}
-use Rattle.desk.specs.Delivery.{Delivery, IsAnswer}
+use Rattle.desk.specs.Delivery.{Delivery, IsDeliveryAnswer}
 use Rattle.desk.proofs.DeliveryLemmas.{acknowledged, held_at_ok, refused}
 use Rattle.desk.proofs.desk.Desk.deliver.Goals as goal
 
@@ -11,7 +11,7 @@ returns-in_err-message-clause-answer g c =
     let d : Delivery = record { relay = c.args.relay.now; body = c.args.body.now } in
     let f = c.self.inside.roster.says in
     let known : is_among f.relays d.relay ≡ true = search rules in
-    let answer : IsAnswer f d c.from_residual.result = rw (p.1, p.2) (refused f d c.in_err-message.field-0.0 known c.in_err-message.ensures.err) in
+    let answer : IsDeliveryAnswer f d c.from_residual.result = rw (p.1, p.2) (refused f d c.in_err-message.field-0.0 known c.in_err-message.ensures.err) in
     rw (← c.self.view_is) answer
 
 pub returns-clause-answer : goal.returns-clause-answer
@@ -20,7 +20,7 @@ returns-clause-answer g c =
     let f = c.self.inside.roster.says in
     let known : is_among f.relays d.relay ≡ true = search rules in
     let found = c.in_ok-message.ensures.found in
-    let answer : IsAnswer f d (Ok (record {})) = acknowledged f d (record {}) c.in_ok-message.message known found.0 found.1 in
+    let answer : IsDeliveryAnswer f d (Ok (record {})) = acknowledged f d (record {}) c.in_ok-message.message known found.0 found.1 in
     rw (← c.self.view_is) answer
 
 pub returns-clause-held : goal.returns-clause-held

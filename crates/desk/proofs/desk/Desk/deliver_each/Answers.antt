@@ -8,7 +8,7 @@ use Rattle.desk_store.specs.Keeping.{HasFailed}
 use Rattle.desk.specs.declared.ack.Ack.{Ack}
 use Rattle.desk.specs.declared.refusal.Refusal.{Refusal}
 use Rattle.desk.specs.declared.refusal.Refusal.TheVariants.{Storage}
-use Rattle.desk.specs.Delivery.{AreAnswers, Delivery, HeldAfterAll, IsAnswer, delivery_of}
+use Rattle.desk.specs.Delivery.{AreAnswers, Delivery, HeldAfterAll, IsDeliveryAnswer, delivery_of}
 use Rattle.desk.proofs.DeliveryLemmas.{answers_push, held_by_none, held_push}
 use Rattle.desk.proofs.ServingLemmas.{failed_later, failed_sooner, served_by_none, served_once_more}
 use Rattle.desk.proofs.desk.Desk.deliver_each.Goals as goal
@@ -55,8 +55,8 @@ loop-relay-preserved g c =
     ∙ ap (λ (x : Delivery). before ++ x ∷ []) same in
     let result = c.deliver-answer.result in
     let answers = c.loop-relay.answers.items in
-    let F : Reading → Type 0 = λ r. IsAnswer r.says d result in
-    let answer : IsAnswer old.roster.says d result = subst F kept.roster done.answer in
+    let F : Reading → Type 0 = λ r. IsDeliveryAnswer r.says d result in
+    let answer : IsDeliveryAnswer old.roster.says d result = subst F kept.roster done.answer in
     let P : List Delivery → Type 0 = λ ds. AreAnswers old.roster.says ds (answers ++ result ∷ []) in
     let P' : List (Result Ack Refusal) → Type 0 = λ as'. AreAnswers old.roster.says (map delivery_of (take (i + 1) list)) as' in
     let Q : List Delivery → Type 0 = λ ds. HeldAfterAll (K.holds old.keeper) ds (answers ++ result ∷ []) (K.holds new.keeper) in
