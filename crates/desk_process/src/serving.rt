@@ -6,7 +6,7 @@ use desk_commands::{Refusal, Status, open_over};
 /// Serves the desk that the files make over what the keeper keeps, at the address, and hands the keeper on.
 ///
 /// It is refused where the files make no desk, and where the address cannot be listened at or accepted from.
-pub fn serve<K: Keeper>(
+pub(crate) fn serve<K: Keeper>(
     rt: &HostRuntime,
     files: &[Vec<u8>],
     keeper: K,
