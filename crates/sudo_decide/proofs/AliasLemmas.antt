@@ -12,6 +12,7 @@ use Rattle.sudo_policy.specs.declared.entry.Signed.{Signed}
 use Rattle.sudo_policy.specs.declared.entry.Entry.{Entry}
 use Rattle.sudo_policy.specs.declared.tree.Definition.{Definition}
 use Rattle.sudo_policy.specs.Alias.{by_definition, is_defined, DefinedAt}
+use Rattle.sudo_policy.proofs.DefinedPlaces.{split_at}
 use Rattle.sudo_decide.specs.Decision.{list_answer}
 use Rattle.sudo_decide.specs.Kinds.{aliases_say, list_says_by, AreNew}
 
@@ -164,7 +165,8 @@ pub defined_above : {X V : Type 0} (f : (List ℕ → V) → List (Signed X) →
     (place below : ℕ) (name : List ℕ) (list : List (Signed X))
     → AreNew def [] es → DefinedAt def es place name list → place < below
     → by_definition f u (flat_map def (reverse (take below es))) name ≡ f (by_definition f u (flat_map def (reverse (take place es)))) list
-defined_above {X} {V} f u def es place below name list new at within =
+defined_above {X} {V} f u def es place below name list new defined within =
+    let at = split_at def es place name list defined in
     let d : Definition X = record { name = name; list = list } in
     let P : List Entry → Type 0 = λ fs. AreNew def [] fs in
     let once = is_once def at.before at.entry at.after d at.def_is (subst P at.entries_are new) in
@@ -189,7 +191,8 @@ pub defined_below : {X V : Type 0} (f : (List ℕ → V) → List (Signed X) →
     (place below : ℕ) (name : List ℕ) (list : List (Signed X))
     → AreNew def [] es → DefinedAt def es place name list → below ≤ place
     → by_definition f u (flat_map def (reverse (take below es))) name ≡ u
-defined_below {X} f u def es place below name list new at within =
+defined_below {X} f u def es place below name list new defined within =
+    let at = split_at def es place name list defined in
     let d : Definition X = record { name = name; list = list } in
     let P : List Entry → Type 0 = λ fs. AreNew def [] fs in
     let once = is_once def at.before at.entry at.after d at.def_is (subst P at.entries_are new) in

@@ -16,6 +16,7 @@ use Rattle.sudo_policy.specs.declared.tree.Definition.{Definition}
 use Rattle.sudo_policy.specs.Alias.{DefinedAt, by_definition, is_defined, item_alias, cmnd_alias, KnowsList, user_def, runas_def, host_def, cmnd_def, item_weight, list_weight, item_depth, list_depth, depth_of}
 use Rattle.sudo_policy.specs.Policy.{IsPlaced, ArePlaced, IsPolicy}
 use Rattle.sudo_policy.specs.Aliased.{EachWeighsItsList}
+use Rattle.sudo_policy.proofs.DefinedPlaces.{split_at}
 
 -- ---- definitions of which each is new, and uses what stands behind it
 
@@ -136,7 +137,8 @@ pub by_all : {X V : Type 0} (alias_of : X → Option (List ℕ)) (def : Entry �
     (place : ℕ) (name : List ℕ) (list : List (Signed X))
     → DependsOnAliases alias_of f → Step alias_of def → ArePlaced [] es → DefinedAt def es place name list
     → by_definition f u (flat_map def (reverse es)) name ≡ f (by_definition f u (flat_map def (reverse es))) list
-by_all {X} {V} alias_of def f u es place name list depends step placed at =
+by_all {X} {V} alias_of def f u es place name list depends step placed defined =
+    let at = split_at def es place name list defined in
     let d : Definition X = record { name = name; list = list } in
     let front = flat_map def (reverse at.after) in
     let back = flat_map def (reverse at.before) in

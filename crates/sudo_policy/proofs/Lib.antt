@@ -13,6 +13,7 @@ pub mod PrintedLists
 pub mod PrintedLines
 pub mod PrintedRules
 pub mod Canon
+pub mod DefinedPlaces
 mod Measuring
 mod Tables
 mod Entering

@@ -1,5 +1,5 @@
 -- What is kept of aliases, as entries are added.
-use Rattle.std.proofs.Common.{◌≡◌, ℕ, ◌+◌, ◌≤◌, Bool, true, false, cond, ◌||◌, List, [], ◌∷◌, ◌++◌, length, reverse, Option, Some, None, refl, sym, ap, subst, ◌∙◌, inl, inr, append_assoc, arith}
+use Rattle.std.proofs.Common.{◌≡◌, ℕ, ◌+◌, ◌≤◌, Bool, true, false, cond, ◌||◌, List, [], ◌∷◌, ◌++◌, length, reverse, Option, Some, None, refl, sym, ap, subst, ◌∙◌, inl, inr, arith}
 use Rattle.std.specs.Prelude.{IfSome}
 use Rattle.std.specs.List.{flat_map}
 use Rattle.std.specs.Option.{is_some, option_map_or}
@@ -19,6 +19,7 @@ use Rattle.sudo_policy.specs.Alias.{DefinedAt, is_defined, item_alias, cmnd_alia
 use Rattle.sudo_policy.specs.private.Measures.{alias_at, has, weight_in, depth_in, stopped, IsDefinable, Defines}
 use Rattle.sudo_policy.specs.private.Scope.{IsTable, ArePlaces, IsKind, IsScope, RuleIsKnown, rule_weight_in}
 use Rattle.sudo_policy.specs.Policy.{IsNew, KnowsRule, rule_weight}
+use Rattle.sudo_policy.proofs.DefinedPlaces.{defined_before, defined_last}
 use Rattle.sudo_policy.proofs.Measuring.{known_same, list_stopped, list_deep}
 
 -- ---- one more definition
@@ -83,21 +84,6 @@ defs_push : {X : Type 0} (def : Entry → List (Definition X)) (es : List Entry)
 defs_push def es e =
     let last : reverse (es ++ e ∷ []) ≡ e ∷ reverse es = reverse-append es (e ∷ []) in
     ap (flat_map def) last ∙ flat_map-cons def e (reverse es)
-
-defined_before : {X : Type 0} (def : Entry → List (Definition X)) (es : List Entry) (e : Entry) (place : ℕ) (name : List ℕ) (list : List (Signed X))
-    → DefinedAt def es place name list → DefinedAt def (es ++ e ∷ []) place name list
-defined_before def es e place name list d = record {
-  before = d.before;
-  entry = d.entry;
-  after = d.after ++ e ∷ [];
-  entries_are = ap (λ (xs : List Entry). xs ++ e ∷ []) d.entries_are ∙ append_assoc d.before (d.entry ∷ d.after) (e ∷ []);
-  place_is = d.place_is;
-  def_is = d.def_is;
-}
-
-defined_last : {X : Type 0} (def : Entry → List (Definition X)) (es : List Entry) (e : Entry) (name : List ℕ) (list : List (Signed X))
-    → def e ≡ record { name = name; list = list } ∷ [] → DefinedAt def (es ++ e ∷ []) (length es) name list
-defined_last def es e name list is = record { before = es; entry = e; after = []; entries_are = refl; place_is = refl; def_is = is }
 
 abbrev IsPlace : {X : Type 0} → (Entry → List (Definition X)) → List Entry → List ℕ → Alias → Type 0
 IsPlace {X} def es name a = (list : List (Signed X)) × DefinedAt def es a.place name list

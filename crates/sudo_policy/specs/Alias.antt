@@ -1,7 +1,8 @@
 -- Aliases: what an alias is by its definition, and the weight and depth of a list (sudoers(5), "Aliases").
 -- Definitions are listed from the nearest to the farthest above.
-use Rattle.std.specs.Prelude.{◌≡◌, ℕ, ◌+◌, max, Bool, true, List, [], ◌∷◌, ◌++◌, length, sum_by, Option, Some, None, IfSome, if◌then◌else◌}
-use Rattle.std.specs.List.{AllByRecursion, flat_map, list_any}
+use Rattle.std.specs.Prelude.{◌≡◌, ℕ, ◌+◌, max, Bool, true, List, [], ◌∷◌, sum_by, Option, Some, None, IfSome, if◌then◌else◌}
+use Rattle.std.specs.List.{AllByRecursion, flat_map, list_any, slice_get}
+use Rattle.std.specs.Option.{option_map}
 use Rattle.std.specs.Str.{bytes_eq}
 use Rattle.sudo_policy.specs.declared.entry.Signed.{Signed}
 use Rattle.sudo_policy.specs.declared.entry.Item.{Item}
@@ -47,13 +48,8 @@ abbrev pub is_defined : {X : Type 0} → List (Definition X) → List ℕ → Bo
 is_defined defs name = list_any (λ d. bytes_eq d.name name) defs
 
 -- the entry at a place, counted from 0, defines the alias by this list
-pub record DefinedAt {X : Type 0} (def : Entry → List (Definition X)) (es : List Entry) (place : ℕ) (name : List ℕ) (list : List (Signed X)) : Type 0 where
-  pub before : List Entry
-  pub entry : Entry
-  pub after : List Entry
-  pub entries_are : es ≡ before ++ entry ∷ after
-  pub place_is : place ≡ length before
-  pub def_is : def entry ≡ record { name = name; list = list } ∷ []
+abbrev pub DefinedAt : {X : Type 0} → (Entry → List (Definition X)) → List Entry → ℕ → List ℕ → List (Signed X) → Type 0
+DefinedAt def es place name list = option_map def (slice_get es place) ≡ Some (record { name = name; list = list } ∷ [])
 
 -- What holds of an alias is what holds of its list, where the aliases in the list are taken by the definitions above it.
 abbrev pub by_definition : {X V : Type 0} → ((List ℕ → V) → List (Signed X) → V) → V → List (Definition X) → List ℕ → V
