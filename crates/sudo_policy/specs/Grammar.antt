@@ -3,6 +3,7 @@
 -- A token's Bool says whether blanks stand before it: a variable where they may, true where they must, false where they may not.
 use Rattle.std.specs.Prelude.{◌≡◌, ℕ, ◌%◌, ◌==◌, Bool, true, false, ◌⊎◌, List, [], ◌∷◌, ◌++◌, map, Option, Some, None, if◌then◌else◌, codes}
 use Rattle.std.specs.Option.{option_or}
+use Rattle.sudo_words.specs.Bytes.{equals, comma, colon, opening, closing, quote}
 use Rattle.sudo_words.specs.Word.{is_name, is_host_name, is_alias_name}
 use Rattle.sudo_words.specs.Moment as moments
 use Rattle.sudo_words.specs.Command.{head_text, rule_of, arg_text}
@@ -53,7 +54,7 @@ pub record SpellsItem (form : List ℕ → Bool) (ts : List Tok) (s : Signed (It
 -- what stands behind a path: nothing, `""`, or arguments, each behind blanks
 abbrev pub rule_toks : ArgRule → List Tok
 rule_toks rules.Any = []
-rule_toks rules.Empty = mark true 34 ∷ mark false 34 ∷ []
+rule_toks rules.Empty = mark true quote ∷ mark false quote ∷ []
 rule_toks (rules.Exactly args) = map (λ arg. word true 0 (arg_text arg)) args
 
 abbrev pub head_of : CmndItem → List ℕ
@@ -73,13 +74,13 @@ pub record SpellsCmnd (ts : List Tok) (s : Signed CmndItem) (rest : List Tok) : 
   pub sign : s.negated ≡ is_odd bangs
 
 abbrev pub Users : List Tok → List (Signed (Item (List ℕ))) → List Tok → Type 0
-Users = Listed 44 (SpellsItem is_name)
+Users = Listed comma (SpellsItem is_name)
 
 abbrev pub Hosts : List Tok → List (Signed (Item (List ℕ))) → List Tok → Type 0
-Hosts = Listed 44 (SpellsItem is_host_name)
+Hosts = Listed comma (SpellsItem is_host_name)
 
 abbrev pub Cmnds : List Tok → List (Signed CmndItem) → List Tok → Type 0
-Cmnds = Listed 44 SpellsCmnd
+Cmnds = Listed comma SpellsCmnd
 
 -- ---- a command of a user specification: targets, dates and tags of its own, and the command
 
@@ -87,7 +88,7 @@ Cmnds = Listed 44 SpellsCmnd
 abbrev pub SpellsRunas : List Tok → Option (List (Signed (Item (List ℕ)))) → List Tok → Type 0
 SpellsRunas ts None rest = ts ≡ rest
 SpellsRunas ts (Some runas) rest =
-    (a b : Bool) × (next mid : List Tok) × (ts ≡ mark a 40 ∷ next) × Users next runas mid × (mid ≡ mark b 41 ∷ rest)
+    (a b : Bool) × (next mid : List Tok) × (ts ≡ mark a opening ∷ next) × Users next runas mid × (mid ≡ mark b closing ∷ rest)
 
 -- an option: its word, and its moment
 pub record Date : Type 0 where
@@ -99,7 +100,7 @@ abbrev pub SpellsDates : List Tok → List Date → List Tok → Type 0
 SpellsDates ts [] rest = ts ≡ rest
 SpellsDates ts (date ∷ dates) rest =
     (a : Bool) × (time : List ℕ) × (next : List Tok) × moments.Spells time date.moment
-    × (ts ≡ word a 0 date.word ∷ mark false 61 ∷ word false 0 time ∷ next) × (begins_spaced next ≡ true) × SpellsDates next dates rest
+    × (ts ≡ word a 0 date.word ∷ mark false equals ∷ word false 0 time ∷ next) × (begins_spaced next ≡ true) × SpellsDates next dates rest
 
 -- An option gives a bound that was not given before; the other stays.
 abbrev pub GivesBound : (before after : Option ℕ) → Date → (new_before new_after : Option ℕ) → Type 0
@@ -120,7 +121,7 @@ tag_word nopasswd = if nopasswd then codes "NOPASSWD" else codes "PASSWD"
 abbrev pub SpellsTags : List Tok → List Bool → List Tok → Type 0
 SpellsTags ts [] rest = ts ≡ rest
 SpellsTags ts (tag ∷ tags) rest =
-    (a b : Bool) × (next : List Tok) × (ts ≡ word a 0 (tag_word tag) ∷ mark b 58 ∷ next) × SpellsTags next tags rest
+    (a b : Bool) × (next : List Tok) × (ts ≡ word a 0 (tag_word tag) ∷ mark b colon ∷ next) × SpellsTags next tags rest
 
 abbrev pub last_tag : List Bool → Option Bool
 last_tag [] = None
@@ -140,7 +141,7 @@ pub record SpellsSpec (ts : List Tok) (s : Spec) (rest : List Tok) : Type 0 wher
   pub cmnd : SpellsCmnd behind_tags s.cmnd rest
 
 abbrev pub Specs : List Tok → List Spec → List Tok → Type 0
-Specs = Listed 44 SpellsSpec
+Specs = Listed comma SpellsSpec
 
 -- ---- lines
 
@@ -148,7 +149,7 @@ Specs = Listed 44 SpellsSpec
 pub record SpellsPart (ts : List Tok) (p : Part) (rest : List Tok) : Type 0 where
   pub spaced : Bool
   pub next : List Tok
-  pub hosts : Hosts ts p.hosts (mark spaced 61 ∷ next)
+  pub hosts : Hosts ts p.hosts (mark spaced equals ∷ next)
   pub specs : Specs next p.specs rest
 
 -- a name, `=` and a list
@@ -156,19 +157,19 @@ pub record SpellsDef {X : Type 0} (Is : List Tok → Signed X → List Tok → T
   pub name_spaced : Bool
   pub spaced : Bool
   pub next : List Tok
-  pub toks : ts ≡ word name_spaced 0 d.name ∷ mark spaced 61 ∷ next
+  pub toks : ts ≡ word name_spaced 0 d.name ∷ mark spaced equals ∷ next
   pub name : is_alias_name d.name ≡ true
-  pub list : Listed 44 Is next d.list rest
+  pub list : Listed comma Is next d.list rest
 
 -- the word of a kind, and behind blanks definitions with `:` between
 abbrev pub SpellsAliases : {X : Type 0} → List ℕ → (List Tok → Signed X → List Tok → Type 0) → List Tok → List (Definition X) → Type 0
 SpellsAliases kind Is ts defs =
-    (a : Bool) × (next : List Tok) × (ts ≡ word a 0 kind ∷ next) × (begins_spaced next ≡ true) × Listed 58 (SpellsDef Is) next defs []
+    (a : Bool) × (next : List Tok) × (ts ≡ word a 0 kind ∷ next) × (begins_spaced next ≡ true) × Listed colon (SpellsDef Is) next defs []
 
 -- users, and behind blanks parts with `:` between
 abbrev pub SpellsRights : List Tok → List (Signed (Item (List ℕ))) → List Part → Type 0
 SpellsRights ts users parts =
-    (next : List Tok) × Users ts users next × (begins_spaced next ≡ true) × Listed 58 SpellsPart next parts []
+    (next : List Tok) × Users ts users next × (begins_spaced next ≡ true) × Listed colon SpellsPart next parts []
 
 abbrev pub SpellsTree : List Tok → Line → Type 0
 SpellsTree ts (lines.Users defs) = SpellsAliases (codes "User_Alias") (SpellsItem is_name) ts defs

@@ -1,41 +1,45 @@
 -- A line as words and marks, and where blanks stand between them.
 use Rattle.std.specs.Prelude.{◌≡◌, ℕ, zero, suc, ◌<◌, Bool, true, false, ◌&&◌, ◌||◌, ◌==◌, nat_le, if◌then◌else◌, List, [], ◌∷◌, ◌++◌, length}
+use Rattle.std.specs.Str.{byte}
+use Rattle.sudo_words.specs.Bytes.{space, tab, newline, equals, comma, colon, opening, closing, quote, bang, backslash}
 use Rattle.sudo_words.specs.Word.{is_letter_or_digit}
 use Rattle.sudo_words.specs.Command.{is_escaped}
 use Rattle.sudo_policy.specs.Span.{Each}
 
 -- the bytes of a text: tab, newline, and the printed ones of ASCII
 abbrev pub is_text_byte : ℕ → Bool
-is_text_byte b = (b == 9) || (b == 10) || (nat_le 32 b && nat_le b 126)
+is_text_byte b = (b == tab) || (b == newline) || (nat_le space b && nat_le b (byte "~"))
 
 -- a blank is a space or a tab
 abbrev pub is_blank : ℕ → Bool
-is_blank b = (b == 32) || (b == 9)
+is_blank b = (b == space) || (b == tab)
 
 -- `=`, `,`, `:`, `(`, `)` and `"` stand for themselves
 abbrev pub is_mark : ℕ → Bool
-is_mark b = (b == 61) || (b == 44) || (b == 58) || (b == 40) || (b == 41) || (b == 34)
+is_mark b = (b == equals) || (b == comma) || (b == colon) || (b == opening) || (b == closing) || (b == quote)
 
 -- a word is made of letters, digits and `. _ / + - @ %`
 abbrev pub is_word_byte : ℕ → Bool
-is_word_byte b = is_letter_or_digit b || (b == 46) || (b == 95) || (b == 47) || (b == 43) || (b == 45) || (b == 64) || (b == 37)
+is_word_byte b =
+    is_letter_or_digit b || (b == byte ".") || (b == byte "_") || (b == byte "/") || (b == byte "+") || (b == byte "-") || (b == byte "@")
+    || (b == byte "%")
 
 -- and of `,`, `:` and `=`, each behind a backslash
 abbrev pub is_word_text : List ℕ → Bool
 is_word_text [] = true
 is_word_text (b ∷ []) = is_word_byte b
-is_word_text (b ∷ c ∷ rest) = if b == 92 then is_escaped c && is_word_text rest else is_word_byte b && is_word_text (c ∷ rest)
+is_word_text (b ∷ c ∷ rest) = if b == backslash then is_escaped c && is_word_text rest else is_word_byte b && is_word_text (c ∷ rest)
 
 -- whether a word before these bytes would go on with them
 abbrev pub goes_on : List ℕ → Bool
 goes_on [] = false
 goes_on (b ∷ []) = is_word_byte b
-goes_on (b ∷ c ∷ rest) = is_word_byte b || ((b == 92) && is_escaped c)
+goes_on (b ∷ c ∷ rest) = is_word_byte b || ((b == backslash) && is_escaped c)
 
 -- so many `!`
 abbrev pub bangs : ℕ → List ℕ
 bangs zero = []
-bangs (suc n) = 33 ∷ bangs n
+bangs (suc n) = bang ∷ bangs n
 
 -- A word, with how many `!` stand directly before it, or a mark. The Bool says whether blanks stand before.
 pub data Tok : Type 0 where

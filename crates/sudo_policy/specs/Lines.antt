@@ -1,13 +1,14 @@
 -- The lines of a text: comments are taken out, and continued lines are joined (sudoers(5), "Other special characters and reserved words").
 use Rattle.std.specs.Prelude.{◌≡◌, ℕ, ◌-◌, ◌==◌, nat_eq, Bool, true, false, not, ◌&&◌, ◌||◌, ◌⊎◌, slice_index, List, [], ◌∷◌, ◌++◌, length, codes}
 use Rattle.std.specs.List.{slice_split, starts_with}
+use Rattle.sudo_words.specs.Bytes.{newline, equals, comma, colon, backslash, hash}
 use Rattle.sudo_words.specs.Word.{is_digit}
 use Rattle.sudo_policy.specs.Span.{Each, IsCut}
 use Rattle.sudo_policy.specs.Lex.{is_blank}
 
 -- a line of the text ends at a newline or where the text ends
 abbrev pub lines_of : List ℕ → List (List ℕ)
-lines_of text = slice_split (λ b. b == 10) text
+lines_of text = slice_split (λ b. b == newline) text
 
 -- whether the last byte passes; where there is none, it does not
 abbrev pub ends_with : (ℕ → Bool) → List ℕ → Bool
@@ -15,12 +16,12 @@ ends_with p [] = false
 ends_with p (b ∷ bs) = p (slice_index (b ∷ bs) (length (b ∷ bs) - 1))
 
 abbrev pub is_backslash : ℕ → Bool
-is_backslash b = b == 92
+is_backslash b = b == backslash
 
 -- ---- comments
 
 abbrev pub is_no_hash : ℕ → Bool
-is_no_hash b = not (b == 35)
+is_no_hash b = not (b == hash)
 
 -- what may follow the `#` of a comment: neither a digit nor `include`, and no backslash at its end
 abbrev pub begins_with_digit : List ℕ → Bool
@@ -49,11 +50,11 @@ IsBody line body = (rest : List ℕ) × IsCut is_no_hash line body rest × IsNot
 
 -- a line may go on behind a blank, `,`, `=` or `:`
 abbrev pub may_go_on : ℕ → Bool
-may_go_on b = is_blank b || (b == 44) || (b == 61) || (b == 58)
+may_go_on b = is_blank b || (b == comma) || (b == equals) || (b == colon)
 
 -- a line that goes on: such a front and a backslash, without a comment
 pub record IsContinued (line front : List ℕ) : Type 0 where
-  pub whole : line ≡ front ++ 92 ∷ []
+  pub whole : line ≡ front ++ backslash ∷ []
   pub each : Each is_no_hash front
   pub behind : ends_with may_go_on front ≡ true
 

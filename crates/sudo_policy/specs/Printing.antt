@@ -1,6 +1,7 @@
 -- The canonical text of a policy: one entry a line, in order, each line ended by a newline, without comments.
 use Rattle.std.specs.Prelude.{ℕ, Bool, List, [], ◌∷◌, ◌++◌, Option, Some, None, if◌then◌else◌, codes}
 use Rattle.std.specs.List.{flat_map}
+use Rattle.sudo_words.specs.Bytes.{newline, bang}
 use Rattle.sudo_words.specs.Moment.{stamp}
 use Rattle.sudo_words.specs.Command.{cmnd_text}
 use Rattle.sudo_policy.specs.declared.entry.Signed.{Signed}
@@ -26,7 +27,7 @@ cmnd_item_text (cmnds.Cmnd cmnd) = cmnd_text cmnd
 
 -- one `!` before what is negated
 abbrev pub signed_text : {X : Type 0} → (X → List ℕ) → Signed X → List ℕ
-signed_text f s = if s.negated then 33 ∷ f s.item else f s.item
+signed_text f s = if s.negated then bang ∷ f s.item else f s.item
 
 -- what follows the first item: a comma and a space before each
 abbrev pub tail_text : {X : Type 0} → (X → List ℕ) → List X → List ℕ
@@ -78,7 +79,7 @@ entry_text (entries.CmndAlias name list) = alias_text (codes "Cmnd_Alias") name 
 entry_text (entries.Rule rule) = rule_text rule
 
 abbrev pub line_text : Entry → List ℕ
-line_text e = entry_text e ++ 10 ∷ []
+line_text e = entry_text e ++ newline ∷ []
 
 abbrev pub canon : List Entry → List ℕ
 canon es = flat_map line_text es

@@ -1,5 +1,6 @@
 -- What the reader answers: the entries of a line, and where a fault is.
 use Rattle.std.specs.Prelude.{◌≡◌, ◌≢◌, ℕ, ◌+◌, ◌≤◌, ◌==◌, false, List, ◌∷◌, ◌++◌, count_by, map}
+use Rattle.sudo_words.specs.Bytes.{newline}
 use Rattle.sudo_policy.specs.Lex.{is_text_byte}
 use Rattle.sudo_policy.specs.Lines.{Joined}
 use Rattle.sudo_policy.specs.Spelling.{SpellsLines}
@@ -19,7 +20,7 @@ HasOtherByte text = (front rest : List ℕ) × (b : ℕ) × (text ≡ front ++ b
 
 -- a line of the text, from 1 to one past the count of its newlines
 abbrev pub IsLineOf : List ℕ → ℕ → Type 0
-IsLineOf text line = (1 ≤ line) × (line ≤ 1 + count_by (λ b. b == 10) text)
+IsLineOf text line = (1 ≤ line) × (line ≤ 1 + count_by (λ b. b == newline) text)
 
 -- a fault of a line, and not of the bytes
 abbrev pub IsInLine : FaultKind → Type 0

@@ -1,6 +1,7 @@
 -- Texts that spell the same, and lines that differ in their comment or in how they go on
 -- (sudoers(5), "Other special characters and reserved words").
 use Rattle.std.specs.Prelude.{◌≡◌, ℕ, ◌≤◌, true, List, [], ◌∷◌, ◌++◌, length}
+use Rattle.sudo_words.specs.Bytes.{backslash}
 use Rattle.sudo_policy.specs.declared.entry.Entry.{Entry}
 use Rattle.sudo_policy.specs.Span.{Each}
 use Rattle.sudo_policy.specs.Lex.{is_text_byte}
@@ -31,4 +32,4 @@ pub record MayHaveNote (line note : List ℕ) : Type 0 where
 
 -- `FRONT \` and the next line, which is not a backslash alone; and the one line in their place
 abbrev pub GoesOnWith : List ℕ → List ℕ → Type 0
-GoesOnWith front next = IsContinued (front ++ 92 ∷ []) front × (next ≡ 92 ∷ [] → ⊥)
+GoesOnWith front next = IsContinued (front ++ backslash ∷ []) front × (next ≡ backslash ∷ [] → ⊥)

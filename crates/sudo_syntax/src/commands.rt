@@ -2,6 +2,7 @@
 
 ghost use Rattle.std.specs.Prelude.{◌≡◌, ◌≤◌, ◌++◌, List, ℕ, length, IfOk, MatchResult, true};
 ghost use Rattle.std.specs.List.{AllByRecursion};
+ghost use Rattle.sudo_words.specs.Bytes.{comma};
 ghost use Rattle.sudo_words.specs.Command.{IsArgRule, IsLawful, arg_text, head_text, rule_of};
 ghost use Rattle.sudo_words.specs.Word.{is_arg};
 ghost use Rattle.sudo_words.specs.declared.cmnd.ArgRule.{ArgRule as Ruled};
@@ -85,7 +86,7 @@ fn rule_at<'a, 'b>(
 ) -> Result<(ArgRule, &'b [Token<'a>]), LineFault>
     ensures found { IfOk result (λ x. toks tokens.now ≡ rule_toks x.0 ++ toks x.1.now) }
     ensures shorter { IfOk result (λ x. length x.1.now ≤ length tokens.now) }
-    ensures only { (rule : Ruled) (rest : List Tok) → IsArgRule rule → EndsBy 44 rest → toks tokens.now ≡ rule_toks rule ++ rest
+    ensures only { (rule : Ruled) (rest : List Tok) → IsArgRule rule → EndsBy comma rest → toks tokens.now ≡ rule_toks rule ++ rest
         → MatchResult result (λ x. (x.0 ≡ rule) × (toks x.1.now ≡ rest)) (λ e. e ≡ NoMemory) }
 {
     match behind_empty(tokens) {
@@ -114,7 +115,7 @@ fn cmnd_item_at<'a, 'b>(
 ) -> Result<(CmndItem, &'b [Token<'a>]), LineFault>
     ensures found { IfOk result (λ x. IsCmndItem x.0 × (head.now ≡ head_of x.0) × (toks tokens.now ≡ args_of x.0 ++ toks x.1.now)) }
     ensures shorter { IfOk result (λ x. length x.1.now ≤ length tokens.now) }
-    ensures only { (i : Said) (rest : List Tok) → IsCmndItem i → EndsBy 44 rest → head.now ≡ head_of i → toks tokens.now ≡ args_of i ++ rest
+    ensures only { (i : Said) (rest : List Tok) → IsCmndItem i → EndsBy comma rest → head.now ≡ head_of i → toks tokens.now ≡ args_of i ++ rest
         → MatchResult result (λ x. (x.0 ≡ i) × (toks x.1.now ≡ rest)) (λ e. e ≡ NoMemory) }
 {
     if AliasForm::test(head.as_bytes()) {
@@ -128,7 +129,7 @@ fn cmnd_item_at<'a, 'b>(
 impl Spelled for Signed<CmndItem> {
     ghost spells = { SpellsCmnd };
 
-    ghost follows = { EndsBy 44 };
+    ghost follows = { EndsBy comma };
 
     fn at<'a, 'b>(
         alloc: Global,

@@ -1,6 +1,7 @@
 //! Definitions of aliases read from tokens.
 
 ghost use Rattle.std.specs.Prelude.{◌≡◌, ◌<◌, List, ℕ, length, IfOk, MatchOption, MatchResult, Ok, Some, None};
+ghost use Rattle.sudo_words.specs.Bytes.{comma, colon};
 ghost use Rattle.sudo_policy.specs.declared.entry.Signed.{Signed as Sign};
 ghost use Rattle.sudo_policy.specs.declared.fault.LineFault.TheVariants.{NoMemory};
 ghost use Rattle.sudo_policy.specs.declared.tree.Definition.{Definition as Defined};
@@ -25,10 +26,10 @@ fn definition_at<'a, 'b, T: Drop>(
 ) -> Result<(Definition<T>, &'b [Token<'a>]), LineFault>
 where
     Signed<T>: Spelled,
-    requires { (rest : List Tok) → EndsBy 44 rest → ⟦<Signed<T> as Spelled>⟧.follows rest }
+    requires { (rest : List Tok) → EndsBy comma rest → ⟦<Signed<T> as Spelled>⟧.follows rest }
     ensures found { IfOk result (λ x. SpellsDef (⟦<Signed<T> as Spelled>⟧.spells) (toks tokens.now) x.0 (toks x.1.now)) }
     ensures shorter { IfOk result (λ x. length x.1.now < length tokens.now) }
-    ensures only { (d : Defined T) (rest : List Tok) → EndsBy 58 rest → SpellsDef (⟦<Signed<T> as Spelled>⟧.spells) (toks tokens.now) d rest
+    ensures only { (d : Defined T) (rest : List Tok) → EndsBy colon rest → SpellsDef (⟦<Signed<T> as Spelled>⟧.spells) (toks tokens.now) d rest
         → MatchResult result (λ x. (x.0 ≡ d) × (toks x.1.now ≡ rest)) (λ e. e ≡ NoMemory) }
 {
     let Some((name, next)) = head_at(b'=', tokens) else {
@@ -42,7 +43,7 @@ where
 impl<F: NameForm> Spelled for Definition<Item<Word<F>>> {
     ghost spells = { SpellsDef (SpellsItem F.has) };
 
-    ghost follows = { EndsBy 58 };
+    ghost follows = { EndsBy colon };
 
     fn at<'a, 'b>(
         alloc: Global,
@@ -55,7 +56,7 @@ impl<F: NameForm> Spelled for Definition<Item<Word<F>>> {
 impl Spelled for Definition<CmndItem> {
     ghost spells = { SpellsDef SpellsCmnd };
 
-    ghost follows = { EndsBy 58 };
+    ghost follows = { EndsBy colon };
 
     fn at<'a, 'b>(
         alloc: Global,
@@ -73,7 +74,7 @@ pub(crate) fn aliases_of<T: Drop>(
 ) -> Result<Option<Items<Definition<T>>>, LineFault>
 where
     Definition<T>: Spelled,
-    requires { (rest : List Tok) → EndsBy 58 rest → ⟦<Definition<T> as Spelled>⟧.follows rest }
+    requires { (rest : List Tok) → EndsBy colon rest → ⟦<Definition<T> as Spelled>⟧.follows rest }
     ensures found { IfOk result (λ o. MatchOption o (NoKind kind.now (toks tokens.now)) (λ defs. Defines kind.now (⟦<Definition<T> as Spelled>⟧.spells) (toks tokens.now) defs)) }
     ensures other { NoKind kind.now (toks tokens.now) → result ≡ Ok None }
     ensures only { (defs : List (Defined T)) → Defines kind.now (⟦<Definition<T> as Spelled>⟧.spells) (toks tokens.now) defs

@@ -1,6 +1,7 @@
 //! What stands at the front of tokens.
 
 ghost use Rattle.std.specs.Prelude.{◌≡◌, ◌≢◌, ◌<◌, ◌∷◌, Bool, true, false, List, ℕ, length, IfSome, MatchOption};
+ghost use Rattle.sudo_words.specs.Bytes.{equals, quote};
 ghost use Rattle.sudo_syntax.specs.private.Fronts.{NoArg, NoDate, NoHead, NoKind, NoMark, NoWord};
 ghost use Rattle.sudo_policy.specs.Lex.{Tok, word, mark};
 ghost use Rattle.sudo_policy.specs.private.Tokens.{toks};
@@ -31,7 +32,7 @@ pub(crate) fn behind_mark<'a, 'b>(byte: u8, tokens: &'b [Token<'a>]) -> Option<&
 
 /// What follows `""` with blanks before and none between, where it stands at the front.
 pub(crate) fn behind_empty<'a, 'b>(tokens: &'b [Token<'a>]) -> Option<&'b [Token<'a>]>
-    ensures found { MatchOption result ((next : List Tok) → toks tokens.now ≢ mark true 34 ∷ mark false 34 ∷ next) (λ rest. toks tokens.now ≡ mark true 34 ∷ mark false 34 ∷ toks rest.now) }
+    ensures found { MatchOption result ((next : List Tok) → toks tokens.now ≢ mark true quote ∷ mark false quote ∷ next) (λ rest. toks tokens.now ≡ mark true quote ∷ mark false quote ∷ toks rest.now) }
     ensures shorter { IfSome result (λ rest. length rest.now < length tokens.now) }
 {
     match tokens {
@@ -55,7 +56,7 @@ pub(crate) fn arg_at<'a, 'b>(tokens: &'b [Token<'a>]) -> Option<(&'a str, &'b [T
 pub(crate) fn date_at<'a, 'b>(
     tokens: &'b [Token<'a>],
 ) -> Option<(&'a str, &'a str, &'b [Token<'a>])>
-    ensures found { MatchOption result (NoDate (toks tokens.now)) (λ x. (a : Bool) × (toks tokens.now ≡ word a 0 x.0.now ∷ mark false 61 ∷ word false 0 x.1.now ∷ toks x.2.now)) }
+    ensures found { MatchOption result (NoDate (toks tokens.now)) (λ x. (a : Bool) × (toks tokens.now ≡ word a 0 x.0.now ∷ mark false equals ∷ word false 0 x.1.now ∷ toks x.2.now)) }
     ensures shorter { IfSome result (λ x. length x.2.now < length tokens.now) }
 {
     match tokens {

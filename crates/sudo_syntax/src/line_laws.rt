@@ -1,6 +1,7 @@
 //! Laws of what lines stand for, each the contract of a function that does nothing.
 
 ghost use Rattle.std.specs.Prelude.{◌≡◌, ℕ, ◌+◌, Bool, Some, List, [], ◌∷◌, ◌++◌, length, codes};
+ghost use Rattle.sudo_words.specs.Bytes.{space, backslash, hash};
 ghost use Rattle.sudo_policy.specs.declared.entry.CmndItem.{CmndItem as AnyCmnd};
 ghost use Rattle.sudo_policy.specs.declared.entry.Item.{Item as AnyItem};
 ghost use Rattle.sudo_policy.specs.declared.entry.Signed.{Signed as AnySigned};
@@ -27,14 +28,14 @@ pub fn inheritance()
 /// the other spells.
 pub fn comments()
     ensures { (text other line note : List ℕ) → MayHaveNote line note →
-        DifferIn text other ((line ++ 35 ∷ note) ∷ []) (line ∷ []) → SpellAlike text other }
+        DifferIn text other ((line ++ hash ∷ note) ∷ []) (line ∷ []) → SpellAlike text other }
 {}
 
 /// A line that goes on spells what one line spells, with a blank in place of the backslash and the newline; the next line is
 /// no backslash alone.
 pub fn continuations()
     ensures { (text other front next : List ℕ) → GoesOnWith front next →
-        DifferIn text other ((front ++ 92 ∷ []) ∷ next ∷ []) ((front ++ 32 ∷ next) ∷ []) → SpellAlike text other }
+        DifferIn text other ((front ++ backslash ∷ []) ∷ next ∷ []) ((front ++ space ∷ next) ∷ []) → SpellAlike text other }
 {}
 
 /// Two more `!` directly before an item or a command change nothing that it spells.

@@ -1,6 +1,7 @@
 //! Dates and tags read from tokens.
 
 ghost use Rattle.std.specs.Prelude.{◌≡◌, ◌≤◌, ◌<◌, ◌∷◌, List, ℕ, Bool, length, IfOk, IfSome, MatchOption, MatchResult, Option, Some, None, Ok, true, false};
+ghost use Rattle.sudo_words.specs.Bytes.{colon};
 ghost use Rattle.sudo_words.specs.Moment.{Spells};
 ghost use Rattle.sudo_policy.specs.declared.fault.LineFault.TheVariants.{NoMemory};
 ghost use Rattle.sudo_syntax.specs.private.Fronts.{AddsBound, Dated, NoDate, NoTag, Tagged};
@@ -105,7 +106,7 @@ fn tag_of(name: &str) -> Option<bool>
 
 /// The tag at the front, and what follows it.
 fn tag_at<'a, 'b>(tokens: &'b [Token<'a>]) -> Option<(bool, &'b [Token<'a>])>
-    ensures found { MatchOption result (NoTag (toks tokens.now)) (λ x. (a b : Bool) × (toks tokens.now ≡ word a 0 (tag_word x.0) ∷ mark b 58 ∷ toks x.1.now)) }
+    ensures found { MatchOption result (NoTag (toks tokens.now)) (λ x. (a b : Bool) × (toks tokens.now ≡ word a 0 (tag_word x.0) ∷ mark b colon ∷ toks x.1.now)) }
     ensures shorter { IfSome result (λ x. length x.1.now < length tokens.now) }
 {
     match head_at(b':', tokens) {

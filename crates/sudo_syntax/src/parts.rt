@@ -1,6 +1,7 @@
 //! User specifications read from tokens.
 
 ghost use Rattle.std.specs.Prelude.{◌≡◌, List, ℕ, IfOk, MatchResult};
+ghost use Rattle.sudo_words.specs.Bytes.{colon};
 ghost use Rattle.sudo_policy.specs.declared.entry.Item.{Item as Said};
 ghost use Rattle.sudo_policy.specs.declared.entry.Signed.{Signed as Sign};
 ghost use Rattle.sudo_policy.specs.declared.fault.LineFault.TheVariants.{NoMemory};
@@ -21,7 +22,7 @@ use sudo_words::{Items, Name};
 impl Spelled for Part {
     ghost spells = { SpellsPart };
 
-    ghost follows = { EndsBy 58 };
+    ghost follows = { EndsBy colon };
 
     fn at<'a, 'b>(
         alloc: Global,

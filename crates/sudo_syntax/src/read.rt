@@ -1,6 +1,7 @@
 //! Policies read from text.
 
 ghost use Rattle.std.specs.Prelude.{◌≡◌, ◌+◌, ◌<◌, ◌≤◌, ◌==◌, ◌⊎◌, List, ℕ, IfOk, IfErr, IsErrAnd, MatchResult, OnOk, map, length, count_by, ◌++◌, [], ◌∷◌};
+ghost use Rattle.sudo_words.specs.Bytes.{newline};
 ghost use Rattle.sudo_policy.specs.declared.entry.Entry.{Entry as Entered};
 ghost use Rattle.sudo_policy.specs.declared.fault.FaultKind.TheVariants.{TooLong, BadByte, TooLarge, NoMemory};
 ghost use Rattle.sudo_policy.specs.declared.fault.LineFault.TheVariants.{NoMemory as OutOfMemory};
@@ -24,7 +25,7 @@ const MOST_BYTES: usize = 16_777_216;
 
 /// How many newlines the bytes have.
 fn newlines(bytes: &[u8]) -> usize
-    ensures { result ≡ count_by (λ b. b == 10) bytes.now }
+    ensures { result ≡ count_by (λ b. b == newline) bytes.now }
 {
     bytes.iter().filter(|b| **b == b'\n').count()
 }
@@ -32,7 +33,7 @@ fn newlines(bytes: &[u8]) -> usize
 /// A fault behind these bytes of a text.
 fn fault_behind(front: &[u8], kind: FaultKind) -> ReadFault
     ensures kind { result.kind ≡ kind }
-    ensures line { result.line ≡ 1 + count_by (λ b. b == 10) front.now }
+    ensures line { result.line ≡ 1 + count_by (λ b. b == newline) front.now }
 {
     ReadFault {
         line: newlines(front) + 1,

@@ -1,6 +1,7 @@
 //! Commands of user specifications read from tokens, with what each gives of its own.
 
 ghost use Rattle.std.specs.Prelude.{◌≡◌, ◌≤◌, List, ℕ, length, IfOk, MatchResult, Option, true};
+ghost use Rattle.sudo_words.specs.Bytes.{comma, opening};
 ghost use Rattle.sudo_policy.specs.declared.entry.Item.{Item as Said};
 ghost use Rattle.sudo_policy.specs.declared.entry.Signed.{Signed as Sign};
 ghost use Rattle.sudo_policy.specs.declared.fault.LineFault.TheVariants.{NoMemory};
@@ -31,7 +32,7 @@ fn runas_at<'a, 'b>(
 ) -> Result<(Option<Items<Signed<Item<Name>>>>, &'b [Token<'a>]), LineFault>
     ensures found { IfOk result (λ x. SpellsRunas (toks tokens.now) x.0 (toks x.1.now)) }
     ensures shorter { IfOk result (λ x. length x.1.now ≤ length tokens.now) }
-    ensures only { (runas : Option (List (Sign (Said (List ℕ))))) (rest : List Tok) → NoMark 40 rest → SpellsRunas (toks tokens.now) runas rest
+    ensures only { (runas : Option (List (Sign (Said (List ℕ))))) (rest : List Tok) → NoMark opening rest → SpellsRunas (toks tokens.now) runas rest
         → MatchResult result (λ x. (x.0 ≡ runas) × (toks x.1.now ≡ rest)) (λ e. e ≡ NoMemory) }
 {
     let Some(inner) = behind_mark(b'(', tokens) else {
@@ -50,7 +51,7 @@ fn runas_at<'a, 'b>(
 impl Spelled for Spec {
     ghost spells = { SpellsSpec };
 
-    ghost follows = { EndsBy 44 };
+    ghost follows = { EndsBy comma };
 
     fn at<'a, 'b>(
         alloc: Global,

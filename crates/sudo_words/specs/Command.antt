@@ -4,6 +4,7 @@ use Rattle.std.specs.Prelude.{◌≡◌, ℕ, ◌≤◌, Bool, true, ◌&&◌, �
 use Rattle.std.specs.List.{AllByRecursion, flat_map}
 use Rattle.std.specs.Str.{bytes_eq}
 use Rattle.std.specs.Cmp.Lexicographic.{pointwise}
+use Rattle.sudo_words.specs.Bytes.{space, equals, comma, colon, backslash}
 use Rattle.sudo_words.specs.Word.{is_component, is_file_path, is_dir_path, is_arg}
 use Rattle.sudo_words.specs.declared.cmnd.Cmnd.{Cmnd}
 use Rattle.sudo_words.specs.declared.cmnd.Cmnd.TheVariants.{All, Path, Dir}
@@ -30,16 +31,16 @@ matches (Dir dir) path args = is_directly_in dir path
 
 -- `,`, `:` and `=` stand in an argument's text behind a backslash
 abbrev pub is_escaped : ℕ → Bool
-is_escaped b = (b == 44) || (b == 58) || (b == 61)
+is_escaped b = (b == comma) || (b == colon) || (b == equals)
 
 abbrev pub escaped_byte : ℕ → List ℕ
-escaped_byte b = if is_escaped b then 92 ∷ b ∷ [] else b ∷ []
+escaped_byte b = if is_escaped b then backslash ∷ b ∷ [] else b ∷ []
 
 abbrev pub arg_text : List ℕ → List ℕ
 arg_text arg = flat_map escaped_byte arg
 
 abbrev pub spaced_arg : List ℕ → List ℕ
-spaced_arg arg = 32 ∷ arg_text arg
+spaced_arg arg = space ∷ arg_text arg
 
 -- what stands behind a path: nothing where any arguments are allowed, `""` where none is, else the arguments
 abbrev pub rule_text : ArgRule → List ℕ

@@ -3,6 +3,7 @@
 ghost use Rattle.std.specs.Prelude.{◌≡◌, ◌==◌, ◌-◌, ◌++◌, ◌∷◌, [], ℕ, List, IfOk, IsTrue, ◌↔◌, MatchResult, OnOk, true, codes, drop, length, map, string_bytes};
 ghost use Rattle.std.specs.List.{AllByRecursion, flat_map, slice_split};
 ghost use Rattle.std.specs.Str.{bytes_eq};
+ghost use Rattle.sudo_words.specs.Bytes.{space};
 ghost use Rattle.sudo_words.specs.Word.{is_arg};
 ghost use Rattle.sudo_words.specs.Command.{IsArgRule, IsHead, IsLawful, arg_text, cmnd_text, head_text, rule_of, rule_text, spaced_arg};
 ghost use Rattle.sudo_words.specs.Pieces.{words_of};
@@ -26,7 +27,7 @@ const NO_ARGS: &str = "\"\"";
 
 /// The words of a text, which single spaces part.
 fn words(alloc: Global, text: &str) -> Result<Vec<&str>, AllocError>
-    ensures { IfOk result (λ v. map (λ w. w.now) v.items ≡ slice_split (λ b. b == 32) text.now) }
+    ensures { IfOk result (λ v. map (λ w. w.now) v.items ≡ slice_split (λ b. b == space) text.now) }
 {
     text.split(' ').collect(alloc)
 }

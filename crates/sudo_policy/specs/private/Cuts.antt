@@ -1,9 +1,10 @@
 -- Fronts that a line is cut at. For private clauses.
 use Rattle.std.specs.Prelude.{◌≡◌, ℕ, ◌<◌, Bool, true, false, ◌==◌, List, ◌++◌, length}
+use Rattle.sudo_words.specs.Bytes.{bang}
 use Rattle.sudo_policy.specs.Lex.{is_word_text, goes_on}
 
 abbrev pub is_bang : ℕ → Bool
-is_bang b = b == 33
+is_bang b = b == bang
 
 -- the bytes are the text of a word, which may be empty, and a rest that does not go on with it
 pub record IsWordCut (bytes word rest : List ℕ) : Type 0 where

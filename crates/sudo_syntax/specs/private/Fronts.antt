@@ -1,5 +1,6 @@
 -- What stands at the front of tokens, and what may stand behind what is read. For private clauses.
 use Rattle.std.specs.Prelude.{◌≡◌, ◌≢◌, ℕ, Bool, true, false, ◌⊎◌, List, [], ◌∷◌, map, Option}
+use Rattle.sudo_words.specs.Bytes.{equals, colon}
 use Rattle.sudo_words.specs.Word.{is_upper}
 use Rattle.sudo_words.specs.Moment as moments
 use Rattle.sudo_words.specs.Command.{arg_text}
@@ -23,7 +24,7 @@ NoMark m (mark a byte ∷ ts) = byte ≢ m
 abbrev pub EndsBy : ℕ → List Tok → Type 0
 EndsBy m [] = Unit {0}
 EndsBy m (word a n text ∷ ts) = ⊥
-EndsBy m (mark a byte ∷ ts) = (byte ≡ m) ⊎ (byte ≡ 58)
+EndsBy m (mark a byte ∷ ts) = (byte ≡ m) ⊎ (byte ≡ colon)
 
 -- what begins with no word behind blanks
 abbrev pub NoArg : List Tok → Type 0
@@ -31,7 +32,7 @@ NoArg ts = (text : List ℕ) (next : List Tok) → ts ≢ word true 0 text ∷ n
 
 -- what begins with no word, `=` and word without blanks between
 abbrev pub NoDate : List Tok → Type 0
-NoDate ts = (a : Bool) (name time : List ℕ) (next : List Tok) → ts ≢ word a 0 name ∷ mark false 61 ∷ word false 0 time ∷ next
+NoDate ts = (a : Bool) (name time : List ℕ) (next : List Tok) → ts ≢ word a 0 name ∷ mark false equals ∷ word false 0 time ∷ next
 
 -- what begins with no word and this mark
 abbrev pub NoHead : ℕ → List Tok → Type 0
@@ -39,7 +40,7 @@ NoHead m ts = (a b : Bool) (name : List ℕ) (next : List Tok) → ts ≢ word a
 
 -- what begins with no tag
 abbrev pub NoTag : List Tok → Type 0
-NoTag ts = (a b : Bool) (tag : Bool) (next : List Tok) → ts ≢ word a 0 (tag_word tag) ∷ mark b 58 ∷ next
+NoTag ts = (a b : Bool) (tag : Bool) (next : List Tok) → ts ≢ word a 0 (tag_word tag) ∷ mark b colon ∷ next
 
 -- arguments, each behind blanks
 abbrev pub arg_toks : List (List ℕ) → List Tok
@@ -76,4 +77,4 @@ NoKind kind ts = (a : Bool) (next : List Tok) → ts ≢ word a 0 kind ∷ next
 -- the word of a kind, and behind blanks definitions with `:` between
 abbrev pub Defines : {X : Type 0} → List ℕ → (List Tok → X → List Tok → Type 0) → List Tok → List X → Type 0
 Defines kind Is ts defs =
-    (a : Bool) × (next : List Tok) × (ts ≡ word a 0 kind ∷ next) × (begins_spaced next ≡ true) × Listed 58 Is next defs []
+    (a : Bool) × (next : List Tok) × (ts ≡ word a 0 kind ∷ next) × (begins_spaced next ≡ true) × Listed colon Is next defs []

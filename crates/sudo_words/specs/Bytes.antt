@@ -1,0 +1,53 @@
+-- The names of the bytes that sudoers gives a meaning (sudoers(5), "SUDOERS FILE FORMAT").
+use Rattle.std.specs.Prelude.{ℕ}
+use Rattle.std.specs.Str.{byte}
+
+-- ---- blanks, and what ends a line
+
+abbrev pub space : ℕ
+space = byte " "
+
+abbrev pub tab : ℕ
+tab = byte "\t"
+
+abbrev pub newline : ℕ
+newline = byte "\n"
+
+-- ---- marks, which stand for themselves
+
+-- between a name or hosts and a list
+abbrev pub equals : ℕ
+equals = byte "="
+
+-- between the items of a list
+abbrev pub comma : ℕ
+comma = byte ","
+
+-- between definitions or parts of a line, and behind a tag
+abbrev pub colon : ℕ
+colon = byte ":"
+
+-- round targets
+abbrev pub opening : ℕ
+opening = byte "("
+
+abbrev pub closing : ℕ
+closing = byte ")"
+
+-- twice where no argument is allowed
+abbrev pub quote : ℕ
+quote = byte "\""
+
+-- ---- signs
+
+-- before what is negated
+abbrev pub bang : ℕ
+bang = byte "!"
+
+-- before a mark in an argument, and at the end of a line that goes on
+abbrev pub backslash : ℕ
+backslash = byte "\\"
+
+-- before a comment
+abbrev pub hash : ℕ
+hash = byte "#"
