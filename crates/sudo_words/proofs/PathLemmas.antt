@@ -4,10 +4,12 @@ use Rattle.std.specs.Prelude.{codes}
 use Rattle.std.specs.Str.{bytes_eq}
 use Rattle.std.specs.List.{AllByRecursion, list_all, slice_split, onto_first}
 use Rattle.std.proofs.lemmas.Bool.{and_parts, and_from, and_right, cases_Bool, false≢true, eqb-true}
+use Rattle.std.proofs.Math.Seq.{take-append_seam, drop-append_seam}
 use Rattle.std.proofs.lemmas.List.{take-append-drop}
 use Rattle.std.proofs.lemmas.List.Folds.{list_all-append}
 use Rattle.std.proofs.lemmas.List.Splits.{slice_split-cons_yes, slice_split-cons_no, length-slice_split}
 use Rattle.std.proofs.lemmas.Slice.Eq.{bytes_eq-Decides}
+use Rattle.sudo_words.specs.Command.{is_directly_in}
 use Rattle.sudo_words.specs.Word.{is_path_byte, is_component, is_dots, are_components, is_absolute, is_file_path, is_dir_path}
 
 -- ---- the bytes of a path
@@ -105,3 +107,18 @@ pub no_slash_ended : (w : List ℕ) → bytes_eq (drop (length w - 1) w) (codes 
 no_slash_ended w h path =
     let all = (and_parts (is_absolute w) (leb (length w) 4096) path).0 in
     false≢true (sym (no_slash_end (take (length w - 1) w)) ∙ ap is_absolute (sym (slash_end w h)) ∙ all)
+
+-- ---- what is directly in a directory
+
+pub in_directory : (dir path : List ℕ) → is_directly_in dir path ≡ true → (component : List ℕ) × (path ≡ dir ++ component) × (is_component component ≡ true)
+in_directory dir path h =
+    let rest = drop (length dir) path in
+    let parts = and_parts (bytes_eq (take (length dir) path) dir) (is_component rest) h in
+    let front : take (length dir) path ≡ dir = (bytes_eq-Decides (take (length dir) path) dir).0 parts.0 in
+    (rest, sym (take-append-drop (length dir) path) ∙ ap (λ (z : List ℕ). z ++ rest) front, parts.1)
+
+pub is_in_directory : (dir component : List ℕ) → is_component component ≡ true → is_directly_in dir (dir ++ component) ≡ true
+is_in_directory dir component h =
+    let front : take (length dir) (dir ++ component) ≡ dir = take-append_seam dir component in
+    let behind : drop (length dir) (dir ++ component) ≡ component = drop-append_seam dir component in
+    and_from _ _ ((bytes_eq-Decides (take (length dir) (dir ++ component)) dir).1 front) (ap is_component behind ∙ h)

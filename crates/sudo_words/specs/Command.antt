@@ -17,7 +17,7 @@ allows Any args = true
 allows Empty args = length args == 0
 allows (Exactly wanted) args = pointwise bytes_eq args wanted
 
--- a file directly within the directory, whose path ends in a slash
+-- A file directly within the directory, whose path ends in a slash: the directory and one component (`directory_and_component` says so).
 abbrev pub is_directly_in : List ℕ → List ℕ → Bool
 is_directly_in dir path = bytes_eq (take (length dir) path) dir && is_component (drop (length dir) path)
 

@@ -26,7 +26,7 @@ pub use cmnd_text::{command_of, print_cmnd, read_cmnd};
 pub use fault::{CmndFault, NoMemory, WordFault};
 pub use items::Items;
 pub use lawful::{cmnd_len, is_lawful};
-pub use laws::one_command;
+pub use laws::{directory_and_component, one_command};
 pub use moment::Moment;
 pub use moment_laws::{one_moment, stamp_is_stamp, stamp_spells};
 pub use name::{HostForm, HostName, Label, LabelForm, Name, UserForm};
