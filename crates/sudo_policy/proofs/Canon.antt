@@ -19,6 +19,7 @@ use Rattle.sudo_policy.specs.Policy.{IsCmndItem, IsList, IsEntry, IsPolicy}
 use Rattle.sudo_policy.specs.Grammar.{Listed, SpellsItem, SpellsCmnd, SpellsAliases, SpellsTree, Cmnds}
 use Rattle.sudo_policy.specs.Inheritance.{entries_of}
 use Rattle.sudo_policy.specs.Spelling.{SpellsEntries, SpellsLines, Spells}
+use Rattle.sudo_policy.proofs.LineTexts.{backslash_last}
 use Rattle.sudo_policy.proofs.SpecTexts.{BeginsWord}
 use Rattle.sudo_policy.proofs.PrintedWords.{IsWord, alias_word, literal}
 use Rattle.sudo_policy.proofs.PrintedLists.{stop, lex_word, lex_mark, list_toks, lex_list, list_spelled, item_toks, cmnd_toks, lex_cmnd, cmnd_spelled, IsPrinted, IsSpelled}
@@ -117,7 +118,7 @@ feed_split line rest ts h =
 own_body : (line : List ℕ) (ts : List Tok) → Lexes line ts → IsBody line line
 own_body line ts h =
     let each = each_of is_no_hash line (lexed_bytes (λ (b : ℕ). is_no_hash b ≡ true) no_hash_in_lines line ts h) in
-    ([], record { whole = sym (append-nil line); each = each; stops = tt }, lexed_end line ts h)
+    inl (record { each = each; ends = backslash_last line ∙ lexed_end line ts h }, refl)
 
 pub texts : List Entry → List (List ℕ)
 texts [] = [] ∷ []

@@ -1,11 +1,13 @@
 -- The lines of a text are taken apart and joined in one way.
-use Rattle.std.proofs.Common.{◌≡◌, ℕ, ◌-◌, ◌<◌, Bool, true, false, List, [], ◌∷◌, ◌++◌, length, get_or, take, Bor, Option, Some, None, refl, sym, ap, subst, ◌∙◌, inl, inr, arith}
+use Rattle.std.proofs.Common.{◌≡◌, ℕ, ◌-◌, ◌<◌, ◌==◌, Bool, true, false, List, [], ◌∷◌, ◌++◌, length, get_or, take, Bor, Option, Some, None, refl, sym, ap, subst, ◌∙◌, inl, inr, arith}
 use Rattle.std.specs.Prelude.{MatchOption, ◌≢◌}
-use Rattle.std.proofs.lemmas.Bool.{false≢true, false_from_ne_true, eqb-true}
+use Rattle.std.proofs.lemmas.Bool.{cases_Bool, false≢true, false_from_ne_true, eqb-true, not-false}
+use Rattle.std.proofs.lemmas.Bool.Decides.{Decides-eqb}
+use Rattle.std.proofs.lemmas.Slice.Eq.{ends_is}
 use Rattle.std.proofs.lemmas.List.{append-nil, append_cancel_right, length-append}
 use Rattle.std.proofs.Math.Seq.{get_or-append_seam, take-suc, take-length}
 use Rattle.sudo_policy.specs.Span.{Each, IsCut}
-use Rattle.sudo_policy.specs.Lines.{is_no_hash, is_backslash, ends_with, may_go_on, is_before_comment, is_comment, IsNote, IsBody, IsContinued, Joined}
+use Rattle.sudo_policy.specs.Lines.{is_no_hash, ends_in_backslash, last_passes, may_go_on, is_before_comment, is_comment, IsBody, IsContinued, Joined}
 use Rattle.sudo_policy.proofs.Spans.{one_cut}
 
 -- ---- the last byte
@@ -15,25 +17,40 @@ last_of xs x =
     let size : length (xs ++ x ∷ []) - 1 ≡ length xs = omega (arith, length-append xs (x ∷ [])) in
     rw size (get_or-append_seam xs x [] 0)
 
-pub ends_with_last : (p : ℕ → Bool) (xs : List ℕ) (x : ℕ) → ends_with p (xs ++ x ∷ []) ≡ p x
-ends_with_last p [] x = refl
-ends_with_last p (y ∷ ys) x = ap p (last_of (y ∷ ys) x)
+pub last_passes_last : (p : ℕ → Bool) (xs : List ℕ) (x : ℕ) → last_passes p (xs ++ x ∷ []) ≡ p x
+last_passes_last p [] x = refl
+last_passes_last p (y ∷ ys) x = ap p (last_of (y ∷ ys) x)
 
 -- a line with a last byte that passes
-pub last_split : (p : ℕ → Bool) (line : List ℕ) → ends_with p line ≡ true → (front : List ℕ) × (x : ℕ) × (line ≡ front ++ x ∷ []) × (p x ≡ true)
+pub last_split : (p : ℕ → Bool) (line : List ℕ) → last_passes p line ≡ true → (front : List ℕ) × (x : ℕ) × (line ≡ front ++ x ∷ []) × (p x ≡ true)
 last_split p [] h = absurd (false≢true h)
 last_split p (b ∷ bs) h =
     let back : length (b ∷ bs) - 1 ≡ length bs = omega arith in
     let whole : b ∷ bs ≡ take (length bs) (b ∷ bs) ++ get_or (b ∷ bs) (length bs) 0 ∷ [] = sym (take-length (b ∷ bs)) ∙ take-suc (b ∷ bs) (length bs) 0 (omega arith) in
     (take (length bs) (b ∷ bs), get_or (b ∷ bs) (length bs) 0, whole, ap (λ (i : ℕ). p (get_or (b ∷ bs) i 0)) (sym back) ∙ h)
 
+abbrev pub is_backslash : ℕ → Bool
+is_backslash b = b == 92
+
+-- a text ends in a backslash where its last byte is one
+pub backslash_last : (text : List ℕ) → ends_in_backslash text ≡ last_passes is_backslash text
+backslash_last text =
+    let ends = ends_is Decides-eqb text (92 ∷ []) (ends_in_backslash text) refl in
+    elim (cases_Bool (last_passes is_backslash text)) as (λ _. ends_in_backslash text ≡ last_passes is_backslash text) [
+      | inl holds ↦
+          let t = last_split is_backslash text holds in
+          ends.1 t.0 (t.2 ∙ ap (λ (x : ℕ). t.0 ++ x ∷ []) (eqb-true t.1 92 t.3)) ∙ sym holds
+      | inr fails ↦
+          false_from_ne_true (ends_in_backslash text) (λ e. false≢true (sym fails ∙ ap (last_passes is_backslash) (ends.0 e) ∙ last_passes_last is_backslash (take (length text - 1) text) 92)) ∙ sym fails
+    ]
+
 -- where one last byte is taken off, one front is left
 pub one_front : (xs ys : List ℕ) (x : ℕ) → xs ++ x ∷ [] ≡ ys ++ x ∷ [] → xs ≡ ys
 one_front xs ys x e = append_cancel_right xs ys (x ∷ []) e
 
 -- what is taken off from the end, where it is a backslash
-pub backslash_off : (line : List ℕ) (r : Option (Bor (List ℕ))) → MatchOption r ((front : List ℕ) → line ≢ front ++ 92 ∷ []) (λ x. line ≡ x.now ++ 92 ∷ []) → MatchOption r (ends_with is_backslash line ≡ false) (λ front. line ≡ front.now ++ 92 ∷ [])
-backslash_off line None h = false_from_ne_true (ends_with is_backslash line) (λ e. let t = last_split is_backslash line e in h t.0 (t.2 ∙ ap (λ (x : ℕ). t.0 ++ x ∷ []) (eqb-true t.1 92 t.3)))
+pub backslash_off : (line : List ℕ) (r : Option (Bor (List ℕ))) → MatchOption r ((front : List ℕ) → line ≢ front ++ 92 ∷ []) (λ x. line ≡ x.now ++ 92 ∷ []) → MatchOption r (ends_in_backslash line ≡ false) (λ front. line ≡ front.now ++ 92 ∷ [])
+backslash_off line None h = backslash_last line ∙ false_from_ne_true (last_passes is_backslash line) (λ e. let t = last_split is_backslash line e in h t.0 (t.2 ∙ ap (λ (x : ℕ). t.0 ++ x ∷ []) (eqb-true t.1 92 t.3)))
 backslash_off line (Some x) h = h
 
 -- ---- a line without its comment
@@ -46,14 +63,49 @@ pub each_append : (p : ℕ → Bool) (xs ys : List ℕ) → Each p xs → Each p
 each_append p [] ys h k = k
 each_append p (x ∷ xs) ys h k = (h.0, each_append p xs ys h.1 k)
 
+-- What follows the part of a line before its first `#`: a comment, or nothing, where that part does not end in a backslash.
+abbrev pub IsNote : List ℕ → List ℕ → Type 0
+IsNote body [] = last_passes is_backslash body ≡ false
+IsNote body (b ∷ note) = (is_before_comment body ≡ true) × (is_comment note ≡ true)
+
+-- a line that does not go on, cut at its first `#`
+abbrev pub IsCutBody : List ℕ → List ℕ → Type 0
+IsCutBody line body = (rest : List ℕ) × IsCut is_no_hash line body rest × IsNote body rest
+
+pub cut_of : (line body : List ℕ) → IsBody line body → IsCutBody line body
+cut_of line body (inl (plain, same)) = (
+  [],
+  record { whole = sym same ∙ sym (append-nil body); each = subst (Each is_no_hash) (sym same) plain.each; stops = tt },
+  ap (last_passes is_backslash) same ∙ sym (backslash_last line) ∙ plain.ends,
+)
+cut_of line body (inr (comment, h)) = (35 ∷ comment, record { whole = h.whole; each = h.each; stops = refl }, (h.before, h.allowed))
+
+pub body_of : (line body rest : List ℕ) → IsCut is_no_hash line body rest → IsNote body rest → IsBody line body
+body_of line body [] c n =
+    let same : line ≡ body = c.whole ∙ append-nil body in
+    inl (record { each = subst (Each is_no_hash) (sym same) c.each; ends = ap ends_in_backslash same ∙ backslash_last body ∙ n }, sym same)
+body_of line body (b ∷ note) c n = inr (
+  note,
+  record {
+    whole = c.whole ∙ ap (λ (x : ℕ). body ++ x ∷ note) (eqb-true b 35 (not-false (b == 35) c.stops));
+    each = c.each;
+    before = n.0;
+    allowed = n.1;
+  },
+)
+
 -- a body is the front of the cut
 pub body_cut : (line body rest : List ℕ) → IsCut is_no_hash line body rest → (other : List ℕ) → IsBody line other → (body ≡ other) × IsNote body rest
-body_cut line body rest c other (behind, d, n) =
-    let t = one_cut is_no_hash body rest other behind c.each c.stops d.each d.stops (sym c.whole ∙ d.whole) in
-    (t.0, subst (λ (b : List ℕ). IsNote b rest) (sym t.0) (subst (IsNote other) (sym t.1) n))
+body_cut line body rest c other is =
+    let cut = cut_of line other is in
+    let d = cut.1 in
+    let t = one_cut is_no_hash body rest other cut.0 c.each c.stops d.each d.stops (sym c.whole ∙ d.whole) in
+    (t.0, subst (λ (b : List ℕ). IsNote b rest) (sym t.0) (subst (IsNote other) (sym t.1) cut.2))
 
 pub body_one : (line a b : List ℕ) → IsBody line a → IsBody line b → a ≡ b
-body_one line a b (rest, c, n) h = (body_cut line a rest c b h).0
+body_one line a b is h =
+    let cut = cut_of line a is in
+    (body_cut line a cut.0 cut.1 b h).0
 
 -- ---- a line that goes on
 
@@ -76,7 +128,7 @@ front_is line front each e = each_front is_no_hash front (92 ∷ []) (subst (Eac
 pub backslash_no_body : (line front : List ℕ) → Each is_no_hash line → line ≡ front ++ 92 ∷ [] → (body : List ℕ) → IsBody line body → ⊥
 backslash_no_body line front each e body h =
     let note = (body_cut line line [] (no_hash_cut line each) body h).1 in
-    false≢true (sym note ∙ ap (ends_with is_backslash) e ∙ ends_with_last is_backslash front 92)
+    false≢true (sym note ∙ ap (last_passes is_backslash) e ∙ last_passes_last is_backslash front 92)
 
 pub body_or_front : (line body front : List ℕ) → IsBody line body → IsContinued line front → ⊥
 body_or_front line body front h k = backslash_no_body line front (no_hash_in line front k) k.whole body h
@@ -92,10 +144,10 @@ pub hash_bad : (line body rest : List ℕ) → IsCut is_no_hash line body rest �
 hash_bad line body rest c x note e bad other h = let t = subst (IsNote body) e (body_cut line body rest c other h).1 in bad t.0 t.1
 
 -- a line that ends in a backslash, behind a byte that it may not go on behind
-pub bad_front : (line front : List ℕ) → line ≡ front ++ 92 ∷ [] → ends_with may_go_on front ≡ false → (other : List ℕ) → IsContinued line other → ⊥
+pub bad_front : (line front : List ℕ) → line ≡ front ++ 92 ∷ [] → last_passes may_go_on front ≡ false → (other : List ℕ) → IsContinued line other → ⊥
 bad_front line front e bad other k =
     let same = one_front front other 92 (sym e ∙ k.whole) in
-    false≢true (sym bad ∙ ap (ends_with may_go_on) same ∙ k.behind)
+    false≢true (sym bad ∙ ap (last_passes may_go_on) same ∙ k.behind)
 
 -- ---- joined lines
 

@@ -6,7 +6,8 @@ use Rattle.std.proofs.lemmas.Bool.Decides.{nat_tests}
 use Rattle.sudo_words.specs.Command.{is_escaped}
 use Rattle.sudo_policy.specs.Span.{Each}
 use Rattle.sudo_policy.specs.Lex.{is_text_byte, is_blank, is_mark, is_word_byte, is_word_text, bangs, Tok, word, mark, Lexes}
-use Rattle.sudo_policy.specs.Lines.{ends_with, is_backslash, is_no_hash}
+use Rattle.sudo_policy.specs.Lines.{last_passes, is_no_hash}
+use Rattle.sudo_policy.proofs.LineTexts.{is_backslash}
 
 -- ---- what holds of each byte
 
@@ -106,19 +107,19 @@ no_hash_in_lines = record { blank = blank_hash; marks = mark_hash; words = word_
 
 -- ---- the last byte
 
-ends_later : (p : ℕ → Bool) (x y : ℕ) (ys : List ℕ) → ends_with p (x ∷ y ∷ ys) ≡ ends_with p (y ∷ ys)
+ends_later : (p : ℕ → Bool) (x y : ℕ) (ys : List ℕ) → last_passes p (x ∷ y ∷ ys) ≡ last_passes p (y ∷ ys)
 ends_later p x y ys =
     let long : length (x ∷ y ∷ ys) - 1 ≡ suc (length ys) = omega arith in
     let short : length (y ∷ ys) - 1 ≡ length ys = omega arith in
     ap (λ (i : ℕ). p (get_or (x ∷ y ∷ ys) i 0)) long ∙ ap (λ (i : ℕ). p (get_or (y ∷ ys) i 0)) (sym short)
 
-ends_behind : (p : ℕ → Bool) (xs : List ℕ) (y : ℕ) (ys : List ℕ) → ends_with p (xs ++ y ∷ ys) ≡ ends_with p (y ∷ ys)
+ends_behind : (p : ℕ → Bool) (xs : List ℕ) (y : ℕ) (ys : List ℕ) → last_passes p (xs ++ y ∷ ys) ≡ last_passes p (y ∷ ys)
 ends_behind p [] y ys = refl
 ends_behind p (x ∷ []) y ys = ends_later p x y ys
 ends_behind p (x ∷ z ∷ xs) y ys = ends_later p x z (xs ++ y ∷ ys) ∙ ends_behind p (z ∷ xs) y ys
 
-ends_append : (p : ℕ → Bool) (xs ys : List ℕ) → ends_with p xs ≡ false → ends_with p ys ≡ false → ends_with p (xs ++ ys) ≡ false
-ends_append p xs [] h k = ap (ends_with p) (append-nil xs) ∙ h
+ends_append : (p : ℕ → Bool) (xs ys : List ℕ) → last_passes p xs ≡ false → last_passes p ys ≡ false → last_passes p (xs ++ ys) ≡ false
+ends_append p xs [] h k = ap (last_passes p) (append-nil xs) ∙ h
 ends_append p xs (y ∷ ys) h k = ends_behind p xs y ys ∙ k
 
 blank_no_backslash : (b : ℕ) → is_blank b ≡ true → is_backslash b ≡ false
@@ -133,16 +134,16 @@ word_no_backslash b h = grind (arith, nat_tests)
 escaped_no_backslash : (b : ℕ) → is_escaped b ≡ true → is_backslash b ≡ false
 escaped_no_backslash b h = grind (arith, nat_tests)
 
-blanks_end : (w : List ℕ) → Each is_blank w → ends_with is_backslash w ≡ false
+blanks_end : (w : List ℕ) → Each is_blank w → last_passes is_backslash w ≡ false
 blanks_end [] h = refl
 blanks_end (b ∷ []) h = blank_no_backslash b h.0
 blanks_end (b ∷ c ∷ w) h = ends_later is_backslash b c w ∙ blanks_end (c ∷ w) h.1
 
-bangs_end : (n : ℕ) → ends_with is_backslash (bangs n) ≡ false
+bangs_end : (n : ℕ) → last_passes is_backslash (bangs n) ≡ false
 bangs_end zero = refl
 bangs_end (suc n) = ends_append is_backslash (33 ∷ []) (bangs n) refl (bangs_end n)
 
-word_end : (w : List ℕ) → is_word_text w ≡ true → ends_with is_backslash w ≡ false
+word_end : (w : List ℕ) → is_word_text w ≡ true → last_passes is_backslash w ≡ false
 word_end [] h = refl
 word_end (b ∷ []) h = word_no_backslash b h
 word_end (b ∷ c ∷ rest) h =
@@ -155,12 +156,12 @@ word_end (b ∷ c ∷ rest) h =
           ends_later is_backslash b c rest ∙ word_end (c ∷ rest) both.1
     ]
 
-pub lexed_end : (line : List ℕ) (ts : List Tok) → Lexes line ts → ends_with is_backslash line ≡ false
+pub lexed_end : (line : List ℕ) (ts : List Tok) → Lexes line ts → last_passes is_backslash line ≡ false
 lexed_end line [] h = blanks_end line h
 lexed_end line (word a n w ∷ ts) h =
-    ap (ends_with is_backslash) h.5
+    ap (last_passes is_backslash) h.5
     ∙ ends_append is_backslash h.0 ((bangs n ++ w) ++ h.1) (blanks_end h.0 h.2)
     (ends_append is_backslash (bangs n ++ w) h.1 (ends_append is_backslash (bangs n) w (bangs_end n) (word_end w h.4.1)) (lexed_end h.1 ts h.6))
 lexed_end line (mark a m ∷ ts) h =
-    ap (ends_with is_backslash) h.5
+    ap (last_passes is_backslash) h.5
     ∙ ends_append is_backslash h.0 (m ∷ h.1) (blanks_end h.0 h.2) (ends_append is_backslash (m ∷ []) h.1 (mark_no_backslash m h.4) (lexed_end h.1 ts h.6))

@@ -12,18 +12,19 @@ use Rattle.sudo_policy.specs.declared.entry.CmndItem.TheVariants as cmnds
 use Rattle.sudo_policy.specs.declared.entry.Entry.{Entry}
 use Rattle.sudo_policy.specs.declared.entry.Entry.TheVariants as entries
 use Rattle.sudo_policy.specs.declared.tree.Definition.{Definition}
+use Rattle.sudo_policy.specs.Text.{Text}
 
 -- ---- the definitions of each kind: one name may serve several kinds
 
-abbrev pub user_def : Entry → List (Definition (Item (List ℕ)))
+abbrev pub user_def : Entry → List (Definition (Item Text))
 user_def (entries.UserAlias name list) = record { name = name; list = list } ∷ []
 user_def other = []
 
-abbrev pub runas_def : Entry → List (Definition (Item (List ℕ)))
+abbrev pub runas_def : Entry → List (Definition (Item Text))
 runas_def (entries.RunasAlias name list) = record { name = name; list = list } ∷ []
 runas_def other = []
 
-abbrev pub host_def : Entry → List (Definition (Item (List ℕ)))
+abbrev pub host_def : Entry → List (Definition (Item Text))
 host_def (entries.HostAlias name list) = record { name = name; list = list } ∷ []
 host_def other = []
 
@@ -32,27 +33,27 @@ cmnd_def (entries.CmndAlias name list) = record { name = name; list = list } ∷
 cmnd_def other = []
 
 -- those of entries that are listed from the nearest to the farthest above
-abbrev pub user_defs : List Entry → List (Definition (Item (List ℕ)))
+abbrev pub user_defs : List Entry → List (Definition (Item Text))
 user_defs above = flat_map user_def above
 
-abbrev pub runas_defs : List Entry → List (Definition (Item (List ℕ)))
+abbrev pub runas_defs : List Entry → List (Definition (Item Text))
 runas_defs above = flat_map runas_def above
 
-abbrev pub host_defs : List Entry → List (Definition (Item (List ℕ)))
+abbrev pub host_defs : List Entry → List (Definition (Item Text))
 host_defs above = flat_map host_def above
 
 abbrev pub cmnd_defs : List Entry → List (Definition CmndItem)
 cmnd_defs above = flat_map cmnd_def above
 
-abbrev pub is_defined : {X : Type 0} → List (Definition X) → List ℕ → Bool
+abbrev pub is_defined : {X : Type 0} → List (Definition X) → Text → Bool
 is_defined defs name = list_any (λ d. bytes_eq d.name name) defs
 
 -- the entry at a place, counted from 0, defines the alias by this list
-abbrev pub DefinedAt : {X : Type 0} → (Entry → List (Definition X)) → List Entry → ℕ → List ℕ → List (Signed X) → Type 0
+abbrev pub DefinedAt : {X : Type 0} → (Entry → List (Definition X)) → List Entry → ℕ → Text → List (Signed X) → Type 0
 DefinedAt def es place name list = option_map def (slice_get es place) ≡ Some (record { name = name; list = list } ∷ [])
 
 -- What holds of an alias is what holds of its list, where the aliases in the list are taken by the definitions above it.
-abbrev pub by_definition : {X V : Type 0} → ((List ℕ → V) → List (Signed X) → V) → V → List (Definition X) → List ℕ → V
+abbrev pub by_definition : {X V : Type 0} → ((Text → V) → List (Signed X) → V) → V → List (Definition X) → Text → V
 by_definition of_list unknown [] name = unknown
 by_definition of_list unknown (d ∷ above) name =
     if bytes_eq d.name name then of_list (by_definition of_list unknown above) d.list else by_definition of_list unknown above name
@@ -60,43 +61,43 @@ by_definition of_list unknown (d ∷ above) name =
 -- ---- the aliases in a list
 
 -- the alias that an item is, if it is one
-abbrev pub item_alias : Item (List ℕ) → Option (List ℕ)
+abbrev pub item_alias : Item Text → Option Text
 item_alias items.All = None
 item_alias (items.Name name) = None
 item_alias (items.Alias name) = Some name
 
-abbrev pub cmnd_alias : CmndItem → Option (List ℕ)
+abbrev pub cmnd_alias : CmndItem → Option Text
 cmnd_alias (cmnds.Alias name) = Some name
 cmnd_alias (cmnds.Cmnd cmnd) = None
 
 -- each alias of a list is defined above
-abbrev pub KnowsList : {X : Type 0} → (X → Option (List ℕ)) → List (Definition X) → List (Signed X) → Type 0
+abbrev pub KnowsList : {X : Type 0} → (X → Option Text) → List (Definition X) → List (Signed X) → Type 0
 KnowsList alias_of defs list = AllByRecursion (λ s. IfSome (alias_of s.item) (λ name. is_defined defs name ≡ true)) list
 
 -- ---- weight: a name, `ALL` or a command weighs 1, and an alias the sum of its list
 
-abbrev pub item_weight : (List ℕ → ℕ) → Option (List ℕ) → ℕ
+abbrev pub item_weight : (Text → ℕ) → Option Text → ℕ
 item_weight weigh None = 1
 item_weight weigh (Some name) = weigh name
 
-abbrev pub list_weight : {X : Type 0} → (X → Option (List ℕ)) → (List ℕ → ℕ) → List (Signed X) → ℕ
+abbrev pub list_weight : {X : Type 0} → (X → Option Text) → (Text → ℕ) → List (Signed X) → ℕ
 list_weight alias_of weigh list = sum_by (λ s. item_weight weigh (alias_of s.item)) list
 
-abbrev pub alias_weight : {X : Type 0} → (X → Option (List ℕ)) → List (Definition X) → List ℕ → ℕ
+abbrev pub alias_weight : {X : Type 0} → (X → Option Text) → List (Definition X) → Text → ℕ
 alias_weight alias_of defs = by_definition (list_weight alias_of) 0 defs
 
 -- ---- depth: an alias's is 1 more than the greatest of the aliases in its list, and 1 where it has none
 
-abbrev pub item_depth : (List ℕ → ℕ) → Option (List ℕ) → ℕ
+abbrev pub item_depth : (Text → ℕ) → Option Text → ℕ
 item_depth deep None = 0
 item_depth deep (Some name) = deep name
 
-abbrev pub list_depth : {X : Type 0} → (X → Option (List ℕ)) → (List ℕ → ℕ) → List (Signed X) → ℕ
+abbrev pub list_depth : {X : Type 0} → (X → Option Text) → (Text → ℕ) → List (Signed X) → ℕ
 list_depth alias_of deep [] = 0
 list_depth alias_of deep (s ∷ list) = max (item_depth deep (alias_of s.item)) (list_depth alias_of deep list)
 
-abbrev pub depth_of : {X : Type 0} → (X → Option (List ℕ)) → (List ℕ → ℕ) → List (Signed X) → ℕ
+abbrev pub depth_of : {X : Type 0} → (X → Option Text) → (Text → ℕ) → List (Signed X) → ℕ
 depth_of alias_of deep list = 1 + list_depth alias_of deep list
 
-abbrev pub alias_depth : {X : Type 0} → (X → Option (List ℕ)) → List (Definition X) → List ℕ → ℕ
+abbrev pub alias_depth : {X : Type 0} → (X → Option Text) → List (Definition X) → Text → ℕ
 alias_depth alias_of defs = by_definition (depth_of alias_of) 0 defs

@@ -4,15 +4,16 @@ use Rattle.std.specs.List.{flat_map}
 use Rattle.sudo_policy.specs.declared.entry.Signed.{Signed}
 use Rattle.sudo_policy.specs.declared.entry.Entry.{Entry}
 use Rattle.sudo_policy.specs.declared.tree.Definition.{Definition}
+use Rattle.sudo_policy.specs.Text.{Text}
 use Rattle.sudo_policy.specs.Alias.{DefinedAt, list_weight, alias_weight, list_depth, alias_depth}
 
 -- `NAME = LIST`: the alias weighs what its list weighs, and is 1 deeper than the deepest alias in it
-pub record WeighsItsList {X : Type 0} (alias_of : X → Option (List ℕ)) (defs : List (Definition X)) (name : List ℕ) (list : List (Signed X)) : Type 0 where
+pub record WeighsItsList {X : Type 0} (alias_of : X → Option Text) (defs : List (Definition X)) (name : Text) (list : List (Signed X)) : Type 0 where
   pub weight : alias_weight alias_of defs name ≡ list_weight alias_of (alias_weight alias_of defs) list
   pub depth : alias_depth alias_of defs name ≡ 1 + list_depth alias_of (alias_depth alias_of defs) list
 
 -- each alias of a kind does, wherever the entries define it, by all that they define of the kind
-abbrev pub EachWeighsItsList : {X : Type 0} → (X → Option (List ℕ)) → (Entry → List (Definition X)) → List Entry → Type 0
+abbrev pub EachWeighsItsList : {X : Type 0} → (X → Option Text) → (Entry → List (Definition X)) → List Entry → Type 0
 EachWeighsItsList {X} alias_of def es =
-    (place : ℕ) (name : List ℕ) (list : List (Signed X)) → DefinedAt def es place name list
+    (place : ℕ) (name : Text) (list : List (Signed X)) → DefinedAt def es place name list
     → WeighsItsList alias_of (flat_map def (reverse es)) name list

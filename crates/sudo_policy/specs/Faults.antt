@@ -1,11 +1,12 @@
 -- How faults are shown.
-use Rattle.std.specs.Prelude.{ℕ, List, ◌++◌, codes, decimal}
+use Rattle.std.specs.Prelude.{◌++◌, codes, decimal}
 use Rattle.sudo_policy.specs.declared.fault.FaultKind.{FaultKind}
 use Rattle.sudo_policy.specs.declared.fault.FaultKind.TheVariants.{TooLong, BadByte, BadWord, Unexpected, UnknownAlias, AliasTwice, Reserved, BadMoment, LeftOut, TooLarge, NoMemory}
 use Rattle.sudo_policy.specs.declared.fault.ReadFault.{ReadFault}
+use Rattle.sudo_policy.specs.Text.{Text}
 
 -- its code and name
-abbrev pub kind_text : FaultKind → List ℕ
+abbrev pub kind_text : FaultKind → Text
 kind_text TooLong = codes "S1 TooLong"
 kind_text BadByte = codes "S2 BadByte"
 kind_text BadWord = codes "S3 BadWord"
@@ -19,5 +20,5 @@ kind_text TooLarge = codes "S10 TooLarge"
 kind_text NoMemory = codes "S11 NoMemory"
 
 -- its kind, and its line in decimal: 0 where there is no text
-abbrev pub fault_text : ReadFault → List ℕ
+abbrev pub fault_text : ReadFault → Text
 fault_text f = kind_text f.kind ++ codes " line " ++ decimal f.line

@@ -18,6 +18,7 @@ use Rattle.sudo_policy.specs.declared.tree.Spec.{Spec}
 use Rattle.sudo_policy.specs.declared.tree.Part.{Part}
 use Rattle.sudo_policy.specs.declared.tree.Line.{Line}
 use Rattle.sudo_policy.specs.declared.tree.Line.TheVariants as lines
+use Rattle.sudo_policy.specs.Text.{Names}
 use Rattle.sudo_policy.specs.Lex.{Tok, word, mark, is_spaced}
 use Rattle.sudo_policy.specs.Policy.{IsItem, IsCmndItem}
 use Rattle.sudo_policy.specs.Printing.{item_text}
@@ -73,10 +74,10 @@ pub record SpellsCmnd (ts : List Tok) (s : Signed CmndItem) (rest : List Tok) : 
   pub item : IsCmndItem s.item
   pub sign : s.negated ≡ is_odd bangs
 
-abbrev pub Users : List Tok → List (Signed (Item (List ℕ))) → List Tok → Type 0
+abbrev pub Users : List Tok → Names → List Tok → Type 0
 Users = Listed comma (SpellsItem is_name)
 
-abbrev pub Hosts : List Tok → List (Signed (Item (List ℕ))) → List Tok → Type 0
+abbrev pub Hosts : List Tok → Names → List Tok → Type 0
 Hosts = Listed comma (SpellsItem is_host_name)
 
 abbrev pub Cmnds : List Tok → List (Signed CmndItem) → List Tok → Type 0
@@ -85,7 +86,7 @@ Cmnds = Listed comma SpellsCmnd
 -- ---- a command of a user specification: targets, dates and tags of its own, and the command
 
 -- the targets, in parentheses
-abbrev pub SpellsRunas : List Tok → Option (List (Signed (Item (List ℕ)))) → List Tok → Type 0
+abbrev pub SpellsRunas : List Tok → Option Names → List Tok → Type 0
 SpellsRunas ts None rest = ts ≡ rest
 SpellsRunas ts (Some runas) rest =
     (a b : Bool) × (next mid : List Tok) × (ts ≡ mark a opening ∷ next) × Users next runas mid × (mid ≡ mark b closing ∷ rest)
@@ -167,7 +168,7 @@ SpellsAliases kind Is ts defs =
     (a : Bool) × (next : List Tok) × (ts ≡ word a 0 kind ∷ next) × (begins_spaced next ≡ true) × Listed colon (SpellsDef Is) next defs []
 
 -- users, and behind blanks parts with `:` between
-abbrev pub SpellsRights : List Tok → List (Signed (Item (List ℕ))) → List Part → Type 0
+abbrev pub SpellsRights : List Tok → Names → List Part → Type 0
 SpellsRights ts users parts =
     (next : List Tok) × Users ts users next × (begins_spaced next ≡ true) × Listed colon SpellsPart next parts []
 

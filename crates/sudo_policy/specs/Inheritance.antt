@@ -1,10 +1,9 @@
 -- The entries that a line stands for: one for each definition, and one rule for each command. What a command of a list leaves out
 -- is taken from those before it in the same list (sudoers(5), "Cmnd_Spec_List").
-use Rattle.std.specs.Prelude.{ℕ, false, List, [], ◌∷◌, map, None, unwrap_or, codes}
+use Rattle.std.specs.Prelude.{false, List, [], ◌∷◌, map, None, unwrap_or, codes}
 use Rattle.std.specs.List.{flat_map}
 use Rattle.std.specs.Option.{option_or}
 use Rattle.sudo_policy.specs.declared.entry.Signed.{Signed}
-use Rattle.sudo_policy.specs.declared.entry.Item.{Item}
 use Rattle.sudo_policy.specs.declared.entry.Item.TheVariants as items
 use Rattle.sudo_policy.specs.declared.entry.CmndItem.{CmndItem}
 use Rattle.sudo_policy.specs.declared.entry.Rule.{Rule}
@@ -15,9 +14,10 @@ use Rattle.sudo_policy.specs.declared.tree.Part.{Part}
 use Rattle.sudo_policy.specs.declared.tree.Settings.{Settings}
 use Rattle.sudo_policy.specs.declared.tree.Line.{Line}
 use Rattle.sudo_policy.specs.declared.tree.Line.TheVariants as lines
+use Rattle.sudo_policy.specs.Text.{Names}
 
 -- without targets, `root` alone
-abbrev pub root : List (Signed (Item (List ℕ)))
+abbrev pub root : Names
 root = record { negated = false; item = items.Name (codes "root") } ∷ []
 
 -- what holds before the first command of a list: as `root`, at any time, with a password
@@ -33,7 +33,7 @@ with_spec before s = record {
   nopasswd = unwrap_or s.nopasswd before.nopasswd;
 }
 
-abbrev pub rule_with : List (Signed (Item (List ℕ))) → List (Signed (Item (List ℕ))) → Settings → Signed CmndItem → Rule
+abbrev pub rule_with : Names → Names → Settings → Signed CmndItem → Rule
 rule_with users hosts held cmnd = record {
   users = users;
   hosts = hosts;
@@ -45,13 +45,13 @@ rule_with users hosts held cmnd = record {
 }
 
 -- the rules of a list of commands, where these settings hold before it
-abbrev pub rules_of : List (Signed (Item (List ℕ))) → List (Signed (Item (List ℕ))) → Settings → List Spec → List Entry
+abbrev pub rules_of : Names → Names → Settings → List Spec → List Entry
 rules_of users hosts before [] = []
 rules_of users hosts before (s ∷ specs) =
     entries.Rule (rule_with users hosts (with_spec before s) s.cmnd) ∷ rules_of users hosts (with_spec before s) specs
 
 -- each part begins afresh
-abbrev pub part_rules : List (Signed (Item (List ℕ))) → Part → List Entry
+abbrev pub part_rules : Names → Part → List Entry
 part_rules users part = rules_of users part.hosts first_settings part.specs
 
 abbrev pub entries_of : Line → List Entry

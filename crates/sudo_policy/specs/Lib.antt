@@ -1,4 +1,5 @@
 -- what a policy is made of, and its text
+pub mod Text
 pub mod Printing
 pub mod Alias
 pub mod Policy

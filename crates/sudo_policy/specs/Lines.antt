@@ -1,66 +1,77 @@
 -- The lines of a text: comments are taken out, and continued lines are joined (sudoers(5), "Other special characters and reserved words").
 use Rattle.std.specs.Prelude.{◌≡◌, ℕ, ◌-◌, ◌==◌, nat_eq, Bool, true, false, not, ◌&&◌, ◌||◌, ◌⊎◌, slice_index, List, [], ◌∷◌, ◌++◌, length, codes}
-use Rattle.std.specs.List.{slice_split, starts_with}
-use Rattle.sudo_words.specs.Bytes.{newline, equals, comma, colon, backslash, hash}
+use Rattle.std.specs.List.{slice_split, starts_with, ends_with}
+use Rattle.sudo_words.specs.Bytes.{space, newline, equals, comma, colon, backslash, hash}
 use Rattle.sudo_words.specs.Word.{is_digit}
-use Rattle.sudo_policy.specs.Span.{Each, IsCut}
+use Rattle.sudo_policy.specs.Text.{Text}
+use Rattle.sudo_policy.specs.Span.{Each}
 use Rattle.sudo_policy.specs.Lex.{is_blank}
 
 -- a line of the text ends at a newline or where the text ends
-abbrev pub lines_of : List ℕ → List (List ℕ)
+abbrev pub lines_of : Text → List Text
 lines_of text = slice_split (λ b. b == newline) text
-
--- whether the last byte passes; where there is none, it does not
-abbrev pub ends_with : (ℕ → Bool) → List ℕ → Bool
-ends_with p [] = false
-ends_with p (b ∷ bs) = p (slice_index (b ∷ bs) (length (b ∷ bs) - 1))
-
-abbrev pub is_backslash : ℕ → Bool
-is_backslash b = b == backslash
-
--- ---- comments
 
 abbrev pub is_no_hash : ℕ → Bool
 is_no_hash b = not (b == hash)
 
+abbrev pub ends_in_backslash : Text → Bool
+ends_in_backslash text = ends_with nat_eq text (codes "\\")
+
+-- whether the last byte passes; where there is none, it does not
+abbrev pub last_passes : (ℕ → Bool) → Text → Bool
+last_passes p [] = false
+last_passes p (b ∷ bs) = p (slice_index (b ∷ bs) (length (b ∷ bs) - 1))
+
+-- ---- comments
+
 -- what may follow the `#` of a comment: neither a digit nor `include`, and no backslash at its end
-abbrev pub begins_with_digit : List ℕ → Bool
+abbrev pub begins_with_digit : Text → Bool
 begins_with_digit [] = false
 begins_with_digit (b ∷ bs) = is_digit b
 
-abbrev pub is_comment : List ℕ → Bool
-is_comment text =
-    not (begins_with_digit text) && not (starts_with nat_eq text (codes "include")) && not (ends_with is_backslash text)
+abbrev pub is_comment : Text → Bool
+is_comment text = not (begins_with_digit text) && not (starts_with nat_eq text (codes "include")) && not (ends_in_backslash text)
 
 -- a comment begins a line, or stands behind a blank
-abbrev pub is_before_comment : List ℕ → Bool
+abbrev pub is_before_comment : Text → Bool
 is_before_comment [] = true
-is_before_comment (b ∷ bs) = ends_with is_blank (b ∷ bs)
+is_before_comment (b ∷ bs) = last_passes is_blank (b ∷ bs)
 
--- What follows the part of a line before its first `#`: a comment, or nothing, where that part does not end in a backslash.
-abbrev pub IsNote : List ℕ → List ℕ → Type 0
-IsNote body [] = ends_with is_backslash body ≡ false
-IsNote body (b ∷ note) = (is_before_comment body ≡ true) × (is_comment note ≡ true)
+-- ---- each line is one of three
 
--- a line that does not go on, without its comment
-abbrev pub IsBody : List ℕ → List ℕ → Type 0
-IsBody line body = (rest : List ℕ) × IsCut is_no_hash line body rest × IsNote body rest
+-- a plain line: it has no `#`, and does not end in a backslash
+pub record IsPlain (line : Text) : Type 0 where
+  pub each : Each is_no_hash line
+  pub ends : ends_in_backslash line ≡ false
 
--- ---- continuations
+-- a line with a comment: a text without `#`, and behind it `#` and what may follow
+pub record HasComment (line text comment : Text) : Type 0 where
+  pub whole : line ≡ text ++ hash ∷ comment
+  pub each : Each is_no_hash text
+  pub before : is_before_comment text ≡ true
+  pub allowed : is_comment comment ≡ true
 
 -- a line may go on behind a blank, `,`, `=` or `:`
 abbrev pub may_go_on : ℕ → Bool
 may_go_on b = is_blank b || (b == comma) || (b == equals) || (b == colon)
 
 -- a line that goes on: such a front and a backslash, without a comment
-pub record IsContinued (line front : List ℕ) : Type 0 where
+pub record IsContinued (line front : Text) : Type 0 where
   pub whole : line ≡ front ++ backslash ∷ []
   pub each : Each is_no_hash front
-  pub behind : ends_with may_go_on front ≡ true
+  pub behind : last_passes may_go_on front ≡ true
 
--- The lines are these when joined: where one goes on, the next follows behind one blank. The last does not go on.
-abbrev pub Joined : List (List ℕ) → List (List ℕ) → Type 0
+-- ---- lines together
+
+-- what is read of a line that does not go on: all of a plain line, or what stands before a comment
+abbrev pub IsBody : Text → Text → Type 0
+IsBody line body = (IsPlain line × (body ≡ line)) ⊎ ((comment : Text) × HasComment line body comment)
+
+-- The lines are these when joined. The last does not go on.
+abbrev pub Joined : List Text → List Text → Type 0
 Joined [] joined = joined ≡ []
 Joined (line ∷ lines) joined =
-    ((body : List ℕ) × (more : List (List ℕ)) × IsBody line body × (joined ≡ body ∷ more) × Joined lines more)
-    ⊎ ((front body : List ℕ) × (more : List (List ℕ)) × IsContinued line front × (joined ≡ (front ++ 32 ∷ body) ∷ more) × Joined lines (body ∷ more))
+    -- the first is complete, and the rest is joined for itself
+    ((body : Text) × (more : List Text) × IsBody line body × (joined ≡ body ∷ more) × Joined lines more)
+    -- or the first goes on, and what comes of the rest follows behind one blank
+    ⊎ ((front body : Text) × (more : List Text) × IsContinued line front × (joined ≡ (front ++ space ∷ body) ∷ more) × Joined lines (body ∷ more))

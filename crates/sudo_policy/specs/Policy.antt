@@ -13,12 +13,13 @@ use Rattle.sudo_policy.specs.declared.entry.Rule.{Rule}
 use Rattle.sudo_policy.specs.declared.entry.Entry.{Entry}
 use Rattle.sudo_policy.specs.declared.entry.Entry.TheVariants as entries
 use Rattle.sudo_policy.specs.declared.tree.Definition.{Definition}
+use Rattle.sudo_policy.specs.Text.{Text}
 use Rattle.sudo_policy.specs.Alias.{user_defs, runas_defs, host_defs, cmnd_defs, is_defined, item_alias, cmnd_alias, KnowsList, list_weight, alias_weight, depth_of, alias_depth}
 use Rattle.sudo_policy.specs.Printing.{canon}
 
 -- ---- forms
 
-abbrev pub IsItem : (List ℕ → Bool) → Item (List ℕ) → Type 0
+abbrev pub IsItem : (Text → Bool) → Item Text → Type 0
 IsItem form items.All = Unit {0}
 IsItem form (items.Name name) = form name ≡ true
 IsItem form (items.Alias name) = is_alias_name name ≡ true
@@ -49,7 +50,7 @@ IsEntry (entries.Rule rule) = IsRule rule
 -- ---- places: below the entries above, which are listed from the nearest to the farthest
 
 -- An alias is new in its kind, what its list uses is defined above, and its depth is at most 64.
-pub record IsNew {X : Type 0} (alias_of : X → Option (List ℕ)) (defs : List (Definition X)) (name : List ℕ) (list : List (Signed X)) : Type 0 where
+pub record IsNew {X : Type 0} (alias_of : X → Option Text) (defs : List (Definition X)) (name : Text) (list : List (Signed X)) : Type 0 where
   pub new : is_defined defs name ≡ false
   pub knows : KnowsList alias_of defs list
   pub shallow : depth_of alias_of (alias_depth alias_of defs) list ≤ 64

@@ -12,74 +12,75 @@ use Rattle.sudo_policy.specs.declared.entry.CmndItem.TheVariants as cmnds
 use Rattle.sudo_policy.specs.declared.entry.Rule.{Rule}
 use Rattle.sudo_policy.specs.declared.entry.Entry.{Entry}
 use Rattle.sudo_policy.specs.declared.entry.Entry.TheVariants as entries
+use Rattle.sudo_policy.specs.Text.{Text, Names}
 
 -- ---- lists
 
 -- an item of users, hosts or targets; names are seen as their bytes
-abbrev pub item_text : Item (List ℕ) → List ℕ
+abbrev pub item_text : Item Text → Text
 item_text items.All = codes "ALL"
 item_text (items.Name name) = name
 item_text (items.Alias name) = name
 
-abbrev pub cmnd_item_text : CmndItem → List ℕ
+abbrev pub cmnd_item_text : CmndItem → Text
 cmnd_item_text (cmnds.Alias name) = name
 cmnd_item_text (cmnds.Cmnd cmnd) = cmnd_text cmnd
 
 -- one `!` before what is negated
-abbrev pub signed_text : {X : Type 0} → (X → List ℕ) → Signed X → List ℕ
+abbrev pub signed_text : {X : Type 0} → (X → Text) → Signed X → Text
 signed_text f s = if s.negated then bang ∷ f s.item else f s.item
 
 -- what follows the first item: a comma and a space before each
-abbrev pub tail_text : {X : Type 0} → (X → List ℕ) → List X → List ℕ
+abbrev pub tail_text : {X : Type 0} → (X → Text) → List X → Text
 tail_text f [] = []
 tail_text f (x ∷ xs) = codes ", " ++ f x ++ tail_text f xs
 
-abbrev pub list_text : {X : Type 0} → (X → List ℕ) → List X → List ℕ
+abbrev pub list_text : {X : Type 0} → (X → Text) → List X → Text
 list_text f [] = []
 list_text f (x ∷ xs) = f x ++ tail_text f xs
 
 -- a list of users, hosts or targets, and one of commands
-abbrev pub names_text : List (Signed (Item (List ℕ))) → List ℕ
+abbrev pub names_text : Names → Text
 names_text xs = list_text (signed_text item_text) xs
 
-abbrev pub cmnds_text : List (Signed CmndItem) → List ℕ
+abbrev pub cmnds_text : List (Signed CmndItem) → Text
 cmnds_text xs = list_text (signed_text cmnd_item_text) xs
 
 -- ---- rules: `USERS HOSTS = (RUNAS) [NOTBEFORE=M ][NOTAFTER=M ][NOPASSWD: ]COMMAND`
 
-abbrev pub date_text : List ℕ → Option ℕ → List ℕ
+abbrev pub date_text : Text → Option ℕ → Text
 date_text option None = []
 date_text option (Some moment) = option ++ codes "=" ++ stamp moment ++ codes " "
 
-abbrev pub tag_text : Bool → List ℕ
+abbrev pub tag_text : Bool → Text
 tag_text nopasswd = if nopasswd then codes "NOPASSWD: " else []
 
 -- what stands before the `(` and behind the `)`
-abbrev pub who_text : Rule → List ℕ
+abbrev pub who_text : Rule → Text
 who_text r = names_text r.users ++ codes " " ++ names_text r.hosts ++ codes " = (" ++ names_text r.runas ++ codes ") "
 
-abbrev pub what_text : Rule → List ℕ
+abbrev pub what_text : Rule → Text
 what_text r =
     date_text (codes "NOTBEFORE") r.not_before ++ date_text (codes "NOTAFTER") r.not_after ++ tag_text r.nopasswd
     ++ signed_text cmnd_item_text r.cmnd
 
-abbrev pub rule_text : Rule → List ℕ
+abbrev pub rule_text : Rule → Text
 rule_text r = who_text r ++ what_text r
 
 -- ---- entries: a rule, or `KIND NAME = LIST`
 
-abbrev pub alias_text : List ℕ → List ℕ → List ℕ → List ℕ
+abbrev pub alias_text : Text → Text → Text → Text
 alias_text kind name list = kind ++ codes " " ++ name ++ codes " = " ++ list
 
-abbrev pub entry_text : Entry → List ℕ
+abbrev pub entry_text : Entry → Text
 entry_text (entries.UserAlias name list) = alias_text (codes "User_Alias") name (names_text list)
 entry_text (entries.RunasAlias name list) = alias_text (codes "Runas_Alias") name (names_text list)
 entry_text (entries.HostAlias name list) = alias_text (codes "Host_Alias") name (names_text list)
 entry_text (entries.CmndAlias name list) = alias_text (codes "Cmnd_Alias") name (cmnds_text list)
 entry_text (entries.Rule rule) = rule_text rule
 
-abbrev pub line_text : Entry → List ℕ
+abbrev pub line_text : Entry → Text
 line_text e = entry_text e ++ newline ∷ []
 
-abbrev pub canon : List Entry → List ℕ
+abbrev pub canon : List Entry → Text
 canon es = flat_map line_text es

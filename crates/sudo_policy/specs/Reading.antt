@@ -1,6 +1,7 @@
 -- What the reader answers: the entries of a line, and where a fault is.
 use Rattle.std.specs.Prelude.{◌≡◌, ◌≢◌, ℕ, ◌+◌, ◌≤◌, ◌==◌, false, List, ◌∷◌, ◌++◌, count_by, map}
 use Rattle.sudo_words.specs.Bytes.{newline}
+use Rattle.sudo_policy.specs.Text.{Text}
 use Rattle.sudo_policy.specs.Lex.{is_text_byte}
 use Rattle.sudo_policy.specs.Lines.{Joined}
 use Rattle.sudo_policy.specs.Spelling.{SpellsLines}
@@ -11,15 +12,15 @@ use Rattle.sudo_policy.specs.declared.entry.Entry.{Entry}
 use Rattle.sudo_policy.specs.declared.entry.Entry.TheVariants as entries
 
 -- the lines, joined where they go on, spell these entries
-abbrev pub SpellsBy : List (List ℕ) → List Entry → Type 0
-SpellsBy lines es = (joined : List (List ℕ)) × Joined lines joined × SpellsLines joined es
+abbrev pub SpellsBy : List Text → List Entry → Type 0
+SpellsBy lines es = (joined : List Text) × Joined lines joined × SpellsLines joined es
 
 -- a byte stands in the text that no text may have
-abbrev pub HasOtherByte : List ℕ → Type 0
-HasOtherByte text = (front rest : List ℕ) × (b : ℕ) × (text ≡ front ++ b ∷ rest) × (is_text_byte b ≡ false)
+abbrev pub HasOtherByte : Text → Type 0
+HasOtherByte text = (front rest : Text) × (b : ℕ) × (text ≡ front ++ b ∷ rest) × (is_text_byte b ≡ false)
 
 -- a line of the text, from 1 to one past the count of its newlines
-abbrev pub IsLineOf : List ℕ → ℕ → Type 0
+abbrev pub IsLineOf : Text → ℕ → Type 0
 IsLineOf text line = (1 ≤ line) × (line ≤ 1 + count_by (λ b. b == newline) text)
 
 -- a fault of a line, and not of the bytes

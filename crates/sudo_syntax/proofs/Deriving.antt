@@ -1,5 +1,5 @@
 -- How a literal text is shown to spell a policy: what computes is tested.
-use Rattle.std.proofs.Common.{◌≡◌, ℕ, Bool, true, false, not, ◌&&◌, List, [], ◌∷◌, ◌++◌, length, Option, Some, None, refl, sym, ap}
+use Rattle.std.proofs.Common.{◌≡◌, ℕ, Bool, true, false, not, ◌&&◌, List, [], ◌∷◌, ◌++◌, length, Option, Some, None, refl, inl}
 use Rattle.std.specs.Prelude.{nat_le, nat_lt, if◌then◌else◌, IfSome}
 use Rattle.std.specs.List.{AllByRecursion, list_all}
 use Rattle.std.specs.Option.{option_map_or}
@@ -25,7 +25,7 @@ use Rattle.sudo_policy.specs.Policy.{IsItem, IsCmndItem, IsList, IsEntry, IsNew,
 use Rattle.sudo_policy.specs.Printing.{canon, item_text}
 use Rattle.sudo_policy.specs.Span.{Each}
 use Rattle.sudo_policy.specs.Lex.{Tok, word, mark, is_spaced, text_of, is_some_blank, is_blank, is_mark, is_word_text, goes_on, is_text_byte, IsTok, Lexes}
-use Rattle.sudo_policy.specs.Lines.{is_no_hash, is_backslash, ends_with, lines_of, IsBody, Joined}
+use Rattle.sudo_policy.specs.Lines.{is_no_hash, ends_in_backslash, lines_of, IsBody, Joined}
 use Rattle.sudo_policy.specs.Grammar.{SpellsItem, SpellsCmnd, SpellsSpec, head_of, args_of, is_odd}
 use Rattle.sudo_policy.specs.Spelling.{SpellsLines, Spells}
 
@@ -88,12 +88,8 @@ lexed_more (t ∷ ts) end us h more =
 
 -- ---- lines
 
-pub plain_body : (line : List ℕ) → list_all is_no_hash line ≡ true → ends_with is_backslash line ≡ false → IsBody line line
-plain_body line none last = ([], record { whole = sym (append_nil line); each = each_of is_no_hash line none; stops = tt }, last)
-  where
-    append_nil : (w : List ℕ) → w ++ [] ≡ w
-    append_nil [] = refl
-    append_nil (b ∷ w) = ap (λ x. b ∷ x) (append_nil w)
+pub plain_body : (line : List ℕ) → list_all is_no_hash line ≡ true → ends_in_backslash line ≡ false → IsBody line line
+plain_body line none last = inl (record { each = each_of is_no_hash line none; ends = last }, refl)
 
 -- ---- items, commands and what stands before them
 

@@ -3,10 +3,10 @@ use Rattle.std.proofs.Common.{◌≡◌, ℕ, Bool, true, false, ◌==◌, List,
 use Rattle.std.proofs.lemmas.Bool.{false≢true, eqb-true, or_cases}
 use Rattle.sudo_policy.specs.Span.{Each, IsCut}
 use Rattle.sudo_policy.specs.Lex.{is_blank}
-use Rattle.sudo_policy.specs.Lines.{is_no_hash, is_backslash, ends_with, may_go_on, is_before_comment, IsNote, IsBody, IsContinued, Joined}
+use Rattle.sudo_policy.specs.Lines.{is_no_hash, last_passes, may_go_on, is_before_comment, IsBody, IsContinued, Joined}
 use Rattle.sudo_syntax.specs.Alike.{SpellAlike, DifferIn, MayHaveNote, GoesOnWith}
 use Rattle.sudo_policy.proofs.Spans.{cut_is, one_cut}
-use Rattle.sudo_policy.proofs.LineTexts.{ends_with_last, last_split, one_front, each_append, no_hash_cut, body_one, body_or_front, front_one}
+use Rattle.sudo_policy.proofs.LineTexts.{is_backslash, last_passes_last, backslash_last, last_split, one_front, each_append, IsNote, cut_of, body_of, body_one, body_or_front, front_one}
 
 -- ---- texts that are joined alike
 
@@ -51,15 +51,15 @@ blank_no_backslash b h = elim (or_cases (b == 32) (b == 9) h) [
   | inr e ↦ ap is_backslash (eqb-true b 9 e)
 ]
 
-before_no_backslash : (line : List ℕ) → is_before_comment line ≡ true → ends_with is_backslash line ≡ false
+before_no_backslash : (line : List ℕ) → is_before_comment line ≡ true → last_passes is_backslash line ≡ false
 before_no_backslash [] h = refl
 before_no_backslash (b ∷ bs) h = blank_no_backslash _ h
 
 noted_body : (line note : List ℕ) → MayHaveNote line note → IsBody (line ++ 35 ∷ note) line
-noted_body line note m = (35 ∷ note, record { whole = refl; each = m.each; stops = refl }, (m.before, m.comment))
+noted_body line note m = inr (note, record { whole = refl; each = m.each; before = m.before; allowed = m.comment })
 
 bare_body : (line note : List ℕ) → MayHaveNote line note → IsBody line line
-bare_body line note m = ([], no_hash_cut line m.each, before_no_backslash line m.before)
+bare_body line note m = inl (record { each = m.each; ends = backslash_last line ∙ before_no_backslash line m.before }, refl)
 
 same_body : (a b body : List ℕ) → IsBody a body → IsBody b body → JoinAlike (a ∷ []) (b ∷ [])
 same_body a b body of_a of_b after joined (inl (other, more, is, e, rest)) = inl (other, more, subst (IsBody b) (body_one a body other of_a is) of_b, e, rest)
@@ -73,23 +73,23 @@ comments text other line note m d =
 
 -- ---- what a line ends with, where some bytes stand before it
 
-ends_behind : (p : ℕ → Bool) (xs : List ℕ) (b : ℕ) (bs : List ℕ) → ends_with p (xs ++ b ∷ bs) ≡ ends_with p (b ∷ bs)
+ends_behind : (p : ℕ → Bool) (xs : List ℕ) (b : ℕ) (bs : List ℕ) → last_passes p (xs ++ b ∷ bs) ≡ last_passes p (b ∷ bs)
 ends_behind p xs b bs =
     let split = last_split (λ x. true) (b ∷ bs) refl in
-    ap (λ (w : List ℕ). ends_with p (xs ++ w)) split.2 ∙ ap (ends_with p) (sym (append_assoc xs split.0 (split.1 ∷ [])))
-    ∙ ends_with_last p (xs ++ split.0) split.1
-    ∙ sym (ends_with_last p split.0 split.1) ∙ ap (ends_with p) (sym split.2)
+    ap (λ (w : List ℕ). last_passes p (xs ++ w)) split.2 ∙ ap (last_passes p) (sym (append_assoc xs split.0 (split.1 ∷ [])))
+    ∙ last_passes_last p (xs ++ split.0) split.1
+    ∙ sym (last_passes_last p split.0 split.1) ∙ ap (last_passes p) (sym split.2)
 
-ends_behind_blank : (p : ℕ → Bool) (front w : List ℕ) → p 32 ≡ false → ends_with p (front ++ 32 ∷ w) ≡ ends_with p w
-ends_behind_blank p front [] fails = ends_with_last p front 32 ∙ fails
+ends_behind_blank : (p : ℕ → Bool) (front w : List ℕ) → p 32 ≡ false → last_passes p (front ++ 32 ∷ w) ≡ last_passes p w
+ends_behind_blank p front [] fails = last_passes_last p front 32 ∙ fails
 ends_behind_blank p front (b ∷ bs) fails = ends_behind p front 32 (b ∷ bs) ∙ ends_behind p (32 ∷ []) b bs
 
-before_is : (front w : List ℕ) → is_before_comment (front ++ 32 ∷ w) ≡ ends_with is_blank (front ++ 32 ∷ w)
+before_is : (front w : List ℕ) → is_before_comment (front ++ 32 ∷ w) ≡ last_passes is_blank (front ++ 32 ∷ w)
 before_is [] w = refl
 before_is (b ∷ front) w = refl
 
 before_behind : (front w : List ℕ) → is_before_comment (front ++ 32 ∷ w) ≡ is_before_comment w
-before_behind front [] = before_is front [] ∙ ends_with_last is_blank front 32
+before_behind front [] = before_is front [] ∙ last_passes_last is_blank front 32
 before_behind front (b ∷ bs) = before_is front (b ∷ bs) ∙ ends_behind is_blank front 32 (b ∷ bs) ∙ ends_behind is_blank (32 ∷ []) b bs
 
 note_behind : (front body rest : List ℕ) → IsNote body rest → IsNote (front ++ 32 ∷ body) rest
@@ -113,7 +113,9 @@ cut_behind front next body rest f c = record {
 }
 
 body_behind : (front next body : List ℕ) → Each is_no_hash front → IsBody next body → IsBody (front ++ 32 ∷ next) (front ++ 32 ∷ body)
-body_behind front next body f (rest, c, n) = (rest, cut_behind front next body rest f c, note_behind front body rest n)
+body_behind front next body f is =
+    let cut = cut_of next body is in
+    body_of (front ++ 32 ∷ next) (front ++ 32 ∷ body) cut.0 (cut_behind front next body cut.0 f cut.1) (note_behind front body cut.0 cut.2)
 
 body_of_cut : (front next own left whole rest : List ℕ) → Each is_no_hash front → IsCut is_no_hash next own left → IsCut is_no_hash (front ++ 32 ∷ next) whole rest → IsNote whole rest
     → (body : List ℕ) × (whole ≡ front ++ 32 ∷ body) × IsBody next body
@@ -122,11 +124,13 @@ body_of_cut front next own left whole rest f cut c n =
     let same = one_cut is_no_hash whole rest (front ++ 32 ∷ own) left c.each c.stops both.each both.stops (sym c.whole ∙ both.whole) in (
       own,
       same.0,
-      (left, cut, note_back front own left (subst (IsNote (front ++ 32 ∷ own)) same.1 (subst (λ (b : List ℕ). IsNote b rest) same.0 n))),
+      body_of next own left cut (note_back front own left (subst (IsNote (front ++ 32 ∷ own)) same.1 (subst (λ (b : List ℕ). IsNote b rest) same.0 n))),
     )
 
 body_back : (front next whole : List ℕ) → Each is_no_hash front → IsBody (front ++ 32 ∷ next) whole → (body : List ℕ) × (whole ≡ front ++ 32 ∷ body) × IsBody next body
-body_back front next whole f (rest, c, n) = body_of_cut front next _ _ whole rest f (cut_is is_no_hash next) c n
+body_back front next whole f is =
+    let cut = cut_of (front ++ 32 ∷ next) whole is in
+    body_of_cut front next _ _ whole cut.0 f (cut_is is_no_hash next) cut.1 cut.2
 
 goes_behind : (front next part : List ℕ) → Each is_no_hash front → IsContinued next part → IsContinued (front ++ 32 ∷ next) (front ++ 32 ∷ part)
 goes_behind front next [] f c = absurd (false≢true c.behind)
@@ -148,12 +152,12 @@ part_of front next (b ∷ bs) whole e same some c = record {
   each = (each_back is_no_hash front (32 ∷ b ∷ bs) (subst (Each is_no_hash) (sym same) c.each)).1;
   behind =
       sym (ends_behind may_go_on (32 ∷ []) b bs) ∙ sym (ends_behind may_go_on front 32 (b ∷ bs))
-      ∙ ap (ends_with may_go_on) same ∙ c.behind;
+      ∙ ap (last_passes may_go_on) same ∙ c.behind;
 }
 
 goes_back : (front next whole : List ℕ) → (next ≡ 92 ∷ [] → ⊥) → IsContinued (front ++ 32 ∷ next) whole → (part : List ℕ) × (whole ≡ front ++ 32 ∷ part) × IsContinued next part
 goes_back front next whole some c =
-    let last : ends_with is_backslash (front ++ 32 ∷ next) ≡ true = ap (ends_with is_backslash) c.whole ∙ ends_with_last is_backslash whole 92 in
+    let last : last_passes is_backslash (front ++ 32 ∷ next) ≡ true = ap (last_passes is_backslash) c.whole ∙ last_passes_last is_backslash whole 92 in
     let split = last_split is_backslash next (sym (ends_behind_blank is_backslash front next refl) ∙ last) in
     let e : next ≡ split.0 ++ 92 ∷ [] = split.2 ∙ ap (λ (x : ℕ). split.0 ++ x ∷ []) (eqb-true split.1 92 split.3) in
     let same : front ++ 32 ∷ split.0 ≡ whole =

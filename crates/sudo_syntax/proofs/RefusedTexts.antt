@@ -19,7 +19,7 @@ use Rattle.sudo_policy.specs.declared.tree.Spec.{Spec}
 use Rattle.sudo_policy.specs.Policy.{IsCmndItem, IsPolicy}
 use Rattle.sudo_policy.specs.Lex.{Tok, word, mark, Lexes}
 use Rattle.sudo_policy.specs.private.Tokens.{NoLexing}
-use Rattle.sudo_policy.specs.Lines.{is_no_hash, is_backslash, ends_with, lines_of, Joined}
+use Rattle.sudo_policy.specs.Lines.{is_no_hash, ends_in_backslash, lines_of, Joined}
 use Rattle.sudo_policy.specs.Grammar.{Listed, More, SpellsItem, SpellsCmnd, SpellsRunas, SpellsDates, SpellsTags, SpellsSpec, SpellsPart, SpellsRights, SpellsTree, Date, head_of, args_of, rule_toks}
 use Rattle.sudo_policy.specs.Inheritance.{entries_of}
 use Rattle.sudo_policy.specs.Spelling.{Spells, SpellsEntries, SpellsLine, SpellsLines}
@@ -32,7 +32,7 @@ use Rattle.sudo_syntax.proofs.WorkedTexts.{plain, one_line, spells_line, yes, pa
 
 -- ---- a text of one line
 
-line_spelled : (text line : List ℕ) (es : List Entry) → lines_of text ≡ line ∷ [] → list_all is_no_hash line ≡ true → ends_with is_backslash line ≡ false
+line_spelled : (text line : List ℕ) (es : List Entry) → lines_of text ≡ line ∷ [] → list_all is_no_hash line ≡ true → ends_in_backslash line ≡ false
     → Spells text es → (here : List Entry) × SpellsLine line here
 line_spelled text line es one none last s =
     let joined : Joined (line ∷ []) s.joined = subst (λ (ls : List (List ℕ)). Joined ls s.joined) one s.lines in

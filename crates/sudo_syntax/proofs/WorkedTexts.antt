@@ -19,7 +19,7 @@ use Rattle.sudo_policy.specs.declared.tree.Line.{Line}
 use Rattle.sudo_policy.specs.declared.tree.Line.TheVariants as lines
 use Rattle.sudo_policy.specs.declared.tree.Part.{Part}
 use Rattle.sudo_policy.specs.declared.tree.Spec.{Spec}
-use Rattle.sudo_policy.specs.Lines.{is_no_hash, is_backslash, ends_with, Joined}
+use Rattle.sudo_policy.specs.Lines.{is_no_hash, ends_in_backslash, Joined}
 use Rattle.sudo_policy.specs.Lex.{Tok, word, mark, Lexes}
 use Rattle.sudo_policy.specs.Grammar.{SpellsTree}
 use Rattle.sudo_policy.specs.Inheritance.{entries_of}
@@ -52,7 +52,7 @@ abbrev pub rights : Signed (Item (List ℕ)) → List Part → Line
 rights who parts = lines.Rights (who ∷ []) parts
 
 -- a line without a comment, and what follows it
-pub plain : (line : List ℕ) (rest : List (List ℕ)) (more : List (List ℕ)) → list_all is_no_hash line ≡ true → ends_with is_backslash line ≡ false
+pub plain : (line : List ℕ) (rest : List (List ℕ)) (more : List (List ℕ)) → list_all is_no_hash line ≡ true → ends_in_backslash line ≡ false
     → Joined rest more → Joined (line ∷ rest) (line ∷ more)
 plain line rest more none last joined = inl (line, more, plain_body line none last, refl, joined)
 
@@ -103,7 +103,7 @@ pub note_spell : SpellsAs (codes "ann db1 = ALL # see #12") (codes "ann db1 = (r
 note_spell = (
   entries_of all_line,
   spelled (codes "ann db1 = ALL # see #12") (note_body ∷ []) (entries_of all_line) refl
-      (inl (note_body, [], (codes "# see #12", record { whole = refl; each = each_of is_no_hash note_body refl; stops = refl }, (refl, refl)), refl, refl))
+      (inl (note_body, [], inr (codes " see #12", record { whole = refl; each = each_of is_no_hash note_body refl; before = refl; allowed = refl }), refl, refl))
       (one_line note_body (entries_of all_line) (spells_line note_body (word false 0 (codes "ann")) all_toks all_line (lexed (word false 0 (codes "ann") ∷ all_toks) (codes " ") refl) all_tree)) refl,
   refl,
 )

@@ -8,13 +8,14 @@ use Rattle.sudo_policy.specs.declared.entry.CmndItem.TheVariants as cmnds
 use Rattle.sudo_policy.specs.declared.entry.Rule.{Rule}
 use Rattle.sudo_policy.specs.declared.entry.Entry.{Entry}
 use Rattle.sudo_policy.specs.declared.entry.Entry.TheVariants as entries
+use Rattle.sudo_policy.specs.Text.{Text}
 use Rattle.sudo_policy.specs.Inheritance.{root}
 
-abbrev pub double_name : ℕ → List ℕ
+abbrev pub double_name : ℕ → Text
 double_name n = codes "X" ++ decimal n
 
 -- `a`, and then `X1`, `X2` ..
-abbrev pub double_item : ℕ → Signed (Item (List ℕ))
+abbrev pub double_item : ℕ → Signed (Item Text)
 double_item zero = record { negated = false; item = items.Name (codes "a") }
 double_item (suc n) = record { negated = false; item = items.Alias (double_name (suc n)) }
 

@@ -1,13 +1,12 @@
 -- What holds of each command of a list, wherever it stands (sudoers(5), "Cmnd_Spec_List").
-use Rattle.std.specs.Prelude.{◌≡◌, ℕ, false, List, [], ◌∷◌, ◌++◌, length, map, Option, Some, None, unwrap_or}
+use Rattle.std.specs.Prelude.{◌≡◌, false, List, [], ◌∷◌, ◌++◌, length, map, Option, Some, None, unwrap_or}
 use Rattle.std.specs.List.{AllByRecursion}
-use Rattle.sudo_policy.specs.declared.entry.Signed.{Signed}
-use Rattle.sudo_policy.specs.declared.entry.Item.{Item}
 use Rattle.sudo_policy.specs.declared.entry.Rule.{Rule}
 use Rattle.sudo_policy.specs.declared.entry.Entry.{Entry}
 use Rattle.sudo_policy.specs.declared.entry.Entry.TheVariants as entries
 use Rattle.sudo_policy.specs.declared.tree.Spec.{Spec}
 use Rattle.sudo_policy.specs.declared.tree.Part.{Part}
+use Rattle.sudo_policy.specs.Text.{Names}
 use Rattle.sudo_policy.specs.Inheritance.{root, part_rules}
 
 abbrev pub NoneGiven : {X : Type 0} → List (Option X) → Type 0
@@ -31,7 +30,7 @@ pub record Inherits (specs : List Spec) (rule : Rule) : Type 0 where
 
 -- The command that stands behind these in a part has a rule at its own place among the part's entries: with the part's users and
 -- hosts and the command itself, and what it inherits from the commands up to and including it.
-pub record HasRule (users : List (Signed (Item (List ℕ)))) (part : Part) (before : List Spec) (s : Spec) : Type 0 where
+pub record HasRule (users : Names) (part : Part) (before : List Spec) (s : Spec) : Type 0 where
   pub rules_before : List Entry
   pub rule : Rule
   pub rules_after : List Entry

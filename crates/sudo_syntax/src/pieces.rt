@@ -41,20 +41,17 @@ fn begins_with_digit(text: &[u8]) -> bool
     }
 }
 
-fn ends_with_backslash(text: &[u8]) -> bool
-    ensures { result ≡ lines.ends_with lines.is_backslash text.now }
+fn ends_in_backslash(text: &[u8]) -> bool
+    ensures { result ≡ lines.ends_in_backslash text.now }
 {
-    match text {
-        [] => false,
-        [.., last] => *last == b'\\',
-    }
+    text.ends_with(b"\\")
 }
 
 /// Whether the text may follow the `#` of a comment.
 fn is_comment(text: &[u8]) -> bool
     ensures { result ≡ lines.is_comment text.now }
 {
-    !begins_with_digit(text) && !text.starts_with(b"include") && !ends_with_backslash(text)
+    !begins_with_digit(text) && !text.starts_with(b"include") && !ends_in_backslash(text)
 }
 
 /// Whether a comment may follow: it begins a line, or stands behind a blank.
@@ -69,7 +66,7 @@ fn is_before_comment(body: &[u8]) -> bool
 
 /// Whether a line may go on behind these bytes.
 fn may_go_on(front: &[u8]) -> bool
-    ensures { result ≡ lines.ends_with lines.may_go_on front.now }
+    ensures { result ≡ lines.last_passes lines.may_go_on front.now }
 {
     match front {
         [] => false,
@@ -79,7 +76,7 @@ fn may_go_on(front: &[u8]) -> bool
 
 /// What stands before the backslash that the line ends in, if it ends in one.
 fn before_backslash(line: &[u8]) -> Option<&[u8]>
-    ensures { MatchOption result (lines.ends_with lines.is_backslash line.now ≡ false) (λ front. line.now ≡ front.now ++ backslash ∷ []) }
+    ensures { MatchOption result (lines.ends_in_backslash line.now ≡ false) (λ front. line.now ≡ front.now ++ backslash ∷ []) }
 {
     line.strip_suffix(b"\\")
 }
@@ -100,7 +97,7 @@ fn without_comment(line: &[u8]) -> Result<Piece<'_>, LineFault>
 
 /// What is wrong with a `#` that begins no comment, and that this text follows.
 fn bad_comment(text: &[u8]) -> LineFault {
-    if ends_with_backslash(text) {
+    if ends_in_backslash(text) {
         LineFault::Unexpected
     } else {
         LineFault::LeftOut

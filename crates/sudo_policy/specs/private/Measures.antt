@@ -9,69 +9,70 @@ use Rattle.sudo_policy.specs.declared.entry.Signed.{Signed}
 use Rattle.sudo_policy.specs.declared.aliases.Measure.{Measure}
 use Rattle.sudo_policy.specs.declared.aliases.Alias.{Alias}
 use Rattle.sudo_policy.specs.declared.aliases.Aliases.{Aliases}
+use Rattle.sudo_policy.specs.Text.{Text}
 use Rattle.sudo_policy.specs.Alias.{list_weight, item_weight, depth_of, list_depth, item_depth}
 
 -- a weight, or one more than the most that a policy weighs
 abbrev pub stopped : ℕ → ℕ
 stopped n = min n 131_073
 
-abbrev pub alias_at : Aliases → List ℕ → Option Alias
+abbrev pub alias_at : Aliases → Text → Option Alias
 alias_at m name = get_by_text m.known name
 
-abbrev pub has : Aliases → List ℕ → Bool
+abbrev pub has : Aliases → Text → Bool
 has m name = is_some (alias_at m name)
 
 -- its weight and depth as they are kept, and 0 where the name is none of these
-abbrev pub weight_in : Aliases → List ℕ → ℕ
+abbrev pub weight_in : Aliases → Text → ℕ
 weight_in m name = option_map_or (λ a. a.measure.weight) (alias_at m name) 0
 
-abbrev pub depth_in : Aliases → List ℕ → ℕ
+abbrev pub depth_in : Aliases → Text → ℕ
 depth_in m name = option_map_or (λ a. a.measure.depth) (alias_at m name) 0
 
 -- ---- an item, by the alias that it is, if it is one
 
-abbrev pub IsItemKnown : (List ℕ → Bool) → Option (List ℕ) → Type 0
+abbrev pub IsItemKnown : (Text → Bool) → Option Text → Type 0
 IsItemKnown test alias = IfSome alias (λ name. test name ≡ true)
 
-pub record IsItemMeasured (m : Aliases) (alias : Option (List ℕ)) (a : Measure) : Type 0 where
+pub record IsItemMeasured (m : Aliases) (alias : Option Text) (a : Measure) : Type 0 where
   pub knows : IsItemKnown (has m) alias
   pub weight : a.weight ≡ item_weight (weight_in m) alias
   pub depth : a.depth ≡ item_depth (depth_in m) alias
 
-abbrev pub IsItemUnmeasured : Aliases → Option (List ℕ) → Type 0
+abbrev pub IsItemUnmeasured : Aliases → Option Text → Type 0
 IsItemUnmeasured m alias = IsItemKnown (has m) alias → ⊥
 
 -- ---- a list
 
 -- each alias of the list passes
-abbrev pub KnowsAll : {X : Type 0} → (X → Option (List ℕ)) → (List ℕ → Bool) → List (Signed X) → Type 0
+abbrev pub KnowsAll : {X : Type 0} → (X → Option Text) → (Text → Bool) → List (Signed X) → Type 0
 KnowsAll alias_of test list = AllByRecursion (λ s. IfSome (alias_of s.item) (λ name. test name ≡ true)) list
 
-pub record IsMeasured {X : Type 0} (alias_of : X → Option (List ℕ)) (m : Aliases) (list : List (Signed X)) (a : Measure) : Type 0 where
+pub record IsMeasured {X : Type 0} (alias_of : X → Option Text) (m : Aliases) (list : List (Signed X)) (a : Measure) : Type 0 where
   pub knows : KnowsAll alias_of (has m) list
   pub weight : a.weight ≡ stopped (list_weight alias_of (weight_in m) list)
   pub depth : a.depth ≡ list_depth alias_of (depth_in m) list
 
-abbrev pub IsUnmeasured : {X : Type 0} → (X → Option (List ℕ)) → Aliases → List (Signed X) → Type 0
+abbrev pub IsUnmeasured : {X : Type 0} → (X → Option Text) → Aliases → List (Signed X) → Type 0
 IsUnmeasured alias_of m list = KnowsAll alias_of (has m) list → ⊥
 
 -- ---- definitions
 
 -- the alias is new, its list uses those that are there, and its depth is within the limit
-pub record IsDefinable {X : Type 0} (alias_of : X → Option (List ℕ)) (m : Aliases) (name : List ℕ) (list : List (Signed X)) : Type 0 where
+pub record IsDefinable {X : Type 0} (alias_of : X → Option Text) (m : Aliases) (name : Text) (list : List (Signed X)) : Type 0 where
   pub new : has m name ≡ false
   pub knows : KnowsAll alias_of (has m) list
   pub shallow : depth_of alias_of (depth_in m) list ≤ 64
 
 -- what is kept of an alias
-pub record IsKept {X : Type 0} (alias_of : X → Option (List ℕ)) (m : Aliases) (place : ℕ) (list : List (Signed X)) (a : Alias) : Type 0 where
+pub record IsKept {X : Type 0} (alias_of : X → Option Text) (m : Aliases) (place : ℕ) (list : List (Signed X)) (a : Alias) : Type 0 where
   pub place_is : a.place ≡ place
   pub weight : a.measure.weight ≡ stopped (list_weight alias_of (weight_in m) list)
   pub depth : a.measure.depth ≡ depth_of alias_of (depth_in m) list
 
 -- the alias is added, and the others stay
-pub record Defines {X : Type 0} (alias_of : X → Option (List ℕ)) (old new : Aliases) (name : List ℕ) (place : ℕ) (list : List (Signed X)) : Type 0 where
+pub record Defines {X : Type 0} (alias_of : X → Option Text) (old new : Aliases) (name : Text) (place : ℕ) (list : List (Signed X)) : Type 0 where
   pub definable : IsDefinable alias_of old name list
   pub alias : Alias
   pub kept : IsKept alias_of old place list alias
-  pub updates : (n : List ℕ) → alias_at new n ≡ update bytes_eq (alias_at old) name (Some alias) n
+  pub updates : (n : Text) → alias_at new n ≡ update bytes_eq (alias_at old) name (Some alias) n

@@ -1,9 +1,9 @@
-use Rattle.std.proofs.Common.{[], sym}
-use Rattle.sudo_policy.proofs.LineTexts.{no_hash_cut, front_is, backslash_no_body, bad_front}
+use Rattle.std.proofs.Common.{inl, refl, sym}
+use Rattle.sudo_policy.proofs.LineTexts.{front_is, backslash_no_body, bad_front}
 use Rattle.sudo_syntax.proofs.pieces.without_comment.Goals as goal
 
 pub returns-in-None-clause-found : goal.returns-in-None-clause-found
-returns-in-None-clause-found c = ([], no_hash_cut c.args.line.now c.requires, c.in-None.ensures)
+returns-in-None-clause-found c = inl (record { each = c.requires; ends = c.in-None.ensures }, refl)
 
 pub returns-in-Some-clause-found : goal.returns-in-Some-clause-found
 returns-in-Some-clause-found c = record { whole = c.in-Some.ensures; each = front_is c.args.line.now c.in-Some.front.now c.requires c.in-Some.ensures; behind = sym c.if-may_go_on.ensures }
