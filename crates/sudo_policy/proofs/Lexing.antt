@@ -85,6 +85,9 @@ pub first_is : (s : List ℕ) → 1 ≤ length s → s ≡ get_or s 0 0 ∷ take
 first_is [] h = absurd (omega arith)
 first_is (x ∷ xs) h = let back : length (x ∷ xs) - 1 ≡ length xs = omega arith in rw back (ap (λ (t : List ℕ). x ∷ t) (sym (take_all (length xs) xs (omega arith))))
 
+pub mark_is_first : (s : List ℕ) (m : ℕ) → 1 ≤ length s → m ≡ get_or s 0 0 → s ≡ m ∷ take (length s - 1) (drop 1 s)
+mark_is_first s m some e = first_is s some ∙ ap (λ (b : ℕ). b ∷ take (length s - 1) (drop 1 s)) (sym e)
+
 -- ---- what follows the blanks
 
 -- a token begins with no blank

@@ -25,5 +25,5 @@ pub use fault::{FaultKind, LineFault, ReadFault};
 pub use laws::{canon_is_one, canon_spells, one_policy};
 pub use policy::Policy;
 pub use printing::print_policy;
-pub use token::{Token, cut_text, is_blank, is_text, tokens};
+pub use token::{Mark, Token, TokenKind, cut_text, is_blank, is_text, tokens};
 pub use tree::{Definition, Line, Part, Settings, Spec};

@@ -13,13 +13,61 @@ use crate::fault::LineFault;
 use std::alloc::Global;
 use std::str;
 
-/// A word or a mark of a line, each with whether blanks stand before it, and a word with how many `!` stand directly before it.
+/// A byte that stands for itself between words.
+#[derive(Clone, Copy, PartialEq, Eq)]
+pub enum Mark {
+    /// `=`, before a list.
+    Equals,
+    /// `,`, between the items of a list.
+    Comma,
+    /// `:`, between definitions or parts, and behind a tag.
+    Colon,
+    /// `(`, before targets.
+    Opening,
+    /// `)`, behind targets.
+    Closing,
+    /// `"`, of which two say that no argument is allowed.
+    Quote,
+}
+
+impl Mark {
+    /// The mark that the byte is, if it is one.
+    pub fn read(byte: u8) -> Option<Mark>
+        ensures { MatchOption result (lex.is_mark byte ≡ false) (λ mark. (lexing.mark_byte mark ≡ byte) × (lex.is_mark byte ≡ true)) }
+    {
+        match byte {
+            b'=' => Some(Mark::Equals),
+            b',' => Some(Mark::Comma),
+            b':' => Some(Mark::Colon),
+            b'(' => Some(Mark::Opening),
+            b')' => Some(Mark::Closing),
+            b'"' => Some(Mark::Quote),
+            _ => None,
+        }
+    }
+}
+
+/// A word or a mark of a line.
 #[derive(Clone, Copy)]
-pub enum Token<'a> {
-    /// A word: whether blanks stand before it, how many `!` stand directly before it, and its bytes as they stand.
-    Word(bool, usize, &'a str),
-    /// A mark: whether blanks stand before it, and its byte.
-    Mark(bool, u8),
+pub struct Token<'a> {
+    /// Whether blanks stand before it.
+    pub spaced: bool,
+    /// Which word or mark it is.
+    pub kind: TokenKind<'a>,
+}
+
+/// What a token is.
+#[derive(Clone, Copy)]
+pub enum TokenKind<'a> {
+    /// A word.
+    Word {
+        /// How many `!` stand directly before it.
+        bangs: usize,
+        /// Its bytes as they stand.
+        text: &'a str,
+    },
+    /// A mark.
+    Mark(Mark),
 }
 
 fn is_text_byte(b: u8) -> bool
@@ -33,12 +81,6 @@ pub fn is_blank(b: u8) -> bool
     ensures { result ≡ lex.is_blank b }
 {
     b == b' ' || b == b'\t'
-}
-
-fn is_mark(b: u8) -> bool
-    ensures { result ≡ lex.is_mark b }
-{
-    b == b'=' || b == b',' || b == b':' || b == b'(' || b == b')' || b == b'"'
 }
 
 fn is_word_byte(b: u8) -> bool
@@ -155,7 +197,7 @@ fn text_of(word: &[u8]) -> Option<&str>
 fn stray(byte: u8) -> LineFault {
     match byte {
         b'*' | b'?' | b'[' | b']' | b'"' | b'\\' | b'#' => LineFault::LeftOut,
-        _ if is_blank(byte) || is_mark(byte) => LineFault::Unexpected,
+        _ if is_blank(byte) || Mark::read(byte).is_some() => LineFault::Unexpected,
         _ => LineFault::BadWord,
     }
 }
@@ -178,8 +220,9 @@ pub fn next_token(bytes: &[u8]) -> Result<Option<(Token<'_>, &[u8])>, LineFault>
     let [first, others @ ..] = rest else {
         return Ok(None);
     };
-    if is_mark(*first) {
-        return Ok(Some((Token::Mark(spaced, *first), others)));
+    if let Some(mark) = Mark::read(*first) {
+        let kind = TokenKind::Mark(mark);
+        return Ok(Some((Token { spaced, kind }, others)));
     }
     let (bangs, behind) = cut_bangs(rest);
     let (word, after) = cut_word(behind);
@@ -187,7 +230,11 @@ pub fn next_token(bytes: &[u8]) -> Result<Option<(Token<'_>, &[u8])>, LineFault>
         return Err(no_word(behind));
     }
     match text_of(word) {
-        Some(text) => Ok(Some((Token::Word(spaced, bangs.len(), text), after))),
+        Some(text) => {
+            let bangs = bangs.len();
+            let kind = TokenKind::Word { bangs, text };
+            Ok(Some((Token { spaced, kind }, after)))
+        }
         None => Err(LineFault::BadWord),
     }
 }

@@ -2,6 +2,7 @@ pub mod EntryLemmas
 pub mod TreeForms
 pub mod LineLemmas
 pub mod Leads
+pub mod FirstTokens
 pub mod ListLemmas
 pub mod DateLemmas
 pub mod TagLemmas

@@ -16,7 +16,7 @@ use crate::listing::{Spelled, list_at};
 use crate::misplaced::misplaced;
 use crate::options::begins_spaced;
 use std::alloc::Global;
-use sudo_policy::{CmndItem, Definition, Item, LineFault, Signed, Token};
+use sudo_policy::{CmndItem, Definition, Item, LineFault, Mark, Signed, Token};
 use sudo_words::{Items, Word};
 
 /// A definition at the front, and what follows it.
@@ -32,11 +32,11 @@ where
     ensures only { (d : Defined T) (rest : List Tok) → EndsBy colon rest → SpellsDef (⟦<Signed<T> as Spelled>⟧.spells) (toks tokens.now) d rest
         → MatchResult result (λ x. (x.0 ≡ d) × (toks x.1.now ≡ rest)) (λ e. e ≡ NoMemory) }
 {
-    let Some((name, next)) = head_at(b'=', tokens) else {
+    let Some((name, next)) = head_at(Mark::Equals, tokens) else {
         return Err(misplaced(tokens));
     };
     let name = word_of(alloc, name)?;
-    let (list, rest) = list_at(alloc, b',', next)?;
+    let (list, rest) = list_at(alloc, Mark::Comma, next)?;
     Ok((Definition { name, list }, rest))
 }
 
@@ -86,7 +86,7 @@ where
     if !begins_spaced(next) {
         return Err(misplaced(next));
     }
-    let (list, rest) = list_at(alloc, b':', next)?;
+    let (list, rest) = list_at(alloc, Mark::Colon, next)?;
     if !rest.is_empty() {
         return Err(misplaced(rest));
     }

@@ -1,6 +1,6 @@
 //! The fault that fits words and marks which the grammar has not.
 
-use sudo_policy::{LineFault, Token};
+use sudo_policy::{LineFault, Mark, Token, TokenKind};
 use sudo_words::{AliasForm, Form};
 
 /// Whether the word begins a line that sudoers has and the desk leaves out.
@@ -81,7 +81,13 @@ pub(crate) fn bad_option(name: &str) -> LineFault {
 /// What is wrong with tokens that the grammar has not in their place: quoted words are left out.
 pub(crate) fn misplaced(tokens: &[Token<'_>]) -> LineFault {
     match tokens {
-        [Token::Mark(_, b'"'), ..] => LineFault::LeftOut,
+        [
+            Token {
+                kind: TokenKind::Mark(Mark::Quote),
+                ..
+            },
+            ..
+        ] => LineFault::LeftOut,
         _ => LineFault::Unexpected,
     }
 }
@@ -89,7 +95,13 @@ pub(crate) fn misplaced(tokens: &[Token<'_>]) -> LineFault {
 /// What is wrong with tokens behind targets, where no `)` stands: a group behind `:` is left out.
 pub(crate) fn unclosed(tokens: &[Token<'_>]) -> LineFault {
     match tokens {
-        [Token::Mark(_, b':'), ..] => LineFault::LeftOut,
+        [
+            Token {
+                kind: TokenKind::Mark(Mark::Colon),
+                ..
+            },
+            ..
+        ] => LineFault::LeftOut,
         _ => misplaced(tokens),
     }
 }

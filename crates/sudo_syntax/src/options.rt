@@ -12,7 +12,7 @@ ghost use Rattle.sudo_policy.specs.private.Tokens.{toks};
 
 use crate::fronts::{date_at, head_at};
 use crate::misplaced::bad_option;
-use sudo_policy::{LineFault, Token};
+use sudo_policy::{LineFault, Mark, Token};
 use sudo_words::Moment;
 
 /// The first and the last moment at which a command may run.
@@ -27,8 +27,7 @@ pub(crate) fn begins_spaced(tokens: &[Token<'_>]) -> bool
     ensures { result ≡ grammar.begins_spaced (toks tokens.now) }
 {
     match tokens {
-        [Token::Word(spaced, _, _), ..] => *spaced,
-        [Token::Mark(spaced, _), ..] => *spaced,
+        [first, ..] => first.spaced,
         [] => false,
     }
 }
@@ -109,7 +108,7 @@ fn tag_at<'a, 'b>(tokens: &'b [Token<'a>]) -> Option<(bool, &'b [Token<'a>])>
     ensures found { MatchOption result (NoTag (toks tokens.now)) (λ x. (a b : Bool) × (toks tokens.now ≡ word a 0 (tag_word x.0) ∷ mark b colon ∷ toks x.1.now)) }
     ensures shorter { IfSome result (λ x. length x.1.now < length tokens.now) }
 {
-    match head_at(b':', tokens) {
+    match head_at(Mark::Colon, tokens) {
         Some((name, rest)) => match tag_of(name) {
             Some(tag) => Some((tag, rest)),
             None => None,

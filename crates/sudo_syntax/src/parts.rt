@@ -16,7 +16,7 @@ use crate::listing::{Spelled, list_at};
 use crate::misplaced::misplaced;
 use crate::options::begins_spaced;
 use std::alloc::Global;
-use sudo_policy::{Item, LineFault, Part, Signed, Token};
+use sudo_policy::{Item, LineFault, Mark, Part, Signed, Token};
 use sudo_words::{Items, Name};
 
 impl Spelled for Part {
@@ -28,11 +28,11 @@ impl Spelled for Part {
         alloc: Global,
         tokens: &'b [Token<'a>],
     ) -> Result<(Part, &'b [Token<'a>]), LineFault> {
-        let (hosts, behind) = list_at(alloc, b',', tokens)?;
-        let Some(next) = behind_mark(b'=', behind) else {
+        let (hosts, behind) = list_at(alloc, Mark::Comma, tokens)?;
+        let Some(next) = behind_mark(Mark::Equals, behind) else {
             return Err(misplaced(behind));
         };
-        let (specs, rest) = list_at(alloc, b',', next)?;
+        let (specs, rest) = list_at(alloc, Mark::Comma, next)?;
         Ok((Part { hosts, specs }, rest))
     }
 }
@@ -50,11 +50,11 @@ pub(crate) fn rights_of(alloc: Global, tokens: &[Token<'_>]) -> Result<Rights, L
     ensures only { (users : List (Sign (Said (List ℕ)))) (parts : List Parted) → SpellsRights (toks tokens.now) users parts
         → MatchResult result (λ r. (r.users ≡ users) × (r.parts ≡ parts)) (λ e. e ≡ NoMemory) }
 {
-    let (users, next) = list_at(alloc, b',', tokens)?;
+    let (users, next) = list_at(alloc, Mark::Comma, tokens)?;
     if !begins_spaced(next) {
         return Err(misplaced(next));
     }
-    let (parts, rest) = list_at(alloc, b':', next)?;
+    let (parts, rest) = list_at(alloc, Mark::Colon, next)?;
     if !rest.is_empty() {
         return Err(misplaced(rest));
     }

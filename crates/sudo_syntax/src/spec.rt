@@ -15,7 +15,7 @@ use crate::listing::{Spelled, list_at};
 use crate::misplaced::unclosed;
 use crate::options::{bounds_at, tags_at};
 use std::alloc::Global;
-use sudo_policy::{CmndItem, Item, LineFault, Signed, Spec, Token};
+use sudo_policy::{CmndItem, Item, LineFault, Mark, Signed, Spec, Token};
 use sudo_words::{Items, Name};
 
 /// Whether no word stands at the front.
@@ -35,14 +35,14 @@ fn runas_at<'a, 'b>(
     ensures only { (runas : Option (List (Sign (Said (List ℕ))))) (rest : List Tok) → NoMark opening rest → SpellsRunas (toks tokens.now) runas rest
         → MatchResult result (λ x. (x.0 ≡ runas) × (toks x.1.now ≡ rest)) (λ e. e ≡ NoMemory) }
 {
-    let Some(inner) = behind_mark(b'(', tokens) else {
+    let Some(inner) = behind_mark(Mark::Opening, tokens) else {
         return Ok((None, tokens));
     };
     if lacks_word(inner) {
         return Err(LineFault::LeftOut);
     }
-    let (runas, behind) = list_at(alloc, b',', inner)?;
-    let Some(rest) = behind_mark(b')', behind) else {
+    let (runas, behind) = list_at(alloc, Mark::Comma, inner)?;
+    let Some(rest) = behind_mark(Mark::Closing, behind) else {
         return Err(unclosed(behind));
     };
     Ok((Some(runas), rest))

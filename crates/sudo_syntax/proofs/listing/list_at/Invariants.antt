@@ -1,5 +1,5 @@
 use Rattle.std.proofs.Common.{◌<◌, length}
-use Rattle.sudo_policy.specs.private.Tokens.{toks}
+use Rattle.sudo_policy.specs.private.Tokens.{mark_byte, toks}
 use Rattle.sudo_policy.specs.Grammar.{Listed}
 use Rattle.sudo_syntax.proofs.Leads.{Leads}
 use Rattle.sudo_syntax.proofs.ListLemmas.{Behind, Left}
@@ -9,7 +9,7 @@ abbrev pub invariant-loop-others : goal.invariant-loop-others
 invariant-loop-others g l =
     let Is = g.T.Spelled.spells in
     let F = g.T.Spelled.follows in record {
-      leads : Leads (Behind l.byte Is F) (Listed l.byte Is (toks l.tokens)) (Left l.byte Is F l.items.items (toks l.rest));
+      leads : Leads (Behind (mark_byte l.mark) Is F) (Listed (mark_byte l.mark) Is (toks l.tokens)) (Left (mark_byte l.mark) Is F l.items.items (toks l.rest));
       shorter : length l.rest < length l.tokens;
     }
 
