@@ -1,5 +1,6 @@
 -- what a policy is made of, and its text
 pub mod Text
+pub mod Limits
 pub mod Printing
 pub mod Alias
 pub mod Policy

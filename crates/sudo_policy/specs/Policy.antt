@@ -13,6 +13,7 @@ use Rattle.sudo_policy.specs.declared.entry.Rule.{Rule}
 use Rattle.sudo_policy.specs.declared.entry.Entry.{Entry}
 use Rattle.sudo_policy.specs.declared.entry.Entry.TheVariants as entries
 use Rattle.sudo_policy.specs.declared.tree.Definition.{Definition}
+use Rattle.sudo_policy.specs.Limits.{most_text_bytes, most_entries, most_weight, most_depth}
 use Rattle.sudo_policy.specs.Text.{Text}
 use Rattle.sudo_policy.specs.Alias.{user_defs, runas_defs, host_defs, cmnd_defs, is_defined, item_alias, cmnd_alias, KnowsList, list_weight, alias_weight, depth_of, alias_depth}
 use Rattle.sudo_policy.specs.Printing.{canon}
@@ -49,11 +50,11 @@ IsEntry (entries.Rule rule) = IsRule rule
 
 -- ---- places: below the entries above, which are listed from the nearest to the farthest
 
--- An alias is new in its kind, what its list uses is defined above, and its depth is at most 64.
+-- An alias is new in its kind, what its list uses is defined above, and its depth is within the limit.
 pub record IsNew {X : Type 0} (alias_of : X → Option Text) (defs : List (Definition X)) (name : Text) (list : List (Signed X)) : Type 0 where
   pub new : is_defined defs name ≡ false
   pub knows : KnowsList alias_of defs list
-  pub shallow : depth_of alias_of (alias_depth alias_of defs) list ≤ 64
+  pub shallow : depth_of alias_of (alias_depth alias_of defs) list ≤ most_depth
 
 -- what a rule uses is defined above, in the kind of its place
 pub record KnowsRule (above : List Entry) (r : Rule) : Type 0 where
@@ -97,6 +98,6 @@ weight es = weight_below [] es
 pub record IsPolicy (es : List Entry) : Type 0 where
   pub each : AllByRecursion IsEntry es
   pub placed : ArePlaced [] es
-  pub count : length es ≤ 16_384
-  pub light : weight es ≤ 131_072
-  pub short : length (canon es) ≤ 16_777_216
+  pub count : length es ≤ most_entries
+  pub light : weight es ≤ most_weight
+  pub short : length (canon es) ≤ most_text_bytes

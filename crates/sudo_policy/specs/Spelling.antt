@@ -2,6 +2,7 @@
 use Rattle.std.specs.Prelude.{◌≡◌, ◌≤◌, List, [], ◌∷◌, ◌++◌, length}
 use Rattle.sudo_policy.specs.declared.entry.Entry.{Entry}
 use Rattle.sudo_policy.specs.declared.tree.Line.{Line}
+use Rattle.sudo_policy.specs.Limits.{most_text_bytes}
 use Rattle.sudo_policy.specs.Text.{Text}
 use Rattle.sudo_policy.specs.Span.{Each}
 use Rattle.sudo_policy.specs.Lex.{Tok, Lexes, is_text_byte}
@@ -27,7 +28,7 @@ SpellsLines (line ∷ lines) es =
 
 -- The text, of at most 16 MiB of the bytes that a text may have, spells the policy.
 pub record Spells (text : Text) (es : List Entry) : Type 0 where
-  pub short : length text ≤ 16_777_216
+  pub short : length text ≤ most_text_bytes
   pub bytes : Each is_text_byte text
   pub joined : List Text
   pub lines : Joined (lines_of text) joined

@@ -12,8 +12,11 @@ use std::alloc::Global;
 use std::collections::BTreeMap;
 use sudo_words::{AliasName, Form, Word};
 
-/// One more than the most that a policy weighs: a greater weight is kept as this.
-const TOO_HEAVY: usize = 131_073;
+/// The most that a policy weighs.
+pub const MOST_WEIGHT: usize = 131_072;
+
+/// One more than that: a greater weight is kept as this.
+const TOO_HEAVY: usize = MOST_WEIGHT + 1;
 
 /// The most that an alias's depth is.
 const MOST_DEPTH: usize = 64;

@@ -5,20 +5,15 @@ ghost use Rattle.sudo_policy.specs.declared.fault.LineFault.TheVariants as fault
 ghost use Rattle.sudo_policy.specs.Policy.{IsEntry, IsPolicy};
 ghost use Rattle.sudo_policy.specs.private.Scope.{Adds, IsDraft, IsWhole};
 
+use crate::aliases::MOST_WEIGHT;
 use crate::entry::Entry;
 use crate::fault::LineFault;
-use crate::lengths::line_len;
+use crate::lengths::{MOST_TEXT_BYTES, line_len};
 use crate::scope::Scope;
 use std::alloc::Global;
 
 /// The most entries that a policy has.
 const MOST_ENTRIES: usize = 16_384;
-
-/// The most that a policy weighs.
-const MOST_WEIGHT: usize = 131_072;
-
-/// The most bytes that its canonical text has: 16 MiB.
-const MOST_TEXT: usize = 16_777_216;
 
 /// Adds one more to a list.
 fn push<T: Drop>(items: &mut Vec<T>, item: T) -> Result<(), LineFault>
@@ -83,7 +78,7 @@ impl Draft {
         let len = line_len(entry);
         if place >= MOST_ENTRIES
             || more > MOST_WEIGHT - self.weight
-            || len > MOST_TEXT - self.text_len
+            || len > MOST_TEXT_BYTES - self.text_len
         {
             return Err(LineFault::TooLarge);
         }

@@ -10,8 +10,11 @@ ghost use Rattle.sudo_policy.specs.Printing.{alias_text, cmnd_item_text, date_te
 use crate::entry::{CmndItem, Entry, Item, Rule, Signed};
 use sudo_words::{AliasName, Form, Moment, Word, cmnd_len};
 
-/// One more than the most bytes that a policy's text has: a greater length is counted as this.
-const TOO_LONG: usize = 16_777_217;
+/// The most bytes that a text has, also the canonical one of a policy: 16 MiB.
+pub const MOST_TEXT_BYTES: usize = 16_777_216;
+
+/// One more than that: a greater length is counted as this.
+const TOO_LONG: usize = MOST_TEXT_BYTES + 1;
 
 /// Two lengths together.
 fn plus(first: usize, second: usize) -> usize

@@ -23,6 +23,7 @@ pub use entry::{CmndItem, Entry, Item, Rule, Signed};
 pub use extending::extend;
 pub use fault::{FaultKind, LineFault, ReadFault};
 pub use laws::{canon_is_one, canon_spells, one_policy};
+pub use lengths::MOST_TEXT_BYTES;
 pub use policy::Policy;
 pub use printing::print_policy;
 pub use token::{Mark, Token, TokenKind, cut_text, is_blank, is_text, tokens};

@@ -3,6 +3,7 @@
 use Rattle.std.specs.Prelude.{◌≡◌, ◌≤◌, true, List, [], ◌∷◌, ◌++◌, length}
 use Rattle.sudo_words.specs.Bytes.{backslash}
 use Rattle.sudo_policy.specs.declared.entry.Entry.{Entry}
+use Rattle.sudo_policy.specs.Limits.{most_text_bytes}
 use Rattle.sudo_policy.specs.Text.{Text}
 use Rattle.sudo_policy.specs.Span.{Each}
 use Rattle.sudo_policy.specs.Lex.{is_text_byte}
@@ -11,7 +12,7 @@ use Rattle.sudo_policy.specs.Spelling.{Spells}
 
 -- a text may have these bytes, and so many
 abbrev pub IsText : Text → Type 0
-IsText text = (length text ≤ 16_777_216) × Each is_text_byte text
+IsText text = (length text ≤ most_text_bytes) × Each is_text_byte text
 
 -- each spells what the other spells, where both may be texts
 abbrev pub SpellAlike : Text → Text → Type 0

@@ -8,6 +8,7 @@ ghost use Rattle.sudo_policy.specs.declared.fault.LineFault.TheVariants.{NoMemor
 ghost use Rattle.sudo_policy.specs.Spelling.{Spells, SpellsLine};
 ghost use Rattle.sudo_syntax.specs.private.Pending.{Leads, SpellsBehind};
 ghost use Rattle.sudo_policy.specs.Lex as lex;
+ghost use Rattle.sudo_policy.specs.Limits.{most_text_bytes};
 ghost use Rattle.sudo_policy.specs.Reading.{HasOtherByte, IsInLine, IsLineOf, SpellsBy};
 ghost use Rattle.sudo_policy.specs.Policy.{IsPolicy};
 ghost use Rattle.sudo_policy.specs.private.Scope.{Adds, IsDraft};
@@ -18,10 +19,9 @@ use crate::line_entries::add_line;
 use crate::pieces::{Piece, piece_of};
 use crate::tree_reading::tree_of;
 use std::alloc::{AllocError, Global};
-use sudo_policy::{Draft, FaultKind, LineFault, Policy, ReadFault, cut_text, is_text, tokens};
-
-/// The most bytes that a text has: 16 MiB.
-const MOST_BYTES: usize = 16_777_216;
+use sudo_policy::{
+    Draft, FaultKind, LineFault, MOST_TEXT_BYTES, Policy, ReadFault, cut_text, is_text, tokens,
+};
 
 /// How many newlines the bytes have.
 fn newlines(bytes: &[u8]) -> usize
@@ -44,13 +44,13 @@ fn fault_behind(front: &[u8], kind: FaultKind) -> ReadFault
 /// Tests that a text is of at most 16 MiB, and of the bytes that a text may have.
 #[tactic(auto, using(crate::proofs::Deriving::each_of))]
 fn check_bytes(text: &[u8]) -> Result<(), ReadFault>
-    ensures ok { OnOk result ((length text.now ≤ 16_777_216) × Each lex.is_text_byte text.now) }
-    ensures too_long { 16_777_216 < length text.now → IsErrAnd result (λ f. f.kind ≡ TooLong) }
+    ensures ok { OnOk result ((length text.now ≤ most_text_bytes) × Each lex.is_text_byte text.now) }
+    ensures too_long { most_text_bytes < length text.now → IsErrAnd result (λ f. f.kind ≡ TooLong) }
     ensures line { IfErr result (λ f. IsLineOf text.now f.line) }
-    ensures kind { IfErr result (λ f. ((f.kind ≡ TooLong) × (16_777_216 < length text.now)) ⊎ ((f.kind ≡ BadByte) × HasOtherByte text.now)) }
+    ensures kind { IfErr result (λ f. ((f.kind ≡ TooLong) × (most_text_bytes < length text.now)) ⊎ ((f.kind ≡ BadByte) × HasOtherByte text.now)) }
 {
-    if text.len() > MOST_BYTES {
-        let (front, _) = text.split_at(MOST_BYTES);
+    if text.len() > MOST_TEXT_BYTES {
+        let (front, _) = text.split_at(MOST_TEXT_BYTES);
         return Err(fault_behind(front, FaultKind::TooLong));
     }
     if is_text(text) {
@@ -201,8 +201,8 @@ pub fn read_policy(alloc: Global, text: &[u8]) -> Result<Policy, ReadFault>
     // What is spelled so is read, unless memory runs out: so no other fault comes where a policy is spelled.
     ensures only { (es : List Entered) → Spells text.now es → MatchResult result (λ p. p ≡ es) (λ f. f.kind ≡ NoMemory) }
     // `TooLong` comes exactly where the text is too long.
-    ensures too_long { 16_777_216 < length text.now → IsErrAnd result (λ f. f.kind ≡ TooLong) }
-    ensures too_long_only { IfErr result (λ f. f.kind ≡ TooLong → 16_777_216 < length text.now) }
+    ensures too_long { most_text_bytes < length text.now → IsErrAnd result (λ f. f.kind ≡ TooLong) }
+    ensures too_long_only { IfErr result (λ f. f.kind ≡ TooLong → most_text_bytes < length text.now) }
     ensures bad_byte { IfErr result (λ f. f.kind ≡ BadByte → HasOtherByte text.now) }
     ensures line { IfErr result (λ f. IsLineOf text.now f.line) }
 {

@@ -1,5 +1,5 @@
 -- What is kept of the aliases of a kind, and the measures of a list by it. For private clauses.
-use Rattle.std.specs.Prelude.{◌≡◌, ℕ, ◌≤◌, min, Bool, true, false, List, Option, Some, IfSome}
+use Rattle.std.specs.Prelude.{◌≡◌, ℕ, ◌+◌, ◌≤◌, min, Bool, true, false, List, Option, Some, IfSome}
 use Rattle.std.specs.List.{AllByRecursion}
 use Rattle.std.specs.Option.{is_some, option_map_or}
 use Rattle.std.specs.Map.{update}
@@ -9,12 +9,13 @@ use Rattle.sudo_policy.specs.declared.entry.Signed.{Signed}
 use Rattle.sudo_policy.specs.declared.aliases.Measure.{Measure}
 use Rattle.sudo_policy.specs.declared.aliases.Alias.{Alias}
 use Rattle.sudo_policy.specs.declared.aliases.Aliases.{Aliases}
+use Rattle.sudo_policy.specs.Limits.{most_weight, most_depth}
 use Rattle.sudo_policy.specs.Text.{Text}
 use Rattle.sudo_policy.specs.Alias.{list_weight, item_weight, depth_of, list_depth, item_depth}
 
 -- a weight, or one more than the most that a policy weighs
 abbrev pub stopped : ℕ → ℕ
-stopped n = min n 131_073
+stopped n = min n (most_weight + 1)
 
 abbrev pub alias_at : Aliases → Text → Option Alias
 alias_at m name = get_by_text m.known name
@@ -62,7 +63,7 @@ IsUnmeasured alias_of m list = KnowsAll alias_of (has m) list → ⊥
 pub record IsDefinable {X : Type 0} (alias_of : X → Option Text) (m : Aliases) (name : Text) (list : List (Signed X)) : Type 0 where
   pub new : has m name ≡ false
   pub knows : KnowsAll alias_of (has m) list
-  pub shallow : depth_of alias_of (depth_in m) list ≤ 64
+  pub shallow : depth_of alias_of (depth_in m) list ≤ most_depth
 
 -- what is kept of an alias
 pub record IsKept {X : Type 0} (alias_of : X → Option Text) (m : Aliases) (place : ℕ) (list : List (Signed X)) (a : Alias) : Type 0 where
