@@ -4,6 +4,7 @@ use Rattle.std.specs.Prelude.{codes}
 use Rattle.std.specs.List.{AllByRecursion}
 use Rattle.std.proofs.lemmas.List.Splits.{slice_split_at}
 use Rattle.std.proofs.lemmas.List.Elements.{All-from_recursion}
+use Rattle.sudo_words.specs.Bytes.{space, newline, equals, comma}
 use Rattle.sudo_words.specs.Word.{is_name, is_host_name, is_alias_name}
 use Rattle.sudo_policy.specs.declared.entry.Signed.{Signed}
 use Rattle.sudo_policy.specs.declared.entry.CmndItem.{CmndItem}
@@ -36,28 +37,28 @@ cmnds_spelled = list_spelled (λ (s : Signed CmndItem). IsCmndItem s.item) Spell
 
 -- the tokens of a definition, where those of its list are known
 alias_toks : List ℕ → List ℕ → List Tok → List Tok
-alias_toks kind name list = word false 0 kind ∷ word true 0 name ∷ mark true 61 ∷ list
+alias_toks kind name list = word false 0 kind ∷ word true 0 name ∷ mark true equals ∷ list
 
-alias_front : (kind name list : List ℕ) → kind ++ codes " " ++ name ++ codes " = " ++ list ≡ kind ++ (32 ∷ (name ++ (32 ∷ 61 ∷ 32 ∷ list)))
+alias_front : (kind name list : List ℕ) → kind ++ codes " " ++ name ++ codes " = " ++ list ≡ kind ++ (space ∷ (name ++ (space ∷ equals ∷ space ∷ list)))
 alias_front kind name list = simp append_assoc
 
-lex_alias : (kind name list : List ℕ) (ts : List Tok) → IsWord kind → is_alias_name name ≡ true → Lexes (32 ∷ (list ++ [])) ts → Lexes (alias_text kind name list) (alias_toks kind name ts)
+lex_alias : (kind name list : List ℕ) (ts : List Tok) → IsWord kind → is_alias_name name ≡ true → Lexes (space ∷ (list ++ [])) ts → Lexes (alias_text kind name list) (alias_toks kind name ts)
 unfolding alias_toks
 lex_alias kind name list ts is named h =
-    let listed = subst (λ (x : List ℕ). Lexes (32 ∷ x) ts) (append-nil list) h in
-    let equals = lex_mark true 61 (32 ∷ list) ts refl listed in
-    let names = lex_word true 0 name (32 ∷ 61 ∷ 32 ∷ list) (mark true 61 ∷ ts) (alias_word name named) (stop 32 (61 ∷ 32 ∷ list) refl refl) equals in
+    let listed = subst (λ (x : List ℕ). Lexes (space ∷ x) ts) (append-nil list) h in
+    let marked = lex_mark true equals (space ∷ list) ts refl listed in
+    let names = lex_word true 0 name (space ∷ equals ∷ space ∷ list) (mark true equals ∷ ts) (alias_word name named) (stop space (equals ∷ space ∷ list) refl refl) marked in
     subst (λ (x : List ℕ). Lexes x (alias_toks kind name ts)) (sym (alias_front kind name list))
-    (lex_word false 0 kind (32 ∷ (name ++ (32 ∷ 61 ∷ 32 ∷ list))) (word true 0 name ∷ mark true 61 ∷ ts) is (stop 32 (name ++ (32 ∷ 61 ∷ 32 ∷ list)) refl refl) names)
+    (lex_word false 0 kind (space ∷ (name ++ (space ∷ equals ∷ space ∷ list))) (word true 0 name ∷ mark true equals ∷ ts) is (stop space (name ++ (space ∷ equals ∷ space ∷ list)) refl refl) names)
 
 def_of : {X : Type 0} → List ℕ → List (Signed X) → Definition X
 def_of name list = record { name = name; list = list }
 
-alias_spelled : {X : Type 0} (kind name : List ℕ) (list : List (Signed X)) (Is : List Tok → Signed X → List Tok → Type 0) (ts : List Tok) → is_alias_name name ≡ true → Listed 44 Is ts list []
+alias_spelled : {X : Type 0} (kind name : List ℕ) (list : List (Signed X)) (Is : List Tok → Signed X → List Tok → Type 0) (ts : List Tok) → is_alias_name name ≡ true → Listed comma Is ts list []
     → SpellsAliases kind Is (alias_toks kind name ts) (def_of name list ∷ [])
 unfolding alias_toks def_of
 alias_spelled kind name list Is ts named h =
-    (false, word true 0 name ∷ mark true 61 ∷ ts, refl, refl, ([], record { name_spaced = true; spaced = true; next = ts; toks = refl; name = named; list = h }, refl))
+    (false, word true 0 name ∷ mark true equals ∷ ts, refl, refl, ([], record { name_spaced = true; spaced = true; next = ts; toks = refl; name = named; list = h }, refl))
 
 -- ---- entries
 
@@ -110,10 +111,10 @@ entry_read (entries.Rule r) h = record {
 -- ---- lines: each is its own body, and the last is empty
 
 -- a newline ends the first line
-feed_split : (line rest : List ℕ) (ts : List Tok) → Lexes line ts → lines_of ((line ++ 10 ∷ []) ++ rest) ≡ line ∷ lines_of rest
+feed_split : (line rest : List ℕ) (ts : List Tok) → Lexes line ts → lines_of ((line ++ newline ∷ []) ++ rest) ≡ line ∷ lines_of rest
 feed_split line rest ts h =
-    ap lines_of (append_assoc line (10 ∷ []) rest)
-    ∙ slice_split_at (λ (b : ℕ). eqb b 10) line 10 rest (All-from_recursion (λ (b : ℕ). eqb b 10 ≡ false) line (lexed_bytes (λ (b : ℕ). eqb b 10 ≡ false) no_feed_in_lines line ts h)) refl
+    ap lines_of (append_assoc line (newline ∷ []) rest)
+    ∙ slice_split_at (λ (b : ℕ). eqb b newline) line newline rest (All-from_recursion (λ (b : ℕ). eqb b newline ≡ false) line (lexed_bytes (λ (b : ℕ). eqb b newline ≡ false) no_feed_in_lines line ts h)) refl
 
 own_body : (line : List ℕ) (ts : List Tok) → Lexes line ts → IsBody line line
 own_body line ts h =
@@ -144,7 +145,7 @@ canon_bytes [] h = tt
 canon_bytes (e ∷ es) h =
     let is = entry_read e h.0 in
     let P : ℕ → Type 0 = λ b. is_text_byte b ≡ true in
-    all_append P (entry_text e ++ 10 ∷ []) (canon es) (all_append P (entry_text e) (10 ∷ []) (lexed_bytes P text_in_lines (entry_text e) is.toks is.lexes) (refl, tt)) (canon_bytes es h.1)
+    all_append P (entry_text e ++ newline ∷ []) (canon es) (all_append P (entry_text e) (newline ∷ []) (lexed_bytes P text_in_lines (entry_text e) is.toks is.lexes) (refl, tt)) (canon_bytes es h.1)
 
 pub canon_spells : (es : List Entry) → IsPolicy es → Spells (canon es) es
 canon_spells es p = record {

@@ -4,6 +4,7 @@ use Rattle.std.specs.Prelude.{codes}
 use Rattle.std.specs.List.{AllByRecursion, list_all}
 use Rattle.std.proofs.lemmas.Bool.{and_parts, false≢true}
 use Rattle.std.proofs.lemmas.Bool.Decides.{nat_tests}
+use Rattle.sudo_words.specs.Bytes.{comma, colon, quote}
 use Rattle.sudo_words.specs.Word.{is_lower, is_upper, is_name, is_name_byte, is_host_name, is_host_byte, is_alias_name, is_alias_shape, is_alias_byte, is_reserved, are_components, is_absolute, is_arg}
 use Rattle.sudo_words.specs.Command.{IsHead, IsArgRule, arg_text, head_text, rule_of}
 use Rattle.sudo_words.specs.declared.cmnd.Cmnd.{Cmnd}
@@ -106,7 +107,7 @@ spelled_item_one form f F ts s t r q g h n k =
 abbrev pub EndsCmnd : List Tok → Type 0
 EndsCmnd [] = Unit {0}
 EndsCmnd (word a n w ∷ ts) = ⊥
-EndsCmnd (mark a m ∷ ts) = (m ≡ 44) ⊎ (m ≡ 58)
+EndsCmnd (mark a m ∷ ts) = (m ≡ comma) ⊎ (m ≡ colon)
 
 path_no_alias : (w : List ℕ) → is_absolute w ≡ true → is_alias_shape w ≡ true → ⊥
 path_no_alias [] h k = absurd cc
@@ -127,11 +128,11 @@ alias_no_head w (commands.Path file rule) h k e =
     path_no_alias file (and_parts (is_absolute file) (leb (length file) 4096) k.0).0 (alias_shape file (ap is_alias_name (sym e) ∙ h))
 alias_no_head w (commands.Dir dir) h k e = dir_no_alias dir (dir_parts dir k.0).1 (alias_shape dir (ap is_alias_name (sym e) ∙ h))
 
-quote_no_end : (ts next : List Tok) → EndsCmnd ts → ts ≡ mark true 34 ∷ next → ⊥
+quote_no_end : (ts next : List Tok) → EndsCmnd ts → ts ≡ mark true quote ∷ next → ⊥
 quote_no_end [] next h e = absurd cc
 quote_no_end (word a n w ∷ ts) next h e = absurd h
-quote_no_end (mark a m ∷ ts) next (inl h) e = let same : m ≡ 34 = cc in absurd (omega arith)
-quote_no_end (mark a m ∷ ts) next (inr h) e = let same : m ≡ 34 = cc in absurd (omega arith)
+quote_no_end (mark a m ∷ ts) next (inl h) e = let same : m ≡ quote = cc in absurd (omega arith)
+quote_no_end (mark a m ∷ ts) next (inr h) e = let same : m ≡ quote = cc in absurd (omega arith)
 
 word_no_end : (ts next : List Tok) (a : Bool) (n : ℕ) (w : List ℕ) → EndsCmnd ts → ts ≡ word a n w ∷ next → ⊥
 word_no_end [] next a n w h e = absurd cc
@@ -154,19 +155,19 @@ no_end_args : (args : List (List ℕ)) (r s : List Tok) → 1 ≤ length args �
 no_end_args [] r s h n e = omega (arith, h)
 no_end_args (a ∷ args) r s h n e = word_no_end r (rule_toks (Exactly args) ++ s) true 0 (arg_text a) n e
 
-no_quote_args : (args : List (List ℕ)) (r s : List Tok) → 1 ≤ length args → mark true 34 ∷ r ≡ rule_toks (Exactly args) ++ s → ⊥
+no_quote_args : (args : List (List ℕ)) (r s : List Tok) → 1 ≤ length args → mark true quote ∷ r ≡ rule_toks (Exactly args) ++ s → ⊥
 no_quote_args [] r s h e = omega (arith, h)
 no_quote_args (a ∷ args) r s h e = absurd cc
 
 rule_toks_one : (p q : ArgRule) → IsArgRule p → IsArgRule q → (r s : List Tok) → EndsCmnd r → EndsCmnd s → rule_toks p ++ r ≡ rule_toks q ++ s → (p ≡ q) × (r ≡ s)
 rule_toks_one Any Any x y r s n k e = (refl, e)
-rule_toks_one Any Empty x y r s n k e = absurd (quote_no_end r (mark false 34 ∷ s) n e)
+rule_toks_one Any Empty x y r s n k e = absurd (quote_no_end r (mark false quote ∷ s) n e)
 rule_toks_one Any (Exactly args) x y r s n k e = absurd (no_end_args args r s y.1 n e)
-rule_toks_one Empty Any x y r s n k e = absurd (quote_no_end s (mark false 34 ∷ r) k (sym e))
+rule_toks_one Empty Any x y r s n k e = absurd (quote_no_end s (mark false quote ∷ r) k (sym e))
 rule_toks_one Empty Empty x y r s n k e = (refl, cc)
-rule_toks_one Empty (Exactly args) x y r s n k e = absurd (no_quote_args args (mark false 34 ∷ r) s y.1 e)
+rule_toks_one Empty (Exactly args) x y r s n k e = absurd (no_quote_args args (mark false quote ∷ r) s y.1 e)
 rule_toks_one (Exactly args) Any x y r s n k e = absurd (no_end_args args s r x.1 k (sym e))
-rule_toks_one (Exactly args) Empty x y r s n k e = absurd (no_quote_args args (mark false 34 ∷ s) r x.1 (sym e))
+rule_toks_one (Exactly args) Empty x y r s n k e = absurd (no_quote_args args (mark false quote ∷ s) r x.1 (sym e))
 rule_toks_one (Exactly xs) (Exactly ys) x y r s n k e =
     let both = arg_toks_one xs ys x.0 y.0 r s n k e in
     (ap (λ (args : List (List ℕ)). Exactly args) both.0, both.1)

@@ -5,6 +5,7 @@ use Rattle.std.specs.Result.{result_ok}
 use Rattle.std.proofs.lemmas.Bool.{false≢true, eqb-true}
 use Rattle.std.proofs.lemmas.Bool.Decides.{nat_tests}
 use Rattle.std.proofs.lemmas.List.{append-nil, length-append}
+use Rattle.sudo_words.specs.Bytes.{bang, backslash}
 use Rattle.sudo_policy.specs.Span.{Each, Stops, IsCut}
 use Rattle.sudo_policy.specs.Lex.{is_blank, is_mark, is_word_byte, is_word_text, goes_on, bangs, is_some_blank, is_spaced, Tok, word, mark, text_of, IsTok, Lexes}
 use Rattle.sudo_policy.specs.private.Tokens.{IsFirst, IsLast, NoLexing}
@@ -20,19 +21,19 @@ mark_no_blank m h = grind (arith, nat_tests)
 word_no_blank : (b : ℕ) → is_word_byte b ≡ true → is_blank b ≡ false
 word_no_blank b h = grind (arith, nat_tests)
 
-backslash_no_blank : (b : ℕ) → eqb b 92 ≡ true → is_blank b ≡ false
+backslash_no_blank : (b : ℕ) → eqb b backslash ≡ true → is_blank b ≡ false
 backslash_no_blank b h = grind (arith, nat_tests)
 
 word_no_mark : (b : ℕ) → is_word_byte b ≡ true → is_mark b ≡ false
 word_no_mark b h = grind (arith, nat_tests)
 
-backslash_no_mark : (b : ℕ) → eqb b 92 ≡ true → is_mark b ≡ false
+backslash_no_mark : (b : ℕ) → eqb b backslash ≡ true → is_mark b ≡ false
 backslash_no_mark b h = grind (arith, nat_tests)
 
 word_no_bang : (b : ℕ) → is_word_byte b ≡ true → is_bang b ≡ false
 word_no_bang b h = grind (arith, nat_tests)
 
-backslash_no_bang : (b : ℕ) → eqb b 92 ≡ true → is_bang b ≡ false
+backslash_no_bang : (b : ℕ) → eqb b backslash ≡ true → is_bang b ≡ false
 backslash_no_bang b h = grind (arith, nat_tests)
 
 -- the first byte of a word's text
@@ -57,7 +58,7 @@ length_bangs (suc n) = ap suc (length_bangs n)
 
 only_bangs : (bs : List ℕ) → Each is_bang bs → bs ≡ bangs (length bs)
 only_bangs [] h = refl
-only_bangs (b ∷ bs) h = let first : b ≡ 33 = eqb-true b 33 h.0 in rw first (ap (λ (t : List ℕ). 33 ∷ t) (only_bangs bs h.1))
+only_bangs (b ∷ bs) h = let first : b ≡ bang = eqb-true b bang h.0 in rw first (ap (λ (t : List ℕ). bang ∷ t) (only_bangs bs h.1))
 
 stops_bangs : (w rest : List ℕ) → 0 < length w → is_word_text w ≡ true → Stops is_bang (w ++ rest)
 stops_bangs [] rest some h = absurd (omega arith)

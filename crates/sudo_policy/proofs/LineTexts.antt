@@ -6,6 +6,7 @@ use Rattle.std.proofs.lemmas.Bool.Decides.{Decides-eqb}
 use Rattle.std.proofs.lemmas.Slice.Eq.{ends_is}
 use Rattle.std.proofs.lemmas.List.{append-nil, append_cancel_right, length-append}
 use Rattle.std.proofs.Math.Seq.{get_or-append_seam, take-suc, take-length}
+use Rattle.sudo_words.specs.Bytes.{backslash}
 use Rattle.sudo_policy.specs.Span.{Each, IsCut}
 use Rattle.sudo_policy.specs.Lines.{is_no_hash, ends_in_backslash, last_passes, may_go_on, is_before_comment, is_comment, IsBody, IsContinued, Joined}
 use Rattle.sudo_policy.proofs.Spans.{one_cut}
@@ -49,8 +50,8 @@ pub one_front : (xs ys : List ℕ) (x : ℕ) → xs ++ x ∷ [] ≡ ys ++ x ∷ 
 one_front xs ys x e = append_cancel_right xs ys (x ∷ []) e
 
 -- what is taken off from the end, where it is a backslash
-pub backslash_off : (line : List ℕ) (r : Option (Bor (List ℕ))) → MatchOption r ((front : List ℕ) → line ≢ front ++ 92 ∷ []) (λ x. line ≡ x.now ++ 92 ∷ []) → MatchOption r (ends_in_backslash line ≡ false) (λ front. line ≡ front.now ++ 92 ∷ [])
-backslash_off line None h = backslash_last line ∙ false_from_ne_true (last_passes is_backslash line) (λ e. let t = last_split is_backslash line e in h t.0 (t.2 ∙ ap (λ (x : ℕ). t.0 ++ x ∷ []) (eqb-true t.1 92 t.3)))
+pub backslash_off : (line : List ℕ) (r : Option (Bor (List ℕ))) → MatchOption r ((front : List ℕ) → line ≢ front ++ backslash ∷ []) (λ x. line ≡ x.now ++ backslash ∷ []) → MatchOption r (ends_in_backslash line ≡ false) (λ front. line ≡ front.now ++ backslash ∷ [])
+backslash_off line None h = backslash_last line ∙ false_from_ne_true (last_passes is_backslash line) (λ e. let t = last_split is_backslash line e in h t.0 (t.2 ∙ ap (λ (x : ℕ). t.0 ++ x ∷ []) (eqb-true t.1 backslash t.3)))
 backslash_off line (Some x) h = h
 
 -- ---- a line without its comment
@@ -110,25 +111,25 @@ body_one line a b is h =
 -- ---- a line that goes on
 
 pub front_one : (line a b : List ℕ) → IsContinued line a → IsContinued line b → a ≡ b
-front_one line a b h k = one_front a b 92 (sym h.whole ∙ k.whole)
+front_one line a b h k = one_front a b backslash (sym h.whole ∙ k.whole)
 
 -- it has no comment
 pub no_hash_in : (line front : List ℕ) → IsContinued line front → Each is_no_hash line
-no_hash_in line front h = subst (Each is_no_hash) (sym h.whole) (each_append is_no_hash front (92 ∷ []) h.each (refl, tt))
+no_hash_in line front h = subst (Each is_no_hash) (sym h.whole) (each_append is_no_hash front (backslash ∷ []) h.each (refl, tt))
 
 each_front : (p : ℕ → Bool) (xs ys : List ℕ) → Each p (xs ++ ys) → Each p xs
 each_front p [] ys h = tt
 each_front p (x ∷ xs) ys h = (h.0, each_front p xs ys h.1)
 
 -- and what stands before its last byte has none
-pub front_is : (line front : List ℕ) → Each is_no_hash line → line ≡ front ++ 92 ∷ [] → Each is_no_hash front
-front_is line front each e = each_front is_no_hash front (92 ∷ []) (subst (Each is_no_hash) e each)
+pub front_is : (line front : List ℕ) → Each is_no_hash line → line ≡ front ++ backslash ∷ [] → Each is_no_hash front
+front_is line front each e = each_front is_no_hash front (backslash ∷ []) (subst (Each is_no_hash) e each)
 
 -- a line that ends in a backslash has no body
-pub backslash_no_body : (line front : List ℕ) → Each is_no_hash line → line ≡ front ++ 92 ∷ [] → (body : List ℕ) → IsBody line body → ⊥
+pub backslash_no_body : (line front : List ℕ) → Each is_no_hash line → line ≡ front ++ backslash ∷ [] → (body : List ℕ) → IsBody line body → ⊥
 backslash_no_body line front each e body h =
     let note = (body_cut line line [] (no_hash_cut line each) body h).1 in
-    false≢true (sym note ∙ ap (last_passes is_backslash) e ∙ last_passes_last is_backslash front 92)
+    false≢true (sym note ∙ ap (last_passes is_backslash) e ∙ last_passes_last is_backslash front backslash)
 
 pub body_or_front : (line body front : List ℕ) → IsBody line body → IsContinued line front → ⊥
 body_or_front line body front h k = backslash_no_body line front (no_hash_in line front k) k.whole body h
@@ -144,9 +145,9 @@ pub hash_bad : (line body rest : List ℕ) → IsCut is_no_hash line body rest �
 hash_bad line body rest c x note e bad other h = let t = subst (IsNote body) e (body_cut line body rest c other h).1 in bad t.0 t.1
 
 -- a line that ends in a backslash, behind a byte that it may not go on behind
-pub bad_front : (line front : List ℕ) → line ≡ front ++ 92 ∷ [] → last_passes may_go_on front ≡ false → (other : List ℕ) → IsContinued line other → ⊥
+pub bad_front : (line front : List ℕ) → line ≡ front ++ backslash ∷ [] → last_passes may_go_on front ≡ false → (other : List ℕ) → IsContinued line other → ⊥
 bad_front line front e bad other k =
-    let same = one_front front other 92 (sym e ∙ k.whole) in
+    let same = one_front front other backslash (sym e ∙ k.whole) in
     false≢true (sym bad ∙ ap (last_passes may_go_on) same ∙ k.behind)
 
 -- ---- joined lines

@@ -4,6 +4,7 @@ use Rattle.std.specs.Prelude.{codes}
 use Rattle.std.specs.Str.{bytes_eq}
 use Rattle.std.proofs.lemmas.Bool.{false≢true}
 use Rattle.std.proofs.lemmas.Slice.Eq.{bytes_eq-Decides}
+use Rattle.sudo_words.specs.Bytes.{equals, comma, colon}
 use Rattle.sudo_words.specs.Word.{is_name, is_host_name, is_alias_name}
 use Rattle.sudo_policy.specs.declared.entry.Signed.{Signed}
 use Rattle.sudo_policy.specs.declared.entry.Item.{Item}
@@ -34,9 +35,9 @@ use Rattle.sudo_policy.proofs.SpecTexts.{NotMark, BeginsWord, word_no_mark, item
 abbrev EndsPart : List Tok → Type 0
 EndsPart [] = Unit {0}
 EndsPart (word a n w ∷ ts) = ⊥
-EndsPart (mark a m ∷ ts) = m ≡ 58
+EndsPart (mark a m ∷ ts) = m ≡ colon
 
-part_no_comma : (a : Bool) (next : List Tok) → EndsPart (mark a 44 ∷ next) → ⊥
+part_no_comma : (a : Bool) (next : List Tok) → EndsPart (mark a comma ∷ next) → ⊥
 part_no_comma a next h = absurd (omega arith)
 
 part_ends_cmnd : (ts : List Tok) → EndsPart ts → EndsCmnd ts
@@ -47,8 +48,8 @@ part_ends_cmnd (mark a m ∷ ts) h = inr h
 not_own_mark : (m : ℕ) (a : Bool) (next : List Tok) → NotMark m (mark a m ∷ next) → ⊥
 not_own_mark m a next h = h refl
 
-specs_one : IsOne (Listed 44 SpellsSpec) EndsPart
-specs_one = listed_one 44 SpellsSpec EndsCmnd EndsPart (λ a next. inl refl) part_ends_cmnd part_no_comma spec_one
+specs_one : IsOne (Listed comma SpellsSpec) EndsPart
+specs_one = listed_one comma SpellsSpec EndsCmnd EndsPart (λ a next. inl refl) part_ends_cmnd part_no_comma spec_one
 
 part_of : List (Signed (Item (List ℕ))) → List Spec → Part
 part_of hosts specs = record { hosts = hosts; specs = specs }
@@ -56,61 +57,61 @@ part_of hosts specs = record { hosts = hosts; specs = specs }
 part_one : IsOne SpellsPart EndsPart
 unfolding part_of
 part_one ts p q r s g h n k =
-    let hosts = items_one is_host_name host_form (NotMark 44) (not_own_mark 44) ts p.hosts q.hosts (mark g.spaced 61 ∷ g.next) (mark h.spaced 61 ∷ h.next) g.hosts h.hosts (λ e. omega arith) (λ e. omega arith) in
+    let hosts = items_one is_host_name host_form (NotMark comma) (not_own_mark comma) ts p.hosts q.hosts (mark g.spaced equals ∷ g.next) (mark h.spaced equals ∷ h.next) g.hosts h.hosts (λ e. omega arith) (λ e. omega arith) in
     let behind = hosts.1 in
     let next : g.next ≡ h.next = cc in
-    let specs = specs_one h.next p.specs q.specs r s (subst (λ (x : List Tok). Listed 44 SpellsSpec x p.specs r) next g.specs) h.specs n k in
+    let specs = specs_one h.next p.specs q.specs r s (subst (λ (x : List Tok). Listed comma SpellsSpec x p.specs r) next g.specs) h.specs n k in
     let same : part_of p.hosts p.specs ≡ part_of q.hosts q.specs = ap (λ x. part_of x p.specs) hosts.0 ∙ ap (λ x. part_of q.hosts x) specs.0 in
     (same, specs.1)
 
 def_of : {X : Type 0} → List ℕ → List (Signed X) → Definition X
 def_of name list = record { name = name; list = list }
 
-def_one : {X : Type 0} (Is : List Tok → Signed X → List Tok → Type 0) → IsOne (Listed 44 Is) EndsPart → IsOne (SpellsDef Is) EndsPart
+def_one : {X : Type 0} (Is : List Tok → Signed X → List Tok → Type 0) → IsOne (Listed comma Is) EndsPart → IsOne (SpellsDef Is) EndsPart
 unfolding def_of
 def_one {X} Is one ts d e r s g h n k =
     let both = sym g.toks ∙ h.toks in
     let name : d.name ≡ e.name = cc in
     let next : g.next ≡ h.next = cc in
-    let list = one h.next d.list e.list r s (subst (λ (x : List Tok). Listed 44 Is x d.list r) next g.list) h.list n k in
+    let list = one h.next d.list e.list r s (subst (λ (x : List Tok). Listed comma Is x d.list r) next g.list) h.list n k in
     let same : def_of d.name d.list ≡ def_of e.name e.list = ap (λ (x : List ℕ). def_of x d.list) name ∙ ap (λ (x : List (Signed X)). def_of e.name x) list.0 in
     (same, list.1)
 
 -- a list with `:` between, to the end of the line
-whole_one : {X : Type 0} (Is : List Tok → X → List Tok → Type 0) → IsOne Is EndsPart → (ts : List Tok) (xs ys : List X) → Listed 58 Is ts xs [] → Listed 58 Is ts ys [] → xs ≡ ys
+whole_one : {X : Type 0} (Is : List Tok → X → List Tok → Type 0) → IsOne Is EndsPart → (ts : List Tok) (xs ys : List X) → Listed colon Is ts xs [] → Listed colon Is ts ys [] → xs ≡ ys
 whole_one Is one ts xs ys g h =
-    (listed_one 58 Is EndsPart (λ (r : List Tok). r ≡ []) (λ a next. refl) (λ r e. subst EndsPart (sym e) tt) (λ a next e. absurd cc) one ts xs ys [] [] g h refl refl).0
+    (listed_one colon Is EndsPart (λ (r : List Tok). r ≡ []) (λ a next. refl) (λ r e. subst EndsPart (sym e) tt) (λ a next e. absurd cc) one ts xs ys [] [] g h refl refl).0
 
 -- ---- lines
 
-aliases_one : {X : Type 0} (kind : List ℕ) (Is : List Tok → Signed X → List Tok → Type 0) → IsOne (Listed 44 Is) EndsPart → (ts : List Tok) (ds es : List (Definition X))
+aliases_one : {X : Type 0} (kind : List ℕ) (Is : List Tok → Signed X → List Tok → Type 0) → IsOne (Listed comma Is) EndsPart → (ts : List Tok) (ds es : List (Definition X))
     → SpellsAliases kind Is ts ds → SpellsAliases kind Is ts es → ds ≡ es
 aliases_one {X} kind Is one ts ds es g h =
     let both = sym g.2 ∙ h.2 in
     let next : g.1 ≡ h.1 = cc in
-    whole_one (SpellsDef Is) (def_one Is one) h.1 ds es (subst (λ (x : List Tok). Listed 58 (SpellsDef Is) x ds []) next g.4) h.4
+    whole_one (SpellsDef Is) (def_one Is one) h.1 ds es (subst (λ (x : List Tok). Listed colon (SpellsDef Is) x ds []) next g.4) h.4
 
-users_items_one : IsOne (Listed 44 (SpellsItem is_name)) EndsPart
+users_items_one : IsOne (Listed comma (SpellsItem is_name)) EndsPart
 users_items_one = items_one is_name user_form EndsPart part_no_comma
 
-hosts_items_one : IsOne (Listed 44 (SpellsItem is_host_name)) EndsPart
+hosts_items_one : IsOne (Listed comma (SpellsItem is_host_name)) EndsPart
 hosts_items_one = items_one is_host_name host_form EndsPart part_no_comma
 
-cmnds_items_one : IsOne (Listed 44 SpellsCmnd) EndsPart
-cmnds_items_one = listed_one 44 SpellsCmnd EndsCmnd EndsPart (λ a next. inl refl) part_ends_cmnd part_no_comma spelled_cmnd_one
+cmnds_items_one : IsOne (Listed comma SpellsCmnd) EndsPart
+cmnds_items_one = listed_one comma SpellsCmnd EndsCmnd EndsPart (λ a next. inl refl) part_ends_cmnd part_no_comma spelled_cmnd_one
 
-items_word : (form : List ℕ → Bool) (ts : List Tok) (xs : List (Signed (Item (List ℕ)))) (r : List Tok) → Listed 44 (SpellsItem form) ts xs r → BeginsWord ts
+items_word : (form : List ℕ → Bool) (ts : List Tok) (xs : List (Signed (Item (List ℕ)))) (r : List Tok) → Listed comma (SpellsItem form) ts xs r → BeginsWord ts
 items_word form ts [] r g = absurd g
 items_word form ts (x ∷ xs) r g = subst BeginsWord (sym (g.1).toks) tt
 
-parts_word : (ts : List Tok) (parts : List Part) (r : List Tok) → Listed 58 SpellsPart ts parts r → BeginsWord ts
+parts_word : (ts : List Tok) (parts : List Part) (r : List Tok) → Listed colon SpellsPart ts parts r → BeginsWord ts
 parts_word ts [] r g = absurd g
-parts_word ts (p ∷ parts) r g = items_word is_host_name ts p.hosts (mark (g.1).spaced 61 ∷ (g.1).next) (g.1).hosts
+parts_word ts (p ∷ parts) r g = items_word is_host_name ts p.hosts (mark (g.1).spaced equals ∷ (g.1).next) (g.1).hosts
 
 rights_one : (ts : List Tok) (us vs : List (Signed (Item (List ℕ)))) (ps qs : List Part) → SpellsRights ts us ps → SpellsRights ts vs qs → lines.Rights us ps ≡ lines.Rights vs qs
 rights_one ts us vs ps qs g h =
-    let users = items_one is_name user_form (NotMark 44) (not_own_mark 44) ts us vs g.0 h.0 g.1 h.1 (word_no_mark 44 g.0 (parts_word g.0 ps [] g.3)) (word_no_mark 44 h.0 (parts_word h.0 qs [] h.3)) in
-    let parts = whole_one SpellsPart part_one h.0 ps qs (subst (λ (x : List Tok). Listed 58 SpellsPart x ps []) users.1 g.3) h.3 in
+    let users = items_one is_name user_form (NotMark comma) (not_own_mark comma) ts us vs g.0 h.0 g.1 h.1 (word_no_mark comma g.0 (parts_word g.0 ps [] g.3)) (word_no_mark comma h.0 (parts_word h.0 qs [] h.3)) in
+    let parts = whole_one SpellsPart part_one h.0 ps qs (subst (λ (x : List Tok). Listed colon SpellsPart x ps []) users.1 g.3) h.3 in
     ap (λ (x : List (Signed (Item (List ℕ)))). lines.Rights x ps) users.0 ∙ ap (λ (x : List Part). lines.Rights vs x) parts
 
 -- ---- the word that a line begins with tells its kind

@@ -3,6 +3,7 @@ use Rattle.std.proofs.Common.{◌≡◌, ℕ, zero, suc, ◌-◌, Bool, true, fa
 use Rattle.std.specs.List.{AllByRecursion}
 use Rattle.std.proofs.lemmas.Bool.{and_parts, cases_Bool, eqb-true}
 use Rattle.std.proofs.lemmas.Bool.Decides.{nat_tests}
+use Rattle.sudo_words.specs.Bytes as named
 use Rattle.sudo_words.specs.Command.{is_escaped}
 use Rattle.sudo_policy.specs.Span.{Each}
 use Rattle.sudo_policy.specs.Lex.{is_text_byte, is_blank, is_mark, is_word_byte, is_word_text, bangs, Tok, word, mark, Lexes}
@@ -17,8 +18,8 @@ pub record HoldsInLines (P : ℕ → Type 0) : Type 1 where
   pub marks : (b : ℕ) → is_mark b ≡ true → P b
   pub words : (b : ℕ) → is_word_byte b ≡ true → P b
   pub escaped : (b : ℕ) → is_escaped b ≡ true → P b
-  pub bang : P 33
-  pub backslash : P 92
+  pub bang : P named.bang
+  pub backslash : P named.backslash
 
 pub all_append : (P : ℕ → Type 0) (a b : List ℕ) → AllByRecursion P a → AllByRecursion P b → AllByRecursion P (a ++ b)
 all_append P [] b h k = k
@@ -32,7 +33,7 @@ pub each_of : (p : ℕ → Bool) (w : List ℕ) → AllByRecursion (λ b. p b �
 each_of p [] h = tt
 each_of p (b ∷ bs) h = (h.0, each_of p bs h.1)
 
-bangs_all : (P : ℕ → Type 0) → P 33 → (n : ℕ) → AllByRecursion P (bangs n)
+bangs_all : (P : ℕ → Type 0) → P named.bang → (n : ℕ) → AllByRecursion P (bangs n)
 bangs_all P h zero = tt
 bangs_all P h (suc n) = (h, bangs_all P h n)
 
@@ -40,10 +41,10 @@ word_all : (P : ℕ → Type 0) → HoldsInLines P → (w : List ℕ) → is_wor
 word_all P in_line [] h = tt
 word_all P in_line (b ∷ []) h = (in_line.words b h, tt)
 word_all P in_line (b ∷ c ∷ rest) h =
-    elim (cases_Bool (eqb b 92)) [
+    elim (cases_Bool (eqb b named.backslash)) [
       | inl e ↦
           let both = and_parts (is_escaped c) (is_word_text rest) (sym (ap (λ (v : Bool). cond v (is_escaped c && is_word_text rest) (is_word_byte b && is_word_text (c ∷ rest))) e) ∙ h) in
-          (subst P (sym (eqb-true b 92 e)) in_line.backslash, (in_line.escaped c both.0, word_all P in_line rest both.1))
+          (subst P (sym (eqb-true b named.backslash e)) in_line.backslash, (in_line.escaped c both.0, word_all P in_line rest both.1))
       | inr e ↦
           let both = and_parts (is_word_byte b) (is_word_text (c ∷ rest)) (sym (ap (λ (v : Bool). cond v (is_escaped c && is_word_text rest) (is_word_byte b && is_word_text (c ∷ rest))) e) ∙ h) in
           (in_line.words b both.0, word_all P in_line (c ∷ rest) both.1)
@@ -75,19 +76,19 @@ escaped_text b h = grind (arith, nat_tests)
 pub text_in_lines : HoldsInLines (λ b. is_text_byte b ≡ true)
 text_in_lines = record { blank = blank_text; marks = mark_text; words = word_text; escaped = escaped_text; bang = refl; backslash = refl }
 
-blank_feed : (b : ℕ) → is_blank b ≡ true → eqb b 10 ≡ false
+blank_feed : (b : ℕ) → is_blank b ≡ true → eqb b named.newline ≡ false
 blank_feed b h = grind (arith, nat_tests)
 
-mark_feed : (b : ℕ) → is_mark b ≡ true → eqb b 10 ≡ false
+mark_feed : (b : ℕ) → is_mark b ≡ true → eqb b named.newline ≡ false
 mark_feed b h = grind (arith, nat_tests)
 
-word_feed : (b : ℕ) → is_word_byte b ≡ true → eqb b 10 ≡ false
+word_feed : (b : ℕ) → is_word_byte b ≡ true → eqb b named.newline ≡ false
 word_feed b h = grind (arith, nat_tests)
 
-escaped_feed : (b : ℕ) → is_escaped b ≡ true → eqb b 10 ≡ false
+escaped_feed : (b : ℕ) → is_escaped b ≡ true → eqb b named.newline ≡ false
 escaped_feed b h = grind (arith, nat_tests)
 
-pub no_feed_in_lines : HoldsInLines (λ b. eqb b 10 ≡ false)
+pub no_feed_in_lines : HoldsInLines (λ b. eqb b named.newline ≡ false)
 no_feed_in_lines = record { blank = blank_feed; marks = mark_feed; words = word_feed; escaped = escaped_feed; bang = refl; backslash = refl }
 
 blank_hash : (b : ℕ) → is_blank b ≡ true → is_no_hash b ≡ true
@@ -141,13 +142,13 @@ blanks_end (b ∷ c ∷ w) h = ends_later is_backslash b c w ∙ blanks_end (c �
 
 bangs_end : (n : ℕ) → last_passes is_backslash (bangs n) ≡ false
 bangs_end zero = refl
-bangs_end (suc n) = ends_append is_backslash (33 ∷ []) (bangs n) refl (bangs_end n)
+bangs_end (suc n) = ends_append is_backslash (named.bang ∷ []) (bangs n) refl (bangs_end n)
 
 word_end : (w : List ℕ) → is_word_text w ≡ true → last_passes is_backslash w ≡ false
 word_end [] h = refl
 word_end (b ∷ []) h = word_no_backslash b h
 word_end (b ∷ c ∷ rest) h =
-    elim (cases_Bool (eqb b 92)) [
+    elim (cases_Bool (eqb b named.backslash)) [
       | inl e ↦
           let both = and_parts (is_escaped c) (is_word_text rest) (sym (ap (λ (v : Bool). cond v (is_escaped c && is_word_text rest) (is_word_byte b && is_word_text (c ∷ rest))) e) ∙ h) in
           ends_later is_backslash b c rest ∙ ends_append is_backslash (c ∷ []) rest (escaped_no_backslash c both.0) (word_end rest both.1)

@@ -1,6 +1,7 @@
 -- What is printed is read as its tokens, which spell it: items, commands, and lists of them.
 use Rattle.std.proofs.Common.{◌≡◌, ℕ, ◌≤◌, Bool, true, false, cond, eqb, ◌&&◌, ◌||◌, List, [], ◌∷◌, ◌++◌, length, refl, sym, ap, subst, ◌∙◌, append_assoc, append-nil, arith}
 use Rattle.std.specs.List.{AllByRecursion, flat_map}
+use Rattle.sudo_words.specs.Bytes.{space, comma, quote, bang, backslash}
 use Rattle.sudo_words.specs.Word.{is_arg}
 use Rattle.sudo_words.specs.Command.{IsArgRule, is_escaped, arg_text, spaced_arg, rule_text, rule_of}
 use Rattle.sudo_words.specs.declared.cmnd.ArgRule.{ArgRule}
@@ -19,20 +20,20 @@ use Rattle.sudo_policy.proofs.PrintedWords.{IsWord, item_word, cmnd_head_word, a
 
 -- one blank, or none
 abbrev pub gap : Bool → List ℕ
-gap true = 32 ∷ []
+gap true = space ∷ []
 gap false = []
 
 -- a word before such a byte ends there
-pub stop : (b : ℕ) (rest : List ℕ) → is_word_byte b ≡ false → eqb b 92 ≡ false → goes_on (b ∷ rest) ≡ false
+pub stop : (b : ℕ) (rest : List ℕ) → is_word_byte b ≡ false → eqb b backslash ≡ false → goes_on (b ∷ rest) ≡ false
 stop b [] h k = h
-stop b (c ∷ rest) h k = ap (λ (v : Bool). v || (eqb b 92 && is_escaped c)) h ∙ ap (λ (v : Bool). v && is_escaped c) k
+stop b (c ∷ rest) h k = ap (λ (v : Bool). v || (eqb b backslash && is_escaped c)) h ∙ ap (λ (v : Bool). v && is_escaped c) k
 
 pub lex_word : (a : Bool) (n : ℕ) (w rest : List ℕ) (ts : List Tok) → IsWord w → goes_on rest ≡ false → Lexes rest ts → Lexes (gap a ++ ((bangs n ++ w) ++ rest)) (word a n w ∷ ts)
-lex_word true n w rest ts is stops h = (32 ∷ [], rest, (refl, tt), refl, (is.some, is.text, stops), refl, h)
+lex_word true n w rest ts is stops h = (space ∷ [], rest, (refl, tt), refl, (is.some, is.text, stops), refl, h)
 lex_word false n w rest ts is stops h = ([], rest, tt, refl, (is.some, is.text, stops), refl, h)
 
 pub lex_mark : (a : Bool) (m : ℕ) (rest : List ℕ) (ts : List Tok) → is_mark m ≡ true → Lexes rest ts → Lexes (gap a ++ (m ∷ rest)) (mark a m ∷ ts)
-lex_mark true m rest ts is h = (32 ∷ [], rest, (refl, tt), refl, is, refl, h)
+lex_mark true m rest ts is h = (space ∷ [], rest, (refl, tt), refl, is, refl, h)
 lex_mark false m rest ts is h = ([], rest, tt, refl, is, refl, h)
 
 -- the same bytes and tokens
@@ -53,7 +54,7 @@ IsSpelled {X} P Is g = (a : Bool) (x : X) (rest : List Tok) → P x → Is (g a 
 
 abbrev pub tail_toks : {X : Type 0} → (Bool → X → List Tok) → List X → List Tok
 tail_toks g [] = []
-tail_toks g (x ∷ xs) = mark false 44 ∷ (g true x ++ tail_toks g xs)
+tail_toks g (x ∷ xs) = mark false comma ∷ (g true x ++ tail_toks g xs)
 
 abbrev pub list_toks : {X : Type 0} → (Bool → X → List Tok) → Bool → List X → List Tok
 list_toks g a [] = []
@@ -61,7 +62,7 @@ list_toks g a (x ∷ xs) = g a x ++ tail_toks g xs
 
 tail_stops : {X : Type 0} (f : X → List ℕ) (xs : List X) (rest : List ℕ) → goes_on rest ≡ false → goes_on (tail_text f xs ++ rest) ≡ false
 tail_stops f [] rest h = h
-tail_stops f (x ∷ xs) rest h = stop 44 (32 ∷ ((f x ++ tail_text f xs) ++ rest)) refl refl
+tail_stops f (x ∷ xs) rest h = stop comma (space ∷ ((f x ++ tail_text f xs) ++ rest)) refl refl
 
 lex_tail : {X : Type 0} (P : X → Type 0) (f : X → List ℕ) (g : Bool → X → List Tok) → IsPrinted P f g → (xs : List X) (rest : List ℕ) (ts : List Tok) → AllByRecursion P xs → goes_on rest ≡ false → Lexes rest ts
     → Lexes (tail_text f xs ++ rest) (tail_toks g xs ++ ts)
@@ -69,9 +70,9 @@ lex_tail P f g printed [] rest ts all stops h = h
 lex_tail P f g printed (x ∷ xs) rest ts all stops h =
     let more = lex_tail P f g printed xs rest ts all.1 stops h in
     let item = printed true x (tail_text f xs ++ rest) (tail_toks g xs ++ ts) all.0 (tail_stops f xs rest stops) more in
-    lex_mark false 44 (32 ∷ ((f x ++ tail_text f xs) ++ rest)) ((g true x ++ tail_toks g xs) ++ ts) refl
-    (lex_same (32 ∷ (f x ++ (tail_text f xs ++ rest))) (32 ∷ ((f x ++ tail_text f xs) ++ rest)) (g true x ++ (tail_toks g xs ++ ts)) ((g true x ++ tail_toks g xs) ++ ts)
-    (ap (λ (t : List ℕ). 32 ∷ t) (sym (append_assoc (f x) (tail_text f xs) rest))) (sym (append_assoc (g true x) (tail_toks g xs) ts)) item)
+    lex_mark false comma (space ∷ ((f x ++ tail_text f xs) ++ rest)) ((g true x ++ tail_toks g xs) ++ ts) refl
+    (lex_same (space ∷ (f x ++ (tail_text f xs ++ rest))) (space ∷ ((f x ++ tail_text f xs) ++ rest)) (g true x ++ (tail_toks g xs ++ ts)) ((g true x ++ tail_toks g xs) ++ ts)
+    (ap (λ (t : List ℕ). space ∷ t) (sym (append_assoc (f x) (tail_text f xs) rest))) (sym (append_assoc (g true x) (tail_toks g xs) ts)) item)
 
 pub lex_list : {X : Type 0} (P : X → Type 0) (f : X → List ℕ) (g : Bool → X → List Tok) → IsPrinted P f g → IsPrinted (λ xs. (1 ≤ length xs) × AllByRecursion P xs) (list_text f) (list_toks g)
 lex_list P f g printed a [] rest ts all stops h = absurd (omega (arith, all.0))
@@ -81,18 +82,18 @@ lex_list P f g printed a (x ∷ xs) rest ts all stops h =
     lex_same (gap a ++ (f x ++ (tail_text f xs ++ rest))) (gap a ++ ((f x ++ tail_text f xs) ++ rest)) (g a x ++ (tail_toks g xs ++ ts)) ((g a x ++ tail_toks g xs) ++ ts)
     (ap (λ (t : List ℕ). gap a ++ t) (sym (append_assoc (f x) (tail_text f xs) rest))) (sym (append_assoc (g a x) (tail_toks g xs) ts)) item
 
-tail_spelled : {X : Type 0} (P : X → Type 0) (Is : List Tok → X → List Tok → Type 0) (g : Bool → X → List Tok) → IsSpelled P Is g → (xs : List X) (rest : List Tok) → AllByRecursion P xs → More 44 Is (tail_toks g xs ++ rest) xs rest
+tail_spelled : {X : Type 0} (P : X → Type 0) (Is : List Tok → X → List Tok → Type 0) (g : Bool → X → List Tok) → IsSpelled P Is g → (xs : List X) (rest : List Tok) → AllByRecursion P xs → More comma Is (tail_toks g xs ++ rest) xs rest
 tail_spelled P Is g spelled [] rest all = refl
 tail_spelled P Is g spelled (x ∷ xs) rest all = (
   false,
   g true x ++ (tail_toks g xs ++ rest),
   tail_toks g xs ++ rest,
-  ap (λ (ts : List Tok). mark false 44 ∷ ts) (append_assoc (g true x) (tail_toks g xs) rest),
+  ap (λ (ts : List Tok). mark false comma ∷ ts) (append_assoc (g true x) (tail_toks g xs) rest),
   spelled true x (tail_toks g xs ++ rest) all.0,
   tail_spelled P Is g spelled xs rest all.1,
 )
 
-pub list_spelled : {X : Type 0} (P : X → Type 0) (Is : List Tok → X → List Tok → Type 0) (g : Bool → X → List Tok) → IsSpelled P Is g → IsSpelled (λ xs. (1 ≤ length xs) × AllByRecursion P xs) (Listed 44 Is) (list_toks g)
+pub list_spelled : {X : Type 0} (P : X → Type 0) (Is : List Tok → X → List Tok → Type 0) (g : Bool → X → List Tok) → IsSpelled P Is g → IsSpelled (λ xs. (1 ≤ length xs) × AllByRecursion P xs) (Listed comma Is) (list_toks g)
 list_spelled P Is g spelled a [] rest all = absurd (omega (arith, all.0))
 list_spelled P Is g spelled a (x ∷ xs) rest all =
     (tail_toks g xs ++ rest, subst (λ (ts : List Tok). Is ts x (tail_toks g xs ++ rest)) (sym (append_assoc (g a x) (tail_toks g xs) rest)) (spelled a x (tail_toks g xs ++ rest) all.1.0), tail_spelled P Is g spelled xs rest all.1.1)
@@ -108,7 +109,7 @@ odd_sign : (b : Bool) → b ≡ is_odd (sign b)
 odd_sign true = refl
 odd_sign false = refl
 
-signed_is : (b : Bool) (w : List ℕ) → cond b (33 ∷ w) w ≡ bangs (sign b) ++ w
+signed_is : (b : Bool) (w : List ℕ) → cond b (bang ∷ w) w ≡ bangs (sign b) ++ w
 signed_is true w = refl
 signed_is false w = refl
 
@@ -128,11 +129,11 @@ item_spelled form a s rest is = record { spaced = a; bangs = sign s.negated; tok
 
 args_stop : (args : List (List ℕ)) (rest : List ℕ) → goes_on rest ≡ false → goes_on (flat_map spaced_arg args ++ rest) ≡ false
 args_stop [] rest h = h
-args_stop (a ∷ args) rest h = stop 32 ((arg_text a ++ flat_map spaced_arg args) ++ rest) refl refl
+args_stop (a ∷ args) rest h = stop space ((arg_text a ++ flat_map spaced_arg args) ++ rest) refl refl
 
 rule_stops : (r : ArgRule) (rest : List ℕ) → goes_on rest ≡ false → goes_on (rule_text r ++ rest) ≡ false
 rule_stops Any rest h = h
-rule_stops Empty rest h = stop 32 (34 ∷ 34 ∷ rest) refl refl
+rule_stops Empty rest h = stop space (quote ∷ quote ∷ rest) refl refl
 rule_stops (Exactly args) rest h = args_stop args rest h
 
 lex_args : (args : List (List ℕ)) (rest : List ℕ) (ts : List Tok) → AllByRecursion (λ arg. is_arg arg ≡ true) args → goes_on rest ≡ false → Lexes rest ts
@@ -141,13 +142,13 @@ lex_args [] rest ts all stops h = h
 lex_args (a ∷ args) rest ts all stops h =
     let more = lex_args args rest ts all.1 stops h in
     let us = rule_toks (Exactly (a ∷ args)) ++ ts in
-    lex_same (32 ∷ (arg_text a ++ (flat_map spaced_arg args ++ rest))) (32 ∷ ((arg_text a ++ flat_map spaced_arg args) ++ rest)) us us
-    (ap (λ (t : List ℕ). 32 ∷ t) (sym (append_assoc (arg_text a) (flat_map spaced_arg args) rest))) refl
+    lex_same (space ∷ (arg_text a ++ (flat_map spaced_arg args ++ rest))) (space ∷ ((arg_text a ++ flat_map spaced_arg args) ++ rest)) us us
+    (ap (λ (t : List ℕ). space ∷ t) (sym (append_assoc (arg_text a) (flat_map spaced_arg args) rest))) refl
     (lex_word true 0 (arg_text a) (flat_map spaced_arg args ++ rest) (rule_toks (Exactly args) ++ ts) (arg_word a all.0) (args_stop args rest stops) more)
 
 lex_rule : (r : ArgRule) (rest : List ℕ) (ts : List Tok) → IsArgRule r → goes_on rest ≡ false → Lexes rest ts → Lexes (rule_text r ++ rest) (rule_toks r ++ ts)
 lex_rule Any rest ts is stops h = h
-lex_rule Empty rest ts is stops h = lex_mark true 34 (34 ∷ rest) (mark false 34 ∷ ts) refl (lex_mark false 34 rest ts refl h)
+lex_rule Empty rest ts is stops h = lex_mark true quote (quote ∷ rest) (mark false quote ∷ ts) refl (lex_mark false quote rest ts refl h)
 lex_rule (Exactly args) rest ts is stops h = lex_args args rest ts is.0 stops h
 
 -- what is printed behind a head
@@ -170,7 +171,7 @@ lex_behind (cmnds.Cmnd c) rest ts is stops h = lex_rule (rule_of c) rest ts is.a
 abbrev pub cmnd_toks : Bool → Signed CmndItem → List Tok
 cmnd_toks a s = word a (sign s.negated) (head_of s.item) ∷ args_of s.item
 
-cmnd_front : (b : Bool) (c : CmndItem) (rest : List ℕ) → (bangs (sign b) ++ head_of c) ++ (behind_head c ++ rest) ≡ cond b (33 ∷ cmnd_item_text c) (cmnd_item_text c) ++ rest
+cmnd_front : (b : Bool) (c : CmndItem) (rest : List ℕ) → (bangs (sign b) ++ head_of c) ++ (behind_head c ++ rest) ≡ cond b (bang ∷ cmnd_item_text c) (cmnd_item_text c) ++ rest
 cmnd_front b c rest =
     append_assoc (bangs (sign b)) (head_of c) (behind_head c ++ rest)
     ∙ ap (λ (t : List ℕ). bangs (sign b) ++ t) (sym (append_assoc (head_of c) (behind_head c) rest) ∙ ap (λ (t : List ℕ). t ++ rest) (sym (head_and_behind c)))

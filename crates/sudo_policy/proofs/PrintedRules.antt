@@ -2,6 +2,7 @@
 use Rattle.std.proofs.Common.{◌≡◌, ℕ, ◌≤◌, Bool, true, false, List, [], ◌∷◌, ◌++◌, length, Option, Some, None, refl, sym, ap, subst, ◌∙◌, inl, inr, append_assoc, append-nil, arith}
 use Rattle.std.specs.Prelude.{codes, IfSome, unwrap_or}
 use Rattle.std.specs.Option.{option_or}
+use Rattle.sudo_words.specs.Bytes.{space, equals, colon, opening, closing}
 use Rattle.sudo_words.specs.Word.{is_name, is_host_name}
 use Rattle.sudo_words.specs.Moment.{IsMoment, stamp}
 use Rattle.sudo_words.proofs.MomentLemmas.{stamp_is, stamp_spells}
@@ -48,23 +49,23 @@ items_word a (x ∷ xs) rest h = tt
 
 date_toks : List ℕ → Option ℕ → List Tok
 date_toks option None = []
-date_toks option (Some moment) = word true 0 option ∷ mark false 61 ∷ word false 0 (stamp moment) ∷ []
+date_toks option (Some moment) = word true 0 option ∷ mark false equals ∷ word false 0 (stamp moment) ∷ []
 
 given : List ℕ → Option ℕ → List Date
 given option None = []
 given option (Some moment) = record { word = option; moment = moment } ∷ []
 
-date_front : (option time rest : List ℕ) → (option ++ codes "=" ++ time ++ codes " ") ++ rest ≡ option ++ (61 ∷ (time ++ (32 ∷ rest)))
+date_front : (option time rest : List ℕ) → (option ++ codes "=" ++ time ++ codes " ") ++ rest ≡ option ++ (equals ∷ (time ++ (space ∷ rest)))
 date_front option time rest = simp append_assoc
 
-lex_date : (option time rest : List ℕ) (ts : List Tok) → IsWord option → IsWord time → Lexes (32 ∷ rest) ts
-    → Lexes (32 ∷ ((option ++ codes "=" ++ time ++ codes " ") ++ rest)) (word true 0 option ∷ mark false 61 ∷ word false 0 time ∷ ts)
+lex_date : (option time rest : List ℕ) (ts : List Tok) → IsWord option → IsWord time → Lexes (space ∷ rest) ts
+    → Lexes (space ∷ ((option ++ codes "=" ++ time ++ codes " ") ++ rest)) (word true 0 option ∷ mark false equals ∷ word false 0 time ∷ ts)
 lex_date option time rest ts name is h =
-    subst (λ (x : List ℕ). Lexes (32 ∷ x) (word true 0 option ∷ mark false 61 ∷ word false 0 time ∷ ts)) (sym (date_front option time rest))
-    (lex_word true 0 option (61 ∷ (time ++ (32 ∷ rest))) (mark false 61 ∷ word false 0 time ∷ ts) name (stop 61 (time ++ (32 ∷ rest)) refl refl)
-    (lex_mark false 61 (time ++ (32 ∷ rest)) (word false 0 time ∷ ts) refl (lex_word false 0 time (32 ∷ rest) ts is (stop 32 rest refl refl) h)))
+    subst (λ (x : List ℕ). Lexes (space ∷ x) (word true 0 option ∷ mark false equals ∷ word false 0 time ∷ ts)) (sym (date_front option time rest))
+    (lex_word true 0 option (equals ∷ (time ++ (space ∷ rest))) (mark false equals ∷ word false 0 time ∷ ts) name (stop equals (time ++ (space ∷ rest)) refl refl)
+    (lex_mark false equals (time ++ (space ∷ rest)) (word false 0 time ∷ ts) refl (lex_word false 0 time (space ∷ rest) ts is (stop space rest refl refl) h)))
 
-lex_option : (option : List ℕ) (o : Option ℕ) (rest : List ℕ) (ts : List Tok) → IsWord option → IfSome o IsMoment → Lexes (32 ∷ rest) ts → Lexes (32 ∷ (date_text option o ++ rest)) (date_toks option o ++ ts)
+lex_option : (option : List ℕ) (o : Option ℕ) (rest : List ℕ) (ts : List Tok) → IsWord option → IfSome o IsMoment → Lexes (space ∷ rest) ts → Lexes (space ∷ (date_text option o ++ rest)) (date_toks option o ++ ts)
 unfolding date_toks
 lex_option option None rest ts name is h = h
 lex_option option (Some t) rest ts name is h = lex_date option (stamp t) rest ts name (stamp_word t is) h
@@ -100,17 +101,17 @@ dates_spelled before after rest b a spaced =
 -- ---- tags
 
 tag_toks : Bool → List Tok
-tag_toks true = word true 0 (codes "NOPASSWD") ∷ mark false 58 ∷ []
+tag_toks true = word true 0 (codes "NOPASSWD") ∷ mark false colon ∷ []
 tag_toks false = []
 
 tags_of : Bool → List Bool
 tags_of true = true ∷ []
 tags_of false = []
 
-lex_tag : (t : Bool) (rest : List ℕ) (ts : List Tok) → Lexes (32 ∷ rest) ts → Lexes (32 ∷ (tag_text t ++ rest)) (tag_toks t ++ ts)
+lex_tag : (t : Bool) (rest : List ℕ) (ts : List Tok) → Lexes (space ∷ rest) ts → Lexes (space ∷ (tag_text t ++ rest)) (tag_toks t ++ ts)
 unfolding tag_toks
 lex_tag true rest ts h =
-    lex_word true 0 (codes "NOPASSWD") (58 ∷ 32 ∷ rest) (mark false 58 ∷ ts) (literal (codes "NOPASSWD") (omega arith) refl) (stop 58 (32 ∷ rest) refl refl) (lex_mark false 58 (32 ∷ rest) ts refl h)
+    lex_word true 0 (codes "NOPASSWD") (colon ∷ space ∷ rest) (mark false colon ∷ ts) (literal (codes "NOPASSWD") (omega arith) refl) (stop colon (space ∷ rest) refl refl) (lex_mark false colon (space ∷ rest) ts refl h)
 lex_tag false rest ts h = h
 
 tag_spelled : (t : Bool) (rest : List Tok) → SpellsTags (tag_toks t ++ rest) (tags_of t) rest
@@ -135,7 +136,7 @@ what_toks : Rule → List Tok
 what_toks r = date_toks (codes "NOTBEFORE") r.not_before ++ (date_toks (codes "NOTAFTER") r.not_after ++ (tag_toks r.nopasswd ++ (cmnd_toks true r.cmnd ++ [])))
 
 lex_what : (r : Rule) → IsRule r
-    → Lexes (32 ∷ (date_text (codes "NOTBEFORE") r.not_before ++ (date_text (codes "NOTAFTER") r.not_after ++ (tag_text r.nopasswd ++ (signed_text cmnd_item_text r.cmnd ++ []))))) (what_toks r)
+    → Lexes (space ∷ (date_text (codes "NOTBEFORE") r.not_before ++ (date_text (codes "NOTAFTER") r.not_after ++ (tag_text r.nopasswd ++ (signed_text cmnd_item_text r.cmnd ++ []))))) (what_toks r)
 unfolding what_toks
 lex_what r is =
     let cmnd_text = signed_text cmnd_item_text r.cmnd ++ [] in
@@ -146,27 +147,27 @@ lex_what r is =
     (literal (codes "NOTBEFORE") (omega arith) refl) is.not_before dated
 
 behind_users : Rule → List Tok
-behind_users r = list_toks item_toks true r.hosts ++ (mark true 61 ∷ mark true 40 ∷ (list_toks item_toks false r.runas ++ (mark false 41 ∷ what_toks r)))
+behind_users r = list_toks item_toks true r.hosts ++ (mark true equals ∷ mark true opening ∷ (list_toks item_toks false r.runas ++ (mark false closing ∷ what_toks r)))
 
 pub line_toks : Rule → List Tok
 line_toks r = list_toks item_toks false r.users ++ behind_users r
 
-who_lexes : (r : Rule) (what : List ℕ) → IsRule r → Lexes (32 ∷ what) (what_toks r)
-    → Lexes (names_text r.users ++ (32 ∷ (names_text r.hosts ++ (32 ∷ 61 ∷ 32 ∷ 40 ∷ (names_text r.runas ++ (41 ∷ 32 ∷ what)))))) (line_toks r)
+who_lexes : (r : Rule) (what : List ℕ) → IsRule r → Lexes (space ∷ what) (what_toks r)
+    → Lexes (names_text r.users ++ (space ∷ (names_text r.hosts ++ (space ∷ equals ∷ space ∷ opening ∷ (names_text r.runas ++ (closing ∷ space ∷ what)))))) (line_toks r)
 unfolding line_toks behind_users
 who_lexes r what is h =
-    let closed = lex_mark false 41 (32 ∷ what) (what_toks r) refl h in
-    let inner = lex_users false r.runas (41 ∷ 32 ∷ what) (mark false 41 ∷ what_toks r) is.runas (stop 41 (32 ∷ what) refl refl) closed in
-    let opened = lex_mark true 40 (names_text r.runas ++ (41 ∷ 32 ∷ what)) (list_toks item_toks false r.runas ++ (mark false 41 ∷ what_toks r)) refl inner in
-    let equals = lex_mark true 61 (32 ∷ 40 ∷ (names_text r.runas ++ (41 ∷ 32 ∷ what))) (mark true 40 ∷ (list_toks item_toks false r.runas ++ (mark false 41 ∷ what_toks r))) refl opened in
-    let hosts = lex_hosts true r.hosts (32 ∷ 61 ∷ 32 ∷ 40 ∷ (names_text r.runas ++ (41 ∷ 32 ∷ what))) (mark true 61 ∷ mark true 40 ∷ (list_toks item_toks false r.runas ++ (mark false 41 ∷ what_toks r))) is.hosts
-    (stop 32 (61 ∷ 32 ∷ 40 ∷ (names_text r.runas ++ (41 ∷ 32 ∷ what))) refl refl) equals in
-    lex_users false r.users (32 ∷ (names_text r.hosts ++ (32 ∷ 61 ∷ 32 ∷ 40 ∷ (names_text r.runas ++ (41 ∷ 32 ∷ what))))) (behind_users r) is.users
-    (stop 32 (names_text r.hosts ++ (32 ∷ 61 ∷ 32 ∷ 40 ∷ (names_text r.runas ++ (41 ∷ 32 ∷ what)))) refl refl) hosts
+    let closed = lex_mark false closing (space ∷ what) (what_toks r) refl h in
+    let inner = lex_users false r.runas (closing ∷ space ∷ what) (mark false closing ∷ what_toks r) is.runas (stop closing (space ∷ what) refl refl) closed in
+    let opened = lex_mark true opening (names_text r.runas ++ (closing ∷ space ∷ what)) (list_toks item_toks false r.runas ++ (mark false closing ∷ what_toks r)) refl inner in
+    let marked = lex_mark true equals (space ∷ opening ∷ (names_text r.runas ++ (closing ∷ space ∷ what))) (mark true opening ∷ (list_toks item_toks false r.runas ++ (mark false closing ∷ what_toks r))) refl opened in
+    let hosts = lex_hosts true r.hosts (space ∷ equals ∷ space ∷ opening ∷ (names_text r.runas ++ (closing ∷ space ∷ what))) (mark true equals ∷ mark true opening ∷ (list_toks item_toks false r.runas ++ (mark false closing ∷ what_toks r))) is.hosts
+    (stop space (equals ∷ space ∷ opening ∷ (names_text r.runas ++ (closing ∷ space ∷ what))) refl refl) marked in
+    lex_users false r.users (space ∷ (names_text r.hosts ++ (space ∷ equals ∷ space ∷ opening ∷ (names_text r.runas ++ (closing ∷ space ∷ what))))) (behind_users r) is.users
+    (stop space (names_text r.hosts ++ (space ∷ equals ∷ space ∷ opening ∷ (names_text r.runas ++ (closing ∷ space ∷ what)))) refl refl) hosts
 
 rule_front : (users hosts runas before after tag cmnd : List ℕ)
     → (users ++ codes " " ++ hosts ++ codes " = (" ++ runas ++ codes ") ") ++ (before ++ after ++ tag ++ cmnd)
-    ≡ users ++ (32 ∷ (hosts ++ (32 ∷ 61 ∷ 32 ∷ 40 ∷ (runas ++ (41 ∷ 32 ∷ (before ++ (after ++ (tag ++ (cmnd ++ [])))))))))
+    ≡ users ++ (space ∷ (hosts ++ (space ∷ equals ∷ space ∷ opening ∷ (runas ++ (closing ∷ space ∷ (before ++ (after ++ (tag ++ (cmnd ++ [])))))))))
 rule_front users hosts runas before after tag cmnd = simp (append_assoc, append-nil)
 
 pub rule_lexes : (r : Rule) → IsRule r → Lexes (rule_text r) (line_toks r)
@@ -183,7 +184,7 @@ spec_of r = record { runas = Some r.runas; not_before = r.not_before; not_after 
 pub part_of : Rule → Part
 part_of r = record { hosts = r.hosts; specs = spec_of r ∷ [] }
 
-spec_spelled : (r : Rule) → IsRule r → SpellsSpec (mark true 40 ∷ (list_toks item_toks false r.runas ++ (mark false 41 ∷ what_toks r))) (spec_of r) []
+spec_spelled : (r : Rule) → IsRule r → SpellsSpec (mark true opening ∷ (list_toks item_toks false r.runas ++ (mark false closing ∷ what_toks r))) (spec_of r) []
 unfolding what_toks spec_of
 spec_spelled r is =
     let cmnd = cmnd_toks true r.cmnd ++ [] in
@@ -193,7 +194,7 @@ spec_spelled r is =
       behind_dates = tag_toks r.nopasswd ++ cmnd;
       tags = tags_of r.nopasswd;
       behind_tags = cmnd;
-      runas = (true, false, list_toks item_toks false r.runas ++ (mark false 41 ∷ what_toks r), mark false 41 ∷ what_toks r, refl, users_spelled false r.runas (mark false 41 ∷ what_toks r) is.runas, refl);
+      runas = (true, false, list_toks item_toks false r.runas ++ (mark false closing ∷ what_toks r), mark false closing ∷ what_toks r, refl, users_spelled false r.runas (mark false closing ∷ what_toks r) is.runas, refl);
       dated = dates_spelled r.not_before r.not_after (tag_toks r.nopasswd ++ cmnd) is.not_before is.not_after (tag_spaced r.nopasswd cmnd refl);
       bounds = dates_bounds r.not_before r.not_after;
       tagged = tag_spelled r.nopasswd cmnd;
@@ -204,14 +205,14 @@ spec_spelled r is =
 pub rule_spelled : (r : Rule) → IsRule r → SpellsTree (line_toks r) (lines.Rights r.users (part_of r ∷ []))
 unfolding line_toks behind_users part_of
 rule_spelled r is =
-    let behind = mark true 40 ∷ (list_toks item_toks false r.runas ++ (mark false 41 ∷ what_toks r)) in
+    let behind = mark true opening ∷ (list_toks item_toks false r.runas ++ (mark false closing ∷ what_toks r)) in
     let part : SpellsPart (behind_users r) (part_of r) [] = record {
       spaced = true;
       next = behind;
-      hosts = hosts_spelled true r.hosts (mark true 61 ∷ behind) is.hosts;
+      hosts = hosts_spelled true r.hosts (mark true equals ∷ behind) is.hosts;
       specs = ([], spec_spelled r is, refl);
     } in
-    (behind_users r, users_spelled false r.users (behind_users r) is.users, items_spaced r.hosts (mark true 61 ∷ behind) is.hosts.0, ([], part, refl))
+    (behind_users r, users_spelled false r.users (behind_users r) is.users, items_spaced r.hosts (mark true equals ∷ behind) is.hosts.0, ([], part, refl))
 
 pub rule_begins : (r : Rule) → IsRule r → BeginsWord (line_toks r)
 unfolding line_toks

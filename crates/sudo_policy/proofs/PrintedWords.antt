@@ -4,6 +4,7 @@ use Rattle.std.specs.Prelude.{codes}
 use Rattle.std.specs.List.{AllByRecursion, list_all}
 use Rattle.std.proofs.lemmas.Bool.{and_parts, and_from, cases_Bool}
 use Rattle.std.proofs.lemmas.Bool.Decides.{nat_tests}
+use Rattle.sudo_words.specs.Bytes.{backslash}
 use Rattle.sudo_words.specs.Word.{is_lower, is_upper, is_name, is_name_byte, is_host_name, is_host_byte, is_alias_name, is_alias_shape, is_alias_byte, is_reserved, is_path_byte, is_file_path, is_dir_path, is_arg, is_arg_byte}
 use Rattle.sudo_words.specs.Moment.{IsMoment, is_stamp_byte, stamp}
 use Rattle.sudo_words.specs.Command.{IsHead, is_escaped, escaped_byte, arg_text, head_text}
@@ -29,7 +30,7 @@ pub record IsWord (w : List ℕ) : Type 0 where
 
 -- ---- words without a backslash
 
-no_backslash : (b : ℕ) → is_word_byte b ≡ true → eqb b 92 ≡ false
+no_backslash : (b : ℕ) → is_word_byte b ≡ true → eqb b backslash ≡ false
 no_backslash b h = grind (arith, nat_tests)
 
 -- a byte of a word, before the text of a word
@@ -143,8 +144,8 @@ bare_arg_byte b h k = grind (arith, nat_tests)
 byte_text : (b : ℕ) (rest : List ℕ) → is_arg_byte b ≡ true → is_word_text rest ≡ true → is_word_text (escaped_byte b ++ rest) ≡ true
 byte_text b rest h k =
     elim (cases_Bool (is_escaped b)) [
-      | inl e ↦ ap (λ (v : Bool). is_word_text (cond v (92 ∷ b ∷ []) (b ∷ []) ++ rest)) e ∙ and_from (is_escaped b) (is_word_text rest) e k
-      | inr e ↦ ap (λ (v : Bool). is_word_text (cond v (92 ∷ b ∷ []) (b ∷ []) ++ rest)) e ∙ byte_then b rest (bare_arg_byte b h e) k
+      | inl e ↦ ap (λ (v : Bool). is_word_text (cond v (backslash ∷ b ∷ []) (b ∷ []) ++ rest)) e ∙ and_from (is_escaped b) (is_word_text rest) e k
+      | inr e ↦ ap (λ (v : Bool). is_word_text (cond v (backslash ∷ b ∷ []) (b ∷ []) ++ rest)) e ∙ byte_then b rest (bare_arg_byte b h e) k
     ]
 
 arg_bytes_text : (a : List ℕ) → list_all is_arg_byte a ≡ true → is_word_text (arg_text a) ≡ true

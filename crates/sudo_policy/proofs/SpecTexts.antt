@@ -2,6 +2,7 @@
 use Rattle.std.proofs.Common.{◌≡◌, ℕ, Bool, true, false, List, [], ◌∷◌, ◌++◌, Option, Some, None, refl, sym, ap, subst, ◌∙◌, inl, inr, arith}
 use Rattle.std.specs.Prelude.{codes}
 use Rattle.std.proofs.lemmas.Bool.{false≢true}
+use Rattle.sudo_words.specs.Bytes.{equals, comma, colon, closing}
 use Rattle.sudo_words.specs.Word.{is_name, is_alias_name, is_reserved, is_file_path, is_dir_path}
 use Rattle.sudo_words.specs.Moment as moments
 use Rattle.sudo_words.specs.Command.{rule_of}
@@ -40,7 +41,7 @@ word_no_mark m (mark a k ∷ ts) h = absurd h
 
 -- not with a word that `=` stands directly behind
 abbrev pub NotDate : List Tok → Type 0
-NotDate ts = (a : Bool) (w : List ℕ) (next : List Tok) → ts ≡ word a 0 w ∷ mark false 61 ∷ next → ⊥
+NotDate ts = (a : Bool) (w : List ℕ) (next : List Tok) → ts ≡ word a 0 w ∷ mark false equals ∷ next → ⊥
 
 -- not with the word of a tag
 abbrev pub NotTag : List Tok → Type 0
@@ -48,8 +49,8 @@ NotTag ts = (a t : Bool) (next : List Tok) → ts ≡ word a 0 (tag_word t) ∷ 
 
 -- ---- lists of items
 
-pub items_one : (form : List ℕ → Bool) → IsForm form → (G : List Tok → Type 0) → ((a : Bool) (next : List Tok) → G (mark a 44 ∷ next) → ⊥) → IsOne (Listed 44 (SpellsItem form)) G
-items_one form f G ended = listed_one 44 (SpellsItem form) (λ (ts : List Tok). Unit {0}) G (λ a next. tt) (λ r n. tt) ended (spelled_item_one form f (λ (ts : List Tok). Unit {0}))
+pub items_one : (form : List ℕ → Bool) → IsForm form → (G : List Tok → Type 0) → ((a : Bool) (next : List Tok) → G (mark a comma ∷ next) → ⊥) → IsOne (Listed comma (SpellsItem form)) G
+items_one form f G ended = listed_one comma (SpellsItem form) (λ (ts : List Tok). Unit {0}) G (λ a next. tt) (λ r n. tt) ended (spelled_item_one form f (λ (ts : List Tok). Unit {0}))
 
 -- ---- targets
 
@@ -60,9 +61,9 @@ runas_one ts (Some xs) None r s g h n k = absurd (subst BeginsWord (sym h ∙ g.
 runas_one ts (Some xs) (Some ys) r s g h n k =
     let opened = sym g.4 ∙ h.4 in
     let next : g.2 ≡ h.2 = cc in
-    let ended : (a : Bool) (more : List Tok) → NotMark 44 (mark a 44 ∷ more) → ⊥ = λ a more no. no refl in
-    let closing : (a : Bool) (mid more : List Tok) → mid ≡ mark a 41 ∷ more → NotMark 44 mid = λ a mid more e. subst (NotMark 44) (sym e) (λ bad. omega arith) in
-    let users = items_one is_name user_form (NotMark 44) ended h.2 xs ys g.3 h.3 (subst (λ (t : List Tok). Users t xs g.3) next g.5) h.5 (closing g.1 g.3 r g.6) (closing h.1 h.3 s h.6) in
+    let ended : (a : Bool) (more : List Tok) → NotMark comma (mark a comma ∷ more) → ⊥ = λ a more no. no refl in
+    let closes : (a : Bool) (mid more : List Tok) → mid ≡ mark a closing ∷ more → NotMark comma mid = λ a mid more e. subst (NotMark comma) (sym e) (λ bad. omega arith) in
+    let users = items_one is_name user_form (NotMark comma) ended h.2 xs ys g.3 h.3 (subst (λ (t : List Tok). Users t xs g.3) next g.5) h.5 (closes g.1 g.3 r g.6) (closes h.1 h.3 s h.6) in
     let closed = sym g.6 ∙ users.1 ∙ h.6 in
     (ap (λ (zs : List (Signed (Item (List ℕ)))). Some zs) users.0, cc)
 
@@ -115,8 +116,8 @@ tag_one false false e = refl
 
 tags_one : IsOne SpellsTags NotTag
 tags_one ts [] [] r s g h n k = (refl, sym g ∙ h)
-tags_one ts [] (t ∷ us) r s g h n k = absurd (n h.0 t (mark h.1 58 ∷ h.2) (sym g ∙ h.3))
-tags_one ts (t ∷ us) [] r s g h n k = absurd (k g.0 t (mark g.1 58 ∷ g.2) (sym h ∙ g.3))
+tags_one ts [] (t ∷ us) r s g h n k = absurd (n h.0 t (mark h.1 colon ∷ h.2) (sym g ∙ h.3))
+tags_one ts (t ∷ us) [] r s g h n k = absurd (k g.0 t (mark g.1 colon ∷ g.2) (sym h ∙ g.3))
 tags_one ts (t ∷ us) (v ∷ vs) r s g h n k =
     let both = sym g.3 ∙ h.3 in
     let name : tag_word t ≡ tag_word v = cc in
@@ -144,20 +145,20 @@ unfolding is_reserved
 tag_no_head true = record { alias = refl; all = λ e. absurd cc; file = refl; dir = refl }
 tag_no_head false = record { alias = refl; all = λ e. absurd cc; file = refl; dir = refl }
 
-equals_no_end : (ts next : List Tok) → EndsCmnd ts → ts ≡ mark false 61 ∷ next → ⊥
+equals_no_end : (ts next : List Tok) → EndsCmnd ts → ts ≡ mark false equals ∷ next → ⊥
 equals_no_end [] next h e = absurd cc
 equals_no_end (word a n w ∷ ts) next h e = absurd h
-equals_no_end (mark a m ∷ ts) next (inl h) e = let same : m ≡ 61 = cc in absurd (omega arith)
-equals_no_end (mark a m ∷ ts) next (inr h) e = let same : m ≡ 61 = cc in absurd (omega arith)
+equals_no_end (mark a m ∷ ts) next (inl h) e = let same : m ≡ equals = cc in absurd (omega arith)
+equals_no_end (mark a m ∷ ts) next (inr h) e = let same : m ≡ equals = cc in absurd (omega arith)
 
 -- no `=` stands behind a head
-rule_no_equals : (q : ArgRule) (r next : List Tok) → EndsCmnd r → rule_toks q ++ r ≡ mark false 61 ∷ next → ⊥
+rule_no_equals : (q : ArgRule) (r next : List Tok) → EndsCmnd r → rule_toks q ++ r ≡ mark false equals ∷ next → ⊥
 rule_no_equals Any r next n e = equals_no_end r next n e
 rule_no_equals Empty r next n e = absurd cc
 rule_no_equals (Exactly []) r next n e = equals_no_end r next n e
 rule_no_equals (Exactly (a ∷ args)) r next n e = absurd cc
 
-args_no_equals : (c : CmndItem) (r next : List Tok) → EndsCmnd r → args_of c ++ r ≡ mark false 61 ∷ next → ⊥
+args_no_equals : (c : CmndItem) (r next : List Tok) → EndsCmnd r → args_of c ++ r ≡ mark false equals ∷ next → ⊥
 args_no_equals (cmnds.Alias w) r next n e = equals_no_end r next n e
 args_no_equals (cmnds.Cmnd c) r next n e = rule_no_equals (rule_of c) r next n e
 
@@ -167,7 +168,7 @@ cmnd_word ts s r g = subst BeginsWord (sym g.toks) tt
 cmnd_no_date : (ts : List Tok) (s : Signed CmndItem) (r : List Tok) → SpellsCmnd ts s r → EndsCmnd r → NotDate ts
 cmnd_no_date ts s r g n a w next e =
     let both = sym g.toks ∙ e in
-    let behind : args_of s.item ++ r ≡ mark false 61 ∷ next = cc in
+    let behind : args_of s.item ++ r ≡ mark false equals ∷ next = cc in
     args_no_equals s.item r next n behind
 
 cmnd_no_tag : (ts : List Tok) (s : Signed CmndItem) (r : List Tok) → SpellsCmnd ts s r → NotTag ts
@@ -181,14 +182,14 @@ tags_word ts [] r g n = subst BeginsWord (sym g) n
 tags_word ts (t ∷ tags) r g n = subst BeginsWord (sym g.3) tt
 
 -- `:` is no `=`
-colon_no_equals : (a b : Bool) (ts us : List Tok) → mark a 58 ∷ ts ≡ mark b 61 ∷ us → ⊥
-colon_no_equals a b ts us e = let same : ◌≡◌ {A = ℕ} 58 61 = cc in absurd (omega arith)
+colon_no_equals : (a b : Bool) (ts us : List Tok) → mark a colon ∷ ts ≡ mark b equals ∷ us → ⊥
+colon_no_equals a b ts us e = let same : ◌≡◌ {A = ℕ} colon equals = cc in absurd (omega arith)
 
 tags_no_date : (ts : List Tok) (tags : List Bool) (r : List Tok) → SpellsTags ts tags r → NotDate r → NotDate ts
 tags_no_date ts [] r g n = subst NotDate (sym g) n
 tags_no_date ts (t ∷ tags) r g n = λ a w next e.
     let both = sym g.3 ∙ e in
-    let same : mark g.1 58 ∷ g.2 ≡ mark false 61 ∷ next = cc in
+    let same : mark g.1 colon ∷ g.2 ≡ mark false equals ∷ next = cc in
     colon_no_equals g.1 false g.2 next same
 
 dates_word : (ts : List Tok) (dates : List Date) (r : List Tok) → SpellsDates ts dates r → BeginsWord r → BeginsWord ts

@@ -42,10 +42,10 @@ abbrev pub bangs : ℕ → List ℕ
 bangs zero = []
 bangs (suc n) = bang ∷ bangs n
 
--- A word, with how many `!` stand directly before it, or a mark. The Bool says whether blanks stand before.
+-- A word, with how many `!` stand directly before it, or a mark; `spaced` says whether blanks stand before.
 pub data Tok : Type 0 where
-  word : Bool → ℕ → List ℕ → Tok
-  mark : Bool → ℕ → Tok
+  word : (spaced : Bool) → (bangs : ℕ) → (text : List ℕ) → Tok
+  mark : (spaced : Bool) → (byte : ℕ) → Tok
 
 abbrev pub is_spaced : Tok → Bool
 is_spaced (word spaced n text) = spaced

@@ -3,6 +3,7 @@ use Rattle.std.proofs.Common.{◌≡◌, ◌≢◌, ℕ, zero, suc, ◌-◌, ◌
 use Rattle.std.specs.Prelude.{codes}
 use Rattle.std.specs.Str.{bytes_eq}
 use Rattle.std.proofs.lemmas.Bool.{false≢true, and_parts, eqb-true}
+use Rattle.sudo_words.specs.Bytes.{equals, comma, colon, quote}
 use Rattle.sudo_words.specs.Word.{is_alias_name, is_alias_shape, is_reserved, is_file_path, is_dir_path, is_absolute, are_components, is_upper}
 use Rattle.sudo_words.specs.Command.{IsHead, IsArgRule, head_text, rule_of}
 use Rattle.sudo_words.specs.declared.cmnd.Cmnd.{Cmnd}
@@ -89,20 +90,20 @@ cmnd_no_tag (cmnds.Cmnd c) tag is e = head_no_tag c tag is.head e
 -- ---- what is said of the arguments
 
 -- what ends a command begins with no argument
-pub ends_no_arg : (rest : List Tok) → EndsBy 44 rest → NoArg rest
+pub ends_no_arg : (rest : List Tok) → EndsBy comma rest → NoArg rest
 ends_no_arg [] h = λ text next e. absurd cc
 ends_no_arg (word a n t ∷ ts) h = absurd h
 ends_no_arg (mark a b ∷ ts) h = λ text next e. absurd cc
 
-ends_no_quote : (rest : List Tok) → EndsBy 44 rest → (next : List Tok) → rest ≡ mark true 34 ∷ next → ⊥
+ends_no_quote : (rest : List Tok) → EndsBy comma rest → (next : List Tok) → rest ≡ mark true quote ∷ next → ⊥
 ends_no_quote [] h next e = absurd cc
 ends_no_quote (word a n t ∷ ts) h next e = absurd h
-ends_no_quote (mark a b ∷ ts) (inl h) next e = let quote : b ≡ 34 = cc in absurd (omega arith)
-ends_no_quote (mark a b ∷ ts) (inr h) next e = let quote : b ≡ 34 = cc in absurd (omega arith)
+ends_no_quote (mark a b ∷ ts) (inl h) next e = let is_quote : b ≡ quote = cc in absurd (omega arith)
+ends_no_quote (mark a b ∷ ts) (inr h) next e = let is_quote : b ≡ quote = cc in absurd (omega arith)
 
 -- behind `""` no other rule stands
-pub empty_is : (rule : ArgRule) (ts next rest : List Tok) → IsArgRule rule → EndsBy 44 rest → ts ≡ mark true 34 ∷ mark false 34 ∷ next → ts ≡ rule_toks rule ++ rest → (rules.Empty ≡ rule) × (next ≡ rest)
-empty_is rules.Any ts next rest is f e h = absurd (ends_no_quote rest f (mark false 34 ∷ next) (sym h ∙ e))
+pub empty_is : (rule : ArgRule) (ts next rest : List Tok) → IsArgRule rule → EndsBy comma rest → ts ≡ mark true quote ∷ mark false quote ∷ next → ts ≡ rule_toks rule ++ rest → (rules.Empty ≡ rule) × (next ≡ rest)
+empty_is rules.Any ts next rest is f e h = absurd (ends_no_quote rest f (mark false quote ∷ next) (sym h ∙ e))
 empty_is rules.Empty ts next rest is f e h = let two = sym e ∙ h in (refl, cc)
 empty_is (rules.Exactly []) ts next rest is f e h = absurd (omega (arith, is.1))
 empty_is (rules.Exactly (arg ∷ args)) ts next rest is f e h = let two = sym e ∙ h in absurd cc
@@ -115,7 +116,7 @@ pub record Listing (rule : ArgRule) (ts rest : List Tok) : Type 0 where
   pub toks : ts ≡ arg_toks args ++ rest
   pub rule_is : rule_from args ≡ rule
 
-pub listed_args : (rule : ArgRule) (ts rest : List Tok) → IsArgRule rule → ((next : List Tok) → ts ≢ mark true 34 ∷ mark false 34 ∷ next) → ts ≡ rule_toks rule ++ rest → Listing rule ts rest
+pub listed_args : (rule : ArgRule) (ts rest : List Tok) → IsArgRule rule → ((next : List Tok) → ts ≢ mark true quote ∷ mark false quote ∷ next) → ts ≡ rule_toks rule ++ rest → Listing rule ts rest
 listed_args rules.Any ts rest is n h = record { args = []; each = tt; few = omega arith; toks = h; rule_is = refl }
 listed_args rules.Empty ts rest is n h = absurd (n rest h)
 listed_args (rules.Exactly []) ts rest is n h = absurd (omega (arith, is.1))
@@ -124,27 +125,27 @@ listed_args (rules.Exactly (arg ∷ args)) ts rest is n h = record { args = arg 
 -- ---- behind a head
 
 -- behind a command's head stands none of the other marks
-ends_no_mark : (m : ℕ) (rest : List Tok) → m ≢ 44 → m ≢ 58 → EndsBy 44 rest → NoMark m rest
+ends_no_mark : (m : ℕ) (rest : List Tok) → m ≢ comma → m ≢ colon → EndsBy comma rest → NoMark m rest
 ends_no_mark m [] x y h = tt
 ends_no_mark m (word a n t ∷ ts) x y h = tt
 ends_no_mark m (mark a b ∷ ts) x y (inl h) = λ e. x (sym e ∙ h)
 ends_no_mark m (mark a b ∷ ts) x y (inr h) = λ e. y (sym e ∙ h)
 
-rule_no_mark : (m : ℕ) (rule : ArgRule) (rest : List Tok) → m ≢ 34 → NoMark m rest → NoMark m (rule_toks rule ++ rest)
+rule_no_mark : (m : ℕ) (rule : ArgRule) (rest : List Tok) → m ≢ quote → NoMark m rest → NoMark m (rule_toks rule ++ rest)
 rule_no_mark m rules.Any rest q n = n
 rule_no_mark m rules.Empty rest q n = λ e. q (sym e)
 rule_no_mark m (rules.Exactly []) rest q n = n
 rule_no_mark m (rules.Exactly (arg ∷ args)) rest q n = tt
 
-no_equals : (rest : List Tok) → EndsBy 44 rest → NoMark 61 rest
-no_equals rest h = ends_no_mark 61 rest (λ e. absurd (omega arith)) (λ e. absurd (omega arith)) h
+no_equals : (rest : List Tok) → EndsBy comma rest → NoMark equals rest
+no_equals rest h = ends_no_mark equals rest (λ e. absurd (omega arith)) (λ e. absurd (omega arith)) h
 
-equals_no_quote : ◌≡◌ {A = ℕ} 61 34 → ⊥
+equals_no_quote : ◌≡◌ {A = ℕ} equals quote → ⊥
 equals_no_quote e = absurd (omega arith)
 
-pub args_no_equals : (i : CmndItem) (rest : List Tok) → EndsBy 44 rest → NoMark 61 (args_of i ++ rest)
+pub args_no_equals : (i : CmndItem) (rest : List Tok) → EndsBy comma rest → NoMark equals (args_of i ++ rest)
 args_no_equals (cmnds.Alias name) rest h = no_equals rest h
-args_no_equals (cmnds.Cmnd c) rest h = rule_no_mark 61 (rule_of c) rest equals_no_quote (no_equals rest h)
+args_no_equals (cmnds.Cmnd c) rest h = rule_no_mark equals (rule_of c) rest equals_no_quote (no_equals rest h)
 
 -- an alias's name is a head of its own
 pub alias_is : (i : CmndItem) (w : List ℕ) (ts rest : List Tok) → is_alias_name w ≡ true → IsCmndItem i → w ≡ head_of i → ts ≡ args_of i ++ rest → (cmnds.Alias w ≡ i) × (ts ≡ rest)

@@ -1,6 +1,7 @@
 -- Dates at the front of tokens are read in one way.
 use Rattle.std.proofs.Common.{◌≡◌, ℕ, Bool, true, false, List, [], ◌∷◌, Option, Some, refl, sym, ap, subst, ◌∙◌, inl, inr}
 use Rattle.std.specs.Prelude.{codes}
+use Rattle.sudo_words.specs.Bytes.{equals}
 use Rattle.sudo_words.specs.Moment as moments
 use Rattle.sudo_policy.specs.Lex.{Tok, word, mark}
 use Rattle.sudo_policy.specs.Grammar.{Date, GivesBound, Bounds, SpellsDates, begins_spaced}
@@ -41,7 +42,7 @@ pub record Next (before after : Option ℕ) (name time : List ℕ) (next : List 
   pub gap : begins_spaced next ≡ true
   pub left : Left new_before new_after next v r
 
-next_is : (before after : Option ℕ) (ts : List Tok) (a : Bool) (name time : List ℕ) (next : List Tok) → ts ≡ word a 0 name ∷ mark false 61 ∷ word false 0 time ∷ next
+next_is : (before after : Option ℕ) (ts : List Tok) (a : Bool) (name time : List ℕ) (next : List Tok) → ts ≡ word a 0 name ∷ mark false equals ∷ word false 0 time ∷ next
     → (v : Option ℕ × Option ℕ) (r : List Tok) → NoDate r → (dates : List Date) → SpellsDates ts dates r → Bounds before after dates v.0 v.1 → Next before after name time next v r
 unfolding named
 next_is before after ts a name time next e v r f [] h b = absurd (f a name time next (sym h ∙ e))
@@ -58,7 +59,7 @@ next_is before after ts a name time next e v r f (date ∷ dates) h b =
       left = (dates, subst (λ (t : List Tok). SpellsDates t dates r) next_same h.6, b.3);
     }
 
-pub next_date : (before after : Option ℕ) (ts : List Tok) (a : Bool) (name time : List ℕ) (next : List Tok) → ts ≡ word a 0 name ∷ mark false 61 ∷ word false 0 time ∷ next
+pub next_date : (before after : Option ℕ) (ts : List Tok) (a : Bool) (name time : List ℕ) (next : List Tok) → ts ≡ word a 0 name ∷ mark false equals ∷ word false 0 time ∷ next
     → (v : Option ℕ × Option ℕ) (r : List Tok) → NoDate r → Left before after ts v r → Next before after name time next v r
 next_date before after ts a name time next e v r f h = next_is before after ts a name time next e v r f h.0 h.1 h.2
 
@@ -66,7 +67,7 @@ same_left : (before after new_before new_after : Option ℕ) (ts : List Tok) (v 
 same_left before after new_before new_after ts v r b a h = rw (b, a) h
 
 pub date_read : (before after : Option ℕ) (ts : List Tok) (a : Bool) (name time : List ℕ) (next : List Tok) (new_before new_after : Option ℕ)
-    → ts ≡ word a 0 name ∷ mark false 61 ∷ word false 0 time ∷ next → begins_spaced next ≡ true → AddsBound before after name time new_before new_after
+    → ts ≡ word a 0 name ∷ mark false equals ∷ word false 0 time ∷ next → begins_spaced next ≡ true → AddsBound before after name time new_before new_after
     → ((x y : Option ℕ) → AddsBound before after name time x y → (new_before ≡ x) × (new_after ≡ y))
     → Leads Ends (Left before after ts) (Left new_before new_after next)
 date_read before after ts a name time next new_before new_after e gap adds one = record {

@@ -4,6 +4,7 @@ use Rattle.std.specs.Prelude.{nat_le, nat_lt, if◌then◌else◌, IfSome}
 use Rattle.std.specs.List.{AllByRecursion, list_all}
 use Rattle.std.specs.Option.{option_map_or}
 use Rattle.std.proofs.lemmas.Bool.{and_parts, leb-true, ltb-true}
+use Rattle.sudo_words.specs.Bytes.{space}
 use Rattle.sudo_words.specs.Word.{is_name, is_host_name, is_alias_name, is_file_path, is_dir_path, is_arg}
 use Rattle.sudo_words.specs.Moment.{IsMoment}
 use Rattle.sudo_words.specs.Command.{IsHead, IsArgRule, cmnd_text, rule_of}
@@ -35,12 +36,12 @@ each_of p (b ∷ bs) h = let parts = and_parts (p b) (list_all p bs) h in (parts
 
 -- ---- tokens: a space before each that says so, and what ends the line
 
-abbrev space : Bool → List ℕ
-space b = if b then 32 ∷ [] else []
+abbrev gap : Bool → List ℕ
+gap b = if b then space ∷ [] else []
 
 abbrev pub bytes_of : List Tok → List ℕ → List ℕ
 bytes_of [] end = end
-bytes_of (t ∷ ts) end = space (is_spaced t) ++ (text_of t ++ bytes_of ts end)
+bytes_of (t ∷ ts) end = gap (is_spaced t) ++ (text_of t ++ bytes_of ts end)
 
 abbrev is_token : Tok → List ℕ → Bool
 is_token (word spaced n text) rest = nat_lt 0 (length text) && is_word_text text && not (goes_on rest)
@@ -61,11 +62,11 @@ a_token (word spaced n text) rest h =
     (ltb-true 0 (length text) more.0, more.1, not_true (goes_on rest) parts.1)
 a_token (mark spaced byte) rest h = h
 
-space_blank : (b : Bool) → Each is_blank (space b)
+space_blank : (b : Bool) → Each is_blank (gap b)
 space_blank true = (refl, tt)
 space_blank false = tt
 
-space_some : (b : Bool) → b ≡ is_some_blank (space b)
+space_some : (b : Bool) → b ≡ is_some_blank (gap b)
 space_some true = refl
 space_some false = refl
 
@@ -73,7 +74,7 @@ pub lexed : (ts : List Tok) (end : List ℕ) → are_tokens ts end ≡ true → 
 lexed [] end h = each_of is_blank end h
 lexed (t ∷ ts) end h =
     let parts = and_parts (is_token t (bytes_of ts end)) (are_tokens ts end) h in
-    (space (is_spaced t), bytes_of ts end, space_blank (is_spaced t), space_some (is_spaced t), a_token t (bytes_of ts end) parts.0, refl, lexed ts end parts.1)
+    (gap (is_spaced t), bytes_of ts end, space_blank (is_spaced t), space_some (is_spaced t), a_token t (bytes_of ts end) parts.0, refl, lexed ts end parts.1)
 
 -- the same, with what more there is
 abbrev pub front_tokens : List Tok → List ℕ → Bool
@@ -84,7 +85,7 @@ pub lexed_more : (ts : List Tok) (end : List ℕ) (us : List Tok) → front_toke
 lexed_more [] end us h more = more
 lexed_more (t ∷ ts) end us h more =
     let parts = and_parts (is_token t (bytes_of ts end)) (front_tokens ts end) h in
-    (space (is_spaced t), bytes_of ts end, space_blank (is_spaced t), space_some (is_spaced t), a_token t (bytes_of ts end) parts.0, refl, lexed_more ts end us parts.1 more)
+    (gap (is_spaced t), bytes_of ts end, space_blank (is_spaced t), space_some (is_spaced t), a_token t (bytes_of ts end) parts.0, refl, lexed_more ts end us parts.1 more)
 
 -- ---- lines
 

@@ -4,6 +4,7 @@ use Rattle.std.specs.Prelude.{codes}
 use Rattle.std.proofs.lemmas.Bool.{false≢true, or_from}
 use Rattle.std.proofs.lemmas.Grind.{flat_map-append}
 use Rattle.std.proofs.lemmas.List.{map-append}
+use Rattle.sudo_words.specs.Bytes.{space, equals, comma, colon, backslash}
 use Rattle.sudo_words.specs.Word.{is_name, is_host_name}
 use Rattle.sudo_words.specs.Command.{is_escaped}
 use Rattle.sudo_policy.specs.declared.entry.Signed.{Signed}
@@ -33,22 +34,22 @@ spaced [] = []
 spaced (word a n w ∷ ts) = word true n w ∷ ts
 spaced (mark a m ∷ ts) = mark true m ∷ ts
 
-lex_spaced : (bytes : List ℕ) (ts : List Tok) → Lexes bytes ts → Lexes (32 ∷ bytes) (spaced ts)
+lex_spaced : (bytes : List ℕ) (ts : List Tok) → Lexes bytes ts → Lexes (space ∷ bytes) (spaced ts)
 lex_spaced bytes [] h = (refl, h)
-lex_spaced bytes (word a n w ∷ ts) (blanks, rest, each, is, tok, whole, more) = (32 ∷ blanks, rest, (refl, each), refl, tok, ap (λ (x : List ℕ). 32 ∷ x) whole, more)
-lex_spaced bytes (mark a m ∷ ts) (blanks, rest, each, is, tok, whole, more) = (32 ∷ blanks, rest, (refl, each), refl, tok, ap (λ (x : List ℕ). 32 ∷ x) whole, more)
+lex_spaced bytes (word a n w ∷ ts) (blanks, rest, each, is, tok, whole, more) = (space ∷ blanks, rest, (refl, each), refl, tok, ap (λ (x : List ℕ). space ∷ x) whole, more)
+lex_spaced bytes (mark a m ∷ ts) (blanks, rest, each, is, tok, whole, more) = (space ∷ blanks, rest, (refl, each), refl, tok, ap (λ (x : List ℕ). space ∷ x) whole, more)
 
 and_last : (a : Bool) → (a && false) ≡ false
 and_last true = refl
 and_last false = refl
 
-ends_blank : (rest v : List ℕ) → goes_on rest ≡ false → goes_on (rest ++ 32 ∷ v) ≡ false
+ends_blank : (rest v : List ℕ) → goes_on rest ≡ false → goes_on (rest ++ space ∷ v) ≡ false
 ends_blank [] [] h = refl
 ends_blank [] (c ∷ v) h = refl
-ends_blank (b ∷ []) v h = or_from (is_word_byte b) ((b == 92) && is_escaped 32) h (and_last (b == 92))
+ends_blank (b ∷ []) v h = or_from (is_word_byte b) ((b == backslash) && is_escaped space) h (and_last (b == backslash))
 ends_blank (b ∷ c ∷ rest) v h = h
 
-tok_behind : (t : Tok) (rest v : List ℕ) → IsTok t rest → IsTok t (rest ++ 32 ∷ v)
+tok_behind : (t : Tok) (rest v : List ℕ) → IsTok t rest → IsTok t (rest ++ space ∷ v)
 tok_behind (word a n w) rest v h = (h.0, h.1, ends_blank rest v h.2)
 tok_behind (mark a m) rest v h = h
 
@@ -56,8 +57,8 @@ some_behind : (u : List ℕ) (b : ℕ) (bs : List ℕ) → is_some_blank (u ++ b
 some_behind [] b bs = refl
 some_behind (c ∷ u) b bs = refl
 
-blanks_before : (u v : List ℕ) (us : List Tok) → Each is_blank u → Lexes (32 ∷ v) us → Lexes (u ++ 32 ∷ v) us
-blanks_before u v [] each h = each_append is_blank u (32 ∷ v) each h
+blanks_before : (u v : List ℕ) (us : List Tok) → Each is_blank u → Lexes (space ∷ v) us → Lexes (u ++ space ∷ v) us
+blanks_before u v [] each h = each_append is_blank u (space ∷ v) each h
 blanks_before u v (t ∷ us) each ([], rest, blank, is, tok, whole, more) =
     absurd (false≢true (sym (subst (Stops is_blank) (sym whole) (starts t rest tok))))
 blanks_before u v (t ∷ us) each (b ∷ bs, rest, blank, is, tok, whole, more) = (
@@ -70,15 +71,15 @@ blanks_before u v (t ∷ us) each (b ∷ bs, rest, blank, is, tok, whole, more) 
   more,
 )
 
-lex_behind : (u v : List ℕ) (ts us : List Tok) → Lexes u ts → Lexes (32 ∷ v) us → Lexes (u ++ 32 ∷ v) (ts ++ us)
+lex_behind : (u v : List ℕ) (ts us : List Tok) → Lexes u ts → Lexes (space ∷ v) us → Lexes (u ++ space ∷ v) (ts ++ us)
 lex_behind u v [] us h k = blanks_before u v us h k
 lex_behind u v (t ∷ ts) us (blanks, rest, each, is, tok, whole, more) k = (
   blanks,
-  rest ++ 32 ∷ v,
+  rest ++ space ∷ v,
   each,
   is,
   tok_behind t rest v tok,
-  ap (λ (x : List ℕ). x ++ 32 ∷ v) whole ∙ append_assoc blanks (text_of t ++ rest) (32 ∷ v) ∙ ap (λ (x : List ℕ). blanks ++ x) (append_assoc (text_of t) rest (32 ∷ v)),
+  ap (λ (x : List ℕ). x ++ space ∷ v) whole ∙ append_assoc blanks (text_of t ++ rest) (space ∷ v) ∙ ap (λ (x : List ℕ). blanks ++ x) (append_assoc (text_of t) rest (space ∷ v)),
   lex_behind rest v ts us more k,
 )
 
@@ -117,7 +118,7 @@ begins_grows (t ∷ ts) us h = h
 runas_grows : Grows SpellsRunas
 runas_grows ts None rest us h = ap (λ (x : List Tok). x ++ us) h
 runas_grows ts (Some runas) rest us (a, b, next, mid, e, users, close) =
-    (a, b, next ++ us, mid ++ us, ap (λ (x : List Tok). x ++ us) e, listed_grows 44 (SpellsItem is_name) (item_grows is_name) next runas mid us users, ap (λ (x : List Tok). x ++ us) close)
+    (a, b, next ++ us, mid ++ us, ap (λ (x : List Tok). x ++ us) e, listed_grows comma (SpellsItem is_name) (item_grows is_name) next runas mid us users, ap (λ (x : List Tok). x ++ us) close)
 
 dates_grows : Grows SpellsDates
 dates_grows ts [] rest us h = ap (λ (x : List Tok). x ++ us) h
@@ -147,8 +148,8 @@ part_grows : Grows SpellsPart
 part_grows ts p rest us g = record {
   spaced = g.spaced;
   next = g.next ++ us;
-  hosts = listed_grows 44 (SpellsItem is_host_name) (item_grows is_host_name) ts p.hosts (mark g.spaced 61 ∷ g.next) us g.hosts;
-  specs = listed_grows 44 SpellsSpec spec_grows g.next p.specs rest us g.specs;
+  hosts = listed_grows comma (SpellsItem is_host_name) (item_grows is_host_name) ts p.hosts (mark g.spaced equals ∷ g.next) us g.hosts;
+  specs = listed_grows comma SpellsSpec spec_grows g.next p.specs rest us g.specs;
 }
 
 def_grows : {X : Type 0} (Is : List Tok → Signed X → List Tok → Type 0) → Grows Is → Grows (SpellsDef Is)
@@ -158,7 +159,7 @@ def_grows Is grows ts d rest us g = record {
   next = g.next ++ us;
   toks = ap (λ (x : List Tok). x ++ us) g.toks;
   name = g.name;
-  list = listed_grows 44 Is grows g.next d.list rest us g.list;
+  list = listed_grows comma Is grows g.next d.list rest us g.list;
 }
 
 -- ---- one list behind another
@@ -203,10 +204,10 @@ part_frees = record {
   spaces = λ ts p rest g. record {
     spaced = g.spaced;
     next = g.next;
-    hosts = listed_spaces 44 (SpellsItem is_host_name) (item_frees is_host_name) ts p.hosts (mark g.spaced 61 ∷ g.next) g.hosts;
+    hosts = listed_spaces comma (SpellsItem is_host_name) (item_frees is_host_name) ts p.hosts (mark g.spaced equals ∷ g.next) g.hosts;
     specs = g.specs;
   };
-  some = λ p rest g. listed_some 44 (SpellsItem is_host_name) (item_frees is_host_name) p.hosts (mark g.spaced 61 ∷ g.next) g.hosts;
+  some = λ p rest g. listed_some comma (SpellsItem is_host_name) (item_frees is_host_name) p.hosts (mark g.spaced equals ∷ g.next) g.hosts;
 }
 
 def_frees : {X : Type 0} (Is : List Tok → Signed X → List Tok → Type 0) → Frees (SpellsDef Is)
@@ -224,36 +225,36 @@ begins m Is f (mark a k ∷ ts) xs rest h = refl
 
 record IsTail {X : Type 0} (Is : List Tok → X → List Tok → Type 0) (bytes : List ℕ) (xs : List X) : Type 0 where
   toks : List Tok
-  lexes : Lexes (32 ∷ bytes) toks
+  lexes : Lexes (space ∷ bytes) toks
   begins_so : begins_spaced toks ≡ true
-  listed : Listed 58 Is toks xs []
+  listed : Listed colon Is toks xs []
 
-tail_of : {X : Type 0} (Is : List Tok → X → List Tok → Type 0) → Frees Is → (bytes : List ℕ) (ts : List Tok) (xs : List X) → Lexes bytes ts → Listed 58 Is ts xs [] → IsTail Is bytes xs
+tail_of : {X : Type 0} (Is : List Tok → X → List Tok → Type 0) → Frees Is → (bytes : List ℕ) (ts : List Tok) (xs : List X) → Lexes bytes ts → Listed colon Is ts xs [] → IsTail Is bytes xs
 tail_of Is f bytes ts xs lexes listed = record {
   toks = spaced ts;
   lexes = lex_spaced bytes ts lexes;
-  begins_so = begins 58 Is f ts xs [] listed;
-  listed = listed_spaces 58 Is f ts xs [] listed;
+  begins_so = begins colon Is f ts xs [] listed;
+  listed = listed_spaces colon Is f ts xs [] listed;
 }
 
 both_tails : {X : Type 0} (Is : List Tok → X → List Tok → Type 0) → Grows Is → (p q : List ℕ) (xs ys : List X) → IsTail Is p xs → IsTail Is q ys → IsTail Is (p ++ codes " : " ++ q) (xs ++ ys)
 both_tails Is grows p q xs ys a b = record {
-  toks = a.toks ++ mark true 58 ∷ b.toks;
+  toks = a.toks ++ mark true colon ∷ b.toks;
   lexes =
-      subst (λ (x : List ℕ). Lexes (32 ∷ x) (a.toks ++ mark true 58 ∷ b.toks)) (sym (append_assoc p (codes " : ") q))
-      (lex_behind (32 ∷ p) (58 ∷ 32 ∷ q) a.toks (mark true 58 ∷ b.toks) a.lexes (32 ∷ [], 32 ∷ q, (refl, tt), refl, refl, refl, b.lexes));
-  begins_so = begins_grows a.toks (mark true 58 ∷ b.toks) a.begins_so;
-  listed = listed_append 58 Is true (a.toks ++ mark true 58 ∷ b.toks) b.toks xs ys [] (listed_grows 58 Is grows a.toks xs [] (mark true 58 ∷ b.toks) a.listed) b.listed;
+      subst (λ (x : List ℕ). Lexes (space ∷ x) (a.toks ++ mark true colon ∷ b.toks)) (sym (append_assoc p (codes " : ") q))
+      (lex_behind (space ∷ p) (colon ∷ space ∷ q) a.toks (mark true colon ∷ b.toks) a.lexes (space ∷ [], space ∷ q, (refl, tt), refl, refl, refl, b.lexes));
+  begins_so = begins_grows a.toks (mark true colon ∷ b.toks) a.begins_so;
+  listed = listed_append colon Is true (a.toks ++ mark true colon ∷ b.toks) b.toks xs ys [] (listed_grows colon Is grows a.toks xs [] (mark true colon ∷ b.toks) a.listed) b.listed;
 }
 
 -- ---- lines
 
-both : (begin p q : List ℕ) (first second whole : List Entry) → SpellsLine (begin ++ 32 ∷ p) first → SpellsLine (begin ++ 32 ∷ q) second → SpellsLine (begin ++ 32 ∷ (p ++ codes " : " ++ q)) whole
+both : (begin p q : List ℕ) (first second whole : List Entry) → SpellsLine (begin ++ space ∷ p) first → SpellsLine (begin ++ space ∷ q) second → SpellsLine (begin ++ space ∷ (p ++ codes " : " ++ q)) whole
     → whole ≡ first ++ second → SpellsBoth begin p q
 both begin p q first second whole one two three same a b of_a of_b =
-    let is_a = line_one (begin ++ 32 ∷ p) first a one of_a in
-    let is_b = line_one (begin ++ 32 ∷ q) second b two of_b in
-    subst (SpellsLine (begin ++ 32 ∷ (p ++ codes " : " ++ q)))
+    let is_a = line_one (begin ++ space ∷ p) first a one of_a in
+    let is_b = line_one (begin ++ space ∷ q) second b two of_b in
+    subst (SpellsLine (begin ++ space ∷ (p ++ codes " : " ++ q)))
     (same ∙ ap (λ (x : List Entry). x ++ second) is_a ∙ ap (λ (x : List Entry). a ++ x) is_b) three
 
 some_entries : (ts : List Tok) (line : Line) → (ts ≡ [] → ⊥) → SpellsTree ts line → SpellsEntries ts (entries_of line)
@@ -261,15 +262,15 @@ some_entries [] line some h = absurd (some refl)
 some_entries (t ∷ ts) line some h = (line, h, refl)
 
 users_some : (ts us : List Tok) (users : List (Signed (Item (List ℕ)))) (rest : List Tok) → Users ts users rest → ts ++ us ≡ [] → ⊥
-users_some [] us users rest h e = listed_some 44 (SpellsItem is_name) (item_frees is_name) users rest h
+users_some [] us users rest h e = listed_some comma (SpellsItem is_name) (item_frees is_name) users rest h
 users_some (t ∷ ts) us users rest h e = cc
 
-rights_line : (u p : List ℕ) (users : List (Signed (Item (List ℕ)))) (parts : List Part) → AreUsers u users → IsTail SpellsPart p parts → SpellsLine (u ++ 32 ∷ p) (entries_of (lines.Rights users parts))
+rights_line : (u p : List ℕ) (users : List (Signed (Item (List ℕ)))) (parts : List Part) → AreUsers u users → IsTail SpellsPart p parts → SpellsLine (u ++ space ∷ p) (entries_of (lines.Rights users parts))
 rights_line u p users parts (ts, lexes, are) t = (
   ts ++ t.toks,
   lex_behind u p ts t.toks lexes t.lexes,
   some_entries (ts ++ t.toks) (lines.Rights users parts) (users_some ts t.toks users [] are)
-      (t.toks, listed_grows 44 (SpellsItem is_name) (item_grows is_name) ts users [] t.toks are, t.begins_so, t.listed),
+      (t.toks, listed_grows comma (SpellsItem is_name) (item_grows is_name) ts users [] t.toks are, t.begins_so, t.listed),
 )
 
 pub parts_apart : (u p q : List ℕ) (users : List (Signed (Item (List ℕ)))) (ps qs : List Part) → AreUsers u users → AreParts p ps → AreParts q qs → SpellsBoth u p q
@@ -287,7 +288,7 @@ record IsKind {X : Type 0} (kind : List ℕ) (Is : List Tok → Signed X → Lis
   are : (defs : List (Definition X)) → entries_of (line defs) ≡ map entry defs
 
 defs_line : {X : Type 0} (kind : List ℕ) (Is : List Tok → Signed X → List Tok → Type 0) (line : List (Definition X) → Line) (entry : Definition X → Entry) → IsKind kind Is line entry
-    → (d : List ℕ) (defs : List (Definition X)) → IsTail (SpellsDef Is) d defs → SpellsLine (kind ++ 32 ∷ d) (entries_of (line defs))
+    → (d : List ℕ) (defs : List (Definition X)) → IsTail (SpellsDef Is) d defs → SpellsLine (kind ++ space ∷ d) (entries_of (line defs))
 defs_line kind Is line entry k d defs t = (
   word false 0 kind ∷ t.toks,
   lex_behind kind d (word false 0 kind ∷ []) t.toks k.lexes t.lexes,

@@ -3,6 +3,7 @@ use Rattle.std.proofs.Common.{Bor, eqb, ◌⊎◌, ◌≡◌, ℕ, zero, suc, �
 use Rattle.std.proofs.lemmas.Bool.{false≢true}
 use Rattle.std.proofs.lemmas.List.{append-nil, length-append, drop_all, length-map}
 use Rattle.std.proofs.lemmas.List.Splits.{length-slice_split}
+use Rattle.sudo_words.specs.Bytes.{space, newline}
 use Rattle.sudo_policy.specs.declared.entry.Entry.{Entry}
 use Rattle.sudo_policy.specs.Span.{Each}
 use Rattle.sudo_policy.specs.Lex.{is_text_byte}
@@ -20,7 +21,7 @@ use Rattle.sudo_policy.proofs.LineTexts.{body_one, front_one, body_or_front}
 behind_first : (front line : List ℕ) (rest joined : List (List ℕ)) → JoinedBehind front (line ∷ rest) joined
     → (body : List ℕ) × (more : List (List ℕ)) × (joined ≡ (front ++ body) ∷ more) × Joined (line ∷ rest) (body ∷ more)
 behind_first front line rest joined (inl (none, inl (body, more, is, e, j))) = (body, more, rw none e, inl (body, more, is, refl, j))
-behind_first front line rest joined (inl (none, inr (part, body, more, is, e, j))) = (part ++ 32 ∷ body, more, rw none e, inr (part, body, more, is, refl, j))
+behind_first front line rest joined (inl (none, inr (part, body, more, is, e, j))) = (part ++ space ∷ body, more, rw none e, inr (part, body, more, is, refl, j))
 behind_first front line rest joined (inr (some, body, more, e, j)) = (body, more, e, j)
 
 first_behind : (front line : List ℕ) (rest : List (List ℕ)) (body : List ℕ) (more : List (List ℕ)) → Joined (line ∷ rest) (body ∷ more) → JoinedBehind front (line ∷ rest) ((front ++ body) ∷ more)
@@ -78,33 +79,33 @@ ends_stuck front line body rest out P is then es s policy =
 -- ---- a line that goes on
 
 goes_on_first : (line part : List ℕ) (rest : List (List ℕ)) (first : List ℕ) (more : List (List ℕ)) → IsContinued line part → Joined (line ∷ rest) (first ∷ more)
-    → (body : List ℕ) × (first ≡ part ++ 32 ∷ body) × Joined rest (body ∷ more)
+    → (body : List ℕ) × (first ≡ part ++ space ∷ body) × Joined rest (body ∷ more)
 goes_on_first line part rest first more is (inl (b, m, is_b, e, j)) = absurd (body_or_front line b part is_b is)
 goes_on_first line part rest first more is (inr (p, b, m, is_p, e, j)) =
     let one = front_one line p part is_p is in
-    let same : first ≡ p ++ 32 ∷ b = cc in
+    let same : first ≡ p ++ space ∷ b = cc in
     let others : m ≡ more = cc in
-    (b, same ∙ ap (λ (q : List ℕ). q ++ 32 ∷ b) one, subst (λ (ls : List (List ℕ)). Joined rest (b ∷ ls)) others j)
+    (b, same ∙ ap (λ (q : List ℕ). q ++ space ∷ b) one, subst (λ (ls : List (List ℕ)). Joined rest (b ∷ ls)) others j)
 
-some_front : (front part : List ℕ) → 0 < length ((front ++ part) ++ 32 ∷ [])
-some_front front part = omega (arith, length-append (front ++ part) (32 ∷ []))
+some_front : (front part : List ℕ) → 0 < length ((front ++ part) ++ space ∷ [])
+some_front front part = omega (arith, length-append (front ++ part) (space ∷ []))
 
-joined_front : (front part body : List ℕ) → front ++ (part ++ 32 ∷ body) ≡ ((front ++ part) ++ 32 ∷ []) ++ body
-joined_front front part body = sym (append_assoc (front ++ part) (32 ∷ []) body ∙ append_assoc front part (32 ∷ body))
+joined_front : (front part body : List ℕ) → front ++ (part ++ space ∷ body) ≡ ((front ++ part) ++ space ∷ []) ++ body
+joined_front front part body = sym (append_assoc (front ++ part) (space ∷ []) body ∙ append_assoc front part (space ∷ body))
 
-goes_on : (front line part : List ℕ) (rest joined : List (List ℕ)) → IsContinued line part → JoinedBehind front (line ∷ rest) joined → JoinedBehind ((front ++ part) ++ 32 ∷ []) rest joined
+goes_on : (front line part : List ℕ) (rest joined : List (List ℕ)) → IsContinued line part → JoinedBehind front (line ∷ rest) joined → JoinedBehind ((front ++ part) ++ space ∷ []) rest joined
 goes_on front line part rest joined is j =
     let first = behind_first front line rest joined j in
     let on = goes_on_first line part rest first.0 first.1 is first.3 in
     inr (some_front front part, on.0, first.1, first.2 ∙ ap (λ (line : List ℕ). line ∷ first.1) (ap (λ (b : List ℕ). front ++ b) on.1 ∙ joined_front front part on.0), on.2)
 
-came_from : (front line part : List ℕ) (rest joined : List (List ℕ)) → IsContinued line part → JoinedBehind ((front ++ part) ++ 32 ∷ []) rest joined → JoinedBehind front (line ∷ rest) joined
+came_from : (front line part : List ℕ) (rest joined : List (List ℕ)) → IsContinued line part → JoinedBehind ((front ++ part) ++ space ∷ []) rest joined → JoinedBehind front (line ∷ rest) joined
 came_from front line part rest joined is (inl (none, j)) = absurd (omega (arith, some_front front part, ap length none))
 came_from front line part rest joined is (inr (some, body, more, e, j)) =
     subst (JoinedBehind front (line ∷ rest)) (ap (λ (line : List ℕ). line ∷ more) (joined_front front part body) ∙ sym e)
-    (first_behind front line rest (part ++ 32 ∷ body) more (inr (part, body, more, is, refl, j)))
+    (first_behind front line rest (part ++ space ∷ body) more (inr (part, body, more, is, refl, j)))
 
-pub leads_on : (front line part : List ℕ) (rest : List (List ℕ)) → IsContinued line part → Leads front (line ∷ rest) [] ((front ++ part) ++ 32 ∷ []) rest
+pub leads_on : (front line part : List ℕ) (rest : List (List ℕ)) → IsContinued line part → Leads front (line ∷ rest) [] ((front ++ part) ++ space ∷ []) rest
 leads_on front line part rest is = record {
   adds = λ es (joined, j, s). (joined, came_from front line part rest joined is j, s);
   only = λ es (joined, j, s). (es, refl, (joined, goes_on front line part rest joined is j, s));
@@ -181,4 +182,4 @@ no_byte_fault text A B short bytes (inr (b, (front, rest, x, e, out))) = false�
 
 pub line_in : (text : List ℕ) (lines : List (Bor (List ℕ))) (line : ℕ) → map (λ l. l.now) lines ≡ lines_of text → (1 ≤ line) × (line ≤ length lines) → IsLineOf text line
 line_in text lines line e h =
-    (h.0, omega (arith, h.1, ap length e, length-map lines (λ (l : Bor (List ℕ)). l.now), length-slice_split (λ b. eqb b 10) text))
+    (h.0, omega (arith, h.1, ap length e, length-map lines (λ (l : Bor (List ℕ)). l.now), length-slice_split (λ b. eqb b newline) text))

@@ -3,6 +3,7 @@ use Rattle.std.proofs.Common.{◌≡◌, ℕ, Bool, true, false, List, [], ◌�
 use Rattle.std.specs.Prelude.{◌==◌}
 use Rattle.std.proofs.lemmas.Bool.{false≢true, eqb-true}
 use Rattle.std.proofs.lemmas.List.{append-nil}
+use Rattle.sudo_words.specs.Bytes.{comma, colon}
 use Rattle.sudo_policy.specs.declared.entry.Signed.{Signed}
 use Rattle.sudo_policy.specs.declared.entry.Item.{Item}
 use Rattle.sudo_policy.specs.declared.token.Token.{Token}
@@ -126,18 +127,18 @@ behind_first [] = []
 behind_first (t ∷ ts) = ts
 
 pub defined_behind : {X : Type 0} {kind : List ℕ} (Is : List Tok → X → List Tok → Type 0) {ts : List Tok} {a : Bool} (next : List Tok) → ts ≡ word a 0 kind ∷ next
-    → (defs : List X) → Defines kind Is ts defs → (begins_spaced next ≡ true) × Listed 58 Is next defs []
+    → (defs : List X) → Defines kind Is ts defs → (begins_spaced next ≡ true) × Listed colon Is next defs []
 defined_behind Is next e defs (b, behind, is, spaced, list) =
     let same : behind ≡ next = ap behind_first (sym is ∙ e) in
-    (subst (λ (r : List Tok). begins_spaced r ≡ true) same spaced, subst (λ (r : List Tok). Listed 58 Is r defs []) same list)
+    (subst (λ (r : List Tok). begins_spaced r ≡ true) same spaced, subst (λ (r : List Tok). Listed colon Is r defs []) same list)
 
 -- ---- parts of a user specification
 
-hosts_begin : (ts : List Tok) (hosts : List (Signed (Item (List ℕ)))) (rest : List Tok) → Hosts ts hosts rest → NoMark 44 ts
+hosts_begin : (ts : List Tok) (hosts : List (Signed (Item (List ℕ)))) (rest : List Tok) → Hosts ts hosts rest → NoMark comma ts
 hosts_begin ts [] rest h = absurd h
-hosts_begin ts (s ∷ hosts) rest h = subst (NoMark 44) (sym h.1.toks) tt
+hosts_begin ts (s ∷ hosts) rest h = subst (NoMark comma) (sym h.1.toks) tt
 
 -- users are followed by no `,`: a part begins with a word
-pub no_comma : (next : List Tok) (parts : List Part) → Listed 58 SpellsPart next parts [] → NoMark 44 next
+pub no_comma : (next : List Tok) (parts : List Part) → Listed colon SpellsPart next parts [] → NoMark comma next
 no_comma next [] h = absurd h
 no_comma next (p ∷ parts) h = hosts_begin next p.hosts _ h.1.hosts

@@ -3,6 +3,7 @@ use Rattle.std.proofs.Common.{◌≡◌, ℕ, Bool, true, false, List, [], ◌�
 use Rattle.std.specs.Prelude.{codes}
 use Rattle.std.specs.List.{list_all}
 use Rattle.std.proofs.lemmas.Bool.{false≢true}
+use Rattle.sudo_words.specs.Bytes.{equals, comma, colon, bang}
 use Rattle.sudo_words.specs.Word.{is_name, is_host_name, is_file_path, is_reserved}
 use Rattle.sudo_words.specs.declared.cmnd.Cmnd.TheVariants as commands
 use Rattle.sudo_words.specs.declared.cmnd.ArgRule.TheVariants as rules
@@ -47,7 +48,7 @@ blank_text = codes "! ann db1 = ALL"
 
 blank_lexes : NoLexing blank_text
 blank_lexes =
-    lex_none blank_text [] blank_text (codes "!") (codes " ann db1 = ALL") (record { whole = refl; each = tt; stops = refl }) 33 (codes " ann db1 = ALL") refl refl
+    lex_none blank_text [] blank_text (codes "!") (codes " ann db1 = ALL") (record { whole = refl; each = tt; stops = refl }) bang (codes " ann db1 = ALL") refl refl
     (record { whole = refl; each = (refl, tt); stops = refl }) refl
 
 pub blank_none : SpellsNone blank_text
@@ -105,20 +106,20 @@ same_mark : (a b : Bool) (m k : ℕ) (ts us : List Tok) → mark a m ∷ ts ≡ 
 same_mark a b m k ts us e = cc
 
 users_end : (t : Tok) (b : Bool) (n : ℕ) (w : List ℕ) (rest : List Tok) (xs : List (Signed (Item (List ℕ)))) (next : List Tok)
-    → Listed 44 (SpellsItem is_name) (t ∷ word b n w ∷ rest) xs next → next ≡ word b n w ∷ rest
+    → Listed comma (SpellsItem is_name) (t ∷ word b n w ∷ rest) xs next → next ≡ word b n w ∷ rest
 users_end t b n w rest [] next h = absurd h
 users_end t b n w rest (x ∷ []) next h = let is = h.1.toks in let behind = h.2 in cc
 users_end t b n w rest (x ∷ y ∷ xs) next h = let is = h.1.toks in let behind = h.2.3 in absurd (cc)
 
 hosts_end : (t : Tok) (b c : Bool) (rest : List Tok) (xs : List (Signed (Item (List ℕ)))) (next : List Tok)
-    → Listed 44 (SpellsItem is_host_name) (t ∷ mark b 61 ∷ rest) xs (mark c 61 ∷ next) → next ≡ rest
+    → Listed comma (SpellsItem is_host_name) (t ∷ mark b equals ∷ rest) xs (mark c equals ∷ next) → next ≡ rest
 hosts_end t b c rest [] next h = absurd h
 hosts_end t b c rest (x ∷ []) next h = let is = h.1.toks in let behind = h.2 in cc
 hosts_end t b c rest (x ∷ y ∷ xs) next h =
     let is = h.1.toks in
     let behind = h.2.3 in
-    let marks : mark b 61 ∷ rest ≡ mark h.2.0 44 ∷ h.2.1 = cc in
-    absurd (omega (arith, same_mark b h.2.0 61 44 rest h.2.1 marks))
+    let marks : mark b equals ∷ rest ≡ mark h.2.0 comma ∷ h.2.1 = cc in
+    absurd (omega (arith, same_mark b h.2.0 equals comma rest h.2.1 marks))
 
 no_runas : (t : Bool) (n : ℕ) (w : List ℕ) (ts : List Tok) (o : Option (List (Signed (Item (List ℕ))))) (behind : List Tok) → SpellsRunas (word t n w ∷ ts) o behind → behind ≡ word t n w ∷ ts
 no_runas t n w ts None behind h = sym h
@@ -144,11 +145,11 @@ record Behind (rest : List Tok) : Type 0 where
   specs : List Spec
   mid : List Tok
   parts : List Part
-  more : More 44 SpellsSpec rest specs mid
-  last : More 58 SpellsPart mid parts []
+  more : More comma SpellsSpec rest specs mid
+  last : More colon SpellsPart mid parts []
 
 no_word : (b : Bool) (n : ℕ) (w : List ℕ) (ts mid : List Tok) (specs : List Spec) (parts : List Part)
-    → More 44 SpellsSpec (word b n w ∷ ts) specs mid → More 58 SpellsPart mid parts [] → ⊥
+    → More comma SpellsSpec (word b n w ∷ ts) specs mid → More colon SpellsPart mid parts [] → ⊥
 no_word b n w ts mid [] [] h k = cc
 no_word b n w ts mid [] (p ∷ parts) h k = let is = k.3 in cc
 no_word b n w ts mid (s ∷ specs) parts h k = let is = h.3 in cc
@@ -162,7 +163,7 @@ record HasArgs (c : List ℕ) (tail : List Tok) : Type 0 where
   behind : Behind rest
 
 none_behind : (a : List ℕ) (tail rest : List Tok) → word true 0 a ∷ tail ≡ rest → Behind rest → ⊥
-none_behind a tail rest e k = no_word true 0 a tail k.mid k.specs k.parts (subst (λ (ts : List Tok). More 44 SpellsSpec ts k.specs k.mid) (sym e) k.more) k.last
+none_behind a tail rest e k = no_word true 0 a tail k.mid k.specs k.parts (subst (λ (ts : List Tok). More comma SpellsSpec ts k.specs k.mid) (sym e) k.more) k.last
 
 args_are : (c a : List ℕ) (tail : List Tok) (x : CmndItem) (rest : List Tok) → IsCmndItem x → c ≡ head_of x → word true 0 a ∷ tail ≡ args_of x ++ rest → Behind rest → HasArgs c tail
 args_are c a tail (cmnds.Alias name) rest lawful head e k = absurd (none_behind a tail rest e k)
@@ -180,7 +181,7 @@ args_are c a tail (cmnds.Cmnd (commands.Path file (rules.Exactly (first ∷ args
 }
 
 specs_args : (c a : List ℕ) (tail : List Tok) (specs : List Spec) (mid : List Tok) (parts : List Part)
-    → Listed 44 SpellsSpec (Path2 c a tail) specs mid → More 58 SpellsPart mid parts [] → HasArgs c tail
+    → Listed comma SpellsSpec (Path2 c a tail) specs mid → More colon SpellsPart mid parts [] → HasArgs c tail
 specs_args c a tail [] mid parts h k = absurd h
 specs_args c a tail (s ∷ specs) mid parts h k =
     let cmnd = spec_cmnd c a tail s h.0 h.1 in
@@ -189,19 +190,19 @@ specs_args c a tail (s ∷ specs) mid parts h k =
     let args : word true 0 a ∷ tail ≡ args_of s.cmnd.item ++ h.0 = cc in
     args_are c a tail s.cmnd.item h.0 cmnd.item head args (record { specs = specs; mid = mid; parts = parts; more = h.2; last = k })
 
-parts_args : (t : Tok) (b : Bool) (c a : List ℕ) (tail : List Tok) (parts : List Part) → Listed 58 SpellsPart (t ∷ mark b 61 ∷ Path2 c a tail) parts [] → HasArgs c tail
+parts_args : (t : Tok) (b : Bool) (c a : List ℕ) (tail : List Tok) (parts : List Part) → Listed colon SpellsPart (t ∷ mark b equals ∷ Path2 c a tail) parts [] → HasArgs c tail
 parts_args t b c a tail [] h = absurd h
 parts_args t b c a tail (p ∷ parts) h =
     let next = hosts_end t b h.1.spaced (Path2 c a tail) p.hosts h.1.next h.1.hosts in
-    specs_args c a tail p.specs h.0 parts (subst (λ (ts : List Tok). Listed 44 SpellsSpec ts p.specs h.0) next h.1.specs) h.2
+    specs_args c a tail p.specs h.0 parts (subst (λ (ts : List Tok). Listed comma SpellsSpec ts p.specs h.0) next h.1.specs) h.2
 
 abbrev Begun : List ℕ → List ℕ → List ℕ → List ℕ → List Tok → List Tok
-Begun u h c a tail = word false 0 u ∷ word true 0 h ∷ mark true 61 ∷ Path2 c a tail
+Begun u h c a tail = word false 0 u ∷ word true 0 h ∷ mark true equals ∷ Path2 c a tail
 
 rights_args : (u h c a : List ℕ) (tail : List Tok) (users : List (Signed (Item (List ℕ)))) (parts : List Part) → SpellsRights (Begun u h c a tail) users parts → HasArgs c tail
 rights_args u h c a tail users parts g =
-    let next = users_end (word false 0 u) true 0 h (mark true 61 ∷ Path2 c a tail) users g.0 g.1 in
-    parts_args (word true 0 h) true c a tail parts (subst (λ (ts : List Tok). Listed 58 SpellsPart ts parts []) next g.3)
+    let next = users_end (word false 0 u) true 0 h (mark true equals ∷ Path2 c a tail) users g.0 g.1 in
+    parts_args (word true 0 h) true c a tail parts (subst (λ (ts : List Tok). Listed colon SpellsPart ts parts []) next g.3)
 
 not_kind : (u kind : List ℕ) (rest next : List Tok) (b : Bool) → length u ≡ 3 → 10 ≤ length kind → word false 0 u ∷ rest ≡ word b 0 kind ∷ next → ⊥
 not_kind u kind rest next b short long e =
@@ -234,26 +235,26 @@ dir_none es s =
 
 -- ---- a `:` without a backslash
 
-hosts_missing : (b : Bool) (w : List ℕ) (hosts : List (Signed (Item (List ℕ)))) (c : Bool) (next : List Tok) → Listed 44 (SpellsItem is_host_name) (word b 0 w ∷ []) hosts (mark c 61 ∷ next) → ⊥
+hosts_missing : (b : Bool) (w : List ℕ) (hosts : List (Signed (Item (List ℕ)))) (c : Bool) (next : List Tok) → Listed comma (SpellsItem is_host_name) (word b 0 w ∷ []) hosts (mark c equals ∷ next) → ⊥
 hosts_missing b w [] c next h = h
 hosts_missing b w (x ∷ []) c next h = let is = h.1.toks in let behind = h.2 in cc
 hosts_missing b w (x ∷ y ∷ xs) c next h = let is = h.1.toks in let behind = h.2.3 in cc
 
 part_missing : (b : Bool) (w : List ℕ) (ts mid : List Tok) (p : Part) → ts ≡ word b 0 w ∷ [] → SpellsPart ts p mid → ⊥
 part_missing b w ts mid p e h =
-    hosts_missing b w p.hosts h.spaced h.next (subst (λ (x : List Tok). Listed 44 (SpellsItem is_host_name) x p.hosts (mark h.spaced 61 ∷ h.next)) e h.hosts)
+    hosts_missing b w p.hosts h.spaced h.next (subst (λ (x : List Tok). Listed comma (SpellsItem is_host_name) x p.hosts (mark h.spaced equals ∷ h.next)) e h.hosts)
 
-no_part : (b : Bool) (w : List ℕ) (mid rest : List Tok) (specs : List Spec) (parts : List Part) → rest ≡ mark false 58 ∷ word b 0 w ∷ []
-    → More 44 SpellsSpec rest specs mid → More 58 SpellsPart mid parts [] → ⊥
+no_part : (b : Bool) (w : List ℕ) (mid rest : List Tok) (specs : List Spec) (parts : List Part) → rest ≡ mark false colon ∷ word b 0 w ∷ []
+    → More comma SpellsSpec rest specs mid → More colon SpellsPart mid parts [] → ⊥
 no_part b w mid rest [] [] e h k = cc
 no_part b w mid rest [] (p ∷ parts) e h k =
     let is = k.3 in
     let next : k.1 ≡ word b 0 w ∷ [] = cc in
     part_missing b w k.1 k.2 p next k.4
 no_part b w mid rest (s ∷ specs) parts e h k =
-    absurd (omega (arith, same_mark false h.0 58 44 (word b 0 w ∷ []) h.1 (sym e ∙ h.3)))
+    absurd (omega (arith, same_mark false h.0 colon comma (word b 0 w ∷ []) h.1 (sym e ∙ h.3)))
 
-colon_behind : (b : Bool) (w : List ℕ) (args : List (List ℕ)) (rest : List Tok) → mark false 58 ∷ word b 0 w ∷ [] ≡ rule_toks (rules.Exactly args) ++ rest → Behind rest → ⊥
+colon_behind : (b : Bool) (w : List ℕ) (args : List (List ℕ)) (rest : List Tok) → mark false colon ∷ word b 0 w ∷ [] ≡ rule_toks (rules.Exactly args) ++ rest → Behind rest → ⊥
 colon_behind b w [] rest e k = no_part b w k.mid rest k.specs k.parts (sym e) k.more k.last
 colon_behind b w (a ∷ args) rest e k = cc
 
@@ -261,7 +262,7 @@ abbrev colon_text : List ℕ
 colon_text = codes "ann db1 = /bin/echo a:b"
 
 abbrev colon_tail : List Tok
-colon_tail = mark false 58 ∷ word false 0 (codes "b") ∷ []
+colon_tail = mark false colon ∷ word false 0 (codes "b") ∷ []
 
 pub colon_none : SpellsNone colon_text
 colon_none es s =

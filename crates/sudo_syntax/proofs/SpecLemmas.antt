@@ -1,5 +1,6 @@
 -- What stands behind the targets, the dates and the tags of a command.
 use Rattle.std.proofs.Common.{◌≡◌, ℕ, Bool, false, List, [], ◌∷◌, ◌++◌, refl, sym, ap, subst, ◌∙◌, Option, arith}
+use Rattle.sudo_words.specs.Bytes.{equals, comma, colon, opening}
 use Rattle.sudo_policy.specs.declared.entry.Signed.{Signed}
 use Rattle.sudo_policy.specs.declared.entry.CmndItem.{CmndItem}
 use Rattle.sudo_policy.specs.declared.entry.Item.{Item}
@@ -18,11 +19,11 @@ cmnd_closes_tags ts s rest h = λ a b tag next e.
     cmnd_no_tag s.item tag h.item head
 
 -- and no date
-cmnd_no_date : (ts : List Tok) (s : Signed CmndItem) (rest : List Tok) → EndsBy 44 rest → SpellsCmnd ts s rest → NoDate ts
+cmnd_no_date : (ts : List Tok) (s : Signed CmndItem) (rest : List Tok) → EndsBy comma rest → SpellsCmnd ts s rest → NoDate ts
 cmnd_no_date ts s rest f h = λ a name time next e.
     let two = sym h.toks ∙ e in
-    let behind : args_of s.item ++ rest ≡ mark false 61 ∷ word false 0 time ∷ next = cc in
-    no_mark 61 (args_of s.item ++ rest) (args_no_equals s.item rest f) false (word false 0 time ∷ next) behind
+    let behind : args_of s.item ++ rest ≡ mark false equals ∷ word false 0 time ∷ next = cc in
+    no_mark equals (args_of s.item ++ rest) (args_no_equals s.item rest f) false (word false 0 time ∷ next) behind
 
 -- the byte of the mark behind a first token
 abbrev second_byte : List Tok → ℕ
@@ -31,21 +32,21 @@ second_byte (t ∷ []) = 0
 second_byte (t ∷ word a n w ∷ ts) = 0
 second_byte (t ∷ mark a b ∷ ts) = b
 
-colon_no_equals : ◌≡◌ {A = ℕ} 58 61 → ⊥
+colon_no_equals : ◌≡◌ {A = ℕ} colon equals → ⊥
 colon_no_equals e = absurd (omega arith)
 
-pub tags_close_dates : (ts : List Tok) (tags : List Bool) (behind : List Tok) (s : Signed CmndItem) (rest : List Tok) → EndsBy 44 rest → SpellsTags ts tags behind → SpellsCmnd behind s rest → NoDate ts
+pub tags_close_dates : (ts : List Tok) (tags : List Bool) (behind : List Tok) (s : Signed CmndItem) (rest : List Tok) → EndsBy comma rest → SpellsTags ts tags behind → SpellsCmnd behind s rest → NoDate ts
 tags_close_dates ts [] behind s rest f t h = subst NoDate (sym t) (cmnd_no_date behind s rest f h)
 tags_close_dates ts (tag ∷ tags) behind s rest f t h = λ a name time next e. colon_no_equals (ap second_byte (sym t.3 ∙ e))
 
-tags_begin_word : (ts : List Tok) (tags : List Bool) (behind : List Tok) (s : Signed CmndItem) (rest : List Tok) → SpellsTags ts tags behind → SpellsCmnd behind s rest → NoMark 40 ts
-tags_begin_word ts [] behind s rest t h = subst (NoMark 40) (sym (t ∙ h.toks)) tt
-tags_begin_word ts (tag ∷ tags) behind s rest t h = subst (NoMark 40) (sym t.3) tt
+tags_begin_word : (ts : List Tok) (tags : List Bool) (behind : List Tok) (s : Signed CmndItem) (rest : List Tok) → SpellsTags ts tags behind → SpellsCmnd behind s rest → NoMark opening ts
+tags_begin_word ts [] behind s rest t h = subst (NoMark opening) (sym (t ∙ h.toks)) tt
+tags_begin_word ts (tag ∷ tags) behind s rest t h = subst (NoMark opening) (sym t.3) tt
 
 pub dates_close_runas : (ts : List Tok) (dates : List Date) (mid : List Tok) (tags : List Bool) (behind : List Tok) (s : Signed CmndItem) (rest : List Tok)
-    → SpellsDates ts dates mid → SpellsTags mid tags behind → SpellsCmnd behind s rest → NoMark 40 ts
-dates_close_runas ts [] mid tags behind s rest d t h = subst (NoMark 40) (sym d) (tags_begin_word mid tags behind s rest t h)
-dates_close_runas ts (date ∷ dates) mid tags behind s rest d t h = subst (NoMark 40) (sym d.4) tt
+    → SpellsDates ts dates mid → SpellsTags mid tags behind → SpellsCmnd behind s rest → NoMark opening ts
+dates_close_runas ts [] mid tags behind s rest d t h = subst (NoMark opening) (sym d) (tags_begin_word mid tags behind s rest t h)
+dates_close_runas ts (date ∷ dates) mid tags behind s rest d t h = subst (NoMark opening) (sym d.4) tt
 
 pub same_spec : (v : Spec) (runas : Option (List (Signed (Item (List ℕ))))) (before after : Option ℕ) (nopasswd : Option Bool) (cmnd : Signed CmndItem)
     → runas ≡ v.runas → before ≡ v.not_before → after ≡ v.not_after → nopasswd ≡ v.nopasswd → cmnd ≡ v.cmnd

@@ -1,6 +1,7 @@
 -- Tags at the front of tokens are read in one way.
 use Rattle.std.proofs.Common.{◌≡◌, Bool, true, false, List, [], ◌∷◌, Option, Some, None, refl, sym, ap, subst, ◌∙◌}
 use Rattle.std.specs.Option.{option_or}
+use Rattle.sudo_words.specs.Bytes.{colon}
 use Rattle.sudo_policy.specs.Lex.{Tok, word, mark}
 use Rattle.sudo_policy.specs.Grammar.{SpellsTags, tag_word, last_tag}
 use Rattle.sudo_syntax.specs.private.Fronts.{NoTag, Tagged}
@@ -34,7 +35,7 @@ tags_begin ts = record {
   on = λ v r f h. (h.0, h.1, h.2 ∙ sym (or_none (last_tag h.0)));
 }
 
-next_is : (said : Option Bool) (ts : List Tok) (a b : Bool) (tag : Bool) (next : List Tok) → ts ≡ word a 0 (tag_word tag) ∷ mark b 58 ∷ next
+next_is : (said : Option Bool) (ts : List Tok) (a b : Bool) (tag : Bool) (next : List Tok) → ts ≡ word a 0 (tag_word tag) ∷ mark b colon ∷ next
     → (v : Option Bool) (r : List Tok) → NoTag r → (tags : List Bool) → SpellsTags ts tags r → v ≡ option_or (last_tag tags) said → Left (Some tag) next v r
 next_is said ts a b tag next e v r f [] h o = absurd (f a b tag next (sym h ∙ e))
 next_is said ts a b tag next e v r f (t ∷ tags) h o =
@@ -43,7 +44,7 @@ next_is said ts a b tag next e v r f (t ∷ tags) h o =
     let next_same : h.2 ≡ next = cc in
     (tags, subst (λ (x : List Tok). SpellsTags x tags r) next_same h.4, o ∙ or_some (last_tag tags) t said ∙ ap (λ (x : Bool). option_or (last_tag tags) (Some x)) (one_tag t tag words))
 
-pub tag_read : (said : Option Bool) (ts : List Tok) (a b : Bool) (tag : Bool) (next : List Tok) → ts ≡ word a 0 (tag_word tag) ∷ mark b 58 ∷ next
+pub tag_read : (said : Option Bool) (ts : List Tok) (a b : Bool) (tag : Bool) (next : List Tok) → ts ≡ word a 0 (tag_word tag) ∷ mark b colon ∷ next
     → Leads Ends (Left said ts) (Left (Some tag) next)
 tag_read said ts a b tag next e = record {
   back = λ v r h. (tag ∷ h.0, (a, b, next, e, h.1), h.2 ∙ sym (or_some (last_tag h.0) tag said));

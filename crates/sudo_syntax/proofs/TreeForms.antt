@@ -4,6 +4,7 @@ use Rattle.std.specs.Prelude.{IfSome, unwrap_or, codes}
 use Rattle.std.specs.Option.{option_or}
 use Rattle.std.specs.List.{AllByRecursion, flat_map}
 use Rattle.std.proofs.lemmas.List.Concat.{flat_map-cons}
+use Rattle.sudo_words.specs.Bytes.{comma, colon}
 use Rattle.sudo_words.specs.Word.{is_name, is_host_name, is_alias_name}
 use Rattle.sudo_words.specs.Moment.{IsMoment}
 use Rattle.sudo_policy.specs.declared.entry.Signed.{Signed}
@@ -46,10 +47,10 @@ listed_some m Is ts [] rest h = absurd h
 listed_some m Is ts (x ∷ xs) rest h = omega arith
 
 listed_is : {X : Type 0} (Is : List Tok → Signed X → List Tok → Type 0) (P : X → Type 0) → ((ts : List Tok) (s : Signed X) (rest : List Tok) → Is ts s rest → P s.item)
-    → (ts : List Tok) (xs : List (Signed X)) (rest : List Tok) → Listed 44 Is ts xs rest → IsList P xs
-listed_is Is P each ts xs rest h = (listed_some 44 Is ts xs rest h, listed_all 44 Is (λ s. P s.item) each ts xs rest h)
+    → (ts : List Tok) (xs : List (Signed X)) (rest : List Tok) → Listed comma Is ts xs rest → IsList P xs
+listed_is Is P each ts xs rest h = (listed_some comma Is ts xs rest h, listed_all comma Is (λ s. P s.item) each ts xs rest h)
 
-pub items_are : (form : List ℕ → Bool) (ts : List Tok) (xs : List (Signed (Item (List ℕ)))) (rest : List Tok) → Listed 44 (SpellsItem form) ts xs rest → IsList (IsItem form) xs
+pub items_are : (form : List ℕ → Bool) (ts : List Tok) (xs : List (Signed (Item (List ℕ)))) (rest : List Tok) → Listed comma (SpellsItem form) ts xs rest → IsList (IsItem form) xs
 items_are form = listed_is (SpellsItem form) (IsItem form) (λ ts s rest h. h.item)
 
 -- ---- definitions
@@ -60,7 +61,7 @@ IsDef P d = (is_alias_name d.name ≡ true) × IsList P d.list
 aliases_are : {X : Type 0} (kind : List ℕ) (Is : List Tok → Signed X → List Tok → Type 0) (P : X → Type 0) → ((ts : List Tok) (s : Signed X) (rest : List Tok) → Is ts s rest → P s.item)
     → (ts : List Tok) (defs : List (Definition X)) → SpellsAliases kind Is ts defs → AllByRecursion (IsDef P) defs
 aliases_are kind Is P each ts defs (a, next, e, spaced, list) =
-    listed_all 58 (SpellsDef Is) (IsDef P) (λ ts d rest h. (h.name, listed_is Is P each h.next d.list rest h.list)) next defs [] list
+    listed_all colon (SpellsDef Is) (IsDef P) (λ ts d rest h. (h.name, listed_is Is P each h.next d.list rest h.list)) next defs [] list
 
 -- ---- settings: what a command gives and what holds before it
 
@@ -135,7 +136,7 @@ rules_are users hosts before (s ∷ specs) u h held are =
 
 part_is : (users : List (Signed (Item (List ℕ)))) → IsList (IsItem is_name) users → (ts : List Tok) (p : Part) (rest : List Tok) → SpellsPart ts p rest → AllByRecursion IsEntry (part_rules users p)
 part_is users u ts p rest h =
-    rules_are users p.hosts first_settings p.specs u (items_are is_host_name ts p.hosts _ h.hosts) first_are (listed_all 44 SpellsSpec IsSpec spec_is h.next p.specs rest h.specs)
+    rules_are users p.hosts first_settings p.specs u (items_are is_host_name ts p.hosts _ h.hosts) first_are (listed_all comma SpellsSpec IsSpec spec_is h.next p.specs rest h.specs)
 
 -- ---- lines
 
@@ -150,4 +151,4 @@ tree_entries ts (lines.Cmnds defs) h =
     all_map IsEntry (λ d. entries.CmndAlias d.name d.list) defs (aliases_are (codes "Cmnd_Alias") SpellsCmnd IsCmndItem (λ ts s rest is. is.item) ts defs h)
 tree_entries ts (lines.Rights users parts) (next, u, spaced, list) =
     all_flat_map IsEntry (part_rules users) parts
-    (listed_all 58 SpellsPart (λ p. AllByRecursion IsEntry (part_rules users p)) (part_is users (items_are is_name ts users next u)) next parts [] list)
+    (listed_all colon SpellsPart (λ p. AllByRecursion IsEntry (part_rules users p)) (part_is users (items_are is_name ts users next u)) next parts [] list)

@@ -2,6 +2,7 @@
 use Rattle.std.proofs.Common.{◌≡◌, ℕ, true, false, List, [], ◌∷◌, ◌++◌, Some, None, refl, sym, ◌+◌, ◌*◌, ◌<◌, inl, inr, lit<, lit≤}
 use Rattle.std.specs.List.{list_all}
 use Rattle.std.proofs.lemmas.List.{append-nil}
+use Rattle.sudo_words.specs.Bytes.{equals, comma, colon, opening, closing}
 use Rattle.sudo_words.specs.Word.{is_reserved}
 use Rattle.sudo_words.specs.Moment as moments
 use Rattle.sudo_words.specs.Moment.{IsClockText, date_of, date_from_year, date_from_month}
@@ -69,7 +70,7 @@ abbrev signs_text : List ℕ
 signs_text = codes "!!ann db1 = !!!/bin/su"
 
 abbrev signs_toks : List Tok
-signs_toks = word true 0 (codes "db1") ∷ mark true 61 ∷ word true 3 (codes "/bin/su") ∷ []
+signs_toks = word true 0 (codes "db1") ∷ mark true equals ∷ word true 3 (codes "/bin/su") ∷ []
 
 abbrev signs_line : Line
 signs_line = rights (user (codes "ann")) (part (codes "db1") (only (no su)) ∷ [])
@@ -91,7 +92,7 @@ abbrev note_body : List ℕ
 note_body = codes "ann db1 = ALL "
 
 abbrev pub all_toks : List Tok
-all_toks = word true 0 (codes "db1") ∷ mark true 61 ∷ word true 0 (codes "ALL") ∷ []
+all_toks = word true 0 (codes "db1") ∷ mark true equals ∷ word true 0 (codes "ALL") ∷ []
 
 abbrev all_line : Line
 all_line = rights (user (codes "ann")) (part (codes "db1") (only (yes all)) ∷ [])
@@ -114,7 +115,7 @@ abbrev continued : List ℕ
 continued = codes "ann db1 =  /bin/ls"
 
 abbrev ls_toks : List Tok
-ls_toks = word true 0 (codes "db1") ∷ mark true 61 ∷ word true 0 (codes "/bin/ls") ∷ []
+ls_toks = word true 0 (codes "db1") ∷ mark true equals ∷ word true 0 (codes "/bin/ls") ∷ []
 
 abbrev ls_line : Line
 ls_line = rights (user (codes "ann")) (part (codes "db1") (only (yes ls)) ∷ [])
@@ -124,7 +125,7 @@ ls_tree = (_, (_, item refl, refl), refl, (_, record { spaced = true; next = _; 
 
 continued_lexes : Lexes continued (word false 0 (codes "ann") ∷ ls_toks)
 continued_lexes =
-    lexed_more (word false 0 (codes "ann") ∷ word true 0 (codes "db1") ∷ mark true 61 ∷ []) (codes "  /bin/ls") (word true 0 (codes "/bin/ls") ∷ []) refl
+    lexed_more (word false 0 (codes "ann") ∷ word true 0 (codes "db1") ∷ mark true equals ∷ []) (codes "  /bin/ls") (word true 0 (codes "/bin/ls") ∷ []) refl
     (codes "  ", [], (refl, (refl, tt)), refl, (lit< tt, refl, refl), refl, tt)
 
 pub continued_spell : SpellsAs (codes "ann db1 = \\\n/bin/ls") (codes "ann db1 = (root) /bin/ls\n")
@@ -143,8 +144,8 @@ users_text = codes "User_Alias A = ann, bob : B = A, !bob"
 
 abbrev users_toks : List Tok
 users_toks =
-    word true 0 (codes "A") ∷ mark true 61 ∷ word true 0 (codes "ann") ∷ mark false 44 ∷ word true 0 (codes "bob") ∷ mark true 58
-    ∷ word true 0 (codes "B") ∷ mark true 61 ∷ word true 0 (codes "A") ∷ mark false 44 ∷ word true 1 (codes "bob") ∷ []
+    word true 0 (codes "A") ∷ mark true equals ∷ word true 0 (codes "ann") ∷ mark false comma ∷ word true 0 (codes "bob") ∷ mark true colon
+    ∷ word true 0 (codes "B") ∷ mark true equals ∷ word true 0 (codes "A") ∷ mark false comma ∷ word true 1 (codes "bob") ∷ []
 
 abbrev users_line : Line
 users_line =
@@ -170,8 +171,8 @@ parts_text = codes "B db1 = /bin/ls : db2 = (ALL) ALL"
 
 abbrev parts_toks : List Tok
 parts_toks =
-    word true 0 (codes "db1") ∷ mark true 61 ∷ word true 0 (codes "/bin/ls") ∷ mark true 58 ∷ word true 0 (codes "db2") ∷ mark true 61
-    ∷ mark true 40 ∷ word false 0 (codes "ALL") ∷ mark false 41 ∷ word true 0 (codes "ALL") ∷ []
+    word true 0 (codes "db1") ∷ mark true equals ∷ word true 0 (codes "/bin/ls") ∷ mark true colon ∷ word true 0 (codes "db2") ∷ mark true equals
+    ∷ mark true opening ∷ word false 0 (codes "ALL") ∷ mark false closing ∷ word true 0 (codes "ALL") ∷ []
 
 abbrev as_anyone : Spec
 as_anyone = record { runas = Some (yes items.All ∷ []); not_before = None; not_after = None; nopasswd = None; cmnd = yes all }
@@ -243,7 +244,7 @@ aliases_spell = (
 -- ---- one name in two kinds
 
 abbrev host_toks : List Tok
-host_toks = word true 0 (codes "B") ∷ mark true 61 ∷ word true 0 (codes "db1") ∷ []
+host_toks = word true 0 (codes "B") ∷ mark true equals ∷ word true 0 (codes "db1") ∷ []
 
 abbrev host_line : Line
 host_line = lines.Hosts (record { name = codes "B"; list = user (codes "db1") ∷ [] } ∷ [])
@@ -253,7 +254,7 @@ unfolding is_reserved
 host_tree = (false, _, refl, refl, (_, record { name_spaced = true; spaced = true; next = _; toks = refl; name = refl; list = (_, item refl, refl) }, refl))
 
 abbrev pub user_toks : List Tok
-user_toks = word true 0 (codes "B") ∷ mark true 61 ∷ word true 0 (codes "ann") ∷ []
+user_toks = word true 0 (codes "B") ∷ mark true equals ∷ word true 0 (codes "ann") ∷ []
 
 abbrev pub user_line : Line
 user_line = lines.Users (record { name = codes "B"; list = user (codes "ann") ∷ [] } ∷ [])
@@ -263,7 +264,7 @@ unfolding is_reserved
 user_tree = (false, _, refl, refl, (_, record { name_spaced = true; spaced = true; next = _; toks = refl; name = refl; list = (_, item refl, refl) }, refl))
 
 abbrev both_toks : List Tok
-both_toks = word true 0 (codes "B") ∷ mark true 61 ∷ word true 0 (codes "ALL") ∷ []
+both_toks = word true 0 (codes "B") ∷ mark true equals ∷ word true 0 (codes "ALL") ∷ []
 
 abbrev both_line : Line
 both_line = rights (yes (items.Alias (codes "B"))) (record { hosts = yes (items.Alias (codes "B")) ∷ []; specs = only (yes all) ∷ [] } ∷ [])
@@ -310,7 +311,7 @@ abbrev echo_text : List ℕ
 echo_text = codes "ann db1 = /bin/echo a\\:b"
 
 abbrev echo_toks : List Tok
-echo_toks = word true 0 (codes "db1") ∷ mark true 61 ∷ word true 0 (codes "/bin/echo") ∷ word true 0 (codes "a\\:b") ∷ []
+echo_toks = word true 0 (codes "db1") ∷ mark true equals ∷ word true 0 (codes "/bin/echo") ∷ word true 0 (codes "a\\:b") ∷ []
 
 abbrev echo_line : Line
 echo_line = rights (user (codes "ann")) (part (codes "db1") (only (yes echo)) ∷ [])
@@ -330,7 +331,7 @@ abbrev bin_text : List ℕ
 bin_text = codes "ann db1 = /usr/bin/"
 
 abbrev bin_toks : List Tok
-bin_toks = word true 0 (codes "db1") ∷ mark true 61 ∷ word true 0 (codes "/usr/bin/") ∷ []
+bin_toks = word true 0 (codes "db1") ∷ mark true equals ∷ word true 0 (codes "/usr/bin/") ∷ []
 
 abbrev bin_line : Line
 bin_line = rights (user (codes "ann")) (part (codes "db1") (only (yes bin)) ∷ [])
@@ -363,9 +364,9 @@ dates_text = codes "ann db1 = NOTAFTER=2026010511Z /bin/ls, NOTBEFORE=2026010509
 
 abbrev dates_toks : List Tok
 dates_toks =
-    word true 0 (codes "db1") ∷ mark true 61 ∷ word true 0 (codes "NOTAFTER") ∷ mark false 61 ∷ word false 0 (codes "2026010511Z")
-    ∷ word true 0 (codes "/bin/ls") ∷ mark false 44 ∷ word true 0 (codes "NOTBEFORE") ∷ mark false 61 ∷ word false 0 (codes "2026010509Z")
-    ∷ word true 0 (codes "/bin/cat") ∷ mark true 58 ∷ word true 0 (codes "db2") ∷ mark true 61 ∷ word true 0 (codes "/bin/ls") ∷ []
+    word true 0 (codes "db1") ∷ mark true equals ∷ word true 0 (codes "NOTAFTER") ∷ mark false equals ∷ word false 0 (codes "2026010511Z")
+    ∷ word true 0 (codes "/bin/ls") ∷ mark false comma ∷ word true 0 (codes "NOTBEFORE") ∷ mark false equals ∷ word false 0 (codes "2026010509Z")
+    ∷ word true 0 (codes "/bin/cat") ∷ mark true colon ∷ word true 0 (codes "db2") ∷ mark true equals ∷ word true 0 (codes "/bin/ls") ∷ []
 
 abbrev until : Spec
 until = record { runas = None; not_before = None; not_after = Some 1_767_610_800; nopasswd = None; cmnd = yes ls }

@@ -16,8 +16,7 @@ ghost use Rattle.sudo_policy.specs.private.Tokens.{toks};
 ghost use Rattle.sudo_policy.specs.Policy.{IsCmndItem};
 
 use crate::fronts::{arg_at, behind_empty, word_at};
-use crate::items::word_of;
-use crate::listing::Spelled;
+use crate::items::{Spelled, word_of};
 use crate::misplaced::{bad_cmnd, bad_word, misplaced};
 use std::alloc::Global;
 use sudo_policy::{CmndItem, LineFault, Signed, Token};

@@ -10,11 +10,9 @@ ghost use Rattle.sudo_policy.specs.Grammar.{SpellsCmnd, SpellsDef, SpellsItem};
 ghost use Rattle.sudo_policy.specs.Lex.{Tok};
 ghost use Rattle.sudo_policy.specs.private.Tokens.{toks};
 
-use crate::fronts::{behind_word, head_at};
-use crate::items::{NameForm, word_of};
-use crate::listing::{Spelled, list_at};
+use crate::fronts::{begins_spaced, behind_word, head_at};
+use crate::items::{NameForm, Spelled, list_at, word_of};
 use crate::misplaced::misplaced;
-use crate::options::begins_spaced;
 use std::alloc::Global;
 use sudo_policy::{CmndItem, Definition, Item, LineFault, Mark, Signed, Token};
 use sudo_words::{Items, Word};

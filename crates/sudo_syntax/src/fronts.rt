@@ -3,6 +3,7 @@
 ghost use Rattle.std.specs.Prelude.{◌≡◌, ◌≢◌, ◌<◌, ◌∷◌, Bool, true, false, List, ℕ, length, IfSome, MatchOption};
 ghost use Rattle.sudo_words.specs.Bytes.{equals, quote};
 ghost use Rattle.sudo_syntax.specs.private.Fronts.{NoArg, NoDate, NoHead, NoKind, NoMark, NoWord};
+ghost use Rattle.sudo_policy.specs.Grammar as grammar;
 ghost use Rattle.sudo_policy.specs.Lex as lex;
 ghost use Rattle.sudo_policy.specs.Lex.{Tok};
 ghost use Rattle.sudo_policy.specs.private.Tokens.{mark_byte, tok, toks};
@@ -27,6 +28,16 @@ fn is_mark(token: &Token<'_>, mark: Mark) -> bool
     match token.kind {
         TokenKind::Mark(found) => found == mark,
         TokenKind::Word { .. } => false,
+    }
+}
+
+/// Whether blanks stand before the first token.
+pub(crate) fn begins_spaced(tokens: &[Token<'_>]) -> bool
+    ensures { result ≡ grammar.begins_spaced (toks tokens.now) }
+{
+    match tokens {
+        [first, ..] => first.spaced,
+        [] => false,
     }
 }
 

@@ -1,19 +1,64 @@
-//! Words of a form and items of lists read from tokens.
+//! Lists of what tokens spell in one way, and the items of users, hosts and targets.
 
-ghost use Rattle.std.specs.Prelude.{◌≡◌, List, ℕ, IfOk, MatchResult, true, false};
-ghost use Rattle.sudo_policy.specs.declared.entry.Item.{Item as Said};
+ghost use Rattle.std.specs.Prelude.{◌≡◌, ◌<◌, ◌∷◌, Bool, List, ℕ, length, IfOk, MatchResult, true, false};
 ghost use Rattle.sudo_policy.specs.declared.fault.LineFault.TheVariants.{NoMemory};
-ghost use Rattle.sudo_syntax.specs.private.Fronts.{begins_upper};
-ghost use Rattle.sudo_policy.specs.Grammar.{SpellsItem};
+ghost use Rattle.sudo_syntax.specs.private.Fronts.{NoMark, begins_upper};
+ghost use Rattle.sudo_policy.specs.Grammar.{Listed, SpellsItem};
+ghost use Rattle.sudo_policy.specs.Lex as lex;
+ghost use Rattle.sudo_policy.specs.Lex.{Tok};
+ghost use Rattle.sudo_policy.specs.private.Tokens.{mark_byte, toks};
+ghost use Rattle.sudo_policy.specs.declared.entry.Item.{Item as Said};
 ghost use Rattle.sudo_policy.specs.Policy.{IsItem};
 ghost use Rattle.sudo_policy.specs.Printing.{item_text};
 
-use crate::fronts::word_at;
-use crate::listing::Spelled;
+use crate::fronts::{behind_mark, word_at};
 use crate::misplaced::{bad_word, misplaced};
 use std::alloc::Global;
-use sudo_policy::{Item, LineFault, Signed, Token};
-use sudo_words::{Form, HostForm, UserForm, Word, WordFault};
+use sudo_policy::{Item, LineFault, Mark, Signed, Token};
+use sudo_words::{Form, HostForm, Items, UserForm, Word, WordFault};
+
+/// What tokens spell in one way.
+pub(crate) trait Spelled: Sized + Drop {
+    /// Tokens, what stands at their front, and those behind it.
+    ghost spells: { List Tok → Self → List Tok → Type 0 };
+
+    /// What may stand behind one.
+    ghost follows: { List Tok → Type 0 };
+
+    /// The one at the front, and what follows it.
+    fn at<'a, 'b>(
+        alloc: Global,
+        tokens: &'b [Token<'a>],
+    ) -> Result<(Self, &'b [Token<'a>]), LineFault>
+        ensures found { IfOk result (λ x. spells (toks tokens.now) x.0 (toks x.1.now)) }
+        ensures shorter { IfOk result (λ x. length x.1.now < length tokens.now) }
+        ensures only { (v : Self) (rest : List Tok) → follows rest → spells (toks tokens.now) v rest
+            → MatchResult result (λ x. (x.0 ≡ v) × (toks x.1.now ≡ rest)) (λ e. e ≡ NoMemory) };
+}
+
+/// One or more with this mark between, and what follows them.
+pub(crate) fn list_at<'a, 'b, T: Spelled>(
+    alloc: Global,
+    mark: Mark,
+    tokens: &'b [Token<'a>],
+) -> Result<(Items<T>, &'b [Token<'a>]), LineFault>
+    requires { (a : Bool) (rest : List Tok) → T.follows (lex.mark a (mark_byte mark) ∷ rest) }
+    ensures found { IfOk result (λ x. Listed (mark_byte mark) T.spells (toks tokens.now) x.0 (toks x.1.now)) }
+    ensures shorter { IfOk result (λ x. length x.1.now < length tokens.now) }
+    ensures only { (xs : List T) (rest : List Tok) → T.follows rest → NoMark (mark_byte mark) rest → Listed (mark_byte mark) T.spells (toks tokens.now) xs rest
+        → MatchResult result (λ x. (x.0 ≡ xs) × (toks x.1.now ≡ rest)) (λ e. e ≡ NoMemory) }
+{
+    // Most lists have one item.
+    let mut items = Vec::with_capacity(alloc, 1)?;
+    let (first, mut rest) = T::at(alloc, tokens)?;
+    items.push(first)?;
+    while let Some(others) = behind_mark(mark, rest) {
+        let (item, after) = T::at(alloc, others)?;
+        items.push(item)?;
+        rest = after;
+    }
+    Ok((Items::new(items), rest))
+}
 
 /// A form of names: none begins with an upper-case letter, as `ALL` and the aliases do.
 pub(crate) trait NameForm: Form {

@@ -1,21 +1,71 @@
-//! Lines read from tokens.
+//! Lines read from tokens, and the user specifications among them.
 
-ghost use Rattle.std.specs.Prelude.{◌≡◌, IfOk, MatchResult};
+ghost use Rattle.std.specs.Prelude.{◌≡◌, List, ℕ, IfOk, MatchResult};
+ghost use Rattle.sudo_words.specs.Bytes.{colon};
+ghost use Rattle.sudo_policy.specs.declared.entry.Item.{Item as Said};
+ghost use Rattle.sudo_policy.specs.declared.entry.Signed.{Signed as Sign};
 ghost use Rattle.sudo_policy.specs.declared.fault.LineFault.TheVariants.{NoMemory};
-ghost use Rattle.sudo_policy.specs.declared.tree.Line.{Line as Said};
-ghost use Rattle.sudo_policy.specs.Grammar.{SpellsTree};
+ghost use Rattle.sudo_policy.specs.declared.tree.Part.{Part as Parted};
+ghost use Rattle.sudo_syntax.specs.private.Fronts.{EndsBy};
+ghost use Rattle.sudo_policy.specs.Grammar.{SpellsPart, SpellsRights, SpellsTree};
+ghost use Rattle.sudo_policy.specs.Lex.{Tok};
 ghost use Rattle.sudo_policy.specs.private.Tokens.{toks};
+ghost use Rattle.sudo_policy.specs.declared.tree.Line.{Line as Tree};
 
 use crate::definitions::aliases_of;
-use crate::parts::rights_of;
+use crate::fronts::{begins_spaced, behind_mark};
+use crate::items::{Spelled, list_at};
+use crate::misplaced::misplaced;
 use std::alloc::Global;
-use sudo_policy::{CmndItem, Item, Line, LineFault, Token};
-use sudo_words::{HostName, Name};
+use sudo_policy::{CmndItem, Item, Line, LineFault, Mark, Part, Signed, Token};
+use sudo_words::{HostName, Items, Name};
+
+impl Spelled for Part {
+    ghost spells = { SpellsPart };
+
+    ghost follows = { EndsBy colon };
+
+    fn at<'a, 'b>(
+        alloc: Global,
+        tokens: &'b [Token<'a>],
+    ) -> Result<(Part, &'b [Token<'a>]), LineFault> {
+        let (hosts, behind) = list_at(alloc, Mark::Comma, tokens)?;
+        let Some(next) = behind_mark(Mark::Equals, behind) else {
+            return Err(misplaced(behind));
+        };
+        let (specs, rest) = list_at(alloc, Mark::Comma, next)?;
+        Ok((Part { hosts, specs }, rest))
+    }
+}
+
+/// Users and the parts of their specification.
+#[derive(Drop)]
+pub(crate) struct Rights {
+    pub(crate) users: Items<Signed<Item<Name>>>,
+    pub(crate) parts: Items<Part>,
+}
+
+/// The user specification that the tokens spell.
+pub(crate) fn rights_of(alloc: Global, tokens: &[Token<'_>]) -> Result<Rights, LineFault>
+    ensures found { IfOk result (λ r. SpellsRights (toks tokens.now) r.users r.parts) }
+    ensures only { (users : List (Sign (Said (List ℕ)))) (parts : List Parted) → SpellsRights (toks tokens.now) users parts
+        → MatchResult result (λ r. (r.users ≡ users) × (r.parts ≡ parts)) (λ e. e ≡ NoMemory) }
+{
+    let (users, next) = list_at(alloc, Mark::Comma, tokens)?;
+    if !begins_spaced(next) {
+        return Err(misplaced(next));
+    }
+    let (parts, rest) = list_at(alloc, Mark::Colon, next)?;
+    if !rest.is_empty() {
+        return Err(misplaced(rest));
+    }
+    Ok(Rights { users, parts })
+}
 
 /// The line that the tokens spell.
 pub(crate) fn tree_of(alloc: Global, tokens: &[Token<'_>]) -> Result<Line, LineFault>
     ensures found { IfOk result (λ l. SpellsTree (toks tokens.now) l) }
-    ensures only { (l : Said) → SpellsTree (toks tokens.now) l → MatchResult result (λ x. x ≡ l) (λ e. e ≡ NoMemory) }
+    ensures only { (l : Tree) → SpellsTree (toks tokens.now) l → MatchResult result (λ x. x ≡ l) (λ e. e ≡ NoMemory) }
 {
     if let Some(users) = aliases_of::<Item<Name>>(alloc, "User_Alias", tokens)? {
         return Ok(Line::Users(users));

@@ -3,7 +3,7 @@ use Rattle.sudo_policy.specs.private.Tokens.{toks}
 use Rattle.sudo_syntax.specs.private.Fronts.{Tagged}
 use Rattle.sudo_syntax.proofs.Leads.{Leads}
 use Rattle.sudo_syntax.proofs.TagLemmas.{Ends, Left}
-use Rattle.sudo_syntax.proofs.options.tags_at.Given as goal
+use Rattle.sudo_syntax.proofs.spec.tags_at.Given as goal
 
 abbrev pub invariant-loop-tag : goal.invariant-loop-tag
 invariant-loop-tag l = record {

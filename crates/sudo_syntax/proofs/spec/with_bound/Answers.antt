@@ -1,7 +1,7 @@
 use Rattle.std.proofs.Common.{◌≡◌, ℕ, refl}
 use Rattle.sudo_words.specs.Moment.{Spells}
 use Rattle.sudo_syntax.proofs.DateLemmas.{first_bound, last_bound}
-use Rattle.sudo_syntax.proofs.options.with_bound.Goals as goal
+use Rattle.sudo_syntax.proofs.spec.with_bound.Goals as goal
 
 pub returns-in_err-moment_of-clause-only : goal.returns-in_err-moment_of-clause-only
 returns-in_err-moment_of-clause-only c = λ before after h. let none = c.in_err-moment_of.ensures.only h.0 h.1 in absurd cc

@@ -3,7 +3,7 @@ use Rattle.sudo_policy.specs.private.Tokens.{toks}
 use Rattle.sudo_syntax.specs.private.Fronts.{Tagged}
 use Rattle.sudo_syntax.proofs.Leads.{leads_on}
 use Rattle.sudo_syntax.proofs.TagLemmas.{Ends, Left, tag_read, tags_end}
-use Rattle.sudo_syntax.proofs.options.tags_at.Goals as goal
+use Rattle.sudo_syntax.proofs.spec.tags_at.Goals as goal
 
 pub loop-tag-preserved : goal.loop-tag-preserved
 loop-tag-preserved c =

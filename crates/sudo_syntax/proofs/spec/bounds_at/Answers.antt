@@ -4,7 +4,7 @@ use Rattle.sudo_policy.specs.private.Tokens.{toks}
 use Rattle.sudo_policy.specs.Grammar.{begins_spaced}
 use Rattle.sudo_syntax.proofs.Leads.{leads_on}
 use Rattle.sudo_syntax.proofs.DateLemmas.{Ends, Left, next_date, date_read, dates_end, dates_done}
-use Rattle.sudo_syntax.proofs.options.bounds_at.Goals as goal
+use Rattle.sudo_syntax.proofs.spec.bounds_at.Goals as goal
 
 pub returns-then-not-begins_spaced-clause-only : goal.returns-then-not-begins_spaced-clause-only
 returns-then-not-begins_spaced-clause-only c = λ before after r f h.

@@ -3,7 +3,7 @@ use Rattle.std.proofs.lemmas.Result.{err_from_is_err_and}
 use Rattle.sudo_policy.specs.private.Tokens.{mark_byte, toks}
 use Rattle.sudo_policy.specs.Grammar.{Listed}
 use Rattle.sudo_syntax.proofs.ListLemmas.{first_of_list, first_read, next_of_list, next_read, list_ends, list_is}
-use Rattle.sudo_syntax.proofs.listing.list_at.Goals as goal
+use Rattle.sudo_syntax.proofs.items.list_at.Goals as goal
 
 pub returns-in_err-first-clause-only : goal.returns-in_err-first-clause-only
 returns-in_err-first-clause-only g c = λ xs r f n h.

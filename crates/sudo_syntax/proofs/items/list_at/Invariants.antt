@@ -3,7 +3,7 @@ use Rattle.sudo_policy.specs.private.Tokens.{mark_byte, toks}
 use Rattle.sudo_policy.specs.Grammar.{Listed}
 use Rattle.sudo_syntax.proofs.Leads.{Leads}
 use Rattle.sudo_syntax.proofs.ListLemmas.{Behind, Left}
-use Rattle.sudo_syntax.proofs.listing.list_at.Given as goal
+use Rattle.sudo_syntax.proofs.items.list_at.Given as goal
 
 abbrev pub invariant-loop-others : goal.invariant-loop-others
 invariant-loop-others g l =

@@ -2,7 +2,7 @@ use Rattle.std.proofs.Common.{◌≤◌, None, length}
 use Rattle.sudo_policy.specs.private.Tokens.{toks}
 use Rattle.sudo_syntax.proofs.Leads.{Leads}
 use Rattle.sudo_syntax.proofs.DateLemmas.{Ends, Left}
-use Rattle.sudo_syntax.proofs.options.bounds_at.Given as goal
+use Rattle.sudo_syntax.proofs.spec.bounds_at.Given as goal
 
 abbrev pub invariant-loop-option : goal.invariant-loop-option
 invariant-loop-option l = record {
