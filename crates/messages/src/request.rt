@@ -110,13 +110,13 @@ impl Request {
     }
 }
 
-fn copied_cmnds(cmnds: &Vec<Cmnd>) -> Result<Vec<Cmnd>, AllocError>
+fn copy_cmnds(cmnds: &Vec<Cmnd>) -> Result<Vec<Cmnd>, AllocError>
     ensures { IfOk result (λ copy. copy.items ≡ cmnds.now.items) }
 {
     cmnds.clone()
 }
 
-fn copied_hosts(hosts: &Vec<HostName>) -> Result<Vec<HostName>, AllocError>
+fn copy_hosts(hosts: &Vec<HostName>) -> Result<Vec<HostName>, AllocError>
     ensures { IfOk result (λ copy. copy.items ≡ hosts.now.items) }
 {
     hosts.clone()
@@ -130,9 +130,9 @@ impl Clone for Request {
             at: self.at,
             by: self.by.clone()?,
             ceiling: self.ceiling.clone()?,
-            cmnds: copied_cmnds(&self.cmnds)?,
+            cmnds: copy_cmnds(&self.cmnds)?,
             from: self.from,
-            hosts: copied_hosts(&self.hosts)?,
+            hosts: copy_hosts(&self.hosts)?,
             no: self.no,
             runas: self.runas.clone()?,
             until: self.until,

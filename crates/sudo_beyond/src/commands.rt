@@ -9,7 +9,7 @@ use std::alloc::Global;
 use sudo_policy::{CmndItem, Entry, Policy, Signed};
 use sudo_words::{Cmnd, DirPath, FilePath, NoMemory};
 
-fn copied_cmnd(cmnd: &Cmnd) -> Result<Cmnd, NoMemory>
+fn copy_cmnd(cmnd: &Cmnd) -> Result<Cmnd, NoMemory>
     ensures { IfOk result (λ x. x ≡ cmnd.now) }
 {
     Ok(cmnd.clone()?)
@@ -31,7 +31,7 @@ fn push_cmnd(cmnds: &mut Vec<Cmnd>, x: &Signed<CmndItem>) -> Result<(), NoMemory
     ensures { OnOk result (cmnds.new.items ≡ cmnds.old.items ++ cmnd_in x.now.item) }
 {
     if let CmndItem::Cmnd(cmnd) = &x.item {
-        cmnds.push(copied_cmnd(cmnd)?)?;
+        cmnds.push(copy_cmnd(cmnd)?)?;
     }
     Ok(())
 }

@@ -105,7 +105,7 @@ entry_read (entries.CmndAlias name list) h =
 entry_read (entries.Rule r) h = record {
   toks = line_toks r;
   lexes = rule_lexes r h;
-  spells = from_tree (line_toks r) (lines.Rights r.users (part_of r ∷ [])) (entries.Rule r ∷ []) (rule_begins r h) (rule_spelled r h) (rule_entries r);
+  spells = from_tree (line_toks r) (lines.UserSpec r.users (part_of r ∷ [])) (entries.Rule r ∷ []) (rule_begins r h) (rule_spelled r h) (rule_entries r);
 }
 
 -- ---- lines: each is its own body, and the last is empty

@@ -8,17 +8,17 @@ use Rattle.sudo_policy.specs.declared.entry.Entry.{Entry}
 use Rattle.sudo_policy.specs.declared.tree.Definition.{Definition}
 use Rattle.sudo_policy.specs.declared.aliases.Alias.{Alias}
 use Rattle.sudo_policy.specs.declared.aliases.Aliases.{Aliases}
-use Rattle.sudo_policy.specs.declared.scope.Scope.{Scope}
+use Rattle.sudo_policy.specs.declared.alias_kinds.AliasKinds.{AliasKinds}
 use Rattle.sudo_policy.specs.Alias.{is_defined}
 use Rattle.sudo_policy.specs.private.Measures.{alias_at}
 use Rattle.sudo_policy.specs.Policy.{IsEntry, IsPolicy, weight}
 use Rattle.sudo_policy.specs.Printing.{line_text, canon}
-use Rattle.sudo_policy.specs.private.Scope.{IsKind, IsWhole}
+use Rattle.sudo_policy.specs.private.AliasKinds.{IsKind, IsWhole}
 use Rattle.sudo_policy.proofs.Measuring.{each_push}
 use Rattle.sudo_policy.proofs.PolicyFronts.{placed_push, weight_push, canon_push}
 use Rattle.sudo_policy.proofs.Entering.{IsEntered}
 
-pub whole_push : (es : List Entry) (e : Entry) (old new : Scope) (w more t len : ℕ) → IsWhole es old w t → IsEntry e → IsEntered es e new more → len ≡ length (line_text e)
+pub whole_push : (es : List Entry) (e : Entry) (old new : AliasKinds) (w more t len : ℕ) → IsWhole es old w t → IsEntry e → IsEntered es e new more → len ≡ length (line_text e)
     → length es < 16_384 → more ≤ 131_072 - w → len ≤ 16_777_216 - t → IsWhole (es ++ e ∷ []) new (w + more) (t + len)
 whole_push es e old new w more t len whole is entered line few light short =
     let sum = weight_push es e in
@@ -39,7 +39,7 @@ whole_push es e old new w more t len whole is entered line few light short =
     }
 
 -- the limits hold where the whole is a policy
-pub limits_hold : (es : List Entry) (e : Entry) (old new : Scope) (w more t len : ℕ) → IsWhole es old w t → IsEntered es e new more → len ≡ length (line_text e)
+pub limits_hold : (es : List Entry) (e : Entry) (old new : AliasKinds) (w more t len : ℕ) → IsWhole es old w t → IsEntered es e new more → len ≡ length (line_text e)
     → IsPolicy (es ++ e ∷ []) → (length es < 16_384) × (more ≤ 131_072 - w) × (len ≤ 16_777_216 - t)
 limits_hold es e old new w more t len whole entered line p =
     (omega (arith, p.count, length-append es (e ∷ [])), omega (arith, p.light, weight_push es e, whole.weight_is, entered.2), omega (arith, p.short, canon_push es e, whole.text_is, line))

@@ -12,14 +12,14 @@ use Rattle.sudo_policy.specs.declared.entry.Item.TheVariants as items
 use Rattle.sudo_policy.specs.declared.entry.CmndItem.{CmndItem}
 use Rattle.sudo_policy.specs.declared.entry.Entry.{Entry}
 use Rattle.sudo_policy.specs.declared.tree.Definition.{Definition}
-use Rattle.sudo_policy.specs.declared.tree.Spec.{Spec}
+use Rattle.sudo_policy.specs.declared.tree.CmndSpec.{CmndSpec}
 use Rattle.sudo_policy.specs.declared.tree.Part.{Part}
 use Rattle.sudo_policy.specs.declared.tree.Line.{Line}
 use Rattle.sudo_policy.specs.declared.tree.Line.TheVariants as lines
 use Rattle.sudo_policy.specs.Lex.{Tok, word, mark}
 use Rattle.sudo_policy.specs.Printing.{item_text}
 use Rattle.sudo_policy.specs.Policy.{IsItem}
-use Rattle.sudo_policy.specs.Grammar.{Listed, SpellsItem, SpellsCmnd, SpellsSpec, SpellsPart, SpellsDef, SpellsAliases, SpellsRights, SpellsTree}
+use Rattle.sudo_policy.specs.Grammar.{Listed, SpellsItem, SpellsCmnd, SpellsCmndSpec, SpellsPart, SpellsDef, SpellsAliases, SpellsUserSpec, SpellsTree}
 use Rattle.sudo_policy.specs.Inheritance.{entries_of}
 use Rattle.sudo_policy.specs.Lines.{lines_of}
 use Rattle.sudo_policy.specs.Spelling.{SpellsEntries, SpellsLine, SpellsLines, Spells}
@@ -48,10 +48,10 @@ part_ends_cmnd (mark a m ∷ ts) h = inr h
 not_own_mark : (m : ℕ) (a : Bool) (next : List Tok) → NotMark m (mark a m ∷ next) → ⊥
 not_own_mark m a next h = h refl
 
-specs_one : IsOne (Listed comma SpellsSpec) EndsPart
-specs_one = listed_one comma SpellsSpec EndsCmnd EndsPart (λ a next. inl refl) part_ends_cmnd part_no_comma spec_one
+specs_one : IsOne (Listed comma SpellsCmndSpec) EndsPart
+specs_one = listed_one comma SpellsCmndSpec EndsCmnd EndsPart (λ a next. inl refl) part_ends_cmnd part_no_comma spec_one
 
-part_of : List (Signed (Item (List ℕ))) → List Spec → Part
+part_of : List (Signed (Item (List ℕ))) → List CmndSpec → Part
 part_of hosts specs = record { hosts = hosts; specs = specs }
 
 part_one : IsOne SpellsPart EndsPart
@@ -60,7 +60,7 @@ part_one ts p q r s g h n k =
     let hosts = items_one is_host_name host_form (NotMark comma) (not_own_mark comma) ts p.hosts q.hosts (mark g.spaced equals ∷ g.next) (mark h.spaced equals ∷ h.next) g.hosts h.hosts (λ e. omega arith) (λ e. omega arith) in
     let behind = hosts.1 in
     let next : g.next ≡ h.next = cc in
-    let specs = specs_one h.next p.specs q.specs r s (subst (λ (x : List Tok). Listed comma SpellsSpec x p.specs r) next g.specs) h.specs n k in
+    let specs = specs_one h.next p.specs q.specs r s (subst (λ (x : List Tok). Listed comma SpellsCmndSpec x p.specs r) next g.specs) h.specs n k in
     let same : part_of p.hosts p.specs ≡ part_of q.hosts q.specs = ap (λ x. part_of x p.specs) hosts.0 ∙ ap (λ x. part_of q.hosts x) specs.0 in
     (same, specs.1)
 
@@ -108,11 +108,11 @@ parts_word : (ts : List Tok) (parts : List Part) (r : List Tok) → Listed colon
 parts_word ts [] r g = absurd g
 parts_word ts (p ∷ parts) r g = items_word is_host_name ts p.hosts (mark (g.1).spaced equals ∷ (g.1).next) (g.1).hosts
 
-rights_one : (ts : List Tok) (us vs : List (Signed (Item (List ℕ)))) (ps qs : List Part) → SpellsRights ts us ps → SpellsRights ts vs qs → lines.Rights us ps ≡ lines.Rights vs qs
-rights_one ts us vs ps qs g h =
+user_spec_one : (ts : List Tok) (us vs : List (Signed (Item (List ℕ)))) (ps qs : List Part) → SpellsUserSpec ts us ps → SpellsUserSpec ts vs qs → lines.UserSpec us ps ≡ lines.UserSpec vs qs
+user_spec_one ts us vs ps qs g h =
     let users = items_one is_name user_form (NotMark comma) (not_own_mark comma) ts us vs g.0 h.0 g.1 h.1 (word_no_mark comma g.0 (parts_word g.0 ps [] g.3)) (word_no_mark comma h.0 (parts_word h.0 qs [] h.3)) in
     let parts = whole_one SpellsPart part_one h.0 ps qs (subst (λ (x : List Tok). Listed colon SpellsPart x ps []) users.1 g.3) h.3 in
-    ap (λ (x : List (Signed (Item (List ℕ)))). lines.Rights x ps) users.0 ∙ ap (λ (x : List Part). lines.Rights vs x) parts
+    ap (λ (x : List (Signed (Item (List ℕ)))). lines.UserSpec x ps) users.0 ∙ ap (λ (x : List Part). lines.UserSpec vs x) parts
 
 -- ---- the word that a line begins with tells its kind
 
@@ -134,10 +134,10 @@ kind_no_item kind k items.All h e = k.all e
 kind_no_item kind k (items.Name n) h e = false≢true (sym k.name ∙ ap is_name (sym e) ∙ h)
 kind_no_item kind k (items.Alias n) h e = false≢true (sym k.alias ∙ ap is_alias_name (sym e) ∙ h)
 
-kind_no_rights : {X : Type 0} (kind : List ℕ) → IsKind kind → (Is : List Tok → Signed X → List Tok → Type 0) (ts : List Tok) (ds : List (Definition X)) (us : List (Signed (Item (List ℕ)))) (ps : List Part)
-    → SpellsAliases kind Is ts ds → SpellsRights ts us ps → ⊥
-kind_no_rights kind k Is ts ds [] ps g h = absurd h.1
-kind_no_rights kind k Is ts ds (u ∷ us) ps g h =
+kind_no_user_spec : {X : Type 0} (kind : List ℕ) → IsKind kind → (Is : List Tok → Signed X → List Tok → Type 0) (ts : List Tok) (ds : List (Definition X)) (us : List (Signed (Item (List ℕ)))) (ps : List Part)
+    → SpellsAliases kind Is ts ds → SpellsUserSpec ts us ps → ⊥
+kind_no_user_spec kind k Is ts ds [] ps g h = absurd h.1
+kind_no_user_spec kind k Is ts ds (u ∷ us) ps g h =
     let first = h.1.1 in
     let both = sym first.toks ∙ g.2 in
     let text : item_text u.item ≡ kind = cc in
@@ -161,27 +161,27 @@ tree_one ts (lines.Users ds) (lines.Users es) g h = ap (λ (xs : List (Definitio
 tree_one ts (lines.Users ds) (lines.Runas es) g h = absurd (kinds_differ (codes "User_Alias") (codes "Runas_Alias") refl (kinds_same (codes "User_Alias") (codes "Runas_Alias") (SpellsItem is_name) (SpellsItem is_name) ts ds es g h))
 tree_one ts (lines.Users ds) (lines.Hosts es) g h = absurd (kinds_differ (codes "User_Alias") (codes "Host_Alias") refl (kinds_same (codes "User_Alias") (codes "Host_Alias") (SpellsItem is_name) (SpellsItem is_host_name) ts ds es g h))
 tree_one ts (lines.Users ds) (lines.Cmnds es) g h = absurd (kinds_differ (codes "User_Alias") (codes "Cmnd_Alias") refl (kinds_same (codes "User_Alias") (codes "Cmnd_Alias") (SpellsItem is_name) SpellsCmnd ts ds es g h))
-tree_one ts (lines.Users ds) (lines.Rights us ps) g h = absurd (kind_no_rights (codes "User_Alias") user_kind (SpellsItem is_name) ts ds us ps g h)
+tree_one ts (lines.Users ds) (lines.UserSpec us ps) g h = absurd (kind_no_user_spec (codes "User_Alias") user_kind (SpellsItem is_name) ts ds us ps g h)
 tree_one ts (lines.Runas ds) (lines.Users es) g h = absurd (kinds_differ (codes "Runas_Alias") (codes "User_Alias") refl (kinds_same (codes "Runas_Alias") (codes "User_Alias") (SpellsItem is_name) (SpellsItem is_name) ts ds es g h))
 tree_one ts (lines.Runas ds) (lines.Runas es) g h = ap (λ (xs : List (Definition (Item (List ℕ)))). lines.Runas xs) (aliases_one (codes "Runas_Alias") (SpellsItem is_name) users_items_one ts ds es g h)
 tree_one ts (lines.Runas ds) (lines.Hosts es) g h = absurd (kinds_differ (codes "Runas_Alias") (codes "Host_Alias") refl (kinds_same (codes "Runas_Alias") (codes "Host_Alias") (SpellsItem is_name) (SpellsItem is_host_name) ts ds es g h))
 tree_one ts (lines.Runas ds) (lines.Cmnds es) g h = absurd (kinds_differ (codes "Runas_Alias") (codes "Cmnd_Alias") refl (kinds_same (codes "Runas_Alias") (codes "Cmnd_Alias") (SpellsItem is_name) SpellsCmnd ts ds es g h))
-tree_one ts (lines.Runas ds) (lines.Rights us ps) g h = absurd (kind_no_rights (codes "Runas_Alias") runas_kind (SpellsItem is_name) ts ds us ps g h)
+tree_one ts (lines.Runas ds) (lines.UserSpec us ps) g h = absurd (kind_no_user_spec (codes "Runas_Alias") runas_kind (SpellsItem is_name) ts ds us ps g h)
 tree_one ts (lines.Hosts ds) (lines.Users es) g h = absurd (kinds_differ (codes "Host_Alias") (codes "User_Alias") refl (kinds_same (codes "Host_Alias") (codes "User_Alias") (SpellsItem is_host_name) (SpellsItem is_name) ts ds es g h))
 tree_one ts (lines.Hosts ds) (lines.Runas es) g h = absurd (kinds_differ (codes "Host_Alias") (codes "Runas_Alias") refl (kinds_same (codes "Host_Alias") (codes "Runas_Alias") (SpellsItem is_host_name) (SpellsItem is_name) ts ds es g h))
 tree_one ts (lines.Hosts ds) (lines.Hosts es) g h = ap (λ (xs : List (Definition (Item (List ℕ)))). lines.Hosts xs) (aliases_one (codes "Host_Alias") (SpellsItem is_host_name) hosts_items_one ts ds es g h)
 tree_one ts (lines.Hosts ds) (lines.Cmnds es) g h = absurd (kinds_differ (codes "Host_Alias") (codes "Cmnd_Alias") refl (kinds_same (codes "Host_Alias") (codes "Cmnd_Alias") (SpellsItem is_host_name) SpellsCmnd ts ds es g h))
-tree_one ts (lines.Hosts ds) (lines.Rights us ps) g h = absurd (kind_no_rights (codes "Host_Alias") host_kind (SpellsItem is_host_name) ts ds us ps g h)
+tree_one ts (lines.Hosts ds) (lines.UserSpec us ps) g h = absurd (kind_no_user_spec (codes "Host_Alias") host_kind (SpellsItem is_host_name) ts ds us ps g h)
 tree_one ts (lines.Cmnds ds) (lines.Users es) g h = absurd (kinds_differ (codes "Cmnd_Alias") (codes "User_Alias") refl (kinds_same (codes "Cmnd_Alias") (codes "User_Alias") SpellsCmnd (SpellsItem is_name) ts ds es g h))
 tree_one ts (lines.Cmnds ds) (lines.Runas es) g h = absurd (kinds_differ (codes "Cmnd_Alias") (codes "Runas_Alias") refl (kinds_same (codes "Cmnd_Alias") (codes "Runas_Alias") SpellsCmnd (SpellsItem is_name) ts ds es g h))
 tree_one ts (lines.Cmnds ds) (lines.Hosts es) g h = absurd (kinds_differ (codes "Cmnd_Alias") (codes "Host_Alias") refl (kinds_same (codes "Cmnd_Alias") (codes "Host_Alias") SpellsCmnd (SpellsItem is_host_name) ts ds es g h))
 tree_one ts (lines.Cmnds ds) (lines.Cmnds es) g h = ap (λ (xs : List (Definition CmndItem)). lines.Cmnds xs) (aliases_one (codes "Cmnd_Alias") SpellsCmnd cmnds_items_one ts ds es g h)
-tree_one ts (lines.Cmnds ds) (lines.Rights us ps) g h = absurd (kind_no_rights (codes "Cmnd_Alias") cmnd_kind SpellsCmnd ts ds us ps g h)
-tree_one ts (lines.Rights us ps) (lines.Users es) g h = absurd (kind_no_rights (codes "User_Alias") user_kind (SpellsItem is_name) ts es us ps h g)
-tree_one ts (lines.Rights us ps) (lines.Runas es) g h = absurd (kind_no_rights (codes "Runas_Alias") runas_kind (SpellsItem is_name) ts es us ps h g)
-tree_one ts (lines.Rights us ps) (lines.Hosts es) g h = absurd (kind_no_rights (codes "Host_Alias") host_kind (SpellsItem is_host_name) ts es us ps h g)
-tree_one ts (lines.Rights us ps) (lines.Cmnds es) g h = absurd (kind_no_rights (codes "Cmnd_Alias") cmnd_kind SpellsCmnd ts es us ps h g)
-tree_one ts (lines.Rights us ps) (lines.Rights vs qs) g h = rights_one ts us vs ps qs g h
+tree_one ts (lines.Cmnds ds) (lines.UserSpec us ps) g h = absurd (kind_no_user_spec (codes "Cmnd_Alias") cmnd_kind SpellsCmnd ts ds us ps g h)
+tree_one ts (lines.UserSpec us ps) (lines.Users es) g h = absurd (kind_no_user_spec (codes "User_Alias") user_kind (SpellsItem is_name) ts es us ps h g)
+tree_one ts (lines.UserSpec us ps) (lines.Runas es) g h = absurd (kind_no_user_spec (codes "Runas_Alias") runas_kind (SpellsItem is_name) ts es us ps h g)
+tree_one ts (lines.UserSpec us ps) (lines.Hosts es) g h = absurd (kind_no_user_spec (codes "Host_Alias") host_kind (SpellsItem is_host_name) ts es us ps h g)
+tree_one ts (lines.UserSpec us ps) (lines.Cmnds es) g h = absurd (kind_no_user_spec (codes "Cmnd_Alias") cmnd_kind SpellsCmnd ts es us ps h g)
+tree_one ts (lines.UserSpec us ps) (lines.UserSpec vs qs) g h = user_spec_one ts us vs ps qs g h
 
 -- ---- lines and texts
 

@@ -11,13 +11,13 @@ use Rattle.sudo_policy.specs.declared.entry.Item.{Item}
 use Rattle.sudo_policy.specs.declared.entry.CmndItem.{CmndItem}
 use Rattle.sudo_policy.specs.declared.entry.Rule.{Rule}
 use Rattle.sudo_policy.specs.declared.entry.Entry.TheVariants as entries
-use Rattle.sudo_policy.specs.declared.tree.Spec.{Spec}
+use Rattle.sudo_policy.specs.declared.tree.CmndSpec.{CmndSpec}
 use Rattle.sudo_policy.specs.declared.tree.Part.{Part}
 use Rattle.sudo_policy.specs.declared.tree.Line.TheVariants as lines
 use Rattle.sudo_policy.specs.Lex.{Tok, word, mark, Lexes}
 use Rattle.sudo_policy.specs.Printing.{item_text, cmnd_item_text, signed_text, names_text, date_text, tag_text, rule_text}
 use Rattle.sudo_policy.specs.Policy.{IsItem, IsList, IsRule}
-use Rattle.sudo_policy.specs.Grammar.{Date, Bounds, Users, Hosts, begins_spaced, SpellsItem, SpellsDates, SpellsTags, SpellsSpec, SpellsPart, SpellsTree, last_tag}
+use Rattle.sudo_policy.specs.Grammar.{Date, Bounds, Users, Hosts, begins_spaced, SpellsItem, SpellsDates, SpellsTags, SpellsCmndSpec, SpellsPart, SpellsTree, last_tag}
 use Rattle.sudo_policy.specs.Inheritance.{entries_of}
 use Rattle.sudo_policy.proofs.SpecTexts.{BeginsWord}
 use Rattle.sudo_policy.proofs.PrintedWords.{IsWord, name_word, host_word, literal, stamp_word}
@@ -178,13 +178,13 @@ rule_lexes r is =
 
 -- ---- the tree
 
-spec_of : Rule → Spec
+spec_of : Rule → CmndSpec
 spec_of r = record { runas = Some r.runas; not_before = r.not_before; not_after = r.not_after; nopasswd = last_tag (tags_of r.nopasswd); cmnd = r.cmnd }
 
 pub part_of : Rule → Part
 part_of r = record { hosts = r.hosts; specs = spec_of r ∷ [] }
 
-spec_spelled : (r : Rule) → IsRule r → SpellsSpec (mark true opening ∷ (list_toks item_toks false r.runas ++ (mark false closing ∷ what_toks r))) (spec_of r) []
+spec_spelled : (r : Rule) → IsRule r → SpellsCmndSpec (mark true opening ∷ (list_toks item_toks false r.runas ++ (mark false closing ∷ what_toks r))) (spec_of r) []
 unfolding what_toks spec_of
 spec_spelled r is =
     let cmnd = cmnd_toks true r.cmnd ++ [] in
@@ -202,7 +202,7 @@ spec_spelled r is =
       cmnd = cmnd_spelled true r.cmnd [] is.cmnd;
     }
 
-pub rule_spelled : (r : Rule) → IsRule r → SpellsTree (line_toks r) (lines.Rights r.users (part_of r ∷ []))
+pub rule_spelled : (r : Rule) → IsRule r → SpellsTree (line_toks r) (lines.UserSpec r.users (part_of r ∷ []))
 unfolding line_toks behind_users part_of
 rule_spelled r is =
     let behind = mark true opening ∷ (list_toks item_toks false r.runas ++ (mark false closing ∷ what_toks r)) in
@@ -228,7 +228,7 @@ or_none : (o : Option ℕ) → o ≡ option_or o None
 or_none None = refl
 or_none (Some n) = refl
 
-pub rule_entries : (r : Rule) → entries.Rule r ∷ [] ≡ entries_of (lines.Rights r.users (part_of r ∷ []))
+pub rule_entries : (r : Rule) → entries.Rule r ∷ [] ≡ entries_of (lines.UserSpec r.users (part_of r ∷ []))
 unfolding part_of spec_of rule_of_parts
 rule_entries r =
     let same : rule_of_parts r.users r.hosts r.runas r.not_before r.not_after r.nopasswd r.cmnd

@@ -14,10 +14,10 @@ use Rattle.sudo_policy.specs.declared.entry.Signed.{Signed}
 use Rattle.sudo_policy.specs.declared.entry.Item.{Item}
 use Rattle.sudo_policy.specs.declared.entry.CmndItem.{CmndItem}
 use Rattle.sudo_policy.specs.declared.entry.CmndItem.TheVariants as cmnds
-use Rattle.sudo_policy.specs.declared.tree.Spec.{Spec}
+use Rattle.sudo_policy.specs.declared.tree.CmndSpec.{CmndSpec}
 use Rattle.sudo_policy.specs.Lex.{Tok, word, mark}
 use Rattle.sudo_policy.specs.Policy.{IsCmndItem}
-use Rattle.sudo_policy.specs.Grammar.{Date, GivesBound, Bounds, Listed, Users, SpellsItem, SpellsCmnd, SpellsRunas, SpellsDates, SpellsTags, SpellsSpec, rule_toks, head_of, args_of, tag_word, last_tag}
+use Rattle.sudo_policy.specs.Grammar.{Date, GivesBound, Bounds, Listed, Users, SpellsItem, SpellsCmnd, SpellsRunas, SpellsDates, SpellsTags, SpellsCmndSpec, rule_toks, head_of, args_of, tag_word, last_tag}
 use Rattle.sudo_policy.proofs.ListTexts.{IsOne, listed_one}
 use Rattle.sudo_policy.proofs.ItemTexts.{IsForm, user_form, spelled_item_one, EndsCmnd, spelled_cmnd_one}
 
@@ -198,10 +198,10 @@ dates_word ts (d ∷ dates) r g n = subst BeginsWord (sym g.4) tt
 
 -- ---- the whole
 
-spec_of : Option (List (Signed (Item (List ℕ)))) → Option ℕ → Option ℕ → Option Bool → Signed CmndItem → Spec
+spec_of : Option (List (Signed (Item (List ℕ)))) → Option ℕ → Option ℕ → Option Bool → Signed CmndItem → CmndSpec
 spec_of runas not_before not_after nopasswd cmnd = record { runas = runas; not_before = not_before; not_after = not_after; nopasswd = nopasswd; cmnd = cmnd }
 
-same_spec : (s t : Spec) → s.runas ≡ t.runas → s.not_before ≡ t.not_before → s.not_after ≡ t.not_after → s.nopasswd ≡ t.nopasswd → s.cmnd ≡ t.cmnd → s ≡ t
+same_spec : (s t : CmndSpec) → s.runas ≡ t.runas → s.not_before ≡ t.not_before → s.not_after ≡ t.not_after → s.nopasswd ≡ t.nopasswd → s.cmnd ≡ t.cmnd → s ≡ t
 unfolding spec_of
 same_spec s t a b c d e =
     let same : spec_of s.runas s.not_before s.not_after s.nopasswd s.cmnd ≡ spec_of t.runas t.not_before t.not_after t.nopasswd t.cmnd =
@@ -209,7 +209,7 @@ same_spec s t a b c d e =
     ∙ ap (λ x. spec_of t.runas t.not_before t.not_after x s.cmnd) d ∙ ap (λ x. spec_of t.runas t.not_before t.not_after t.nopasswd x) e in
     same
 
-pub spec_one : IsOne SpellsSpec EndsCmnd
+pub spec_one : IsOne SpellsCmndSpec EndsCmnd
 spec_one ts s t r q g h n k =
     let word_g = cmnd_word g.behind_tags s.cmnd r g.cmnd in
     let word_h = cmnd_word h.behind_tags t.cmnd q h.cmnd in

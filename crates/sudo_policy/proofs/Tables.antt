@@ -14,10 +14,10 @@ use Rattle.sudo_policy.specs.declared.entry.Entry.{Entry}
 use Rattle.sudo_policy.specs.declared.tree.Definition.{Definition}
 use Rattle.sudo_policy.specs.declared.aliases.Alias.{Alias}
 use Rattle.sudo_policy.specs.declared.aliases.Aliases.{Aliases}
-use Rattle.sudo_policy.specs.declared.scope.Scope.{Scope}
+use Rattle.sudo_policy.specs.declared.alias_kinds.AliasKinds.{AliasKinds}
 use Rattle.sudo_policy.specs.Alias.{DefinedAt, is_defined, item_alias, cmnd_alias, list_weight, depth_of, alias_weight, alias_depth, user_defs, runas_defs, host_defs, cmnd_defs}
 use Rattle.sudo_policy.specs.private.Measures.{alias_at, has, weight_in, depth_in, stopped, IsDefinable, Defines}
-use Rattle.sudo_policy.specs.private.Scope.{IsTable, ArePlaces, IsKind, IsScope, RuleIsKnown, rule_weight_in}
+use Rattle.sudo_policy.specs.private.AliasKinds.{IsTable, ArePlaces, IsKind, AreAliasKinds, RuleIsKnown, rule_weight_in}
 use Rattle.sudo_policy.specs.Policy.{IsNew, KnowsRule, rule_weight}
 use Rattle.sudo_policy.proofs.DefinedPlaces.{defined_before, defined_last}
 use Rattle.sudo_policy.proofs.Measuring.{known_same, list_stopped, list_deep}
@@ -131,7 +131,7 @@ kind_same {X} alias_of def es e m none k =
 
 -- ---- rules
 
-pub rule_known : (es : List Entry) (s : Scope) (r : Rule) → IsScope es s → RuleIsKnown s r → KnowsRule (reverse es) r
+pub rule_known : (es : List Entry) (s : AliasKinds) (r : Rule) → AreAliasKinds es s → RuleIsKnown s r → KnowsRule (reverse es) r
 rule_known es s r is h = record {
   users = known_same item_alias (has s.users) (is_defined (user_defs (reverse es))) r.users is.users.table.has_those h.users;
   hosts = known_same item_alias (has s.hosts) (is_defined (host_defs (reverse es))) r.hosts is.hosts.table.has_those h.hosts;
@@ -139,7 +139,7 @@ rule_known es s r is h = record {
   cmnd = known_same cmnd_alias (has s.cmnds) (is_defined (cmnd_defs (reverse es))) (r.cmnd ∷ []) is.cmnds.table.has_those h.cmnd;
 }
 
-pub known_rule : (es : List Entry) (s : Scope) (r : Rule) → IsScope es s → KnowsRule (reverse es) r → RuleIsKnown s r
+pub known_rule : (es : List Entry) (s : AliasKinds) (r : Rule) → AreAliasKinds es s → KnowsRule (reverse es) r → RuleIsKnown s r
 known_rule es s r is h = record {
   users = known_same item_alias (is_defined (user_defs (reverse es))) (has s.users) r.users (λ n. sym (is.users.table.has_those n)) h.users;
   hosts = known_same item_alias (is_defined (host_defs (reverse es))) (has s.hosts) r.hosts (λ n. sym (is.hosts.table.has_those n)) h.hosts;
@@ -151,7 +151,7 @@ four_stopped : (a b c d w x y z : ℕ) → stopped a ≡ stopped w → stopped b
     → stopped (((a + b) + c) + d) ≡ stopped (((w + x) + y) + z)
 four_stopped a b c d w x y z e f g h = omega arith
 
-pub rule_stopped : (es : List Entry) (s : Scope) (r : Rule) → IsScope es s → stopped (rule_weight_in s r) ≡ stopped (rule_weight (reverse es) r)
+pub rule_stopped : (es : List Entry) (s : AliasKinds) (r : Rule) → AreAliasKinds es s → stopped (rule_weight_in s r) ≡ stopped (rule_weight (reverse es) r)
 rule_stopped es s r is =
     let users = alias_weight item_alias (user_defs (reverse es)) in
     let hosts = alias_weight item_alias (host_defs (reverse es)) in

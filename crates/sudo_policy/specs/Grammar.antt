@@ -14,7 +14,7 @@ use Rattle.sudo_policy.specs.declared.entry.Item.{Item}
 use Rattle.sudo_policy.specs.declared.entry.CmndItem.{CmndItem}
 use Rattle.sudo_policy.specs.declared.entry.CmndItem.TheVariants as cmnds
 use Rattle.sudo_policy.specs.declared.tree.Definition.{Definition}
-use Rattle.sudo_policy.specs.declared.tree.Spec.{Spec}
+use Rattle.sudo_policy.specs.declared.tree.CmndSpec.{CmndSpec}
 use Rattle.sudo_policy.specs.declared.tree.Part.{Part}
 use Rattle.sudo_policy.specs.declared.tree.Line.{Line}
 use Rattle.sudo_policy.specs.declared.tree.Line.TheVariants as lines
@@ -128,7 +128,7 @@ abbrev pub last_tag : List Bool → Option Bool
 last_tag [] = None
 last_tag (tag ∷ tags) = option_or (last_tag tags) (Some tag)
 
-pub record SpellsSpec (ts : List Tok) (s : Spec) (rest : List Tok) : Type 0 where
+pub record SpellsCmndSpec (ts : List Tok) (s : CmndSpec) (rest : List Tok) : Type 0 where
   pub behind_runas : List Tok
   pub dates : List Date
   pub behind_dates : List Tok
@@ -141,8 +141,8 @@ pub record SpellsSpec (ts : List Tok) (s : Spec) (rest : List Tok) : Type 0 wher
   pub passwd : s.nopasswd ≡ last_tag tags
   pub cmnd : SpellsCmnd behind_tags s.cmnd rest
 
-abbrev pub Specs : List Tok → List Spec → List Tok → Type 0
-Specs = Listed comma SpellsSpec
+abbrev pub CmndSpecs : List Tok → List CmndSpec → List Tok → Type 0
+CmndSpecs = Listed comma SpellsCmndSpec
 
 -- ---- lines
 
@@ -151,7 +151,7 @@ pub record SpellsPart (ts : List Tok) (p : Part) (rest : List Tok) : Type 0 wher
   pub spaced : Bool
   pub next : List Tok
   pub hosts : Hosts ts p.hosts (mark spaced equals ∷ next)
-  pub specs : Specs next p.specs rest
+  pub specs : CmndSpecs next p.specs rest
 
 -- a name, `=` and a list
 pub record SpellsDef {X : Type 0} (Is : List Tok → Signed X → List Tok → Type 0) (ts : List Tok) (d : Definition X) (rest : List Tok) : Type 0 where
@@ -168,8 +168,8 @@ SpellsAliases kind Is ts defs =
     (a : Bool) × (next : List Tok) × (ts ≡ word a 0 kind ∷ next) × (begins_spaced next ≡ true) × Listed colon (SpellsDef Is) next defs []
 
 -- users, and behind blanks parts with `:` between
-abbrev pub SpellsRights : List Tok → Names → List Part → Type 0
-SpellsRights ts users parts =
+abbrev pub SpellsUserSpec : List Tok → Names → List Part → Type 0
+SpellsUserSpec ts users parts =
     (next : List Tok) × Users ts users next × (begins_spaced next ≡ true) × Listed colon SpellsPart next parts []
 
 abbrev pub SpellsTree : List Tok → Line → Type 0
@@ -177,4 +177,4 @@ SpellsTree ts (lines.Users defs) = SpellsAliases (codes "User_Alias") (SpellsIte
 SpellsTree ts (lines.Runas defs) = SpellsAliases (codes "Runas_Alias") (SpellsItem is_name) ts defs
 SpellsTree ts (lines.Hosts defs) = SpellsAliases (codes "Host_Alias") (SpellsItem is_host_name) ts defs
 SpellsTree ts (lines.Cmnds defs) = SpellsAliases (codes "Cmnd_Alias") SpellsCmnd ts defs
-SpellsTree ts (lines.Rights users parts) = SpellsRights ts users parts
+SpellsTree ts (lines.UserSpec users parts) = SpellsUserSpec ts users parts

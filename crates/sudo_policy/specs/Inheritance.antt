@@ -9,7 +9,7 @@ use Rattle.sudo_policy.specs.declared.entry.CmndItem.{CmndItem}
 use Rattle.sudo_policy.specs.declared.entry.Rule.{Rule}
 use Rattle.sudo_policy.specs.declared.entry.Entry.{Entry}
 use Rattle.sudo_policy.specs.declared.entry.Entry.TheVariants as entries
-use Rattle.sudo_policy.specs.declared.tree.Spec.{Spec}
+use Rattle.sudo_policy.specs.declared.tree.CmndSpec.{CmndSpec}
 use Rattle.sudo_policy.specs.declared.tree.Part.{Part}
 use Rattle.sudo_policy.specs.declared.tree.Settings.{Settings}
 use Rattle.sudo_policy.specs.declared.tree.Line.{Line}
@@ -25,7 +25,7 @@ abbrev pub first_settings : Settings
 first_settings = record { runas = root; not_before = None; not_after = None; nopasswd = false }
 
 -- what a command gives of its own overrides what held before it
-abbrev pub with_spec : Settings → Spec → Settings
+abbrev pub with_spec : Settings → CmndSpec → Settings
 with_spec before s = record {
   runas = unwrap_or s.runas before.runas;
   not_before = option_or s.not_before before.not_before;
@@ -45,7 +45,7 @@ rule_with users hosts held cmnd = record {
 }
 
 -- the rules of a list of commands, where these settings hold before it
-abbrev pub rules_of : Names → Names → Settings → List Spec → List Entry
+abbrev pub rules_of : Names → Names → Settings → List CmndSpec → List Entry
 rules_of users hosts before [] = []
 rules_of users hosts before (s ∷ specs) =
     entries.Rule (rule_with users hosts (with_spec before s) s.cmnd) ∷ rules_of users hosts (with_spec before s) specs
@@ -59,4 +59,4 @@ entries_of (lines.Users defs) = map (λ d. entries.UserAlias d.name d.list) defs
 entries_of (lines.Runas defs) = map (λ d. entries.RunasAlias d.name d.list) defs
 entries_of (lines.Hosts defs) = map (λ d. entries.HostAlias d.name d.list) defs
 entries_of (lines.Cmnds defs) = map (λ d. entries.CmndAlias d.name d.list) defs
-entries_of (lines.Rights users parts) = flat_map (part_rules users) parts
+entries_of (lines.UserSpec users parts) = flat_map (part_rules users) parts

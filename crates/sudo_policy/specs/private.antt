@@ -5,4 +5,4 @@ pub mod Cuts
 -- what is kept beside a policy's entries
 pub mod Measures
 pub mod Lengths
-pub mod Scope
+pub mod AliasKinds

@@ -7,15 +7,13 @@ use std::alloc::AllocError;
 use sudo_words::{HostName, Items, Name};
 
 /// A list of users or of targets, copied.
-pub fn copied_names(
-    list: &Items<Signed<Item<Name>>>,
-) -> Result<Items<Signed<Item<Name>>>, AllocError>
+pub fn copy_names(list: &Items<Signed<Item<Name>>>) -> Result<Items<Signed<Item<Name>>>, AllocError>
     ensures { IfOk result (λ x. x ≡ list.now) }
 {
     list.clone()
 }
 
-fn copied_hosts(
+fn copy_hosts(
     list: &Items<Signed<Item<HostName>>>,
 ) -> Result<Items<Signed<Item<HostName>>>, AllocError>
     ensures { IfOk result (λ x. x ≡ list.now) }
@@ -24,7 +22,7 @@ fn copied_hosts(
 }
 
 /// The users, the hosts and the targets of a rule, copied.
-pub fn copied_lists(
+pub fn copy_lists(
     users: &Items<Signed<Item<Name>>>,
     hosts: &Items<Signed<Item<HostName>>>,
     runas: &Items<Signed<Item<Name>>>,
@@ -38,20 +36,16 @@ pub fn copied_lists(
 >
     ensures { IfOk result (λ x. (x.0 ≡ users.now) × (x.1 ≡ hosts.now) × (x.2 ≡ runas.now)) }
 {
-    Ok((
-        copied_names(users)?,
-        copied_hosts(hosts)?,
-        copied_names(runas)?,
-    ))
+    Ok((copy_names(users)?, copy_hosts(hosts)?, copy_names(runas)?))
 }
 
-fn copied_cmnds(list: &Items<Signed<CmndItem>>) -> Result<Items<Signed<CmndItem>>, AllocError>
+fn copy_cmnds(list: &Items<Signed<CmndItem>>) -> Result<Items<Signed<CmndItem>>, AllocError>
     ensures { IfOk result (λ x. x ≡ list.now) }
 {
     list.clone()
 }
 
-fn copied_cmnd(signed: &Signed<CmndItem>) -> Result<Signed<CmndItem>, AllocError>
+fn copy_cmnd(signed: &Signed<CmndItem>) -> Result<Signed<CmndItem>, AllocError>
     ensures { IfOk result (λ x. x ≡ signed.now) }
 {
     signed.clone()
@@ -61,7 +55,7 @@ impl Clone for Rule {
     ghost is_clone = { λ rule copy. copy ≡ rule };
 
     fn clone(&self) -> Result<Rule, AllocError> {
-        let (users, hosts, runas) = copied_lists(&self.users, &self.hosts, &self.runas)?;
+        let (users, hosts, runas) = copy_lists(&self.users, &self.hosts, &self.runas)?;
         Ok(Rule {
             users,
             hosts,
@@ -69,7 +63,7 @@ impl Clone for Rule {
             not_before: self.not_before,
             not_after: self.not_after,
             nopasswd: self.nopasswd,
-            cmnd: copied_cmnd(&self.cmnd)?,
+            cmnd: copy_cmnd(&self.cmnd)?,
         })
     }
 }
@@ -79,22 +73,13 @@ impl Clone for Entry {
 
     fn clone(&self) -> Result<Entry, AllocError> {
         match self {
-            Entry::UserAlias(name, list) => Ok(Entry::UserAlias(
-                name.clone()?,
-                copied_names(list)?,
-            )),
+            Entry::UserAlias(name, list) => Ok(Entry::UserAlias(name.clone()?, copy_names(list)?)),
             Entry::RunasAlias(name, list) => Ok(Entry::RunasAlias(
                 name.clone()?,
-                copied_names(list)?,
+                copy_names(list)?,
             )),
-            Entry::HostAlias(name, list) => Ok(Entry::HostAlias(
-                name.clone()?,
-                copied_hosts(list)?,
-            )),
-            Entry::CmndAlias(name, list) => Ok(Entry::CmndAlias(
-                name.clone()?,
-                copied_cmnds(list)?,
-            )),
+            Entry::HostAlias(name, list) => Ok(Entry::HostAlias(name.clone()?, copy_hosts(list)?)),
+            Entry::CmndAlias(name, list) => Ok(Entry::CmndAlias(name.clone()?, copy_cmnds(list)?)),
             Entry::Rule(rule) => Ok(Entry::Rule(rule.clone()?)),
         }
     }

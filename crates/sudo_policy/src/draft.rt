@@ -3,13 +3,13 @@
 ghost use Rattle.std.specs.Prelude.{◌≡◌, ◌++◌, ◌∷◌, [], IfErr, OnOk};
 ghost use Rattle.sudo_policy.specs.declared.fault.LineFault.TheVariants as fault;
 ghost use Rattle.sudo_policy.specs.Policy.{IsEntry, IsPolicy};
-ghost use Rattle.sudo_policy.specs.private.Scope.{Adds, IsDraft, IsWhole};
+ghost use Rattle.sudo_policy.specs.private.AliasKinds.{Adds, IsDraft, IsWhole};
 
+use crate::alias_kinds::AliasKinds;
 use crate::aliases::MOST_WEIGHT;
 use crate::entry::Entry;
 use crate::fault::LineFault;
 use crate::lengths::{MOST_TEXT_BYTES, line_len};
-use crate::scope::Scope;
 use std::alloc::Global;
 
 /// The most entries that a policy has.
@@ -30,7 +30,7 @@ pub struct Draft {
     /// The entries, in order.
     pub entries: Vec<Entry>,
     /// Where each alias is defined, its weight and its depth.
-    pub scope: Scope,
+    pub scope: AliasKinds,
     /// What the rules weigh.
     pub weight: usize,
     /// How many bytes the canonical text has.
@@ -45,7 +45,7 @@ impl Draft {
     {
         Draft {
             entries: Vec::new(alloc),
-            scope: Scope::new(alloc),
+            scope: AliasKinds::new(alloc),
             weight: 0,
             text_len: 0,
         }

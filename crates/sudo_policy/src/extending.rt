@@ -6,7 +6,7 @@ ghost use Rattle.sudo_policy.specs.declared.entry.Entry.TheVariants as entries;
 ghost use Rattle.sudo_policy.specs.declared.fault.FaultKind.TheVariants.{TooLarge, UnknownAlias, NoMemory};
 ghost use Rattle.sudo_policy.specs.Policy.{IsPolicy, IsRule, KnowsRule};
 ghost use Rattle.sudo_policy.specs.Reading as reading;
-ghost use Rattle.sudo_policy.specs.private.Scope.{Adds, IsDraft};
+ghost use Rattle.sudo_policy.specs.private.AliasKinds.{Adds, IsDraft};
 ghost use Rattle.sudo_policy.specs.declared.fault.LineFault.TheVariants as fault;
 
 use crate::draft::Draft;

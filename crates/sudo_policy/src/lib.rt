@@ -1,6 +1,7 @@
 //! Policies: what they are made of, which texts spell them, and how they grow and are printed. Reading a text is left to `sudo_syntax`.
 #![tactic(auto)]
 
+mod alias_kinds;
 mod alias_laws;
 mod aliases;
 mod copying;
@@ -12,12 +13,11 @@ mod laws;
 mod lengths;
 mod policy;
 mod printing;
-mod scope;
 mod token;
 mod tree;
 
 pub use alias_laws::alias_weighs_its_list;
-pub use copying::{copied_lists, copied_names};
+pub use copying::{copy_lists, copy_names};
 pub use draft::Draft;
 pub use entry::{CmndItem, Entry, Item, Rule, Signed};
 pub use extending::extend;
@@ -27,4 +27,4 @@ pub use lengths::MOST_TEXT_BYTES;
 pub use policy::Policy;
 pub use printing::print_policy;
 pub use token::{Mark, Token, TokenKind, cut_text, is_blank, is_text, tokens};
-pub use tree::{Definition, Line, Part, Settings, Spec};
+pub use tree::{CmndSpec, Definition, Line, Part, Settings};

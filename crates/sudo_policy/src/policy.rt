@@ -5,7 +5,7 @@ ghost use Rattle.std.specs.List.{AllByRecursion};
 ghost use Rattle.sudo_policy.specs.Alias.{DefinedAt, is_defined, user_def, runas_def, host_def, cmnd_def, user_defs, runas_defs, host_defs, cmnd_defs};
 ghost use Rattle.sudo_policy.specs.Printing.{canon};
 ghost use Rattle.sudo_policy.specs.Policy.{KnowsRule, weight};
-ghost use Rattle.sudo_policy.specs.private.Scope.{IsDraft as IsGrown};
+ghost use Rattle.sudo_policy.specs.private.AliasKinds.{IsDraft as IsGrown};
 
 use crate::draft::Draft;
 use crate::entry::{CmndItem, Entry, Item, Rule, Signed};
@@ -28,7 +28,7 @@ impl Model for Policy {
 
     ghost Value = { List Entry };
 
-    ghost use Rattle.sudo_policy.specs.private.Scope.{IsDraft};
+    ghost use Rattle.sudo_policy.specs.private.AliasKinds.{IsDraft};
 
     ghost view = { λ p. p.draft.entries.items };
 

@@ -14,7 +14,7 @@ pub struct Definition<T> {
 
 /// A command of a user specification, with what it gives of its own.
 #[derive(Drop)]
-pub struct Spec {
+pub struct CmndSpec {
     /// The targets in parentheses, if it has any.
     pub runas: Option<Items<Signed<Item<Name>>>>,
     /// The date of `NOTBEFORE`, if it has that option.
@@ -33,7 +33,7 @@ pub struct Part {
     /// The hosts.
     pub hosts: Items<Signed<Item<HostName>>>,
     /// The commands.
-    pub specs: Items<Spec>,
+    pub specs: Items<CmndSpec>,
 }
 
 /// What holds behind some commands of a list, for those that follow.
@@ -61,5 +61,5 @@ pub enum Line {
     /// `Cmnd_Alias`.
     Cmnds(Items<Definition<CmndItem>>),
     /// Users, and what they may run on which hosts.
-    Rights(Items<Signed<Item<Name>>>, Items<Part>),
+    UserSpec(Items<Signed<Item<Name>>>, Items<Part>),
 }

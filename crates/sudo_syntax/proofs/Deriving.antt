@@ -20,14 +20,14 @@ use Rattle.sudo_policy.specs.declared.entry.CmndItem.TheVariants as cmnds
 use Rattle.sudo_policy.specs.declared.entry.Entry.{Entry}
 use Rattle.sudo_policy.specs.declared.entry.Entry.TheVariants as entries
 use Rattle.sudo_policy.specs.declared.tree.Definition.{Definition}
-use Rattle.sudo_policy.specs.declared.tree.Spec.{Spec}
+use Rattle.sudo_policy.specs.declared.tree.CmndSpec.{CmndSpec}
 use Rattle.sudo_policy.specs.Alias.{is_defined, item_alias, cmnd_alias, KnowsList, depth_of, alias_depth, user_defs, runas_defs, host_defs, cmnd_defs}
 use Rattle.sudo_policy.specs.Policy.{IsItem, IsCmndItem, IsList, IsEntry, IsNew, IsPlaced, ArePlaced, weight, IsPolicy}
 use Rattle.sudo_policy.specs.Printing.{canon, item_text}
 use Rattle.sudo_policy.specs.Span.{Each}
 use Rattle.sudo_policy.specs.Lex.{Tok, word, mark, is_spaced, text_of, is_some_blank, is_blank, is_mark, is_word_text, goes_on, is_text_byte, IsTok, Lexes}
 use Rattle.sudo_policy.specs.Lines.{is_no_hash, ends_in_backslash, lines_of, IsBody, Joined}
-use Rattle.sudo_policy.specs.Grammar.{SpellsItem, SpellsCmnd, SpellsSpec, head_of, args_of, is_odd}
+use Rattle.sudo_policy.specs.Grammar.{SpellsItem, SpellsCmnd, SpellsCmndSpec, head_of, args_of, is_odd}
 use Rattle.sudo_policy.specs.Spelling.{SpellsLines, Spells}
 
 pub each_of : (p : ℕ → Bool) (bs : List ℕ) → list_all p bs ≡ true → Each p bs
@@ -103,10 +103,10 @@ pub cmnd : {spaced : Bool} {n : ℕ} {x : CmndItem} {rest : List Tok}
 cmnd {spaced} {n} {x} {rest} h = record { spaced = spaced; bangs = n; toks = refl; item = h; sign = refl }
 
 -- a command with nothing before it
-abbrev pub only : Signed CmndItem → Spec
+abbrev pub only : Signed CmndItem → CmndSpec
 only c = record { runas = None; not_before = None; not_after = None; nopasswd = None; cmnd = c }
 
-pub only_spelled : {ts : List Tok} {c : Signed CmndItem} {rest : List Tok} → SpellsCmnd ts c rest → SpellsSpec ts (only c) rest
+pub only_spelled : {ts : List Tok} {c : Signed CmndItem} {rest : List Tok} → SpellsCmnd ts c rest → SpellsCmndSpec ts (only c) rest
 only_spelled {ts} {c} {rest} h = record {
   behind_runas = ts;
   dates = [];

@@ -8,7 +8,7 @@ use Rattle.sudo_policy.specs.declared.entry.CmndItem.{CmndItem}
 use Rattle.sudo_policy.specs.declared.entry.Rule.{Rule}
 use Rattle.sudo_policy.specs.declared.entry.Entry.{Entry}
 use Rattle.sudo_policy.specs.declared.entry.Entry.TheVariants as entries
-use Rattle.sudo_policy.specs.declared.tree.Spec.{Spec}
+use Rattle.sudo_policy.specs.declared.tree.CmndSpec.{CmndSpec}
 use Rattle.sudo_policy.specs.declared.tree.Part.{Part}
 use Rattle.sudo_policy.specs.declared.tree.Settings.{Settings}
 use Rattle.sudo_policy.specs.declared.tree.Line.{Line}
@@ -36,7 +36,7 @@ tree_from (t ∷ ts) es some h = (h.0, h.1)
 
 -- ---- what comes next of a user specification
 
-pub rules_next : (users hosts : List (Signed (Item (List ℕ)))) (done : List Entry) (before : Settings) (s : Spec) (specs : List Spec) (all : List Entry) (behind : Settings) (cmnd : Signed CmndItem) (rule : Rule)
+pub rules_next : (users hosts : List (Signed (Item (List ℕ)))) (done : List Entry) (before : Settings) (s : CmndSpec) (specs : List CmndSpec) (all : List Entry) (behind : Settings) (cmnd : Signed CmndItem) (rule : Rule)
     → behind ≡ with_spec before s → cmnd ≡ s.cmnd → rule ≡ rule_with users hosts behind cmnd → done ++ rules_of users hosts before (s ∷ specs) ≡ all
     → done ++ (entries.Rule rule ∷ [] ++ rules_of users hosts behind specs) ≡ all
 rules_next users hosts done before s specs all behind cmnd rule settings_are cmnd_is rule_is whole = rw (rule_is, settings_are, cmnd_is) whole

@@ -5,7 +5,7 @@ use Rattle.std.specs.Option.{option_or}
 use Rattle.sudo_policy.specs.declared.entry.Signed.{Signed}
 use Rattle.sudo_policy.specs.declared.entry.Item.{Item}
 use Rattle.sudo_policy.specs.declared.entry.Entry.TheVariants as entries
-use Rattle.sudo_policy.specs.declared.tree.Spec.{Spec}
+use Rattle.sudo_policy.specs.declared.tree.CmndSpec.{CmndSpec}
 use Rattle.sudo_policy.specs.declared.tree.Part.{Part}
 use Rattle.sudo_policy.specs.declared.tree.Settings.{Settings}
 use Rattle.sudo_policy.specs.Inheritance.{first_settings, with_spec, rule_with, rules_of, part_rules}
@@ -41,31 +41,31 @@ or_none (Some x) = refl
 
 -- ---- what holds behind some commands
 
-behind : Settings → List Spec → Settings
+behind : Settings → List CmndSpec → Settings
 behind before [] = before
 behind before (s ∷ specs) = behind (with_spec before s) specs
 
-behind_runas : (h : Settings) (specs : List Spec) → (behind h specs).runas ≡ unwrap_or (last_of (map (λ s. s.runas) specs)) h.runas
+behind_runas : (h : Settings) (specs : List CmndSpec) → (behind h specs).runas ≡ unwrap_or (last_of (map (λ s. s.runas) specs)) h.runas
 unfolding behind last_of
 behind_runas h [] = refl
 behind_runas h (s ∷ specs) = behind_runas (with_spec h s) specs ∙ unwrap_later (last_of (map (λ c. c.runas) specs)) s.runas h.runas
 
-behind_nopasswd : (h : Settings) (specs : List Spec) → (behind h specs).nopasswd ≡ unwrap_or (last_of (map (λ s. s.nopasswd) specs)) h.nopasswd
+behind_nopasswd : (h : Settings) (specs : List CmndSpec) → (behind h specs).nopasswd ≡ unwrap_or (last_of (map (λ s. s.nopasswd) specs)) h.nopasswd
 unfolding behind last_of
 behind_nopasswd h [] = refl
 behind_nopasswd h (s ∷ specs) = behind_nopasswd (with_spec h s) specs ∙ unwrap_later (last_of (map (λ c. c.nopasswd) specs)) s.nopasswd h.nopasswd
 
-behind_not_before : (h : Settings) (specs : List Spec) → (behind h specs).not_before ≡ option_or (last_of (map (λ s. s.not_before) specs)) h.not_before
+behind_not_before : (h : Settings) (specs : List CmndSpec) → (behind h specs).not_before ≡ option_or (last_of (map (λ s. s.not_before) specs)) h.not_before
 unfolding behind last_of
 behind_not_before h [] = refl
 behind_not_before h (s ∷ specs) = behind_not_before (with_spec h s) specs ∙ or_later (last_of (map (λ c. c.not_before) specs)) s.not_before h.not_before
 
-behind_not_after : (h : Settings) (specs : List Spec) → (behind h specs).not_after ≡ option_or (last_of (map (λ s. s.not_after) specs)) h.not_after
+behind_not_after : (h : Settings) (specs : List CmndSpec) → (behind h specs).not_after ≡ option_or (last_of (map (λ s. s.not_after) specs)) h.not_after
 unfolding behind last_of
 behind_not_after h [] = refl
 behind_not_after h (s ∷ specs) = behind_not_after (with_spec h s) specs ∙ or_later (last_of (map (λ c. c.not_after) specs)) s.not_after h.not_after
 
-inherits : (users hosts : List (Signed (Item (List ℕ)))) (specs : List Spec) (s : Spec) → Inherits specs (rule_with users hosts (behind first_settings specs) s.cmnd)
+inherits : (users hosts : List (Signed (Item (List ℕ)))) (specs : List CmndSpec) (s : CmndSpec) → Inherits specs (rule_with users hosts (behind first_settings specs) s.cmnd)
 inherits users hosts specs s =
     let bound = λ (given : List (Option ℕ)) (held : Option ℕ) (e : held ≡ option_or (last_of given) None).
     subst (LastGiven given) (sym (e ∙ or_none (last_of given))) (last_is given) in
@@ -78,7 +78,7 @@ inherits users hosts specs s =
 
 -- ---- the rule at a place
 
-rule_behind : (users hosts : List (Signed (Item (List ℕ)))) (h : Settings) (before : List Spec) (s : Spec) (after : List Spec)
+rule_behind : (users hosts : List (Signed (Item (List ℕ)))) (h : Settings) (before : List CmndSpec) (s : CmndSpec) (after : List CmndSpec)
     → rules_of users hosts h (before ++ s ∷ after)
     ≡ rules_of users hosts h before ++ entries.Rule (rule_with users hosts (behind h (before ++ s ∷ [])) s.cmnd) ∷ rules_of users hosts (behind h (before ++ s ∷ [])) after
 unfolding behind
@@ -86,14 +86,14 @@ rule_behind users hosts h [] s after = refl
 rule_behind users hosts h (c ∷ before) s after =
     ap (λ es. entries.Rule (rule_with users hosts (with_spec h c) c.cmnd) ∷ es) (rule_behind users hosts (with_spec h c) before s after)
 
-rules_count : (users hosts : List (Signed (Item (List ℕ)))) (h : Settings) (specs : List Spec) → length (rules_of users hosts h specs) ≡ length specs
+rules_count : (users hosts : List (Signed (Item (List ℕ)))) (h : Settings) (specs : List CmndSpec) → length (rules_of users hosts h specs) ≡ length specs
 rules_count users hosts h [] = refl
 rules_count users hosts h (s ∷ specs) = ap suc (rules_count users hosts (with_spec h s) specs)
 
 pub one_each : (users : List (Signed (Item (List ℕ)))) (part : Part) → length (part_rules users part) ≡ length part.specs
 one_each users part = rules_count users part.hosts first_settings part.specs
 
-pub has_rule : (users : List (Signed (Item (List ℕ)))) (part : Part) (before after : List Spec) (s : Spec) → part.specs ≡ before ++ s ∷ after → HasRule users part before s
+pub has_rule : (users : List (Signed (Item (List ℕ)))) (part : Part) (before after : List CmndSpec) (s : CmndSpec) → part.specs ≡ before ++ s ∷ after → HasRule users part before s
 has_rule users part before after s are = record {
   rules_before = rules_of users part.hosts first_settings before;
   rule = rule_with users part.hosts (behind first_settings (before ++ s ∷ [])) s.cmnd;

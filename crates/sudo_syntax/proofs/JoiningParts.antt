@@ -18,7 +18,7 @@ use Rattle.sudo_policy.specs.declared.tree.Line.{Line}
 use Rattle.sudo_policy.specs.declared.tree.Line.TheVariants as lines
 use Rattle.sudo_policy.specs.Span.{Each, Stops}
 use Rattle.sudo_policy.specs.Lex.{Tok, word, mark, text_of, is_blank, is_some_blank, is_word_byte, goes_on, IsTok, Lexes}
-use Rattle.sudo_policy.specs.Grammar.{begins_spaced, More, Listed, SpellsItem, SpellsCmnd, args_of, head_of, Users, SpellsRunas, SpellsDates, SpellsTags, SpellsSpec, SpellsPart, SpellsDef, SpellsAliases, SpellsTree}
+use Rattle.sudo_policy.specs.Grammar.{begins_spaced, More, Listed, SpellsItem, SpellsCmnd, args_of, head_of, Users, SpellsRunas, SpellsDates, SpellsTags, SpellsCmndSpec, SpellsPart, SpellsDef, SpellsAliases, SpellsTree}
 use Rattle.sudo_policy.specs.Inheritance.{part_rules, entries_of}
 use Rattle.sudo_policy.specs.Spelling.{SpellsEntries, SpellsLine}
 use Rattle.sudo_syntax.specs.Apart.{AreUsers, AreParts, AreDefs, SpellsBoth}
@@ -129,7 +129,7 @@ tags_grows : Grows SpellsTags
 tags_grows ts [] rest us h = ap (λ (x : List Tok). x ++ us) h
 tags_grows ts (tag ∷ tags) rest us (a, b, next, e, more) = (a, b, next ++ us, ap (λ (x : List Tok). x ++ us) e, tags_grows next tags rest us more)
 
-spec_grows : Grows SpellsSpec
+spec_grows : Grows SpellsCmndSpec
 spec_grows ts s rest us g = record {
   behind_runas = g.behind_runas ++ us;
   dates = g.dates;
@@ -149,7 +149,7 @@ part_grows ts p rest us g = record {
   spaced = g.spaced;
   next = g.next ++ us;
   hosts = listed_grows comma (SpellsItem is_host_name) (item_grows is_host_name) ts p.hosts (mark g.spaced equals ∷ g.next) us g.hosts;
-  specs = listed_grows comma SpellsSpec spec_grows g.next p.specs rest us g.specs;
+  specs = listed_grows comma SpellsCmndSpec spec_grows g.next p.specs rest us g.specs;
 }
 
 def_grows : {X : Type 0} (Is : List Tok → Signed X → List Tok → Type 0) → Grows Is → Grows (SpellsDef Is)
@@ -265,11 +265,11 @@ users_some : (ts us : List Tok) (users : List (Signed (Item (List ℕ)))) (rest 
 users_some [] us users rest h e = listed_some comma (SpellsItem is_name) (item_frees is_name) users rest h
 users_some (t ∷ ts) us users rest h e = cc
 
-rights_line : (u p : List ℕ) (users : List (Signed (Item (List ℕ)))) (parts : List Part) → AreUsers u users → IsTail SpellsPart p parts → SpellsLine (u ++ space ∷ p) (entries_of (lines.Rights users parts))
-rights_line u p users parts (ts, lexes, are) t = (
+user_spec_line : (u p : List ℕ) (users : List (Signed (Item (List ℕ)))) (parts : List Part) → AreUsers u users → IsTail SpellsPart p parts → SpellsLine (u ++ space ∷ p) (entries_of (lines.UserSpec users parts))
+user_spec_line u p users parts (ts, lexes, are) t = (
   ts ++ t.toks,
   lex_behind u p ts t.toks lexes t.lexes,
-  some_entries (ts ++ t.toks) (lines.Rights users parts) (users_some ts t.toks users [] are)
+  some_entries (ts ++ t.toks) (lines.UserSpec users parts) (users_some ts t.toks users [] are)
       (t.toks, listed_grows comma (SpellsItem is_name) (item_grows is_name) ts users [] t.toks are, t.begins_so, t.listed),
 )
 
@@ -277,8 +277,8 @@ pub parts_apart : (u p q : List ℕ) (users : List (Signed (Item (List ℕ)))) (
 parts_apart u p q users ps qs are (tp, lex_p, list_p) (tq, lex_q, list_q) =
     let a = tail_of SpellsPart part_frees p tp ps lex_p list_p in
     let b = tail_of SpellsPart part_frees q tq qs lex_q list_q in
-    both u p q (entries_of (lines.Rights users ps)) (entries_of (lines.Rights users qs)) (entries_of (lines.Rights users (ps ++ qs))) (rights_line u p users ps are a) (rights_line u q users qs are b)
-    (rights_line u (p ++ codes " : " ++ q) users (ps ++ qs) are (both_tails SpellsPart part_grows p q ps qs a b))
+    both u p q (entries_of (lines.UserSpec users ps)) (entries_of (lines.UserSpec users qs)) (entries_of (lines.UserSpec users (ps ++ qs))) (user_spec_line u p users ps are a) (user_spec_line u q users qs are b)
+    (user_spec_line u (p ++ codes " : " ++ q) users (ps ++ qs) are (both_tails SpellsPart part_grows p q ps qs a b))
     (flat_map-append (part_rules users) ps qs)
 
 -- a line of definitions, by its kind

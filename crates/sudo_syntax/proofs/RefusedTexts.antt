@@ -16,12 +16,12 @@ use Rattle.sudo_policy.specs.declared.entry.Entry.{Entry}
 use Rattle.sudo_policy.specs.declared.tree.Line.{Line}
 use Rattle.sudo_policy.specs.declared.tree.Line.TheVariants as lines
 use Rattle.sudo_policy.specs.declared.tree.Part.{Part}
-use Rattle.sudo_policy.specs.declared.tree.Spec.{Spec}
+use Rattle.sudo_policy.specs.declared.tree.CmndSpec.{CmndSpec}
 use Rattle.sudo_policy.specs.Policy.{IsCmndItem, IsPolicy}
 use Rattle.sudo_policy.specs.Lex.{Tok, word, mark, Lexes}
 use Rattle.sudo_policy.specs.private.Tokens.{NoLexing}
 use Rattle.sudo_policy.specs.Lines.{is_no_hash, ends_in_backslash, lines_of, Joined}
-use Rattle.sudo_policy.specs.Grammar.{Listed, More, SpellsItem, SpellsCmnd, SpellsRunas, SpellsDates, SpellsTags, SpellsSpec, SpellsPart, SpellsRights, SpellsTree, Date, head_of, args_of, rule_toks}
+use Rattle.sudo_policy.specs.Grammar.{Listed, More, SpellsItem, SpellsCmnd, SpellsRunas, SpellsDates, SpellsTags, SpellsCmndSpec, SpellsPart, SpellsUserSpec, SpellsTree, Date, head_of, args_of, rule_toks}
 use Rattle.sudo_policy.specs.Inheritance.{entries_of}
 use Rattle.sudo_policy.specs.Spelling.{Spells, SpellsEntries, SpellsLine, SpellsLines}
 use Rattle.sudo_syntax.specs.Worked.{SpellsNone}
@@ -29,7 +29,7 @@ use Rattle.sudo_policy.proofs.Lexing.{lex_none, lex_one}
 use Rattle.sudo_policy.proofs.LineTexts.{joined_one, backslash_no_body, bad_front}
 use Rattle.sudo_policy.proofs.One.{lines_one}
 use Rattle.sudo_syntax.proofs.Deriving.{each_of, lexed, item, cmnd, cmnd_is, only, only_spelled}
-use Rattle.sudo_syntax.proofs.WorkedTexts.{plain, one_line, spells_line, yes, part, rights, all, all_toks, user_toks, user_line, user_tree}
+use Rattle.sudo_syntax.proofs.WorkedTexts.{plain, one_line, spells_line, yes, part, user_spec, all, all_toks, user_toks, user_line, user_tree}
 
 -- ---- a text of one line
 
@@ -69,7 +69,7 @@ inside_none es s = no_inside (codes "= /bin/ls" ∷ []) s.joined s.lines
 -- ---- an alias that is defined below its use
 
 abbrev use_line : Line
-use_line = rights (yes (items.Alias (codes "B"))) (part (codes "db1") (only (yes all)) ∷ [])
+use_line = user_spec (yes (items.Alias (codes "B"))) (part (codes "db1") (only (yes all)) ∷ [])
 
 use_tree : SpellsTree (word false 0 (codes "B") ∷ all_toks) use_line
 unfolding is_reserved
@@ -133,7 +133,7 @@ no_tags : (c a : List ℕ) (tail : List Tok) (tags : List Bool) (behind : List T
 no_tags c a tail [] behind h = sym h
 no_tags c a tail (tag ∷ tags) behind h = let is = h.3 in absurd (cc)
 
-spec_cmnd : (c a : List ℕ) (tail : List Tok) (s : Spec) (rest : List Tok) → SpellsSpec (Path2 c a tail) s rest → SpellsCmnd (Path2 c a tail) s.cmnd rest
+spec_cmnd : (c a : List ℕ) (tail : List Tok) (s : CmndSpec) (rest : List Tok) → SpellsCmndSpec (Path2 c a tail) s rest → SpellsCmnd (Path2 c a tail) s.cmnd rest
 spec_cmnd c a tail s rest h =
     let runas = no_runas true 0 c (word true 0 a ∷ tail) s.runas h.behind_runas h.runas in
     let dates = no_dates c a tail h.dates h.behind_dates (subst (λ (ts : List Tok). SpellsDates ts h.dates h.behind_dates) runas h.dated) in
@@ -142,14 +142,14 @@ spec_cmnd c a tail s rest h =
 
 -- what may stand behind the command
 record Behind (rest : List Tok) : Type 0 where
-  specs : List Spec
+  specs : List CmndSpec
   mid : List Tok
   parts : List Part
-  more : More comma SpellsSpec rest specs mid
+  more : More comma SpellsCmndSpec rest specs mid
   last : More colon SpellsPart mid parts []
 
-no_word : (b : Bool) (n : ℕ) (w : List ℕ) (ts mid : List Tok) (specs : List Spec) (parts : List Part)
-    → More comma SpellsSpec (word b n w ∷ ts) specs mid → More colon SpellsPart mid parts [] → ⊥
+no_word : (b : Bool) (n : ℕ) (w : List ℕ) (ts mid : List Tok) (specs : List CmndSpec) (parts : List Part)
+    → More comma SpellsCmndSpec (word b n w ∷ ts) specs mid → More colon SpellsPart mid parts [] → ⊥
 no_word b n w ts mid [] [] h k = cc
 no_word b n w ts mid [] (p ∷ parts) h k = let is = k.3 in cc
 no_word b n w ts mid (s ∷ specs) parts h k = let is = h.3 in cc
@@ -163,7 +163,7 @@ record HasArgs (c : List ℕ) (tail : List Tok) : Type 0 where
   behind : Behind rest
 
 none_behind : (a : List ℕ) (tail rest : List Tok) → word true 0 a ∷ tail ≡ rest → Behind rest → ⊥
-none_behind a tail rest e k = no_word true 0 a tail k.mid k.specs k.parts (subst (λ (ts : List Tok). More comma SpellsSpec ts k.specs k.mid) (sym e) k.more) k.last
+none_behind a tail rest e k = no_word true 0 a tail k.mid k.specs k.parts (subst (λ (ts : List Tok). More comma SpellsCmndSpec ts k.specs k.mid) (sym e) k.more) k.last
 
 args_are : (c a : List ℕ) (tail : List Tok) (x : CmndItem) (rest : List Tok) → IsCmndItem x → c ≡ head_of x → word true 0 a ∷ tail ≡ args_of x ++ rest → Behind rest → HasArgs c tail
 args_are c a tail (cmnds.Alias name) rest lawful head e k = absurd (none_behind a tail rest e k)
@@ -180,8 +180,8 @@ args_are c a tail (cmnds.Cmnd (commands.Path file (rules.Exactly (first ∷ args
   behind = k;
 }
 
-specs_args : (c a : List ℕ) (tail : List Tok) (specs : List Spec) (mid : List Tok) (parts : List Part)
-    → Listed comma SpellsSpec (Path2 c a tail) specs mid → More colon SpellsPart mid parts [] → HasArgs c tail
+specs_args : (c a : List ℕ) (tail : List Tok) (specs : List CmndSpec) (mid : List Tok) (parts : List Part)
+    → Listed comma SpellsCmndSpec (Path2 c a tail) specs mid → More colon SpellsPart mid parts [] → HasArgs c tail
 specs_args c a tail [] mid parts h k = absurd h
 specs_args c a tail (s ∷ specs) mid parts h k =
     let cmnd = spec_cmnd c a tail s h.0 h.1 in
@@ -194,13 +194,13 @@ parts_args : (t : Tok) (b : Bool) (c a : List ℕ) (tail : List Tok) (parts : Li
 parts_args t b c a tail [] h = absurd h
 parts_args t b c a tail (p ∷ parts) h =
     let next = hosts_end t b h.1.spaced (Path2 c a tail) p.hosts h.1.next h.1.hosts in
-    specs_args c a tail p.specs h.0 parts (subst (λ (ts : List Tok). Listed comma SpellsSpec ts p.specs h.0) next h.1.specs) h.2
+    specs_args c a tail p.specs h.0 parts (subst (λ (ts : List Tok). Listed comma SpellsCmndSpec ts p.specs h.0) next h.1.specs) h.2
 
 abbrev Begun : List ℕ → List ℕ → List ℕ → List ℕ → List Tok → List Tok
 Begun u h c a tail = word false 0 u ∷ word true 0 h ∷ mark true equals ∷ Path2 c a tail
 
-rights_args : (u h c a : List ℕ) (tail : List Tok) (users : List (Signed (Item (List ℕ)))) (parts : List Part) → SpellsRights (Begun u h c a tail) users parts → HasArgs c tail
-rights_args u h c a tail users parts g =
+user_spec_args : (u h c a : List ℕ) (tail : List Tok) (users : List (Signed (Item (List ℕ)))) (parts : List Part) → SpellsUserSpec (Begun u h c a tail) users parts → HasArgs c tail
+user_spec_args u h c a tail users parts g =
     let next = users_end (word false 0 u) true 0 h (mark true equals ∷ Path2 c a tail) users g.0 g.1 in
     parts_args (word true 0 h) true c a tail parts (subst (λ (ts : List Tok). Listed colon SpellsPart ts parts []) next g.3)
 
@@ -215,7 +215,7 @@ tree_args u h c a tail (lines.Users defs) short g = absurd (not_kind u (codes "U
 tree_args u h c a tail (lines.Runas defs) short g = absurd (not_kind u (codes "Runas_Alias") _ g.1 g.0 short (lit≤ tt) g.2)
 tree_args u h c a tail (lines.Hosts defs) short g = absurd (not_kind u (codes "Host_Alias") _ g.1 g.0 short (lit≤ tt) g.2)
 tree_args u h c a tail (lines.Cmnds defs) short g = absurd (not_kind u (codes "Cmnd_Alias") _ g.1 g.0 short (lit≤ tt) g.2)
-tree_args u h c a tail (lines.Rights users parts) short g = rights_args u h c a tail users parts g
+tree_args u h c a tail (lines.UserSpec users parts) short g = user_spec_args u h c a tail users parts g
 
 line_args : (line u h c a : List ℕ) (tail : List Tok) (es : List Entry) → length u ≡ 3 → Lexes line (Begun u h c a tail) → SpellsLine line es → HasArgs c tail
 line_args line u h c a tail es short lexes s =
@@ -244,8 +244,8 @@ part_missing : (b : Bool) (w : List ℕ) (ts mid : List Tok) (p : Part) → ts �
 part_missing b w ts mid p e h =
     hosts_missing b w p.hosts h.spaced h.next (subst (λ (x : List Tok). Listed comma (SpellsItem is_host_name) x p.hosts (mark h.spaced equals ∷ h.next)) e h.hosts)
 
-no_part : (b : Bool) (w : List ℕ) (mid rest : List Tok) (specs : List Spec) (parts : List Part) → rest ≡ mark false colon ∷ word b 0 w ∷ []
-    → More comma SpellsSpec rest specs mid → More colon SpellsPart mid parts [] → ⊥
+no_part : (b : Bool) (w : List ℕ) (mid rest : List Tok) (specs : List CmndSpec) (parts : List Part) → rest ≡ mark false colon ∷ word b 0 w ∷ []
+    → More comma SpellsCmndSpec rest specs mid → More colon SpellsPart mid parts [] → ⊥
 no_part b w mid rest [] [] e h k = cc
 no_part b w mid rest [] (p ∷ parts) e h k =
     let is = k.3 in

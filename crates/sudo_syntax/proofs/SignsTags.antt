@@ -4,10 +4,10 @@ use Rattle.std.specs.Option.{option_or}
 use Rattle.sudo_policy.specs.declared.entry.Signed.{Signed}
 use Rattle.sudo_policy.specs.declared.entry.Item.{Item}
 use Rattle.sudo_policy.specs.declared.entry.CmndItem.{CmndItem}
-use Rattle.sudo_policy.specs.declared.tree.Spec.{Spec}
+use Rattle.sudo_policy.specs.declared.tree.CmndSpec.{CmndSpec}
 use Rattle.sudo_policy.specs.Lex.{Tok, word}
 use Rattle.sudo_policy.specs.Printing.{item_text}
-use Rattle.sudo_policy.specs.Grammar.{SpellsItem, SpellsCmnd, SpellsSpec, last_tag, is_odd, head_of, args_of}
+use Rattle.sudo_policy.specs.Grammar.{SpellsItem, SpellsCmnd, SpellsCmndSpec, last_tag, is_odd, head_of, args_of}
 
 odd_more : (n : ℕ) → is_odd (n + 2) ≡ is_odd n
 odd_more n = let same : (n + 2) % 2 ≡ n % 2 = omega arith in ap (λ (k : ℕ). k == 1) same
@@ -55,5 +55,5 @@ last_is : (tags : List Bool) (tag : Bool) → last_tag (tags ++ tag ∷ []) ≡ 
 last_is [] tag = refl
 last_is (t ∷ tags) tag = ap (λ (o : Option Bool). option_or o (Some t)) (last_is tags tag)
 
-pub last_counts : (ts : List Tok) (s : Spec) (rest : List Tok) (g : SpellsSpec ts s rest) (before : List Bool) (tag : Bool) → g.tags ≡ before ++ tag ∷ [] → s.nopasswd ≡ Some tag
+pub last_counts : (ts : List Tok) (s : CmndSpec) (rest : List Tok) (g : SpellsCmndSpec ts s rest) (before : List Bool) (tag : Bool) → g.tags ≡ before ++ tag ∷ [] → s.nopasswd ≡ Some tag
 last_counts ts s rest g before tag are = g.passwd ∙ ap last_tag are ∙ last_is before tag

@@ -4,7 +4,7 @@ use Rattle.sudo_words.specs.Bytes.{equals, comma, colon, opening}
 use Rattle.sudo_policy.specs.declared.entry.Signed.{Signed}
 use Rattle.sudo_policy.specs.declared.entry.CmndItem.{CmndItem}
 use Rattle.sudo_policy.specs.declared.entry.Item.{Item}
-use Rattle.sudo_policy.specs.declared.tree.Spec.{Spec}
+use Rattle.sudo_policy.specs.declared.tree.CmndSpec.{CmndSpec}
 use Rattle.sudo_policy.specs.Lex.{Tok, word, mark}
 use Rattle.sudo_policy.specs.Grammar.{Date, SpellsCmnd, SpellsDates, SpellsTags, head_of, args_of, tag_word}
 use Rattle.sudo_syntax.specs.private.Fronts.{EndsBy, NoMark, NoTag, NoDate}
@@ -48,7 +48,7 @@ pub dates_close_runas : (ts : List Tok) (dates : List Date) (mid : List Tok) (ta
 dates_close_runas ts [] mid tags behind s rest d t h = subst (NoMark opening) (sym d) (tags_begin_word mid tags behind s rest t h)
 dates_close_runas ts (date ∷ dates) mid tags behind s rest d t h = subst (NoMark opening) (sym d.4) tt
 
-pub same_spec : (v : Spec) (runas : Option (List (Signed (Item (List ℕ))))) (before after : Option ℕ) (nopasswd : Option Bool) (cmnd : Signed CmndItem)
+pub same_spec : (v : CmndSpec) (runas : Option (List (Signed (Item (List ℕ))))) (before after : Option ℕ) (nopasswd : Option Bool) (cmnd : Signed CmndItem)
     → runas ≡ v.runas → before ≡ v.not_before → after ≡ v.not_after → nopasswd ≡ v.nopasswd → cmnd ≡ v.cmnd
     → record { runas = runas; not_before = before; not_after = after; nopasswd = nopasswd; cmnd = cmnd } ≡ v
 same_spec v runas before after nopasswd cmnd a b c d e = rw (a, b, c, d, e) refl

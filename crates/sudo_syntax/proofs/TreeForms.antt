@@ -12,12 +12,12 @@ use Rattle.sudo_policy.specs.declared.entry.Item.{Item}
 use Rattle.sudo_policy.specs.declared.entry.Entry.TheVariants as entries
 use Rattle.sudo_policy.specs.declared.tree.Definition.{Definition}
 use Rattle.sudo_policy.specs.declared.tree.Settings.{Settings}
-use Rattle.sudo_policy.specs.declared.tree.Spec.{Spec}
+use Rattle.sudo_policy.specs.declared.tree.CmndSpec.{CmndSpec}
 use Rattle.sudo_policy.specs.declared.tree.Part.{Part}
 use Rattle.sudo_policy.specs.declared.tree.Line.{Line}
 use Rattle.sudo_policy.specs.declared.tree.Line.TheVariants as lines
 use Rattle.sudo_policy.specs.Lex.{Tok}
-use Rattle.sudo_policy.specs.Grammar.{More, Listed, SpellsItem, SpellsCmnd, SpellsRunas, Date, SpellsDates, Bounds, SpellsSpec, SpellsPart, SpellsDef, SpellsAliases, SpellsTree}
+use Rattle.sudo_policy.specs.Grammar.{More, Listed, SpellsItem, SpellsCmnd, SpellsRunas, Date, SpellsDates, Bounds, SpellsCmndSpec, SpellsPart, SpellsDef, SpellsAliases, SpellsTree}
 use Rattle.sudo_policy.specs.Inheritance.{first_settings, with_spec, rules_of, part_rules, entries_of}
 use Rattle.sudo_policy.specs.Policy.{IsItem, IsCmndItem, IsList, IsEntry}
 use Rattle.sudo_syntax.proofs.EntryLemmas.{all_append}
@@ -70,7 +70,7 @@ record AreSettings (s : Settings) : Type 0 where
   not_before : IfSome s.not_before IsMoment
   not_after : IfSome s.not_after IsMoment
 
-record IsSpec (s : Spec) : Type 0 where
+record IsCmndSpec (s : CmndSpec) : Type 0 where
   runas : IfSome s.runas (IsList (IsItem is_name))
   not_before : IfSome s.not_before IsMoment
   not_after : IfSome s.not_after IsMoment
@@ -87,7 +87,7 @@ either : {X : Type 0} (P : X → Type 0) (a b : Option X) → IfSome a P → IfS
 either P None b h k = k
 either P (Some x) b h k = h
 
-behind_are : (before : Settings) (s : Spec) → AreSettings before → IsSpec s → AreSettings (with_spec before s)
+behind_are : (before : Settings) (s : CmndSpec) → AreSettings before → IsCmndSpec s → AreSettings (with_spec before s)
 behind_are before s held is = record {
   runas = given_or (IsList (IsItem is_name)) s.runas before.runas is.runas held.runas;
   not_before = either IsMoment s.not_before before.not_before is.not_before held.not_before;
@@ -113,7 +113,7 @@ bounds_are before after (date ∷ dates) not_before not_after b a are (new_befor
 bounds_are before after (date ∷ dates) not_before not_after b a are (new_before, new_after, inr gives, more) =
     bounds_are new_before new_after dates not_before not_after (subst (λ (o : Option ℕ). IfSome o IsMoment) (sym gives.3) b) (subst (λ (o : Option ℕ). IfSome o IsMoment) (sym gives.2) are.0) are.1 more
 
-spec_is : (ts : List Tok) (s : Spec) (rest : List Tok) → SpellsSpec ts s rest → IsSpec s
+spec_is : (ts : List Tok) (s : CmndSpec) (rest : List Tok) → SpellsCmndSpec ts s rest → IsCmndSpec s
 spec_is ts s rest h =
     let bounds = bounds_are None None h.dates s.not_before s.not_after tt tt (dates_are h.behind_runas h.dates h.behind_dates h.dated) h.bounds in
     record {
@@ -125,8 +125,8 @@ spec_is ts s rest h =
 
 -- ---- rules
 
-rules_are : (users hosts : List (Signed (Item (List ℕ)))) (before : Settings) (specs : List Spec) → IsList (IsItem is_name) users → IsList (IsItem is_host_name) hosts → AreSettings before
-    → AllByRecursion IsSpec specs → AllByRecursion IsEntry (rules_of users hosts before specs)
+rules_are : (users hosts : List (Signed (Item (List ℕ)))) (before : Settings) (specs : List CmndSpec) → IsList (IsItem is_name) users → IsList (IsItem is_host_name) hosts → AreSettings before
+    → AllByRecursion IsCmndSpec specs → AllByRecursion IsEntry (rules_of users hosts before specs)
 rules_are users hosts before [] u h held are = tt
 rules_are users hosts before (s ∷ specs) u h held are =
     let behind = behind_are before s held are.0 in (
@@ -136,7 +136,7 @@ rules_are users hosts before (s ∷ specs) u h held are =
 
 part_is : (users : List (Signed (Item (List ℕ)))) → IsList (IsItem is_name) users → (ts : List Tok) (p : Part) (rest : List Tok) → SpellsPart ts p rest → AllByRecursion IsEntry (part_rules users p)
 part_is users u ts p rest h =
-    rules_are users p.hosts first_settings p.specs u (items_are is_host_name ts p.hosts _ h.hosts) first_are (listed_all comma SpellsSpec IsSpec spec_is h.next p.specs rest h.specs)
+    rules_are users p.hosts first_settings p.specs u (items_are is_host_name ts p.hosts _ h.hosts) first_are (listed_all comma SpellsCmndSpec IsCmndSpec spec_is h.next p.specs rest h.specs)
 
 -- ---- lines
 
@@ -149,6 +149,6 @@ tree_entries ts (lines.Hosts defs) h =
     all_map IsEntry (λ d. entries.HostAlias d.name d.list) defs (aliases_are (codes "Host_Alias") (SpellsItem is_host_name) (IsItem is_host_name) (λ ts s rest is. is.item) ts defs h)
 tree_entries ts (lines.Cmnds defs) h =
     all_map IsEntry (λ d. entries.CmndAlias d.name d.list) defs (aliases_are (codes "Cmnd_Alias") SpellsCmnd IsCmndItem (λ ts s rest is. is.item) ts defs h)
-tree_entries ts (lines.Rights users parts) (next, u, spaced, list) =
+tree_entries ts (lines.UserSpec users parts) (next, u, spaced, list) =
     all_flat_map IsEntry (part_rules users) parts
     (listed_all colon SpellsPart (λ p. AllByRecursion IsEntry (part_rules users p)) (part_is users (items_are is_name ts users next u)) next parts [] list)

@@ -14,7 +14,7 @@ use Rattle.sudo_policy.specs.declared.tree.Line.TheVariants as lines
 use Rattle.sudo_policy.specs.Lex.{Tok}
 use Rattle.sudo_policy.specs.Printing.{item_text}
 use Rattle.sudo_policy.specs.Policy.{IsItem}
-use Rattle.sudo_policy.specs.Grammar.{Users, SpellsAliases, SpellsRights, SpellsTree}
+use Rattle.sudo_policy.specs.Grammar.{Users, SpellsAliases, SpellsUserSpec, SpellsTree}
 use Rattle.sudo_syntax.specs.private.Fronts.{NoKind}
 
 -- ---- the words of the four kinds
@@ -89,8 +89,8 @@ users_begin kind n ts (u ∷ users) rest h = λ a next e.
     let same : item_text u.item ≡ kind = cc in
     no_item kind n u.item h.1.item same
 
-rights_begin : (kind : List ℕ) → IsNoItem kind → (ts : List Tok) (users : List (Signed (Item (List ℕ)))) (parts : List Part) → SpellsRights ts users parts → NoKind kind ts
-rights_begin kind n ts users parts h = users_begin kind n ts users h.0 h.1
+user_spec_begin : (kind : List ℕ) → IsNoItem kind → (ts : List Tok) (users : List (Signed (Item (List ℕ)))) (parts : List Part) → SpellsUserSpec ts users parts → NoKind kind ts
+user_spec_begin kind n ts users parts h = users_begin kind n ts users h.0 h.1
 
 not : (kind other : List ℕ) → (other ≡ kind → ⊥) → kind ≡ other → ⊥
 not kind other n e = n (sym e)
@@ -103,7 +103,7 @@ by_users R ts (lines.Users defs) h here there = here defs h
 by_users R ts (lines.Runas defs) h here there = there (aliases_begin runas_kind users_kind _ ts defs (not runas_kind users_kind users_runas) h)
 by_users R ts (lines.Hosts defs) h here there = there (aliases_begin hosts_kind users_kind _ ts defs (not hosts_kind users_kind users_hosts) h)
 by_users R ts (lines.Cmnds defs) h here there = there (aliases_begin cmnds_kind users_kind _ ts defs (not cmnds_kind users_kind users_cmnds) h)
-by_users R ts (lines.Rights users parts) h here there = there (rights_begin users_kind (all_users, refl, refl) ts users parts h)
+by_users R ts (lines.UserSpec users parts) h here there = there (user_spec_begin users_kind (all_users, refl, refl) ts users parts h)
 
 pub by_runas : (R : Line → Type 0) (ts : List Tok) (l : Line) → SpellsTree ts l
     → ((defs : List (Definition (Item (List ℕ)))) → SpellsTree ts (lines.Runas defs) → R (lines.Runas defs)) → (NoKind runas_kind ts → R l) → R l
@@ -111,7 +111,7 @@ by_runas R ts (lines.Users defs) h here there = there (aliases_begin users_kind 
 by_runas R ts (lines.Runas defs) h here there = here defs h
 by_runas R ts (lines.Hosts defs) h here there = there (aliases_begin hosts_kind runas_kind _ ts defs (not hosts_kind runas_kind runas_hosts) h)
 by_runas R ts (lines.Cmnds defs) h here there = there (aliases_begin cmnds_kind runas_kind _ ts defs (not cmnds_kind runas_kind runas_cmnds) h)
-by_runas R ts (lines.Rights users parts) h here there = there (rights_begin runas_kind (all_runas, refl, refl) ts users parts h)
+by_runas R ts (lines.UserSpec users parts) h here there = there (user_spec_begin runas_kind (all_runas, refl, refl) ts users parts h)
 
 pub by_hosts : (R : Line → Type 0) (ts : List Tok) (l : Line) → SpellsTree ts l
     → ((defs : List (Definition (Item (List ℕ)))) → SpellsTree ts (lines.Hosts defs) → R (lines.Hosts defs)) → (NoKind hosts_kind ts → R l) → R l
@@ -119,7 +119,7 @@ by_hosts R ts (lines.Users defs) h here there = there (aliases_begin users_kind 
 by_hosts R ts (lines.Runas defs) h here there = there (aliases_begin runas_kind hosts_kind _ ts defs runas_hosts h)
 by_hosts R ts (lines.Hosts defs) h here there = here defs h
 by_hosts R ts (lines.Cmnds defs) h here there = there (aliases_begin cmnds_kind hosts_kind _ ts defs (not cmnds_kind hosts_kind hosts_cmnds) h)
-by_hosts R ts (lines.Rights users parts) h here there = there (rights_begin hosts_kind (all_hosts, refl, refl) ts users parts h)
+by_hosts R ts (lines.UserSpec users parts) h here there = there (user_spec_begin hosts_kind (all_hosts, refl, refl) ts users parts h)
 
 pub by_cmnds : (R : Line → Type 0) (ts : List Tok) (l : Line) → SpellsTree ts l
     → ((defs : List (Definition CmndItem)) → SpellsTree ts (lines.Cmnds defs) → R (lines.Cmnds defs)) → (NoKind cmnds_kind ts → R l) → R l
@@ -127,16 +127,16 @@ by_cmnds R ts (lines.Users defs) h here there = there (aliases_begin users_kind 
 by_cmnds R ts (lines.Runas defs) h here there = there (aliases_begin runas_kind cmnds_kind _ ts defs runas_cmnds h)
 by_cmnds R ts (lines.Hosts defs) h here there = there (aliases_begin hosts_kind cmnds_kind _ ts defs hosts_cmnds h)
 by_cmnds R ts (lines.Cmnds defs) h here there = here defs h
-by_cmnds R ts (lines.Rights users parts) h here there = there (rights_begin cmnds_kind (all_cmnds, refl, refl) ts users parts h)
+by_cmnds R ts (lines.UserSpec users parts) h here there = there (user_spec_begin cmnds_kind (all_cmnds, refl, refl) ts users parts h)
 
 -- a line that begins with none of the words
-pub by_rights : (R : Line → Type 0) (ts : List Tok) (l : Line) → SpellsTree ts l → NoKind users_kind ts → NoKind runas_kind ts → NoKind hosts_kind ts → NoKind cmnds_kind ts
-    → ((users : List (Signed (Item (List ℕ)))) (parts : List Part) → SpellsRights ts users parts → R (lines.Rights users parts)) → R l
-by_rights R ts (lines.Users defs) h a b c d here = absurd (a h.0 h.1 h.2)
-by_rights R ts (lines.Runas defs) h a b c d here = absurd (b h.0 h.1 h.2)
-by_rights R ts (lines.Hosts defs) h a b c d here = absurd (c h.0 h.1 h.2)
-by_rights R ts (lines.Cmnds defs) h a b c d here = absurd (d h.0 h.1 h.2)
-by_rights R ts (lines.Rights users parts) h a b c d here = here users parts h
+pub by_user_spec : (R : Line → Type 0) (ts : List Tok) (l : Line) → SpellsTree ts l → NoKind users_kind ts → NoKind runas_kind ts → NoKind hosts_kind ts → NoKind cmnds_kind ts
+    → ((users : List (Signed (Item (List ℕ)))) (parts : List Part) → SpellsUserSpec ts users parts → R (lines.UserSpec users parts)) → R l
+by_user_spec R ts (lines.Users defs) h a b c d here = absurd (a h.0 h.1 h.2)
+by_user_spec R ts (lines.Runas defs) h a b c d here = absurd (b h.0 h.1 h.2)
+by_user_spec R ts (lines.Hosts defs) h a b c d here = absurd (c h.0 h.1 h.2)
+by_user_spec R ts (lines.Cmnds defs) h a b c d here = absurd (d h.0 h.1 h.2)
+by_user_spec R ts (lines.UserSpec users parts) h a b c d here = here users parts h
 
 -- ---- answers
 

@@ -19,7 +19,7 @@ use Rattle.sudo_policy.specs.declared.entry.Entry.{Entry}
 use Rattle.sudo_policy.specs.declared.tree.Line.{Line}
 use Rattle.sudo_policy.specs.declared.tree.Line.TheVariants as lines
 use Rattle.sudo_policy.specs.declared.tree.Part.{Part}
-use Rattle.sudo_policy.specs.declared.tree.Spec.{Spec}
+use Rattle.sudo_policy.specs.declared.tree.CmndSpec.{CmndSpec}
 use Rattle.sudo_policy.specs.Lines.{is_no_hash, ends_in_backslash, Joined}
 use Rattle.sudo_policy.specs.Lex.{Tok, word, mark, Lexes}
 use Rattle.sudo_policy.specs.Grammar.{SpellsTree}
@@ -46,11 +46,11 @@ all = cmnds.Cmnd commands.All
 abbrev user : List ℕ → Signed (Item (List ℕ))
 user name = yes (items.Name name)
 
-abbrev pub part : List ℕ → Spec → Part
+abbrev pub part : List ℕ → CmndSpec → Part
 part host spec = record { hosts = user host ∷ []; specs = spec ∷ [] }
 
-abbrev pub rights : Signed (Item (List ℕ)) → List Part → Line
-rights who parts = lines.Rights (who ∷ []) parts
+abbrev pub user_spec : Signed (Item (List ℕ)) → List Part → Line
+user_spec who parts = lines.UserSpec (who ∷ []) parts
 
 -- a line without a comment, and what follows it
 pub plain : (line : List ℕ) (rest : List (List ℕ)) (more : List (List ℕ)) → list_all is_no_hash line ≡ true → ends_in_backslash line ≡ false
@@ -73,7 +73,7 @@ abbrev signs_toks : List Tok
 signs_toks = word true 0 (codes "db1") ∷ mark true equals ∷ word true 3 (codes "/bin/su") ∷ []
 
 abbrev signs_line : Line
-signs_line = rights (user (codes "ann")) (part (codes "db1") (only (no su)) ∷ [])
+signs_line = user_spec (user (codes "ann")) (part (codes "db1") (only (no su)) ∷ [])
 
 signs_tree : SpellsTree (word false 2 (codes "ann") ∷ signs_toks) signs_line
 signs_tree = (_, (_, item refl, refl), refl, (_, record { spaced = true; next = _; hosts = (_, item refl, refl); specs = (_, only_spelled (cmnd (cmnd_is su refl)), refl) }, refl))
@@ -95,7 +95,7 @@ abbrev pub all_toks : List Tok
 all_toks = word true 0 (codes "db1") ∷ mark true equals ∷ word true 0 (codes "ALL") ∷ []
 
 abbrev all_line : Line
-all_line = rights (user (codes "ann")) (part (codes "db1") (only (yes all)) ∷ [])
+all_line = user_spec (user (codes "ann")) (part (codes "db1") (only (yes all)) ∷ [])
 
 all_tree : SpellsTree (word false 0 (codes "ann") ∷ all_toks) all_line
 all_tree = (_, (_, item refl, refl), refl, (_, record { spaced = true; next = _; hosts = (_, item refl, refl); specs = (_, only_spelled (cmnd (cmnd_is all refl)), refl) }, refl))
@@ -118,7 +118,7 @@ abbrev ls_toks : List Tok
 ls_toks = word true 0 (codes "db1") ∷ mark true equals ∷ word true 0 (codes "/bin/ls") ∷ []
 
 abbrev ls_line : Line
-ls_line = rights (user (codes "ann")) (part (codes "db1") (only (yes ls)) ∷ [])
+ls_line = user_spec (user (codes "ann")) (part (codes "db1") (only (yes ls)) ∷ [])
 
 ls_tree : SpellsTree (word false 0 (codes "ann") ∷ ls_toks) ls_line
 ls_tree = (_, (_, item refl, refl), refl, (_, record { spaced = true; next = _; hosts = (_, item refl, refl); specs = (_, only_spelled (cmnd (cmnd_is ls refl)), refl) }, refl))
@@ -174,11 +174,11 @@ parts_toks =
     word true 0 (codes "db1") ∷ mark true equals ∷ word true 0 (codes "/bin/ls") ∷ mark true colon ∷ word true 0 (codes "db2") ∷ mark true equals
     ∷ mark true opening ∷ word false 0 (codes "ALL") ∷ mark false closing ∷ word true 0 (codes "ALL") ∷ []
 
-abbrev as_anyone : Spec
+abbrev as_anyone : CmndSpec
 as_anyone = record { runas = Some (yes items.All ∷ []); not_before = None; not_after = None; nopasswd = None; cmnd = yes all }
 
 abbrev parts_line : Line
-parts_line = rights (yes (items.Alias (codes "B"))) (part (codes "db1") (only (yes ls)) ∷ part (codes "db2") as_anyone ∷ [])
+parts_line = user_spec (yes (items.Alias (codes "B"))) (part (codes "db1") (only (yes ls)) ∷ part (codes "db2") as_anyone ∷ [])
 
 parts_tree : SpellsTree (word false 0 (codes "B") ∷ parts_toks) parts_line
 unfolding is_reserved
@@ -267,7 +267,7 @@ abbrev both_toks : List Tok
 both_toks = word true 0 (codes "B") ∷ mark true equals ∷ word true 0 (codes "ALL") ∷ []
 
 abbrev both_line : Line
-both_line = rights (yes (items.Alias (codes "B"))) (record { hosts = yes (items.Alias (codes "B")) ∷ []; specs = only (yes all) ∷ [] } ∷ [])
+both_line = user_spec (yes (items.Alias (codes "B"))) (record { hosts = yes (items.Alias (codes "B")) ∷ []; specs = only (yes all) ∷ [] } ∷ [])
 
 both_tree : SpellsTree (word false 0 (codes "B") ∷ both_toks) both_line
 unfolding is_reserved
@@ -314,7 +314,7 @@ abbrev echo_toks : List Tok
 echo_toks = word true 0 (codes "db1") ∷ mark true equals ∷ word true 0 (codes "/bin/echo") ∷ word true 0 (codes "a\\:b") ∷ []
 
 abbrev echo_line : Line
-echo_line = rights (user (codes "ann")) (part (codes "db1") (only (yes echo)) ∷ [])
+echo_line = user_spec (user (codes "ann")) (part (codes "db1") (only (yes echo)) ∷ [])
 
 echo_tree : SpellsTree (word false 0 (codes "ann") ∷ echo_toks) echo_line
 echo_tree = (_, (_, item refl, refl), refl, (_, record { spaced = true; next = _; hosts = (_, item refl, refl); specs = (_, only_spelled (cmnd (cmnd_is echo refl)), refl) }, refl))
@@ -334,7 +334,7 @@ abbrev bin_toks : List Tok
 bin_toks = word true 0 (codes "db1") ∷ mark true equals ∷ word true 0 (codes "/usr/bin/") ∷ []
 
 abbrev bin_line : Line
-bin_line = rights (user (codes "ann")) (part (codes "db1") (only (yes bin)) ∷ [])
+bin_line = user_spec (user (codes "ann")) (part (codes "db1") (only (yes bin)) ∷ [])
 
 bin_tree : SpellsTree (word false 0 (codes "ann") ∷ bin_toks) bin_line
 bin_tree = (_, (_, item refl, refl), refl, (_, record { spaced = true; next = _; hosts = (_, item refl, refl); specs = (_, only_spelled (cmnd (cmnd_is bin refl)), refl) }, refl))
@@ -368,14 +368,14 @@ dates_toks =
     ∷ word true 0 (codes "/bin/ls") ∷ mark false comma ∷ word true 0 (codes "NOTBEFORE") ∷ mark false equals ∷ word false 0 (codes "2026010509Z")
     ∷ word true 0 (codes "/bin/cat") ∷ mark true colon ∷ word true 0 (codes "db2") ∷ mark true equals ∷ word true 0 (codes "/bin/ls") ∷ []
 
-abbrev until : Spec
+abbrev until : CmndSpec
 until = record { runas = None; not_before = None; not_after = Some 1_767_610_800; nopasswd = None; cmnd = yes ls }
 
-abbrev since : Spec
+abbrev since : CmndSpec
 since = record { runas = None; not_before = Some 1_767_603_600; not_after = None; nopasswd = None; cmnd = yes cat }
 
 abbrev dates_line : Line
-dates_line = rights (user (codes "ann")) (record { hosts = user (codes "db1") ∷ []; specs = until ∷ since ∷ [] } ∷ part (codes "db2") (only (yes ls)) ∷ [])
+dates_line = user_spec (user (codes "ann")) (record { hosts = user (codes "db1") ∷ []; specs = until ∷ since ∷ [] } ∷ part (codes "db2") (only (yes ls)) ∷ [])
 
 dates_tree : SpellsTree (word false 0 (codes "ann") ∷ dates_toks) dates_line
 dates_tree = (

@@ -4,7 +4,7 @@ use Rattle.std.specs.List.{AllByRecursion}
 use Rattle.sudo_policy.specs.declared.entry.Rule.{Rule}
 use Rattle.sudo_policy.specs.declared.entry.Entry.{Entry}
 use Rattle.sudo_policy.specs.declared.entry.Entry.TheVariants as entries
-use Rattle.sudo_policy.specs.declared.tree.Spec.{Spec}
+use Rattle.sudo_policy.specs.declared.tree.CmndSpec.{CmndSpec}
 use Rattle.sudo_policy.specs.declared.tree.Part.{Part}
 use Rattle.sudo_policy.specs.Text.{Names}
 use Rattle.sudo_policy.specs.Inheritance.{root, part_rules}
@@ -22,7 +22,7 @@ abbrev pub LastGivenOr : {X : Type 0} → X → List (Option X) → X → Type 0
 LastGivenOr {X} default given held = (last : Option X) × LastGiven given last × (held ≡ unwrap_or last default)
 
 -- What the rule has is the last one given by these commands; where none gives one, it is `root`, no bound, and a password.
-pub record Inherits (specs : List Spec) (rule : Rule) : Type 0 where
+pub record Inherits (specs : List CmndSpec) (rule : Rule) : Type 0 where
   pub runas : LastGivenOr root (map (λ s. s.runas) specs) rule.runas
   pub not_before : LastGiven (map (λ s. s.not_before) specs) rule.not_before
   pub not_after : LastGiven (map (λ s. s.not_after) specs) rule.not_after
@@ -30,7 +30,7 @@ pub record Inherits (specs : List Spec) (rule : Rule) : Type 0 where
 
 -- The command that stands behind these in a part has a rule at its own place among the part's entries: with the part's users and
 -- hosts and the command itself, and what it inherits from the commands up to and including it.
-pub record HasRule (users : Names) (part : Part) (before : List Spec) (s : Spec) : Type 0 where
+pub record HasRule (users : Names) (part : Part) (before : List CmndSpec) (s : CmndSpec) : Type 0 where
   pub rules_before : List Entry
   pub rule : Rule
   pub rules_after : List Entry

@@ -6,12 +6,12 @@ ghost use Rattle.sudo_policy.specs.declared.entry.Entry.TheVariants as entries;
 ghost use Rattle.sudo_policy.specs.declared.fault.LineFault.TheVariants as fault;
 ghost use Rattle.sudo_policy.specs.Inheritance as inheritance;
 ghost use Rattle.sudo_policy.specs.Policy.{IsEntry, IsPolicy};
-ghost use Rattle.sudo_policy.specs.private.Scope.{Adds, IsDraft};
+ghost use Rattle.sudo_policy.specs.private.AliasKinds.{Adds, IsDraft};
 
 use std::alloc::{AllocError, Global};
 use sudo_policy::{
-    CmndItem, Definition, Draft, Entry, Item, Line, LineFault, Part, Rule, Settings, Signed, Spec,
-    copied_lists, copied_names,
+    CmndItem, CmndSpec, Definition, Draft, Entry, Item, Line, LineFault, Part, Rule, Settings,
+    Signed, copy_lists, copy_names,
 };
 use sudo_words::{HostName, Items, Name};
 
@@ -46,7 +46,7 @@ fn first_settings(alloc: Global) -> Result<Settings, LineFault>
 }
 
 /// What holds behind a command, and the command.
-fn with_spec(held: Settings, spec: Spec) -> (Settings, Signed<CmndItem>)
+fn with_spec(held: Settings, spec: CmndSpec) -> (Settings, Signed<CmndItem>)
     ensures settings { result.0 ≡ inheritance.with_spec held spec }
     ensures cmnd { result.1 ≡ spec.cmnd }
 {
@@ -60,7 +60,7 @@ fn with_spec(held: Settings, spec: Spec) -> (Settings, Signed<CmndItem>)
 }
 
 /// The rule of a command, where these settings hold: the lists are copied.
-fn copied_rule(
+fn copy_rule(
     users: &Items<Signed<Item<Name>>>,
     hosts: &Items<Signed<Item<HostName>>>,
     held: &Settings,
@@ -68,7 +68,7 @@ fn copied_rule(
 ) -> Result<Rule, AllocError>
     ensures { IfOk result (λ x. x ≡ inheritance.rule_with users.now hosts.now held.now cmnd) }
 {
-    let (users, hosts, runas) = copied_lists(users, hosts, &held.runas)?;
+    let (users, hosts, runas) = copy_lists(users, hosts, &held.runas)?;
     Ok(Rule {
         users,
         hosts,
@@ -115,11 +115,11 @@ fn targets_of(
 }
 
 /// What holds behind the first command of a list, and the command. `root` is made only where the command gives no target.
-fn first_spec(alloc: Global, spec: Spec) -> Result<(Settings, Signed<CmndItem>), LineFault>
+fn first_spec(alloc: Global, spec: CmndSpec) -> Result<(Settings, Signed<CmndItem>), LineFault>
     ensures found { IfOk result (λ x. (x.0 ≡ inheritance.with_spec inheritance.first_settings spec) × (x.1 ≡ spec.cmnd)) }
     ensures only { IfErr result (λ e. e ≡ fault.NoMemory) }
 {
-    let Spec {
+    let CmndSpec {
         runas,
         not_before,
         not_after,
@@ -141,7 +141,7 @@ fn add_only(
     draft: &mut Draft,
     users: Items<Signed<Item<Name>>>,
     hosts: Items<Signed<Item<HostName>>>,
-    spec: Spec,
+    spec: CmndSpec,
 ) -> Result<(), LineFault>
     requires draft { IsDraft draft.old }
     requires entries { AllByRecursion IsEntry (inheritance.rules_of users hosts inheritance.first_settings (spec ∷ [])) }
@@ -159,7 +159,7 @@ fn add_specs(
     draft: &mut Draft,
     users: Items<Signed<Item<Name>>>,
     hosts: Items<Signed<Item<HostName>>>,
-    specs: Vec<Spec>,
+    specs: Vec<CmndSpec>,
 ) -> Result<(), LineFault>
     requires draft { IsDraft draft.old }
     requires entries { AllByRecursion IsEntry (inheritance.rules_of users hosts inheritance.first_settings specs.items) }
@@ -178,7 +178,7 @@ fn add_specs(
     for spec in front {
         let (settings, cmnd) = with_spec(held, spec);
         held = settings;
-        let rule = copied_rule(of_users, of_hosts, &held, cmnd)?;
+        let rule = copy_rule(of_users, of_hosts, &held, cmnd)?;
         draft.add(alloc, Entry::Rule(rule))?;
     }
     let (settings, cmnd) = with_spec(held, last);
@@ -204,13 +204,7 @@ fn add_parts(
     let of_users = &users;
     for part in front {
         let Part { hosts, specs } = part;
-        add_specs(
-            alloc,
-            draft,
-            copied_names(of_users)?,
-            hosts,
-            specs.into_vec(),
-        )?;
+        add_specs(alloc, draft, copy_names(of_users)?, hosts, specs.into_vec())?;
     }
     let Part { hosts, specs } = last;
     add_specs(alloc, draft, users, hosts, specs.into_vec())
@@ -296,6 +290,6 @@ pub(crate) fn add_line(alloc: Global, draft: &mut Draft, line: Line) -> Result<(
         Line::Runas(defs) => add_runas(alloc, draft, defs.into_vec()),
         Line::Hosts(defs) => add_hosts(alloc, draft, defs.into_vec()),
         Line::Cmnds(defs) => add_cmnds(alloc, draft, defs.into_vec()),
-        Line::Rights(users, parts) => add_parts(alloc, draft, users, parts.into_vec()),
+        Line::UserSpec(users, parts) => add_parts(alloc, draft, users, parts.into_vec()),
     }
 }

@@ -8,10 +8,10 @@ ghost use Rattle.sudo_policy.specs.declared.entry.Signed.{Signed as AnySigned};
 ghost use Rattle.sudo_words.specs.Word.{is_name, is_host_name};
 ghost use Rattle.sudo_policy.specs.declared.tree.Definition.{Definition as AnyDefinition};
 ghost use Rattle.sudo_policy.specs.declared.tree.Part.{Part};
-ghost use Rattle.sudo_policy.specs.declared.tree.Spec.{Spec};
+ghost use Rattle.sudo_policy.specs.declared.tree.CmndSpec.{CmndSpec};
 ghost use Rattle.sudo_syntax.specs.Alike.{SpellAlike, DifferIn, MayHaveNote, GoesOnWith};
 ghost use Rattle.sudo_syntax.specs.Apart.{AreUsers, AreParts, AreDefs, SpellsBoth};
-ghost use Rattle.sudo_policy.specs.Grammar.{SpellsItem, SpellsCmnd, SpellsSpec};
+ghost use Rattle.sudo_policy.specs.Grammar.{SpellsItem, SpellsCmnd, SpellsCmndSpec};
 ghost use Rattle.sudo_policy.specs.Inheritance.{part_rules};
 ghost use Rattle.sudo_syntax.specs.Inherited.{HasRule};
 ghost use Rattle.sudo_policy.specs.Lex.{Tok, word};
@@ -19,7 +19,7 @@ ghost use Rattle.sudo_policy.specs.Lex.{Tok, word};
 /// Each command of a list has one rule, at its own place, with the target, the bounds and the tag that were given last
 /// in the list up to and including it (sudoers(5), "Cmnd_Spec_List").
 pub fn inheritance()
-    ensures rule { (users : List (AnySigned (AnyItem (List ℕ)))) (part : Part) (before after : List Spec) (s : Spec) →
+    ensures rule { (users : List (AnySigned (AnyItem (List ℕ)))) (part : Part) (before after : List CmndSpec) (s : CmndSpec) →
         part.specs ≡ before ++ s ∷ after → HasRule users part before s }
     ensures each { (users : List (AnySigned (AnyItem (List ℕ)))) (part : Part) → length (part_rules users part) ≡ length part.specs }
 {}
@@ -50,7 +50,7 @@ pub fn signs()
 
 /// Of several tags before a command only the last counts.
 pub fn tags()
-    ensures { (ts : List Tok) (s : Spec) (rest : List Tok) (spelled : SpellsSpec ts s rest) (before : List Bool) (tag : Bool) →
+    ensures { (ts : List Tok) (s : CmndSpec) (rest : List Tok) (spelled : SpellsCmndSpec ts s rest) (before : List Bool) (tag : Bool) →
         spelled.tags ≡ before ++ tag ∷ [] → s.nopasswd ≡ Some tag }
 {}
 

@@ -11,7 +11,7 @@ ghost use Rattle.sudo_policy.specs.Lex as lex;
 ghost use Rattle.sudo_policy.specs.Limits.{most_text_bytes};
 ghost use Rattle.sudo_policy.specs.Reading.{HasOtherByte, IsInLine, IsLineOf, SpellsBy};
 ghost use Rattle.sudo_policy.specs.Policy.{IsPolicy};
-ghost use Rattle.sudo_policy.specs.private.Scope.{Adds, IsDraft};
+ghost use Rattle.sudo_policy.specs.private.AliasKinds.{Adds, IsDraft};
 ghost use Rattle.sudo_policy.specs.Span.{Each};
 ghost use Rattle.sudo_policy.specs.Lines.{lines_of};
 

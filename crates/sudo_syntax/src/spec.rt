@@ -5,7 +5,7 @@ ghost use Rattle.sudo_words.specs.Bytes.{colon, comma, opening};
 ghost use Rattle.sudo_words.specs.Moment.{Spells};
 ghost use Rattle.sudo_policy.specs.declared.fault.LineFault.TheVariants.{NoMemory};
 ghost use Rattle.sudo_syntax.specs.private.Fronts.{AddsBound, Dated, NoDate, NoTag, Tagged, EndsBy, NoMark, NoWord};
-ghost use Rattle.sudo_policy.specs.Grammar.{tag_word, SpellsRunas, SpellsSpec};
+ghost use Rattle.sudo_policy.specs.Grammar.{tag_word, SpellsRunas, SpellsCmndSpec};
 ghost use Rattle.sudo_policy.specs.Lex.{Tok, word, mark};
 ghost use Rattle.sudo_policy.specs.private.Tokens.{toks};
 ghost use Rattle.sudo_policy.specs.declared.entry.Item.{Item as Said};
@@ -15,7 +15,7 @@ use crate::fronts::{begins_spaced, behind_mark, date_at, head_at, word_at};
 use crate::items::{Spelled, list_at};
 use crate::misplaced::{bad_option, unclosed};
 use std::alloc::Global;
-use sudo_policy::{CmndItem, Item, LineFault, Mark, Signed, Spec, Token};
+use sudo_policy::{CmndItem, CmndSpec, Item, LineFault, Mark, Signed, Token};
 use sudo_words::{Items, Moment, Name};
 
 /// The first and the last moment at which a command may run.
@@ -154,15 +154,15 @@ fn runas_at<'a, 'b>(
     Ok((Some(runas), rest))
 }
 
-impl Spelled for Spec {
-    ghost spells = { SpellsSpec };
+impl Spelled for CmndSpec {
+    ghost spells = { SpellsCmndSpec };
 
     ghost follows = { EndsBy comma };
 
     fn at<'a, 'b>(
         alloc: Global,
         tokens: &'b [Token<'a>],
-    ) -> Result<(Spec, &'b [Token<'a>]), LineFault> {
+    ) -> Result<(CmndSpec, &'b [Token<'a>]), LineFault> {
         let (runas, rest) = runas_at(alloc, tokens)?;
         let (bounds, rest) = match bounds_at(rest) {
             Ok(read) => read,
@@ -170,7 +170,7 @@ impl Spelled for Spec {
         };
         let (nopasswd, rest) = tags_at(rest);
         let (cmnd, rest) = Signed::<CmndItem>::at(alloc, rest)?;
-        let spec = Spec {
+        let spec = CmndSpec {
             runas,
             not_before: bounds.not_before,
             not_after: bounds.not_after,

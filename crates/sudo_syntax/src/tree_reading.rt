@@ -7,7 +7,7 @@ ghost use Rattle.sudo_policy.specs.declared.entry.Signed.{Signed as Sign};
 ghost use Rattle.sudo_policy.specs.declared.fault.LineFault.TheVariants.{NoMemory};
 ghost use Rattle.sudo_policy.specs.declared.tree.Part.{Part as Parted};
 ghost use Rattle.sudo_syntax.specs.private.Fronts.{EndsBy};
-ghost use Rattle.sudo_policy.specs.Grammar.{SpellsPart, SpellsRights, SpellsTree};
+ghost use Rattle.sudo_policy.specs.Grammar.{SpellsPart, SpellsUserSpec, SpellsTree};
 ghost use Rattle.sudo_policy.specs.Lex.{Tok};
 ghost use Rattle.sudo_policy.specs.private.Tokens.{toks};
 ghost use Rattle.sudo_policy.specs.declared.tree.Line.{Line as Tree};
@@ -40,15 +40,15 @@ impl Spelled for Part {
 
 /// Users and the parts of their specification.
 #[derive(Drop)]
-pub(crate) struct Rights {
+pub(crate) struct UserSpec {
     pub(crate) users: Items<Signed<Item<Name>>>,
     pub(crate) parts: Items<Part>,
 }
 
 /// The user specification that the tokens spell.
-pub(crate) fn rights_of(alloc: Global, tokens: &[Token<'_>]) -> Result<Rights, LineFault>
-    ensures found { IfOk result (λ r. SpellsRights (toks tokens.now) r.users r.parts) }
-    ensures only { (users : List (Sign (Said (List ℕ)))) (parts : List Parted) → SpellsRights (toks tokens.now) users parts
+pub(crate) fn user_spec_of(alloc: Global, tokens: &[Token<'_>]) -> Result<UserSpec, LineFault>
+    ensures found { IfOk result (λ r. SpellsUserSpec (toks tokens.now) r.users r.parts) }
+    ensures only { (users : List (Sign (Said (List ℕ)))) (parts : List Parted) → SpellsUserSpec (toks tokens.now) users parts
         → MatchResult result (λ r. (r.users ≡ users) × (r.parts ≡ parts)) (λ e. e ≡ NoMemory) }
 {
     let (users, next) = list_at(alloc, Mark::Comma, tokens)?;
@@ -59,7 +59,7 @@ pub(crate) fn rights_of(alloc: Global, tokens: &[Token<'_>]) -> Result<Rights, L
     if !rest.is_empty() {
         return Err(misplaced(rest));
     }
-    Ok(Rights { users, parts })
+    Ok(UserSpec { users, parts })
 }
 
 /// The line that the tokens spell.
@@ -79,6 +79,6 @@ pub(crate) fn tree_of(alloc: Global, tokens: &[Token<'_>]) -> Result<Line, LineF
     if let Some(cmnds) = aliases_of::<CmndItem>(alloc, "Cmnd_Alias", tokens)? {
         return Ok(Line::Cmnds(cmnds));
     }
-    let rights = rights_of(alloc, tokens)?;
-    Ok(Line::Rights(rights.users, rights.parts))
+    let user_spec = user_spec_of(alloc, tokens)?;
+    Ok(Line::UserSpec(user_spec.users, user_spec.parts))
 }

@@ -1,5 +1,5 @@
 use Rattle.std.proofs.Common.{◌≡◌, take}
-use Rattle.sudo_policy.specs.private.Scope.{IsDraft}
+use Rattle.sudo_policy.specs.private.AliasKinds.{IsDraft}
 use Rattle.sudo_policy.proofs.extending.add_base.Given as goal
 
 abbrev pub invariant-loop-entry : goal.invariant-loop-entry

@@ -1,6 +1,6 @@
 use Rattle.std.proofs.Common.{◌≡◌, ◌++◌, map}
 use Rattle.sudo_policy.specs.declared.entry.Entry.TheVariants as entries
-use Rattle.sudo_policy.specs.private.Scope.{IsDraft}
+use Rattle.sudo_policy.specs.private.AliasKinds.{IsDraft}
 use Rattle.sudo_policy.proofs.extending.add_rules.Given as goal
 
 abbrev pub invariant-loop-rule : goal.invariant-loop-rule

@@ -3,7 +3,7 @@ use Rattle.std.specs.List.{AllByRecursion}
 use Rattle.std.specs.Vec.Iter.{into_iter_items, into_iter_len}
 use Rattle.sudo_policy.specs.declared.entry.Entry.TheVariants as entries
 use Rattle.sudo_policy.specs.Policy.{IsEntry}
-use Rattle.sudo_policy.specs.private.Scope.{IsDraft}
+use Rattle.sudo_policy.specs.private.AliasKinds.{IsDraft}
 use Rattle.sudo_syntax.proofs.line_entries.add_runas.Given as goal
 
 abbrev pub invariant-loop-def : goal.invariant-loop-def

@@ -3,7 +3,7 @@ use Rattle.std.specs.List.{AllByRecursion}
 use Rattle.std.specs.Vec.Iter.{into_iter_items, into_iter_len}
 use Rattle.sudo_policy.specs.Inheritance.{rules_of, first_settings}
 use Rattle.sudo_policy.specs.Policy.{IsEntry}
-use Rattle.sudo_policy.specs.private.Scope.{IsDraft}
+use Rattle.sudo_policy.specs.private.AliasKinds.{IsDraft}
 use Rattle.sudo_syntax.proofs.line_entries.add_specs.Given as goal
 
 abbrev pub invariant-loop-spec : goal.invariant-loop-spec

@@ -1,6 +1,6 @@
 use Rattle.std.proofs.Common.{◌<◌, ◌≤◌, [], length, drop, map}
 use Rattle.sudo_syntax.specs.private.Pending.{Leads}
-use Rattle.sudo_policy.specs.private.Scope.{IsDraft}
+use Rattle.sudo_policy.specs.private.AliasKinds.{IsDraft}
 use Rattle.sudo_syntax.proofs.read.add_lines.Given as goal
 
 abbrev pub invariant-loop-index : goal.invariant-loop-index

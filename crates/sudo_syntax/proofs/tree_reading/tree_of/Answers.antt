@@ -5,7 +5,7 @@ use Rattle.sudo_policy.specs.declared.tree.Line.{Line}
 use Rattle.sudo_policy.specs.declared.tree.Line.TheVariants as lines
 use Rattle.sudo_policy.specs.private.Tokens.{toks}
 use Rattle.sudo_syntax.specs.private.Fronts.{NoKind}
-use Rattle.sudo_syntax.proofs.TreeLemmas.{users_kind, runas_kind, hosts_kind, cmnds_kind, by_users, by_runas, by_hosts, by_cmnds, by_rights, err_no_ok, some_no_none, some_is}
+use Rattle.sudo_syntax.proofs.TreeLemmas.{users_kind, runas_kind, hosts_kind, cmnds_kind, by_users, by_runas, by_hosts, by_cmnds, by_user_spec, err_no_ok, some_no_none, some_is}
 use Rattle.sudo_syntax.proofs.tree_reading.tree_of.Goals as goal
 
 pub returns-in_err-users-clause-only : goal.returns-in_err-users-clause-only
@@ -64,14 +64,14 @@ returns-in-Some-4-clause-only c = λ l h.
     (λ defs d. ap lines.Cmnds (some_is o.field-0 s.cmnds defs s.is (o.ensures.only defs d)))
     (λ n. absurd (some_no_none o.field-0 s.cmnds s.is (o.ensures.other n)))
 
-pub returns-in_err-rights-clause-only : goal.returns-in_err-rights-clause-only
-returns-in_err-rights-clause-only c = λ l h.
+pub returns-in_err-user_spec-clause-only : goal.returns-in_err-user_spec-clause-only
+returns-in_err-user_spec-clause-only c = λ l h.
     let users : NoKind users_kind (toks c.args.tokens.now) = rw c.in_default.is at c.in_ok-users.ensures.found in
     let runas : NoKind runas_kind (toks c.args.tokens.now) = rw c.in_default-2.is at c.in_ok-runas.ensures.found in
     let hosts : NoKind hosts_kind (toks c.args.tokens.now) = rw c.in_default-3.is at c.in_ok-hosts.ensures.found in
     let cmnds : NoKind cmnds_kind (toks c.args.tokens.now) = rw c.in_default-4.is at c.in_ok-cmnds.ensures.found in
-    let p = err_from_is_err_and c.from_residual-in_err-rights.result c.from_residual-in_err-rights.ensures.1 in
-    rw (p.1, p.2) (by_rights (λ (x : Line). c.in_err-rights.field-0.0 ≡ NoMemory) (toks c.args.tokens.now) l h users runas hosts cmnds c.in_err-rights.ensures.only)
+    let p = err_from_is_err_and c.from_residual-in_err-user_spec.result c.from_residual-in_err-user_spec.ensures.1 in
+    rw (p.1, p.2) (by_user_spec (λ (x : Line). c.in_err-user_spec.field-0.0 ≡ NoMemory) (toks c.args.tokens.now) l h users runas hosts cmnds c.in_err-user_spec.ensures.only)
 
 pub returns-clause-only : goal.returns-clause-only
 returns-clause-only c = λ l h.
@@ -79,5 +79,5 @@ returns-clause-only c = λ l h.
     let runas : NoKind runas_kind (toks c.args.tokens.now) = rw c.in_default-2.is at c.in_ok-runas.ensures.found in
     let hosts : NoKind hosts_kind (toks c.args.tokens.now) = rw c.in_default-3.is at c.in_ok-hosts.ensures.found in
     let cmnds : NoKind cmnds_kind (toks c.args.tokens.now) = rw c.in_default-4.is at c.in_ok-cmnds.ensures.found in
-    let r = c.in_ok-rights.rights in
-    by_rights (λ (x : Line). lines.Rights r.users r.parts ≡ x) (toks c.args.tokens.now) l h users runas hosts cmnds (λ u p d. let same = c.in_ok-rights.ensures.only u p d in rw (same.0, same.1) refl)
+    let r = c.in_ok-user_spec.user_spec in
+    by_user_spec (λ (x : Line). lines.UserSpec r.users r.parts ≡ x) (toks c.args.tokens.now) l h users runas hosts cmnds (λ u p d. let same = c.in_ok-user_spec.ensures.only u p d in rw (same.0, same.1) refl)

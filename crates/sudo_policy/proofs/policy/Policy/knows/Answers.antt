@@ -4,7 +4,7 @@ use Rattle.std.specs.List.{AllByRecursion}
 use Rattle.sudo_policy.specs.declared.entry.Rule.{Rule}
 use Rattle.sudo_policy.specs.declared.entry.Entry.{Entry}
 use Rattle.sudo_policy.specs.Policy.{KnowsRule}
-use Rattle.sudo_policy.specs.private.Scope.{RuleIsKnown}
+use Rattle.sudo_policy.specs.private.AliasKinds.{RuleIsKnown}
 use Rattle.sudo_policy.proofs.Tables.{rule_known, known_rule}
 use Rattle.sudo_policy.proofs.policy.Policy.knows.Goals as goal
 

@@ -3,7 +3,7 @@ use Rattle.std.proofs.lemmas.Bool.{false≢true}
 use Rattle.std.proofs.lemmas.Result.{err_from_is_err_and}
 use Rattle.sudo_policy.specs.private.Tokens.{toks}
 use Rattle.sudo_syntax.proofs.ListLemmas.{no_comma, none_left, some_left}
-use Rattle.sudo_syntax.proofs.tree_reading.rights_of.Goals as goal
+use Rattle.sudo_syntax.proofs.tree_reading.user_spec_of.Goals as goal
 
 pub returns-in_err-users-clause-only : goal.returns-in_err-users-clause-only
 returns-in_err-users-clause-only c = λ users parts h.

@@ -2,7 +2,7 @@ use Rattle.std.proofs.Common.{◌≡◌}
 use Rattle.std.proofs.lemmas.Result.{err_from_is_err_and}
 use Rattle.sudo_policy.specs.declared.fault.LineFault.TheVariants as fault
 use Rattle.sudo_policy.proofs.Entering.{user_entered, user_definable, runas_entered, runas_definable, host_entered, host_definable, cmnd_entered, cmnd_definable, rule_entered, rule_refused}
-use Rattle.sudo_policy.proofs.scope.Scope.enter.Goals as goal
+use Rattle.sudo_policy.proofs.alias_kinds.AliasKinds.enter.Goals as goal
 
 pub returns-in_err-define-in-UserAlias-clause-only : goal.returns-in_err-define-in-UserAlias-clause-only
 returns-in_err-define-in-UserAlias-clause-only c = λ es is placed.

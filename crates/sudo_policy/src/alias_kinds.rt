@@ -4,7 +4,7 @@ ghost use Rattle.std.specs.Prelude.{◌≡◌, ◌++◌, ◌∷◌, [], ◌↔�
 ghost use Rattle.std.specs.List.{AllByRecursion};
 ghost use Rattle.sudo_policy.specs.private.Measures.{stopped};
 ghost use Rattle.sudo_policy.specs.Policy.{IsPlaced, entry_weight};
-ghost use Rattle.sudo_policy.specs.private.Scope.{IsScope, RuleIsKnown, rule_weight_in};
+ghost use Rattle.sudo_policy.specs.private.AliasKinds.{AreAliasKinds, RuleIsKnown, rule_weight_in};
 ghost use Rattle.sudo_policy.specs.declared.entry.Entry.{Entry as Entered};
 ghost use Rattle.sudo_policy.specs.declared.fault.LineFault.TheVariants as fault;
 
@@ -16,19 +16,19 @@ use std::slice;
 
 /// The aliases of all four kinds. One name may stand in several.
 #[derive(Drop)]
-pub struct Scope {
+pub struct AliasKinds {
     pub users: Aliases,
     pub runas: Aliases,
     pub hosts: Aliases,
     pub cmnds: Aliases,
 }
 
-impl Scope {
+impl AliasKinds {
     /// No aliases.
-    pub fn new(alloc: Global) -> Scope
-        ensures { IsScope [] result }
+    pub fn new(alloc: Global) -> AliasKinds
+        ensures { AreAliasKinds [] result }
     {
-        Scope {
+        AliasKinds {
             users: Aliases::new(alloc),
             runas: Aliases::new(alloc),
             hosts: Aliases::new(alloc),
@@ -64,9 +64,9 @@ impl Scope {
     /// `AliasTwice` comes where its name is defined in its kind, else `UnknownAlias` where it uses an alias that is not, else
     /// `TooLarge` where its depth is past the limit.
     pub fn enter(&mut self, alloc: Global, place: usize, entry: &Entry) -> Result<usize, LineFault>
-        ensures found { (es : List Entered) → IsScope es self.old → place ≡ length es
-            → IfOk result (λ w. IsPlaced (reverse es) entry.now × IsScope (es ++ entry.now ∷ []) self.new × (w ≡ stopped (entry_weight (reverse es) entry.now))) }
-        ensures only { (es : List Entered) → IsScope es self.old → IsPlaced (reverse es) entry.now → IfErr result (λ e. e ≡ fault.NoMemory) }
+        ensures found { (es : List Entered) → AreAliasKinds es self.old → place ≡ length es
+            → IfOk result (λ w. IsPlaced (reverse es) entry.now × AreAliasKinds (es ++ entry.now ∷ []) self.new × (w ≡ stopped (entry_weight (reverse es) entry.now))) }
+        ensures only { (es : List Entered) → AreAliasKinds es self.old → IsPlaced (reverse es) entry.now → IfErr result (λ e. e ≡ fault.NoMemory) }
     {
         match entry {
             Entry::UserAlias(name, list) => {

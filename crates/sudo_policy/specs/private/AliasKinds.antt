@@ -6,7 +6,7 @@ use Rattle.sudo_policy.specs.declared.entry.Rule.{Rule}
 use Rattle.sudo_policy.specs.declared.entry.Entry.{Entry}
 use Rattle.sudo_policy.specs.declared.tree.Definition.{Definition}
 use Rattle.sudo_policy.specs.declared.aliases.Aliases.{Aliases}
-use Rattle.sudo_policy.specs.declared.scope.Scope.{Scope}
+use Rattle.sudo_policy.specs.declared.alias_kinds.AliasKinds.{AliasKinds}
 use Rattle.sudo_policy.specs.declared.draft.Draft.{Draft}
 use Rattle.sudo_policy.specs.Text.{Text}
 use Rattle.sudo_policy.specs.Alias.{DefinedAt, is_defined, item_alias, cmnd_alias, list_weight, alias_weight, alias_depth, user_def, runas_def, host_def, cmnd_def}
@@ -29,21 +29,21 @@ pub record IsKind {X : Type 0} (def : Entry → List (Definition X)) (alias_of :
   pub places : ArePlaces def es m
 
 -- what is kept of the aliases of all kinds is what the entries define
-pub record IsScope (es : List Entry) (s : Scope) : Type 0 where
+pub record AreAliasKinds (es : List Entry) (s : AliasKinds) : Type 0 where
   pub users : IsKind user_def item_alias es s.users
   pub runas : IsKind runas_def item_alias es s.runas
   pub hosts : IsKind host_def item_alias es s.hosts
   pub cmnds : IsKind cmnd_def cmnd_alias es s.cmnds
 
 -- each alias in the rule is there, in the kind of its place
-pub record RuleIsKnown (s : Scope) (r : Rule) : Type 0 where
+pub record RuleIsKnown (s : AliasKinds) (r : Rule) : Type 0 where
   pub users : KnowsAll item_alias (has s.users) r.users
   pub hosts : KnowsAll item_alias (has s.hosts) r.hosts
   pub runas : KnowsAll item_alias (has s.runas) r.runas
   pub cmnd : KnowsAll cmnd_alias (has s.cmnds) (r.cmnd ∷ [])
 
 -- what a rule weighs by the weights that are kept
-abbrev pub rule_weight_in : Scope → Rule → ℕ
+abbrev pub rule_weight_in : AliasKinds → Rule → ℕ
 rule_weight_in s r =
     list_weight item_alias (weight_in s.users) r.users
     + list_weight item_alias (weight_in s.hosts) r.hosts
@@ -51,9 +51,9 @@ rule_weight_in s r =
     + list_weight cmnd_alias (weight_in s.cmnds) (r.cmnd ∷ [])
 
 -- the entries are a policy, and what is kept beside them is theirs
-pub record IsWhole (es : List Entry) (s : Scope) (weighs : ℕ) (text_len : ℕ) : Type 0 where
+pub record IsWhole (es : List Entry) (s : AliasKinds) (weighs : ℕ) (text_len : ℕ) : Type 0 where
   pub policy : IsPolicy es
-  pub scope : IsScope es s
+  pub scope : AreAliasKinds es s
   pub weight_is : weighs ≡ weight es
   pub text_is : text_len ≡ length (canon es)
 

@@ -3,7 +3,7 @@ use Rattle.std.proofs.lemmas.Result.{err_from_is_err_and}
 use Rattle.sudo_policy.specs.Lex.{Tok}
 use Rattle.sudo_policy.specs.Grammar.{SpellsDates, SpellsTags, SpellsCmnd}
 use Rattle.sudo_syntax.proofs.SpecLemmas.{cmnd_closes_tags, tags_close_dates, dates_close_runas, same_spec}
-use Rattle.sudo_syntax.proofs.spec.SpecSpelled.at.Goals as goal
+use Rattle.sudo_syntax.proofs.spec.CmndSpecSpelled.at.Goals as goal
 
 pub returns-in_err-runas-clause-only : goal.returns-in_err-runas-clause-only
 returns-in_err-runas-clause-only c = λ v r f h.
