@@ -6,7 +6,8 @@ use Rattle.std.proofs.lemmas.Bool.{false≢true, eqb-true}
 use Rattle.std.proofs.lemmas.Bool.Decides.{nat_tests}
 use Rattle.std.proofs.lemmas.List.{append-nil, length-append}
 use Rattle.sudo_words.specs.Bytes.{bang, backslash}
-use Rattle.sudo_policy.specs.Span.{Each, Stops, IsCut}
+use Rattle.sudo_policy.specs.Span.{Each}
+use Rattle.sudo_policy.specs.private.Cuts.{Stops, IsCut}
 use Rattle.sudo_policy.specs.Lex.{is_blank, is_mark, is_word_byte, is_word_text, goes_on, bangs, is_some_blank, is_spaced, Tok, word, mark, text_of, IsTok, Lexes}
 use Rattle.sudo_policy.specs.private.Tokens.{IsFirst, IsLast, NoLexing}
 use Rattle.sudo_policy.specs.private.Cuts.{is_bang, IsWordCut}

@@ -7,7 +7,8 @@ use Rattle.std.proofs.lemmas.Slice.Eq.{ends_is}
 use Rattle.std.proofs.lemmas.List.{append-nil, append_cancel_right, length-append}
 use Rattle.std.proofs.Math.Seq.{get_or-append_seam, take-suc, take-length}
 use Rattle.sudo_words.specs.Bytes.{backslash}
-use Rattle.sudo_policy.specs.Span.{Each, IsCut}
+use Rattle.sudo_policy.specs.Span.{Each}
+use Rattle.sudo_policy.specs.private.Cuts.{IsCut}
 use Rattle.sudo_policy.specs.Lines.{is_no_hash, ends_in_backslash, last_passes, may_go_on, is_before_comment, is_comment, IsBody, IsContinued, Joined}
 use Rattle.sudo_policy.proofs.Spans.{one_cut}
 

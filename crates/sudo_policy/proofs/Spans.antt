@@ -4,7 +4,8 @@ use Rattle.std.specs.Prelude.{take_while}
 use Rattle.std.specs.List.{prefix_len}
 use Rattle.std.proofs.lemmas.Bool.{false≢true}
 use Rattle.std.proofs.lemmas.List.{append-nil}
-use Rattle.sudo_policy.specs.Span.{Each, Stops, IsCut}
+use Rattle.sudo_policy.specs.Span.{Each}
+use Rattle.sudo_policy.specs.private.Cuts.{Stops, IsCut}
 
 cut_more : (p : ℕ → Bool) (b : ℕ) (bs front rest : List ℕ) → p b ≡ true → IsCut p bs front rest → IsCut p (b ∷ bs) (b ∷ front) rest
 cut_more p b bs front rest passes c = record { whole = ap (λ (t : List ℕ). b ∷ t) c.whole; each = (passes, c.each); stops = c.stops }

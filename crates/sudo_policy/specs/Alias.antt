@@ -1,5 +1,4 @@
--- Aliases: what an alias is by its definition, and the weight and depth of a list (sudoers(5), "Aliases").
--- Definitions are listed from the nearest to the farthest above.
+-- Aliases: what an alias is by its definition, and the weight and depth of a list (sudoers(5), "Aliases"). Definitions are listed from the nearest to the farthest above.
 use Rattle.std.specs.Prelude.{◌≡◌, ℕ, ◌+◌, max, Bool, true, List, [], ◌∷◌, sum_by, Option, Some, None, IfSome, if◌then◌else◌}
 use Rattle.std.specs.List.{AllByRecursion, flat_map, list_any, slice_get}
 use Rattle.std.specs.Option.{option_map}
@@ -57,8 +56,6 @@ abbrev pub by_definition : {X V : Type 0} → ((Text → V) → List (Signed X) 
 by_definition of_list unknown [] name = unknown
 by_definition of_list unknown (d ∷ above) name =
     if bytes_eq d.name name then of_list (by_definition of_list unknown above) d.list else by_definition of_list unknown above name
-
--- ---- the aliases in a list
 
 -- the alias that an item is, if it is one
 abbrev pub item_alias : Item Text → Option Text

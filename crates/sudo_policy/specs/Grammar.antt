@@ -1,5 +1,4 @@
--- The grammar of a line (sudoers(5), "SUDOERS FILE FORMAT"): definitions of aliases, or a user specification.
--- Each relation is of tokens, what stands at their front, and the tokens that follow it.
+-- The grammar of a line (sudoers(5), "SUDOERS FILE FORMAT"): definitions of aliases, or a user specification. Each relation is of tokens, what stands at their front, and the tokens that follow it.
 -- A token's Bool says whether blanks stand before it: a variable where they may, true where they must, false where they may not.
 use Rattle.std.specs.Prelude.{◌≡◌, ℕ, ◌%◌, ◌==◌, Bool, true, false, ◌⊎◌, List, [], ◌∷◌, ◌++◌, map, Option, Some, None, if◌then◌else◌, codes}
 use Rattle.std.specs.Option.{option_or}
@@ -143,8 +142,6 @@ pub record SpellsCmndSpec (ts : List Tok) (s : CmndSpec) (rest : List Tok) : Typ
 
 abbrev pub CmndSpecs : List Tok → List CmndSpec → List Tok → Type 0
 CmndSpecs = Listed comma SpellsCmndSpec
-
--- ---- lines
 
 -- hosts, `=` and commands
 pub record SpellsPart (ts : List Tok) (p : Part) (rest : List Tok) : Type 0 where

@@ -1,5 +1,4 @@
--- The entries that a line stands for: one for each definition, and one rule for each command. What a command of a list leaves out
--- is taken from those before it in the same list (sudoers(5), "Cmnd_Spec_List").
+-- The entries that a line stands for: one for each definition, and one rule for each command. What a command of a list leaves out is taken from those before it in the same list (sudoers(5), "Cmnd_Spec_List").
 use Rattle.std.specs.Prelude.{false, List, [], ◌∷◌, map, None, unwrap_or, codes}
 use Rattle.std.specs.List.{flat_map}
 use Rattle.std.specs.Option.{option_or}

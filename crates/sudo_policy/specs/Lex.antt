@@ -30,8 +30,7 @@ is_word_text [] = true
 is_word_text (b ∷ []) = is_word_byte b
 is_word_text (b ∷ c ∷ rest) = if b == backslash then is_escaped c && is_word_text rest else is_word_byte b && is_word_text (c ∷ rest)
 
--- Whether a word before these bytes would go on with them. A word is cut as long as it goes, or else one could be cut in two,
--- and a text would spell two things.
+-- Whether a word before these bytes would go on with them. A word is cut as long as it goes, or else one could be cut in two, and a text would spell two things.
 abbrev pub goes_on : List ℕ → Bool
 goes_on [] = false
 goes_on (b ∷ []) = is_word_byte b

@@ -22,8 +22,6 @@ abbrev pub last_passes : (ℕ → Bool) → Text → Bool
 last_passes p [] = false
 last_passes p (b ∷ bs) = p (slice_index (b ∷ bs) (length (b ∷ bs) - 1))
 
--- ---- comments
-
 -- what may follow the `#` of a comment: neither a digit nor `include`, and no backslash at its end
 abbrev pub begins_with_digit : Text → Bool
 begins_with_digit [] = false
@@ -60,8 +58,6 @@ pub record IsContinued (line front : Text) : Type 0 where
   pub whole : line ≡ front ++ backslash ∷ []
   pub each : Each is_no_hash front
   pub behind : last_passes may_go_on front ≡ true
-
--- ---- lines together
 
 -- what is read of a line that does not go on: all of a plain line, or what stands before a comment
 abbrev pub IsBody : Text → Text → Type 0

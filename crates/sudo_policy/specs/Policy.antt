@@ -18,8 +18,6 @@ use Rattle.sudo_policy.specs.Text.{Text}
 use Rattle.sudo_policy.specs.Alias.{user_defs, runas_defs, host_defs, cmnd_defs, is_defined, item_alias, cmnd_alias, KnowsList, list_weight, alias_weight, depth_of, alias_depth}
 use Rattle.sudo_policy.specs.Printing.{canon}
 
--- ---- forms
-
 abbrev pub IsItem : (Text → Bool) → Item Text → Type 0
 IsItem form items.All = Unit {0}
 IsItem form (items.Name name) = form name ≡ true

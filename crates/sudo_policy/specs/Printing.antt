@@ -14,8 +14,6 @@ use Rattle.sudo_policy.specs.declared.entry.Entry.{Entry}
 use Rattle.sudo_policy.specs.declared.entry.Entry.TheVariants as entries
 use Rattle.sudo_policy.specs.Text.{Text, Names}
 
--- ---- lists
-
 -- an item of users, hosts or targets; names are seen as their bytes
 abbrev pub item_text : Item Text → Text
 item_text items.All = codes "ALL"

@@ -1,19 +1,11 @@
--- What the reader answers: the entries of a line, and where a fault is.
-use Rattle.std.specs.Prelude.{◌≡◌, ◌≢◌, ℕ, ◌+◌, ◌≤◌, ◌==◌, false, List, ◌∷◌, ◌++◌, count_by, map}
+-- Where a fault of a text is, and what `extend` answers.
+use Rattle.std.specs.Prelude.{◌≡◌, ℕ, ◌+◌, ◌≤◌, ◌==◌, false, List, ◌∷◌, ◌++◌, count_by, map}
 use Rattle.sudo_words.specs.Bytes.{newline}
 use Rattle.sudo_policy.specs.Text.{Text}
 use Rattle.sudo_policy.specs.Lex.{is_text_byte}
-use Rattle.sudo_policy.specs.Lines.{Joined}
-use Rattle.sudo_policy.specs.Spelling.{SpellsLines}
-use Rattle.sudo_policy.specs.declared.fault.FaultKind.{FaultKind}
-use Rattle.sudo_policy.specs.declared.fault.FaultKind.TheVariants.{TooLong, BadByte}
 use Rattle.sudo_policy.specs.declared.entry.Rule.{Rule}
 use Rattle.sudo_policy.specs.declared.entry.Entry.{Entry}
 use Rattle.sudo_policy.specs.declared.entry.Entry.TheVariants as entries
-
--- the lines, joined where they go on, spell these entries
-abbrev pub SpellsBy : List Text → List Entry → Type 0
-SpellsBy lines es = (joined : List Text) × Joined lines joined × SpellsLines joined es
 
 -- a byte stands in the text that no text may have
 abbrev pub HasOtherByte : Text → Type 0
@@ -22,10 +14,6 @@ HasOtherByte text = (front rest : Text) × (b : ℕ) × (text ≡ front ++ b ∷
 -- a line of the text, from 1 to one past the count of its newlines
 abbrev pub IsLineOf : Text → ℕ → Type 0
 IsLineOf text line = (1 ≤ line) × (line ≤ 1 + count_by (λ b. b == newline) text)
-
--- a fault of a line, and not of the bytes
-abbrev pub IsInLine : FaultKind → Type 0
-IsInLine kind = (kind ≢ TooLong) × (kind ≢ BadByte)
 
 -- entries with these rules behind them
 abbrev pub with_rules : List Entry → List Rule → List Entry

@@ -4,7 +4,7 @@ ghost use Rattle.std.specs.Prelude.{◌≡◌, ◌≤◌, true, false, length, t
 ghost use Rattle.std.specs.List.{list_all};
 ghost use Rattle.sudo_policy.specs.declared.fault.LineFault.TheVariants.{NoMemory};
 ghost use Rattle.sudo_words.specs.Command as command;
-ghost use Rattle.sudo_policy.specs.Span.{IsCut};
+ghost use Rattle.sudo_policy.specs.private.Cuts.{IsCut};
 ghost use Rattle.sudo_policy.specs.private.Cuts.{is_bang, IsBehindPart, IsWordCut};
 ghost use Rattle.sudo_policy.specs.Lex as lex;
 ghost use Rattle.sudo_policy.specs.private.Tokens as lexing;

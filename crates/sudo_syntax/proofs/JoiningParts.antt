@@ -16,7 +16,8 @@ use Rattle.sudo_policy.specs.declared.tree.Definition.{Definition}
 use Rattle.sudo_policy.specs.declared.tree.Part.{Part}
 use Rattle.sudo_policy.specs.declared.tree.Line.{Line}
 use Rattle.sudo_policy.specs.declared.tree.Line.TheVariants as lines
-use Rattle.sudo_policy.specs.Span.{Each, Stops}
+use Rattle.sudo_policy.specs.Span.{Each}
+use Rattle.sudo_policy.specs.private.Cuts.{Stops}
 use Rattle.sudo_policy.specs.Lex.{Tok, word, mark, text_of, is_blank, is_some_blank, is_word_byte, goes_on, IsTok, Lexes}
 use Rattle.sudo_policy.specs.Grammar.{begins_spaced, More, Listed, SpellsItem, SpellsCmnd, args_of, head_of, Users, SpellsRunas, SpellsDates, SpellsTags, SpellsCmndSpec, SpellsPart, SpellsDef, SpellsAliases, SpellsTree}
 use Rattle.sudo_policy.specs.Inheritance.{part_rules, entries_of}

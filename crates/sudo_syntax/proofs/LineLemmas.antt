@@ -10,7 +10,8 @@ use Rattle.sudo_policy.specs.Lex.{is_text_byte}
 use Rattle.sudo_policy.specs.Lines.{lines_of, IsBody, IsContinued, Joined}
 use Rattle.sudo_syntax.specs.private.Pending.{JoinedBehind, SpellsBehind, Leads}
 use Rattle.sudo_policy.specs.Policy.{IsPolicy}
-use Rattle.sudo_policy.specs.Reading.{HasOtherByte, IsLineOf, SpellsBy}
+use Rattle.sudo_policy.specs.Reading.{HasOtherByte, IsLineOf}
+use Rattle.sudo_syntax.specs.private.Pending.{SpellsBy}
 use Rattle.sudo_policy.specs.Spelling.{SpellsLine, SpellsLines}
 use Rattle.sudo_syntax.proofs.EntryLemmas.{front_is}
 use Rattle.sudo_policy.proofs.LineTexts.{body_one, front_one, body_or_front}

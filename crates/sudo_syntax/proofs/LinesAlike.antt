@@ -2,7 +2,8 @@
 use Rattle.std.proofs.Common.{◌≡◌, ℕ, Bool, true, false, ◌==◌, List, [], ◌∷◌, ◌++◌, refl, sym, ap, subst, ◌∙◌, inl, inr, append_assoc}
 use Rattle.std.proofs.lemmas.Bool.{false≢true, eqb-true, or_cases}
 use Rattle.sudo_words.specs.Bytes.{space, tab, backslash, hash}
-use Rattle.sudo_policy.specs.Span.{Each, IsCut}
+use Rattle.sudo_policy.specs.Span.{Each}
+use Rattle.sudo_policy.specs.private.Cuts.{IsCut}
 use Rattle.sudo_policy.specs.Lex.{is_blank}
 use Rattle.sudo_policy.specs.Lines.{is_no_hash, last_passes, may_go_on, is_before_comment, IsBody, IsContinued, Joined}
 use Rattle.sudo_syntax.specs.Alike.{SpellAlike, DifferIn, MayHaveNote, GoesOnWith}

@@ -1,5 +1,4 @@
--- Texts that spell the same, and lines that differ in their comment or in how they go on
--- (sudoers(5), "Other special characters and reserved words").
+-- Texts that spell the same, and lines that differ in their comment or in how they go on (sudoers(5), "Other special characters and reserved words").
 use Rattle.std.specs.Prelude.{◌≡◌, ◌≤◌, true, List, [], ◌∷◌, ◌++◌, length}
 use Rattle.sudo_words.specs.Bytes.{backslash}
 use Rattle.sudo_policy.specs.declared.entry.Entry.{Entry}

@@ -28,8 +28,7 @@ pub record Inherits (specs : List CmndSpec) (rule : Rule) : Type 0 where
   pub not_after : LastGiven (map (λ s. s.not_after) specs) rule.not_after
   pub nopasswd : LastGivenOr false (map (λ s. s.nopasswd) specs) rule.nopasswd
 
--- The command that stands behind these in a part has a rule at its own place among the part's entries: with the part's users and
--- hosts and the command itself, and what it inherits from the commands up to and including it.
+-- The command that stands behind these in a part has a rule at its own place among the part's entries: with the part's users and hosts and the command itself, and what it inherits from the commands up to and including it.
 pub record HasRule (users : Names) (part : Part) (before : List CmndSpec) (s : CmndSpec) : Type 0 where
   pub rules_before : List Entry
   pub rule : Rule

@@ -5,7 +5,8 @@ ghost use Rattle.sudo_words.specs.Bytes.{backslash};
 ghost use Rattle.sudo_policy.specs.Lines.{IsBody, IsContinued};
 ghost use Rattle.sudo_policy.specs.Lines as lines;
 ghost use Rattle.sudo_syntax.specs.private.Pieces.{IsPiece};
-ghost use Rattle.sudo_policy.specs.Span.{Each, IsCut};
+ghost use Rattle.sudo_policy.specs.Span.{Each};
+ghost use Rattle.sudo_policy.specs.private.Cuts.{IsCut};
 
 use sudo_policy::{LineFault, is_blank};
 

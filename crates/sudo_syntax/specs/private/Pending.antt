@@ -1,6 +1,8 @@
 -- Lines of a text of which those before are read, and the front that they left where the last of them goes on. For private clauses.
-use Rattle.std.specs.Prelude.{◌≡◌, ◌<◌, ◌⊎◌, List, [], ◌∷◌, ◌++◌, length}
+use Rattle.std.specs.Prelude.{◌≡◌, ◌≢◌, ◌<◌, ◌⊎◌, List, [], ◌∷◌, ◌++◌, length}
 use Rattle.sudo_policy.specs.declared.entry.Entry.{Entry}
+use Rattle.sudo_policy.specs.declared.fault.FaultKind.{FaultKind}
+use Rattle.sudo_policy.specs.declared.fault.FaultKind.TheVariants.{TooLong, BadByte}
 use Rattle.sudo_policy.specs.Text.{Text}
 use Rattle.sudo_policy.specs.Lines.{Joined}
 use Rattle.sudo_policy.specs.Spelling.{SpellsLines}
@@ -18,3 +20,11 @@ SpellsBehind front lines es = (joined : List Text) × JoinedBehind front lines j
 pub record Leads (front : Text) (lines : List Text) (here : List Entry) (next : Text) (rest : List Text) : Type 0 where
   pub adds : (es : List Entry) → SpellsBehind next rest es → SpellsBehind front lines (here ++ es)
   pub only : (es : List Entry) → SpellsBehind front lines es → (more : List Entry) × (es ≡ here ++ more) × SpellsBehind next rest more
+
+-- the lines, joined where they go on, spell these entries
+abbrev pub SpellsBy : List Text → List Entry → Type 0
+SpellsBy lines es = (joined : List Text) × Joined lines joined × SpellsLines joined es
+
+-- a fault of a line, and not of the bytes
+abbrev pub IsInLine : FaultKind → Type 0
+IsInLine kind = (kind ≢ TooLong) × (kind ≢ BadByte)
