@@ -415,7 +415,7 @@ def main():
         ]
         checks += [
             (f"{name}: ten times the rules", large[1] / small[1], 12.0),
-            (f"{name}: memory against the text", large[2] / large[3], 16.0),
+            (f"{name}: memory against the text", large[2] / large[3], 8.0),
         ]
         for what, ratio, most in checks:
             holds = ratio <= most
