@@ -10,17 +10,17 @@ use Rattle.roster.specs.Relations.{IsFirst}
 use Rattle.roster.specs.Rules.{is_among}
 use Rattle.grants.specs.Admission.{Admits}
 use Rattle.desk_store.specs.Sets.{IsNothing, Lists, SameSet}
-use Rattle.desk.specs.Delivery.{Acknowledges, AcknowledgesAmong, Answers, AnswersBody, AreAnswers, Delivery, HeldAfterAll, IsAnswer, IsBodyOf, WasWanting}
+use Rattle.desk.specs.Delivery.{Acknowledges, AcknowledgesAmong, Answers, AnswersBody, AreAnswers, Delivery, HeldAfterAll, IsDeliveryAnswer, IsBodyOf, WasWanting}
 use Rattle.desk.specs.declared.ack.Ack.{Ack}
 use Rattle.desk.specs.declared.refusal.Refusal.{Refusal}
 use Rattle.desk_commands.specs.Lines.{AreBrought, AreRead, IsBrought, from_relay}
 use Rattle.desk_commands.specs.Printing.{HadMemory, IsTaken, complaints}
 
 module _ (f : RosterFields Cmnd) where
-  right_answer : (d : Delivery) (answer : Result Ack Refusal) → IsAnswer f d answer → (WasWanting answer → ⊥) → Answers f d answer
+  right_answer : (d : Delivery) (answer : Result Ack Refusal) → IsDeliveryAnswer f d answer → (WasWanting answer → ⊥) → Answers f d answer
   right_answer d answer is had = elim is.sound [ inl wanting ↦ absurd (had wanting) | inr right ↦ right ]
 
-  pub right_answers : (ds : List Delivery) (answers : List (Result Ack Refusal)) → AllZip (IsAnswer f) ds answers → HadMemory answers
+  pub right_answers : (ds : List Delivery) (answers : List (Result Ack Refusal)) → AllZip (IsDeliveryAnswer f) ds answers → HadMemory answers
       → AllZip (Answers f) ds answers
   right_answers [] [] are had = tt
   right_answers [] (answer ∷ answers) are had = absurd are
@@ -110,7 +110,7 @@ module _ (f : RosterFields Cmnd) where
         | inr rest ↦ further line lines m (acked_brought relay lines answers m are.1 rest)
       ]
 
-  acked_here : (d : Delivery) (answer : Result Ack Refusal) (m : Message) → is_among f.relays d.relay ≡ true → IsAnswer f d answer
+  acked_here : (d : Delivery) (answer : Result Ack Refusal) (m : Message) → is_among f.relays d.relay ≡ true → IsDeliveryAnswer f d answer
       → (WasWanting answer → ⊥) → IsBodyOf d.body m → Admits f m → IsOk answer
   acked_here d answer m known is had body admitted =
       elim (is.complete (Ok (record {})) (inr (known, (m, body, admitted)))) [
@@ -119,7 +119,7 @@ module _ (f : RosterFields Cmnd) where
       ]
 
   acked_at : (relay : List ℕ) (lines : List (List ℕ)) (answers : List (Result Ack Refusal)) (m : Message) (line : List ℕ) (k : ℕ)
-      → is_among f.relays relay ≡ true → AllZip (IsAnswer f) (from_relay relay lines) answers → HadMemory answers → k < length lines
+      → is_among f.relays relay ≡ true → AllZip (IsDeliveryAnswer f) (from_relay relay lines) answers → HadMemory answers → k < length lines
       → get_or lines k line ≡ line → IsBodyOf line m → Admits f m → AcknowledgesAmong (from_relay relay lines) answers m
   acked_at relay [] answers m line k known are had lt is body admitted = absurd (omega arith)
   acked_at relay (l ∷ ls) [] m line k known are had lt is body admitted = absurd are
@@ -130,7 +130,7 @@ module _ (f : RosterFields Cmnd) where
       inr (acked_at relay ls more m line k known are.1 had.1 (omega arith) is body admitted)
 
   brought_acked : (relay : List ℕ) (lines : List (List ℕ)) (answers : List (Result Ack Refusal)) (m : Message) → is_among f.relays relay ≡ true
-      → AllZip (IsAnswer f) (from_relay relay lines) answers → HadMemory answers → IsBrought f lines m
+      → AllZip (IsDeliveryAnswer f) (from_relay relay lines) answers → HadMemory answers → IsBrought f lines m
       → AcknowledgesAmong (from_relay relay lines) answers m
   brought_acked relay lines answers m known are had is =
       acked_at relay lines answers m is.line is.among.0 known are had is.among.1 is.among.2 is.body is.admitted
