@@ -4,12 +4,13 @@
 C SQLite is Python's `sqlite3`: it makes the same tables and the same commits, one a message, with the desk's journal mode (`wal`) and synchronous level (`full`),
 on the same disk. Beside both stands `fdatasync` alone, as often, each after a block of 4,096 bytes; and `deliver` to memory, which is what the desk does beside keeping.
 Then, over files in memory so that no disk is asked: opening a file of 100,000 messages (`deliver` of no line) beside what it costs to read them alone (`deliver` of
-them over a roster that lists nobody, which keeps none); and what a delivery costs over 1,000 and over 100,000 messages: 10,000 more, less the opening.
+them over a roster that lists nobody, which keeps none), in instructions where valgrind is there (its callgrind), so that the machine's load does not matter; and what a delivery costs over 1,000 and over 100,000 messages: 10,000 more, less the opening.
 Prints of each the wall time or the processor time, the best of a few runs, the peak memory, and the ratios with what the desk promises.
 `bench_store.py WORDS..` runs another program than build/desk.
 """
 
 import os
+import re
 import shutil
 import sqlite3
 import subprocess
@@ -103,6 +104,18 @@ def best(measure):
     return min(used for _, used, _ in runs), max(peak for _, _, peak in runs)
 
 
+def instructions(store, given, folder, roster):
+    """The instructions of a delivery; None where valgrind is not there."""
+    if not shutil.which("valgrind"):
+        return None
+    counts = os.path.join(folder, "counts")
+    words = ["valgrind", "--tool=callgrind", f"--callgrind-out-file={counts}", *DESK, "deliver", roster, BASE, store, "chat"]
+    with open(given) as file:
+        subprocess.run(words, stdin=file, stdout=subprocess.DEVNULL, stderr=subprocess.DEVNULL, check=False)
+    with open(counts) as file:
+        return int(re.search(r"^(?:summary|totals): (\d+)", file.read(), re.MULTILINE).group(1))
+
+
 def held(folder, count):
     """The file of a desk with so many messages."""
     store = os.path.join(folder, f"held{count}.db")
@@ -135,7 +148,16 @@ def in_memory():
             used, peak = best(deliver_more)
             each[count] = (used - opened) / MORE
             print(f"a delivery over {count} messages: {each[count] * 1e6:.0f} us, {peak:.0f} MiB")
-        told(f"opening {HELD} messages beside reading them", opened / read, 3)
+        lines, none = os.path.join(folder, "lines"), os.path.join(folder, "none")
+        with open(lines, "w") as file, open(none, "w"):
+            file.writelines(line + "\n" for line in bodies(0, HELD))
+        reads = instructions("-", lines, folder, nobody)
+        if reads:
+            opens = instructions(store, none, folder, ROSTER)
+            print(f"opening {HELD} messages: {opens / 1e6:,.0f} million instructions, reading them alone {reads / 1e6:,.0f}")
+            told(f"opening {HELD} messages beside reading them, in instructions", opens / reads, 3)
+        else:
+            told(f"opening {HELD} messages beside reading them", opened / read, 3)
         # a tree of pages has a level more, at most
         told(f"a delivery over {HELD} messages beside one over {FEW}", each[HELD] / each[FEW], 2)
 
