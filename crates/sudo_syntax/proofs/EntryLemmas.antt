@@ -1,5 +1,5 @@
 -- Entries that are added one by one to a policy: what is reached so far is a policy where the whole is.
-use Rattle.std.proofs.Common.{◌≡◌, ℕ, List, [], ◌∷◌, ◌++◌, length, refl, sym, subst, ◌∙◌, append_assoc}
+use Rattle.std.proofs.Common.{◌≡◌, ℕ, List, [], ◌∷◌, ◌++◌, length, fold, refl, sym, ap, subst, ◌∙◌, append_assoc}
 use Rattle.std.specs.List.{AllByRecursion, flat_map}
 use Rattle.std.proofs.lemmas.List.Concat.{flat_map-cons}
 use Rattle.sudo_policy.specs.declared.entry.Signed.{Signed}
@@ -40,6 +40,24 @@ pub rules_next : (users hosts : List (Signed (Item (List ℕ)))) (done : List En
     → behind ≡ with_spec before s → cmnd ≡ s.cmnd → rule ≡ rule_with users hosts behind cmnd → done ++ rules_of users hosts before (s ∷ specs) ≡ all
     → done ++ (entries.Rule rule ∷ [] ++ rules_of users hosts behind specs) ≡ all
 rules_next users hosts done before s specs all behind cmnd rule settings_are cmnd_is rule_is whole = rw (rule_is, settings_are, cmnd_is) whole
+
+rules_front : (users hosts : List (Signed (Item (List ℕ)))) (before : Settings) (front : List CmndSpec) (last : CmndSpec)
+    → rules_of users hosts before (front ++ last ∷ []) ≡ rules_of users hosts before front ++ rules_of users hosts (fold with_spec before front) (last ∷ [])
+rules_front users hosts before [] last = refl
+rules_front users hosts before (s ∷ front) last =
+    ap (λ es. entries.Rule (rule_with users hosts (with_spec before s) s.cmnd) ∷ es) (rules_front users hosts (with_spec before s) front last)
+
+-- the rules of a list of commands are those of all before the last, and that of the last
+pub rules_last : (users hosts : List (Signed (Item (List ℕ)))) (before : Settings) (front specs : List CmndSpec) (last : CmndSpec)
+    → specs ≡ front ++ last ∷ [] → rules_of users hosts before specs ≡ rules_of users hosts before front ++ rules_of users hosts (fold with_spec before front) (last ∷ [])
+rules_last users hosts before front specs last specs_are = ap (rules_of users hosts before) specs_are ∙ rules_front users hosts before front last
+
+-- where the rules of all before the last are added, what is still to add is that of the last
+pub rules_behind : (users hosts : List (Signed (Item (List ℕ)))) (done so_far : List Entry) (before behind : Settings) (front specs : List CmndSpec) (last : CmndSpec)
+    → specs ≡ front ++ last ∷ [] → behind ≡ fold with_spec before front → so_far ≡ done ++ rules_of users hosts before front
+    → so_far ++ rules_of users hosts behind (last ∷ []) ≡ done ++ rules_of users hosts before specs
+rules_behind users hosts done so_far before behind front specs last specs_are behind_is so_far_is =
+    rw (behind_is, so_far_is, rules_last users hosts before front specs last specs_are) (append_assoc done (rules_of users hosts before front) _)
 
 pub parts_next : (users : List (Signed (Item (List ℕ)))) (done : List Entry) (part : Part) (parts : List Part) (all : List Entry)
     → done ++ flat_map (part_rules users) (part ∷ parts) ≡ all → done ++ (part_rules users part ++ flat_map (part_rules users) parts) ≡ all

@@ -1,6 +1,6 @@
 //! The entries of a line, added to a draft.
 
-ghost use Rattle.std.specs.Prelude.{◌≡◌, ◌++◌, ◌∷◌, [], IfOk, IfErr, OnOk, map, unwrap_or};
+ghost use Rattle.std.specs.Prelude.{◌≡◌, ◌++◌, ◌∷◌, [], IfOk, IfErr, OnOk, fold, map, unwrap_or};
 ghost use Rattle.std.specs.List.{AllByRecursion, flat_map};
 ghost use Rattle.sudo_policy.specs.declared.entry.Entry.TheVariants as entries;
 ghost use Rattle.sudo_policy.specs.declared.fault.LineFault.TheVariants as fault;
@@ -152,8 +152,68 @@ fn add_only(
     draft.add(alloc, Entry::Rule(rule_with(users, hosts, settings, cmnd)))
 }
 
-/// Adds one rule for each command, the last of which takes the lists. Each is added before the next is made, so that the limits of
-/// a policy bound what is copied.
+/// Adds the rule of a command where these settings hold before it, and gives what holds behind it: the lists are copied.
+fn add_copy(
+    alloc: Global,
+    draft: &mut Draft,
+    users: &Items<Signed<Item<Name>>>,
+    hosts: &Items<Signed<Item<HostName>>>,
+    held: Settings,
+    spec: CmndSpec,
+) -> Result<Settings, LineFault>
+    requires draft { IsDraft draft.old }
+    requires entries { AllByRecursion IsEntry (inheritance.rules_of users.now hosts.now held (spec ∷ [])) }
+    ensures found { OnOk result (Adds draft.old draft.new (inheritance.rules_of users.now hosts.now held (spec ∷ []))) }
+    ensures behind { IfOk result (λ x. x ≡ inheritance.with_spec held spec) }
+    ensures only { IsPolicy (draft.old.entries.items ++ inheritance.rules_of users.now hosts.now held (spec ∷ [])) → IfErr result (λ e. e ≡ fault.NoMemory) }
+{
+    let (settings, cmnd) = with_spec(held, spec);
+    let rule = copy_rule(users, hosts, &settings, cmnd)?;
+    draft.add(alloc, Entry::Rule(rule))?;
+    Ok(settings)
+}
+
+/// Adds one rule for each command before the last, and gives what holds behind them. Each is added before the next is made, so that
+/// the limits of a policy bound what is copied.
+fn add_front(
+    alloc: Global,
+    draft: &mut Draft,
+    users: &Items<Signed<Item<Name>>>,
+    hosts: &Items<Signed<Item<HostName>>>,
+    front: Vec<CmndSpec>,
+) -> Result<Settings, LineFault>
+    requires draft { IsDraft draft.old }
+    requires entries { AllByRecursion IsEntry (inheritance.rules_of users.now hosts.now inheritance.first_settings front.items) }
+    ensures found { OnOk result (Adds draft.old draft.new (inheritance.rules_of users.now hosts.now inheritance.first_settings front.items)) }
+    ensures behind { IfOk result (λ x. x ≡ fold inheritance.with_spec inheritance.first_settings front.items) }
+    ensures only { IsPolicy (draft.old.entries.items ++ inheritance.rules_of users.now hosts.now inheritance.first_settings front.items) → IfErr result (λ e. e ≡ fault.NoMemory) }
+{
+    let mut held = first_settings(alloc)?;
+    for spec in front {
+        held = add_copy(alloc, draft, users, hosts, held, spec)?;
+    }
+    Ok(held)
+}
+
+/// Adds the rule of the last command of a list, where these settings hold before it: it takes the lists.
+fn add_last(
+    alloc: Global,
+    draft: &mut Draft,
+    users: Items<Signed<Item<Name>>>,
+    hosts: Items<Signed<Item<HostName>>>,
+    held: Settings,
+    spec: CmndSpec,
+) -> Result<(), LineFault>
+    requires draft { IsDraft draft.old }
+    requires entries { AllByRecursion IsEntry (inheritance.rules_of users hosts held (spec ∷ [])) }
+    ensures found { OnOk result (Adds draft.old draft.new (inheritance.rules_of users hosts held (spec ∷ []))) }
+    ensures only { IsPolicy (draft.old.entries.items ++ inheritance.rules_of users hosts held (spec ∷ [])) → IfErr result (λ e. e ≡ fault.NoMemory) }
+{
+    let (settings, cmnd) = with_spec(held, spec);
+    draft.add(alloc, Entry::Rule(rule_with(users, hosts, settings, cmnd)))
+}
+
+/// Adds one rule for each command, the last of which takes the lists.
 fn add_specs(
     alloc: Global,
     draft: &mut Draft,
@@ -173,16 +233,8 @@ fn add_specs(
     if front.is_empty() {
         return add_only(alloc, draft, users, hosts, last);
     }
-    let mut held = first_settings(alloc)?;
-    let (of_users, of_hosts) = (&users, &hosts);
-    for spec in front {
-        let (settings, cmnd) = with_spec(held, spec);
-        held = settings;
-        let rule = copy_rule(of_users, of_hosts, &held, cmnd)?;
-        draft.add(alloc, Entry::Rule(rule))?;
-    }
-    let (settings, cmnd) = with_spec(held, last);
-    draft.add(alloc, Entry::Rule(rule_with(users, hosts, settings, cmnd)))
+    let held = add_front(alloc, draft, &users, &hosts, front)?;
+    add_last(alloc, draft, users, hosts, held, last)
 }
 
 /// Adds the rules of each part, the last of which takes the users.

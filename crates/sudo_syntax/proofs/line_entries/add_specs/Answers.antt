@@ -1,21 +1,36 @@
-use Rattle.std.proofs.Common.{◌≡◌, ◌++◌, ◌∷◌, []}
-use Rattle.std.proofs.lemmas.Result.{err_from_is_err_and}
-use Rattle.std.specs.Vec.Iter.{into_iter_items}
-use Rattle.sudo_policy.specs.declared.entry.Entry.TheVariants as entries
-use Rattle.sudo_syntax.proofs.EntryLemmas.{front_is, rules_next}
+use Rattle.std.proofs.Common.{◌++◌, ◌∙◌, ap, sym, subst}
+use Rattle.std.specs.List.{AllByRecursion}
+use Rattle.std.proofs.lemmas.Result.{err_from_is_err_and, on_ok_weaker}
+use Rattle.sudo_policy.specs.Inheritance.{rules_of, first_settings}
+use Rattle.sudo_policy.specs.Policy.{IsEntry, IsPolicy}
+use Rattle.sudo_policy.proofs.PolicyFronts.{all_front, all_rest}
+use Rattle.sudo_syntax.proofs.EntryLemmas.{front_is, rules_last, rules_behind}
 use Rattle.sudo_syntax.proofs.line_entries.add_specs.Goals as goal
 
-pub add-requires-clause-entry : goal.add-requires-clause-entry
-add-requires-clause-entry c =
-    let next : into_iter_items c.loop-spec.spec-iterator ≡ c.in-Some-spec.spec ∷ into_iter_items c.next.new.self = c.in-Some-spec.ensures.steps.0 in
-    let s = c.with_spec-settings.ensures in
-    rw (c.in_ok-rule.ensures, s.settings, s.cmnd) (rw next at c.loop-spec.invariant.are).0
+pub add_front-requires-clause-entries : goal.add_front-requires-clause-entries
+add_front-requires-clause-entries c =
+    let cut = rules_last c.args.users c.args.hosts first_settings c.pop.new.self.items c.args.specs.items c.in-Some.last c.in-Some.ensures.items in
+    all_front IsEntry (rules_of c.args.users c.args.hosts first_settings c.pop.new.self.items) _ (subst (AllByRecursion IsEntry) cut c.requires.entries)
 
-pub returns-in_err-add-clause-only : goal.returns-in_err-add-clause-only
-returns-in_err-add-clause-only c = λ all.
-    let l = c.loop-spec in
-    let p = err_from_is_err_and c.from_residual-in_err-add.result c.from_residual-in_err-add.ensures.1 in
-    let next : into_iter_items l.spec-iterator ≡ c.in-Some-spec.spec ∷ into_iter_items c.next.new.self = c.in-Some-spec.ensures.steps.0 in
-    let s = c.with_spec-settings in
-    let whole = rules_next c.args.users c.args.hosts l.draft.entries.items l.held c.in-Some-spec.spec (into_iter_items c.next.new.self ++ c.in-Some.last ∷ []) _ s.result.0 s.result.1 c.in_ok-rule.rule s.ensures.settings s.ensures.cmnd c.in_ok-rule.ensures (rw next at l.invariant.whole) in
-    rw (p.1, p.2) (c.in_err-add.ensures.only (front_is l.draft.entries.items (entries.Rule c.in_ok-rule.rule ∷ []) _ _ whole all))
+pub returns-in_err-held-clause-only : goal.returns-in_err-held-clause-only
+returns-in_err-held-clause-only c = λ all.
+    let p = err_from_is_err_and c.from_residual.result c.from_residual.ensures.1 in
+    let cut = rules_last c.args.users c.args.hosts first_settings c.pop.new.self.items c.args.specs.items c.in-Some.last c.in-Some.ensures.items in
+    rw (p.1, p.2) (c.in_err-held.ensures.only (front_is c.args.draft.now.entries.items _ _ _ (ap (λ es. c.args.draft.now.entries.items ++ es) (sym cut)) all))
+
+pub add_last-requires-clause-entries : goal.add_last-requires-clause-entries
+add_last-requires-clause-entries c =
+    let cut = rules_last c.args.users c.args.hosts first_settings c.pop.new.self.items c.args.specs.items c.in-Some.last c.in-Some.ensures.items in
+    rw c.in_ok-held.ensures.behind (all_rest IsEntry (rules_of c.args.users c.args.hosts first_settings c.pop.new.self.items) _ (subst (AllByRecursion IsEntry) cut c.requires.entries))
+
+pub returns-clause-found : goal.returns-clause-found
+returns-clause-found c =
+    let front = c.in_ok-held.ensures in
+    let all = rules_behind c.args.users c.args.hosts c.args.draft.now.entries.items _ first_settings c.in_ok-held.held c.pop.new.self.items c.args.specs.items c.in-Some.last c.in-Some.ensures.items front.behind front.found.entries in
+    on_ok_weaker c.add_last.result (λ adds. record { draft = adds.draft; entries = adds.entries ∙ all }) c.add_last.ensures.found
+
+pub returns-clause-only : goal.returns-clause-only
+returns-clause-only c = λ policy.
+    let front = c.in_ok-held.ensures in
+    let all = rules_behind c.args.users c.args.hosts c.args.draft.now.entries.items _ first_settings c.in_ok-held.held c.pop.new.self.items c.args.specs.items c.in-Some.last c.in-Some.ensures.items front.behind front.found.entries in
+    c.add_last.ensures.only (subst IsPolicy (sym all) policy)
