@@ -4,8 +4,6 @@ use Rattle.std.specs.List.{AllByRecursion, flat_map}
 use Rattle.std.proofs.lemmas.List.Concat.{flat_map-cons}
 use Rattle.sudo_policy.specs.declared.entry.Signed.{Signed}
 use Rattle.sudo_policy.specs.declared.entry.Item.{Item}
-use Rattle.sudo_policy.specs.declared.entry.CmndItem.{CmndItem}
-use Rattle.sudo_policy.specs.declared.entry.Rule.{Rule}
 use Rattle.sudo_policy.specs.declared.entry.Entry.{Entry}
 use Rattle.sudo_policy.specs.declared.entry.Entry.TheVariants as entries
 use Rattle.sudo_policy.specs.declared.tree.CmndSpec.{CmndSpec}
@@ -35,11 +33,6 @@ tree_from [] es some h = absurd (some refl)
 tree_from (t ∷ ts) es some h = (h.0, h.1)
 
 -- ---- what comes next of a user specification
-
-pub rules_next : (users hosts : List (Signed (Item (List ℕ)))) (done : List Entry) (before : Settings) (s : CmndSpec) (specs : List CmndSpec) (all : List Entry) (behind : Settings) (cmnd : Signed CmndItem) (rule : Rule)
-    → behind ≡ with_spec before s → cmnd ≡ s.cmnd → rule ≡ rule_with users hosts behind cmnd → done ++ rules_of users hosts before (s ∷ specs) ≡ all
-    → done ++ (entries.Rule rule ∷ [] ++ rules_of users hosts behind specs) ≡ all
-rules_next users hosts done before s specs all behind cmnd rule settings_are cmnd_is rule_is whole = rw (rule_is, settings_are, cmnd_is) whole
 
 rules_front : (users hosts : List (Signed (Item (List ℕ)))) (before : Settings) (front : List CmndSpec) (last : CmndSpec)
     → rules_of users hosts before (front ++ last ∷ []) ≡ rules_of users hosts before front ++ rules_of users hosts (fold with_spec before front) (last ∷ [])

@@ -1,7 +1,7 @@
 -- The lines of a text are read one by one: what is read so far stands before what is left.
-use Rattle.std.proofs.Common.{Bor, eqb, ◌⊎◌, ◌≡◌, ℕ, zero, suc, ◌+◌, ◌<◌, ◌≤◌, Bool, true, List, [], ◌∷◌, ◌++◌, length, get_or, drop, map, refl, sym, ap, subst, ◌∙◌, inl, inr, append_assoc, arith}
+use Rattle.std.proofs.Common.{eqb, ◌⊎◌, ◌≡◌, ℕ, ◌+◌, ◌<◌, ◌≤◌, Bool, true, List, [], ◌∷◌, ◌++◌, length, get_or, drop, refl, sym, ap, subst, ◌∙◌, inl, inr, append_assoc, arith}
 use Rattle.std.proofs.lemmas.Bool.{false≢true}
-use Rattle.std.proofs.lemmas.List.{append-nil, length-append, drop_all, length-map}
+use Rattle.std.proofs.lemmas.List.{append-nil, length-append, drop_more}
 use Rattle.std.proofs.lemmas.List.Splits.{length-slice_split}
 use Rattle.sudo_words.specs.Bytes.{space, newline}
 use Rattle.sudo_policy.specs.declared.entry.Entry.{Entry}
@@ -157,18 +157,10 @@ pub leads_stuck : (lines : List (List ℕ)) (out : List Entry) (front : List ℕ
 leads_stuck lines out front rest P l then es h policy =
     let a = l.only es (spells_all lines es h) in then a.0 a.2 (subst IsPolicy a.1 policy)
 
--- ---- the line at a place of the list, and those after it
+-- ---- the line at a place, and those after it
 
-drop_at_place : {A : Type 0} (f : A → List ℕ) (xs : List A) (i : ℕ) (d : A) → i < length xs → drop i (map f xs) ≡ f (get_or xs i d) ∷ drop (suc i) (map f xs)
-drop_at_place f [] i d h = absurd (omega arith)
-drop_at_place f (x ∷ xs) zero d h = refl
-drop_at_place f (x ∷ xs) (suc i) d h = drop_at_place f xs i d (omega arith)
-
-pub at_line : {A : Type 0} (f : A → List ℕ) (xs : List A) (lines : List (List ℕ)) (i : ℕ) (d : A) → map f xs ≡ lines → i < length xs → drop i lines ≡ f (get_or xs i d) ∷ drop (i + 1) lines
-at_line f xs lines i d e h = let one : i + 1 ≡ suc i = omega arith in rw (← e, one) (drop_at_place f xs i d h)
-
-pub no_lines : {A : Type 0} (f : A → List ℕ) (xs : List A) (lines : List (List ℕ)) (i : ℕ) → map f xs ≡ lines → length xs ≤ i → drop i lines ≡ []
-no_lines f xs lines i e h = rw (← e) (drop_all i (map f xs) (omega (arith, length-map xs f)))
+pub at_line : (lines : List (List ℕ)) (place : ℕ) (line : List ℕ) → (place < length lines) × (line ≡ get_or lines place line) → drop place lines ≡ line ∷ drop (place + 1) lines
+at_line lines place line at = drop_more lines place line at.0 ∙ ap (λ (l : List ℕ). l ∷ drop (place + 1) lines) (sym at.1)
 
 -- ---- bytes and lines of a text
 
@@ -181,6 +173,5 @@ pub no_byte_fault : (text : List ℕ) (A B : Type 0) → length text ≤ 16_777_
 no_byte_fault text A B short bytes (inl long) = omega (arith, short, long.1)
 no_byte_fault text A B short bytes (inr (b, (front, rest, x, e, out))) = false≢true (sym out ∙ each_at is_text_byte front rest x (subst (Each is_text_byte) e bytes))
 
-pub line_in : (text : List ℕ) (lines : List (Bor (List ℕ))) (line : ℕ) → map (λ l. l.now) lines ≡ lines_of text → (1 ≤ line) × (line ≤ length lines) → IsLineOf text line
-line_in text lines line e h =
-    (h.0, omega (arith, h.1, ap length e, length-map lines (λ (l : Bor (List ℕ)). l.now), length-slice_split (λ b. eqb b newline) text))
+pub line_in : (text : List ℕ) (line : ℕ) → 1 ≤ line → line ≤ length (lines_of text) → IsLineOf text line
+line_in text line some within = (some, omega (arith, within, length-slice_split (λ b. eqb b newline) text))

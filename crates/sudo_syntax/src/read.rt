@@ -1,6 +1,6 @@
 //! Policies read from text.
 
-ghost use Rattle.std.specs.Prelude.{◌≡◌, ◌+◌, ◌<◌, ◌≤◌, ◌==◌, ◌⊎◌, List, ℕ, IfOk, IfErr, IsErrAnd, MatchResult, OnOk, map, length, count_by, ◌++◌, [], ◌∷◌};
+ghost use Rattle.std.specs.Prelude.{◌≡◌, ◌+◌, ◌<◌, ◌≤◌, ◌==◌, ◌⊎◌, List, ℕ, IfOk, IfErr, IsErrAnd, MatchResult, OnOk, length, count_by, ◌++◌, [], ◌∷◌};
 ghost use Rattle.sudo_words.specs.Bytes.{newline};
 ghost use Rattle.sudo_policy.specs.declared.entry.Entry.{Entry as Entered};
 ghost use Rattle.sudo_policy.specs.declared.fault.FaultKind.TheVariants.{TooLong, BadByte, TooLarge, NoMemory};
@@ -19,7 +19,7 @@ ghost use Rattle.sudo_policy.specs.Lines.{lines_of};
 use crate::line_entries::add_line;
 use crate::pieces::{Piece, piece_of};
 use crate::tree_reading::tree_of;
-use std::alloc::{AllocError, Global};
+use std::alloc::Global;
 use sudo_policy::{
     Draft, FaultKind, LineFault, MOST_TEXT_BYTES, Policy, ReadFault, cut_text, is_text, tokens,
 };
@@ -82,13 +82,6 @@ fn kind_of(fault: LineFault) -> FaultKind
     }
 }
 
-/// The lines of a text.
-fn lines(alloc: Global, text: &[u8]) -> Result<Vec<&[u8]>, AllocError>
-    ensures { IfOk result (λ v. map (λ line. line.now) v.items ≡ lines_of text.now) }
-{
-    text.split(|b| *b == b'\n').collect(alloc)
-}
-
 /// Adds what a line stands for, where the line is joined with those that continue it.
 fn add_joined(alloc: Global, draft: &mut Draft, line: &[u8]) -> Result<(), LineFault>
     requires { IsDraft draft.old }
@@ -146,25 +139,27 @@ fn fault_line(line: &[u8], begins: usize, here: usize) -> usize
     }
 }
 
-/// Adds what the lines stand for.
-fn add_lines(alloc: Global, draft: &mut Draft, lines: &[&[u8]]) -> Result<(), ReadFault>
+/// Adds what the lines of a text stand for. Each is read where it stands in the text: no list of them is made.
+fn add_lines(alloc: Global, draft: &mut Draft, text: &[u8]) -> Result<(), ReadFault>
     requires draft { IsDraft draft.old }
     requires none { draft.old.entries.items ≡ [] }
-    ensures found { OnOk result (IsDraft draft.new × SpellsBy (map (λ l. l.now) lines.now) draft.new.entries.items) }
-    ensures only { (es : List Entered) → SpellsBy (map (λ l. l.now) lines.now) es → IsPolicy es
+    ensures found { OnOk result (IsDraft draft.new × SpellsBy (lines_of text.now) draft.new.entries.items) }
+    ensures only { (es : List Entered) → SpellsBy (lines_of text.now) es → IsPolicy es
         → MatchResult result (λ _. draft.new.entries.items ≡ es) (λ f. f.kind ≡ NoMemory) }
-    ensures line { IfErr result (λ f. (1 ≤ f.line) × (f.line ≤ length lines.now)) }
+    ensures line { IfErr result (λ f. IsLineOf text.now f.line) }
     ensures kind { IfErr result (λ f. IsInLine f.kind) }
 {
     let mut pending = Vec::new(alloc);
     let mut begins = 0;
-    for (index, line) in lines.iter().enumerate() {
+    let mut here = 0;
+    for line in text.split(|b| *b == b'\n') {
+        here += 1;
         if pending.is_empty() {
-            begins = index + 1;
+            begins = here;
         }
         if let Err(fault) = add_piece(alloc, draft, &mut pending, line) {
             return Err(ReadFault {
-                line: fault_line(line, begins, index + 1),
+                line: fault_line(line, begins, here),
                 kind: kind_of(fault),
             });
         }
@@ -172,23 +167,23 @@ fn add_lines(alloc: Global, draft: &mut Draft, lines: &[&[u8]]) -> Result<(), Re
     if !pending.is_empty() {
         // The last line goes on, and nothing follows.
         return Err(ReadFault {
-            line: lines.len(),
+            line: here,
             kind: FaultKind::Unexpected,
         });
     }
     Ok(())
 }
 
-/// The policy of the lines.
-fn policy_of(alloc: Global, lines: &[&[u8]]) -> Result<Policy, ReadFault>
-    ensures found { IfOk result (λ p. SpellsBy (map (λ l. l.now) lines.now) p) }
-    ensures only { (es : List Entered) → SpellsBy (map (λ l. l.now) lines.now) es → IsPolicy es
+/// The policy of the lines of a text.
+fn policy_of(alloc: Global, text: &[u8]) -> Result<Policy, ReadFault>
+    ensures found { IfOk result (λ p. SpellsBy (lines_of text.now) p) }
+    ensures only { (es : List Entered) → SpellsBy (lines_of text.now) es → IsPolicy es
         → MatchResult result (λ p. p ≡ es) (λ f. f.kind ≡ NoMemory) }
-    ensures line { IfErr result (λ f. (1 ≤ f.line) × (f.line ≤ length lines.now)) }
+    ensures line { IfErr result (λ f. IsLineOf text.now f.line) }
     ensures kind { IfErr result (λ f. IsInLine f.kind) }
 {
     let mut draft = Draft::new(alloc);
-    add_lines(alloc, &mut draft, lines)?;
+    add_lines(alloc, &mut draft, text)?;
     Ok(Policy::of(draft))
 }
 
@@ -208,11 +203,5 @@ pub fn read_policy(alloc: Global, text: &[u8]) -> Result<Policy, ReadFault>
     ensures line { IfErr result (λ f. IsLineOf text.now f.line) }
 {
     check_bytes(text)?;
-    let Ok(lines) = lines(alloc, text) else {
-        return Err(ReadFault {
-            line: 1,
-            kind: FaultKind::NoMemory,
-        });
-    };
-    policy_of(alloc, &lines)
+    policy_of(alloc, text)
 }

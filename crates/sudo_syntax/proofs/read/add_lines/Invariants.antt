@@ -1,12 +1,14 @@
-use Rattle.std.proofs.Common.{◌<◌, ◌≤◌, [], length, drop, map}
-use Rattle.sudo_syntax.specs.private.Pending.{Leads}
+use Rattle.std.proofs.Common.{◌≡◌, ◌<◌, ◌≤◌, [], length, drop}
+use Rattle.sudo_policy.specs.Lines.{lines_of}
 use Rattle.sudo_policy.specs.private.AliasKinds.{IsDraft}
+use Rattle.sudo_syntax.specs.private.Pending.{Leads}
 use Rattle.sudo_syntax.proofs.read.add_lines.Given as goal
 
-abbrev pub invariant-loop-index : goal.invariant-loop-index
-invariant-loop-index l = record {
+abbrev pub invariant-loop-line : goal.invariant-loop-line
+invariant-loop-line l = record {
   draft : IsDraft l.draft;
-  leads : Leads [] (map (λ r. r.now) l.lines) l.draft.entries.items l.pending.items (drop l.index (map (λ r. r.now) l.lines));
+  place : l.here ≡ length l.yielded;
+  leads : Leads [] (lines_of l.text) l.draft.entries.items l.pending.items (drop l.here (lines_of l.text));
   begun : 0 < length l.pending.items → 1 ≤ l.begins;
-  within : l.begins ≤ l.index;
+  within : l.begins ≤ l.here;
 }
