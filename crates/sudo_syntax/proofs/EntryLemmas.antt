@@ -1,7 +1,8 @@
 -- Entries that are added one by one to a policy: what is reached so far is a policy where the whole is.
 use Rattle.std.proofs.Common.{◌≡◌, ℕ, List, [], ◌∷◌, ◌++◌, length, fold, refl, sym, ap, subst, ◌∙◌, append_assoc}
 use Rattle.std.specs.List.{AllByRecursion, flat_map}
-use Rattle.std.proofs.lemmas.List.Concat.{flat_map-cons}
+use Rattle.std.proofs.lemmas.List.{append-nil}
+use Rattle.std.proofs.lemmas.List.Concat.{flat_map-append, flat_map-cons}
 use Rattle.sudo_policy.specs.declared.entry.Signed.{Signed}
 use Rattle.sudo_policy.specs.declared.entry.Item.{Item}
 use Rattle.sudo_policy.specs.declared.entry.Entry.{Entry}
@@ -14,7 +15,7 @@ use Rattle.sudo_policy.specs.declared.token.Token.{Token}
 use Rattle.sudo_policy.specs.private.Tokens.{toks}
 use Rattle.sudo_policy.specs.Grammar.{SpellsTree}
 use Rattle.sudo_policy.specs.Spelling.{SpellsEntries}
-use Rattle.sudo_policy.specs.Inheritance.{with_spec, rule_with, rules_of, part_rules}
+use Rattle.sudo_policy.specs.Inheritance.{first_settings, with_spec, rule_with, rules_of, part_rules}
 use Rattle.sudo_policy.specs.Policy.{IsEntry, IsPolicy}
 use Rattle.sudo_policy.proofs.PolicyFronts.{all_front, all_rest, policy_front}
 
@@ -61,3 +62,17 @@ pub parts_are : (users : List (Signed (Item (List ℕ)))) (part : Part) (parts :
 parts_are users part parts are =
     let both = rw flat_map-cons at are in
     (all_front IsEntry (part_rules users part) _ both, all_rest IsEntry (part_rules users part) _ both)
+
+-- the rules of the parts are those of all before the last, and those of the last
+pub parts_last : (users : List (Signed (Item (List ℕ)))) (front parts : List Part) (last : Part)
+    → parts ≡ front ++ last ∷ [] → flat_map (part_rules users) parts ≡ flat_map (part_rules users) front ++ part_rules users last
+parts_last users front parts last parts_are =
+    ap (flat_map (part_rules users)) parts_are ∙ flat_map-append (part_rules users) front (last ∷ [])
+    ∙ ap (λ es. flat_map (part_rules users) front ++ es) (append-nil (part_rules users last))
+
+-- where the rules of all before the last are added, what is still to add are those of the last
+pub parts_behind : (users : List (Signed (Item (List ℕ)))) (done so_far : List Entry) (front parts : List Part) (last : Part) (specs : List CmndSpec)
+    → parts ≡ front ++ last ∷ [] → specs ≡ last.specs → so_far ≡ done ++ flat_map (part_rules users) front
+    → so_far ++ rules_of users last.hosts first_settings specs ≡ done ++ flat_map (part_rules users) parts
+parts_behind users done so_far front parts last specs parts_are specs_are so_far_is =
+    rw (specs_are, so_far_is, parts_last users front parts last parts_are) (append_assoc done (flat_map (part_rules users) front) _)

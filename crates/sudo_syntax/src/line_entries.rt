@@ -237,6 +237,25 @@ fn add_specs(
     add_last(alloc, draft, users, hosts, held, last)
 }
 
+/// Adds the rules of each part before the last: the users are copied.
+fn add_front_parts(
+    alloc: Global,
+    draft: &mut Draft,
+    users: &Items<Signed<Item<Name>>>,
+    front: Vec<Part>,
+) -> Result<(), LineFault>
+    requires draft { IsDraft draft.old }
+    requires entries { AllByRecursion IsEntry (flat_map (inheritance.part_rules users.now) front.items) }
+    ensures found { OnOk result (Adds draft.old draft.new (flat_map (inheritance.part_rules users.now) front.items)) }
+    ensures only { IsPolicy (draft.old.entries.items ++ flat_map (inheritance.part_rules users.now) front.items) → IfErr result (λ e. e ≡ fault.NoMemory) }
+{
+    for part in front {
+        let Part { hosts, specs } = part;
+        add_specs(alloc, draft, copy_names(users)?, hosts, specs.into_vec())?;
+    }
+    Ok(())
+}
+
 /// Adds the rules of each part, the last of which takes the users.
 fn add_parts(
     alloc: Global,
@@ -253,11 +272,7 @@ fn add_parts(
     let Some(last) = front.pop() else {
         return Ok(());
     };
-    let of_users = &users;
-    for part in front {
-        let Part { hosts, specs } = part;
-        add_specs(alloc, draft, copy_names(of_users)?, hosts, specs.into_vec())?;
-    }
+    add_front_parts(alloc, draft, &users, front)?;
     let Part { hosts, specs } = last;
     add_specs(alloc, draft, users, hosts, specs.into_vec())
 }
