@@ -1,10 +1,12 @@
 -- The lines of a text are read one by one: what is read so far stands before what is left.
-use Rattle.std.proofs.Common.{eqb, ◌⊎◌, ◌≡◌, ℕ, ◌+◌, ◌<◌, ◌≤◌, Bool, true, List, [], ◌∷◌, ◌++◌, length, get_or, drop, refl, sym, ap, subst, ◌∙◌, inl, inr, append_assoc, arith}
+use Rattle.std.proofs.Common.{cond, count_by, eqb, ◌⊎◌, ◌≡◌, ℕ, ◌+◌, ◌<◌, ◌≤◌, Bool, true, List, [], ◌∷◌, ◌++◌, length, get_or, drop, refl, sym, ap, subst, ◌∙◌, inl, inr, append_assoc, arith}
 use Rattle.std.proofs.lemmas.Bool.{false≢true}
 use Rattle.std.proofs.lemmas.List.{append-nil, length-append, drop_more}
 use Rattle.std.proofs.lemmas.List.Splits.{length-slice_split}
+use Rattle.std.proofs.lemmas.List.Sums.{sum_by-append}
 use Rattle.sudo_words.specs.Bytes.{space, newline}
 use Rattle.sudo_policy.specs.declared.entry.Entry.{Entry}
+use Rattle.sudo_policy.specs.private.Cuts.{IsCut}
 use Rattle.sudo_policy.specs.Span.{Each}
 use Rattle.sudo_policy.specs.Lex.{is_text_byte}
 use Rattle.sudo_policy.specs.Lines.{lines_of, IsBody, IsContinued, Joined}
@@ -168,6 +170,16 @@ each_at : (p : ℕ → Bool) (front rest : List ℕ) (b : ℕ) → Each p (front
 each_at p [] rest b h = h.0
 each_at p (x ∷ front) rest b h = each_at p front rest b h.1
 
+-- a text whose front is all of it passes as the front does
+pub cut_none : (p : ℕ → Bool) (text front rest : List ℕ) → IsCut p text front rest → length rest < 1 → Each p text
+cut_none p text front [] cut none = subst (Each p) (sym (cut.whole ∙ append-nil front)) cut.each
+cut_none p text front (b ∷ rest) cut none = absurd (omega (arith, none))
+
+-- what stops a front is a byte that does not pass
+pub cut_some : (text front rest : List ℕ) → IsCut is_text_byte text front rest → 1 ≤ length rest → HasOtherByte text
+cut_some text front [] cut some = absurd (omega (arith, some))
+cut_some text front (b ∷ rest) cut some = (front, rest, b, cut.whole, cut.stops)
+
 -- a text of the right bytes and length has no fault in them
 pub no_byte_fault : (text : List ℕ) (A B : Type 0) → length text ≤ 16_777_216 → Each is_text_byte text → (A × (16_777_216 < length text)) ⊎ (B × HasOtherByte text) → ⊥
 no_byte_fault text A B short bytes (inl long) = omega (arith, short, long.1)
@@ -175,3 +187,8 @@ no_byte_fault text A B short bytes (inr (b, (front, rest, x, e, out))) = false�
 
 pub line_in : (text : List ℕ) (line : ℕ) → 1 ≤ line → line ≤ length (lines_of text) → IsLineOf text line
 line_in text line some within = (some, omega (arith, within, length-slice_split (λ b. eqb b newline) text))
+
+-- the line behind a front is a line of the text
+pub front_line : (text front rest : List ℕ) (line : ℕ) → text ≡ front ++ rest → line ≡ 1 + count_by (λ b. eqb b newline) front → IsLineOf text line
+front_line text front rest line whole is =
+    (omega (arith, is), rw whole (omega (arith, is, sum_by-append (λ b. cond (eqb b newline) 1 0) front rest)))

@@ -1,17 +1,19 @@
 -- A list with marks between is read in one way.
-use Rattle.std.proofs.Common.{◌≡◌, ℕ, Bool, true, false, List, [], ◌∷◌, ◌++◌, length, refl, sym, ap, ◌∙◌, subst, append_assoc, arith}
+use Rattle.std.proofs.Common.{◌≡◌, inl, inr, ℕ, Bool, true, false, List, [], ◌∷◌, ◌++◌, length, refl, sym, ap, ◌∙◌, subst, append_assoc, arith}
 use Rattle.std.specs.Prelude.{◌==◌}
 use Rattle.std.proofs.lemmas.Bool.{false≢true, eqb-true}
 use Rattle.std.proofs.lemmas.List.{append-nil}
-use Rattle.sudo_words.specs.Bytes.{comma, colon}
+use Rattle.sudo_words.specs.Bytes.{equals, comma, colon}
+use Rattle.sudo_words.specs.Word.{is_alias_name}
 use Rattle.sudo_policy.specs.declared.entry.Signed.{Signed}
 use Rattle.sudo_policy.specs.declared.entry.Item.{Item}
 use Rattle.sudo_policy.specs.declared.token.Token.{Token}
+use Rattle.sudo_policy.specs.declared.tree.Definition.{Definition}
 use Rattle.sudo_policy.specs.declared.tree.Part.{Part}
 use Rattle.sudo_policy.specs.Lex.{Tok, word, mark}
 use Rattle.sudo_policy.specs.private.Tokens.{toks}
-use Rattle.sudo_syntax.specs.private.Fronts.{NoMark, Defines}
-use Rattle.sudo_policy.specs.Grammar.{More, Listed, Hosts, SpellsPart, begins_spaced}
+use Rattle.sudo_syntax.specs.private.Fronts.{NoMark, EndsBy, Defines}
+use Rattle.sudo_policy.specs.Grammar.{More, Listed, Hosts, SpellsDef, SpellsPart, begins_spaced}
 use Rattle.sudo_syntax.proofs.Leads.{Leads, leads_on}
 
 -- what no `m` begins does not begin with `m`
@@ -142,3 +144,22 @@ hosts_begin ts (s ∷ hosts) rest h = subst (NoMark comma) (sym h.1.toks) tt
 pub no_comma : (next : List Tok) (parts : List Part) → Listed colon SpellsPart next parts [] → NoMark comma next
 no_comma next [] h = absurd h
 no_comma next (p ∷ parts) h = hosts_begin next p.hosts _ h.1.hosts
+
+-- ---- a definition behind its name
+
+-- what may stand behind a definition may stand behind its list
+pub ends_list : (rest : List Tok) → EndsBy colon rest → EndsBy comma rest × NoMark comma rest
+ends_list [] h = (tt, tt)
+ends_list (word a n text ∷ ts) h = absurd h
+ends_list (mark a byte ∷ ts) (inl is) = (inr is, λ h. absurd (omega (arith, is, h)))
+ends_list (mark a byte ∷ ts) (inr is) = (inr is, λ h. absurd (omega (arith, is, h)))
+
+pub behind_name : {X : Type 0} (Is : List Tok → Signed X → List Tok → Type 0) (ts : List Tok) (d : Definition X) (rest : List Tok) (a b : Bool) (name : List ℕ) (next : List Tok)
+    → ts ≡ word a 0 name ∷ mark b equals ∷ next → SpellsDef Is ts d rest → (name ≡ d.name) × (is_alias_name name ≡ true) × Listed comma Is next d.list rest
+behind_name Is ts d rest a b name next e s =
+    let same : name ≡ d.name = cc in
+    let others : s.next ≡ next = cc in
+    (same, subst (λ (n : List ℕ). is_alias_name n ≡ true) (sym same) s.name, subst (λ (ns : List Tok). Listed comma Is ns d.list rest) others s.list)
+
+pub same_def : {X : Type 0} (d : Definition X) (name : List ℕ) (list : List (Signed X)) → name ≡ d.name → list ≡ d.list → (record { name = name; list = list }) ≡ d
+same_def d name list name_is list_is = rw (name_is, list_is) refl

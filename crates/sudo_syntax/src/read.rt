@@ -43,7 +43,6 @@ fn fault_behind(front: &[u8], kind: FaultKind) -> ReadFault
 }
 
 /// Tests that a text is of at most 16 MiB, and of the bytes that a text may have.
-#[tactic(auto, using(crate::proofs::Deriving::each_of))]
 fn check_bytes(text: &[u8]) -> Result<(), ReadFault>
     ensures ok { OnOk result ((length text.now ≤ most_text_bytes) × Each lex.is_text_byte text.now) }
     ensures too_long { most_text_bytes < length text.now → IsErrAnd result (λ f. f.kind ≡ TooLong) }
