@@ -1,18 +1,17 @@
 -- The summaries by name, as a set grows.
-use Rattle.std.proofs.Common.{◌≡◌, ℕ, ◌⊎◌, List, [], ◌∷◌, ◌++◌, Option, Some, None, refl, sym, ap, ◌∙◌, subst, inl, inr, append_assoc, take, length, ◌≤◌}
-use Rattle.std.specs.List.{Contains}
+use Rattle.std.proofs.Common.{◌≡◌, ◌⊎◌, List, [], ◌∷◌, ◌++◌, map, Option, Some, None, Vec, Global, refl, sym, ap, ◌∙◌, subst, inl, inr}
+use Rattle.std.specs.List.{AllByRecursion, Contains}
 use Rattle.std.specs.Option.{MatchOption, IfSome}
 use Rattle.std.specs.Prelude.{Result, Ok, Err, OnOk}
-use Rattle.std.proofs.lemmas.List.{append-nil, take_all}
 use Rattle.std.specs.BTreeMap.{BTreeMap, IsOrdered}
-use Rattle.std.proofs.lemmas.List.Elements.{Contains-append_left, Contains-append_right, Contains-append_cases, Contains-push_cases}
+use Rattle.std.proofs.lemmas.List.Elements.{Contains-append_left, Contains-push, Contains-push_cases}
 use Rattle.messages.specs.Fields.{RequestFields, VerdictFields}
 use Rattle.messages.specs.Names.{RequestName, IsNamed, SameMessages, name_of}
 use Rattle.messages.specs.declared.message.Message.{Message}
 use Rattle.messages.specs.declared.message.Message.TheVariants.{Request, Verdict}
 use Rattle.grants.specs.Summaries.{Kept, StandsFor}
 use Rattle.desk_outcomes.specs.declared.naming.NameKey.{NameKey}
-use Rattle.desk_outcomes.specs.Gathered.{AreNamed, Gathers, IsOfRequests, IsSummaryOf, requests_in, verdicts_in}
+use Rattle.desk_outcomes.specs.Gathered.{AreMeant, AreNamed, Gathers, IsAddedAt, IsSummaryOf, Waits, items_of, waiting_at}
 use Rattle.desk_outcomes.specs.Names.{at_name, key_cmp}
 use Rattle.desk_outcomes.specs.Outcomes.{NobodyAsks}
 use Rattle.desk_outcomes.specs.Parked.{name_meant}
@@ -36,6 +35,10 @@ none_gathered m ordered empty = record {
   ordered = ordered;
   each = λ name. subst (IsAt [] name) (sym (at_none m name empty)) (λ q h named. no_member (Request q) h);
 }
+
+all_from_members : {X : Type 0} (P : X → Type 0) (xs : List X) → ((x : X) → Contains xs x → P x) → AllByRecursion P xs
+all_from_members P [] each = tt
+all_from_members P (x ∷ xs) each = (each x (Contains-head x xs), all_from_members P xs (λ y among. each y (Contains-behind x xs y among)))
 
 -- ---- a message about another name
 
@@ -64,11 +67,14 @@ one_more set m name old new k only sets ordered here g = record { ordered = orde
 request_only : (q : RequestFields) (other : RequestName) → Mentions (Request q) other → name_of q ≡ other
 request_only q other mentions = mentions
 
-pub first_asked : (set : List Message) (q : RequestFields) (old new : BTreeMap NameKey Kept) (k : Kept) → IsOfRequests set → at_name old (name_of q) ≡ None → SetsAt old new (name_of q) k → IsOrdered key_cmp new → StandsFor (Request q ∷ []) k → Gathers set old → Gathers (set ++ Request q ∷ []) new
-first_asked set q old new k requests bare sets ordered stands g =
+pub first_asked : (set : List Message) (q : RequestFields) (old new : BTreeMap NameKey Kept) (waiting : BTreeMap NameKey (Vec VerdictFields Global)) (k : Kept) → at_name old (name_of q) ≡ None → SetsAt old new (name_of q) k → IsOrdered key_cmp new → StandsFor (Request q ∷ map Verdict (waiting_at waiting (name_of q))) k → Waits set waiting → Gathers set old → Gathers (set ++ Request q ∷ []) new
+first_asked set q old new waiting k bare sets ordered stands waits g =
+    let vs = waiting_at waiting (name_of q) in
+    let nobody : NobodyAsks set (name_of q) = subst (IsAt set (name_of q)) bare (g.each (name_of q)) in
     one_more set (Request q) (name_of q) old new k (request_only q) sets ordered (record {
-      named = named_from_name k.request (name_of q) (ap name_of (only_request q k stands));
-      stands = stands_first set q k requests (subst (IsAt set (name_of q)) bare (g.each (name_of q))) stands;
+      named = named_from_name k.request (name_of q) (ap name_of (only_request q vs k stands));
+      stands = stands_first set q vs k nobody (λ v among. (waits.each (name_of q) v among).0) (λ v given meant.
+          subst (λ (n : RequestName). Contains (waiting_at waiting n) v) meant (waits.all v given (subst (NobodyAsks set) (sym meant) nobody))) stands;
     }) g
 
 pub asked_again : (set : List Message) (q : RequestFields) (old new : BTreeMap NameKey Kept) (before after : Kept) → at_name old (name_of q) ≡ Some before → SetsAt old new (name_of q) after → IsOrdered key_cmp new → after.request ≡ before.request → ((s : List Message) → StandsFor s before → StandsFor (s ++ Request q ∷ []) after) → Gathers set old → Gathers (set ++ Request q ∷ []) new
@@ -110,83 +116,78 @@ unheard set v m bare g = record { ordered = g.ordered; each = λ other. at other
     at other (inl same) = subst (λ (n : RequestName). IsAt (set ++ Verdict v ∷ []) n (at_name m n)) same (subst (IsAt (set ++ Verdict v ∷ []) (name_meant v)) (sym bare) nobody)
     at other (inr differ) = still_at set (Verdict v) other (λ mentions. differ mentions) (at_name m other) (g.each other)
 
--- ---- requests first, then verdicts
+-- ---- verdicts that wait
 
-pub requests_more : (xs ys : List Message) → requests_in (xs ++ ys) ≡ requests_in xs ++ requests_in ys
-requests_more [] ys = refl
-requests_more (Request q ∷ xs) ys = ap (λ (l : List Message). Request q ∷ l) (requests_more xs ys)
-requests_more (Verdict v ∷ xs) ys = requests_more xs ys
+pub none_waits : (m : BTreeMap NameKey (Vec VerdictFields Global)) → m.entries ≡ [] → Waits [] m
+none_waits m empty = record {
+  each = λ name v among. absurd (no_member v (subst (λ (o : Option (Vec VerdictFields Global)). Contains (items_of o) v) (at_none m name empty) among));
+  all = λ v given nobody. absurd (no_member (Verdict v) given);
+}
 
-pub verdicts_more : (xs ys : List Message) → verdicts_in (xs ++ ys) ≡ verdicts_in xs ++ verdicts_in ys
-verdicts_more [] ys = refl
-verdicts_more (Request q ∷ xs) ys = verdicts_more xs ys
-verdicts_more (Verdict v ∷ xs) ys = ap (λ (l : List Message). Verdict v ∷ l) (verdicts_more xs ys)
+pub are_meant : (set : List Message) (m : BTreeMap NameKey (Vec VerdictFields Global)) → Waits set m → AreMeant m
+are_meant set m waits = λ name. all_from_members (λ (v : VerdictFields). name_meant v ≡ name) (waiting_at m name) (λ v among. (waits.each name v among).1)
 
-pub no_request_more : (seen : List Message) (v : VerdictFields) (m : BTreeMap NameKey Kept) → Gathers (requests_in seen) m → Gathers (requests_in (seen ++ Verdict v ∷ [])) m
-no_request_more seen v m g =
-    subst (λ (s : List Message). Gathers s m) (sym (requests_more seen (Verdict v ∷ []) ∙ append-nil (requests_in seen))) g
+nobody_before : (set : List Message) (m : Message) (name : RequestName) → NobodyAsks (set ++ m ∷ []) name → NobodyAsks set name
+nobody_before set m name nobody = λ q old named. nobody q (Contains-append_left set (m ∷ []) (Request q) old) named
 
-pub no_verdict_more : (set seen : List Message) (q : RequestFields) (m : BTreeMap NameKey Kept) → Gathers (requests_in set ++ verdicts_in seen) m → Gathers (requests_in set ++ verdicts_in (seen ++ Request q ∷ [])) m
-no_verdict_more set seen q m g =
-    subst (λ (s : List Message). Gathers (requests_in set ++ s) m) (sym (verdicts_more seen (Request q ∷ []) ∙ append-nil (verdicts_in seen))) g
+-- a request comes: nothing waits more
+pub waits_asked : (set : List Message) (q : RequestFields) (m : BTreeMap NameKey (Vec VerdictFields Global)) → Waits set m → Waits (set ++ Request q ∷ []) m
+waits_asked set q m waits = record {
+  each = λ name v among. let found = waits.each name v among in (Contains-append_left set (Request q ∷ []) (Verdict v) found.0, found.1);
+  all = λ v given nobody.
+      elim (Contains-push_cases set (Request q) (Verdict v) given) as (λ _. Contains (waiting_at m (name_meant v)) v) [
+        | inl old ↦ waits.all v old (nobody_before set (Request q) (name_meant v) nobody)
+        | inr new ↦ absurd cc
+      ];
+}
 
-pub verdict_more : (set seen : List Message) (v : VerdictFields) (m : BTreeMap NameKey Kept) → Gathers ((requests_in set ++ verdicts_in seen) ++ Verdict v ∷ []) m → Gathers (requests_in set ++ verdicts_in (seen ++ Verdict v ∷ [])) m
-verdict_more set seen v m g =
-    subst (λ (s : List Message). Gathers s m) (append_assoc (requests_in set) (verdicts_in seen) (Verdict v ∷ []) ∙ ap (λ (s : List Message). requests_in set ++ s) (sym (verdicts_more seen (Verdict v ∷ [])))) g
+-- a verdict comes whose request is there: nothing waits more
+pub waits_heard : (set : List Message) (w : VerdictFields) (m : BTreeMap NameKey (Vec VerdictFields Global)) → (NobodyAsks set (name_meant w) → ⊥) → Waits set m → Waits (set ++ Verdict w ∷ []) m
+waits_heard set w m asked waits = record {
+  each = λ name v among. let found = waits.each name v among in (Contains-append_left set (Verdict w ∷ []) (Verdict v) found.0, found.1);
+  all = λ v given nobody.
+      let before = nobody_before set (Verdict w) (name_meant v) nobody in
+      elim (Contains-push_cases set (Verdict w) (Verdict v) given) as (λ _. Contains (waiting_at m (name_meant v)) v) [
+        | inl old ↦ waits.all v old before
+        | inr new ↦
+            let same : w ≡ v = cc in
+            absurd (asked (subst (λ (x : VerdictFields). NobodyAsks set (name_meant x)) (sym same) before))
+      ];
+}
 
-pub of_requests : (set : List Message) → IsOfRequests (requests_in set)
-of_requests [] v m = no_member (Verdict v) m
-of_requests (Request q ∷ more) v m =
-    elim (Contains-cases (Request q) (requests_in more) (Verdict v) m) as (λ _. ⊥) [ inl same ↦ absurd cc | inr later ↦ of_requests more v later ]
-of_requests (Verdict w ∷ more) v m = of_requests more v m
+-- a verdict comes that has to wait
+pub waits_more : (set : List Message) (w : VerdictFields) (old new : BTreeMap NameKey (Vec VerdictFields Global)) → IsAddedAt old new (name_meant w) w → Waits set old → Waits (set ++ Verdict w ∷ []) new
+waits_more set w old new added waits = record {
+  each = λ name v among. at name v (same_cases (name_meant w) name) among;
+  all = λ v given nobody. there v (Contains-push_cases set (Verdict w) (Verdict v) given) (nobody_before set (Verdict w) (name_meant v) nobody);
+}
+  where
+    longer : (v : VerdictFields) → Contains set (Verdict v) → Contains (set ++ Verdict w ∷ []) (Verdict v)
+    longer v = Contains-append_left set (Verdict w ∷ []) (Verdict v)
 
-request_kept : (set : List Message) (q : RequestFields) → Contains set (Request q) → Contains (requests_in set) (Request q)
-request_kept [] q m = absurd (no_member (Request q) m)
-request_kept (Request p ∷ more) q m =
-    elim (Contains-cases (Request p) more (Request q) m) as (λ _. Contains (Request p ∷ requests_in more) (Request q)) [
-      | inl same ↦ subst (λ (x : Message). Contains (Request p ∷ requests_in more) x) same (Contains-head (Request p) (requests_in more))
-      | inr later ↦ Contains-behind (Request p) (requests_in more) (Request q) (request_kept more q later)
-    ]
-request_kept (Verdict v ∷ more) q m =
-    elim (Contains-cases (Verdict v) more (Request q) m) as (λ _. Contains (requests_in more) (Request q)) [ inl same ↦ absurd cc | inr later ↦ request_kept more q later ]
+    at : (name : RequestName) (v : VerdictFields) → (name_meant w ≡ name) ⊎ (name_meant w ≡ name → ⊥) → Contains (waiting_at new name) v → Contains (set ++ Verdict w ∷ []) (Verdict v) × (name_meant v ≡ name)
+    at name v (inl same) among =
+        let here : Contains (waiting_at old (name_meant w) ++ w ∷ []) v = subst (λ (vs : List VerdictFields). Contains vs v) added.here (subst (λ (n : RequestName). Contains (waiting_at new n) v) (sym same) among) in
+        elim (Contains-push_cases (waiting_at old (name_meant w)) w v here) as (λ _. Contains (set ++ Verdict w ∷ []) (Verdict v) × (name_meant v ≡ name)) [
+          | inl was ↦ let found = waits.each (name_meant w) v was in (longer v found.0, found.1 ∙ same)
+          | inr is ↦
+              (subst (λ (x : VerdictFields). Contains (set ++ Verdict w ∷ []) (Verdict x)) is (Contains-push set (Verdict w)), ap name_meant (sym is) ∙ same)
+        ]
+    at name v (inr differ) among =
+        let found = waits.each name v (subst (λ (vs : List VerdictFields). Contains vs v) (added.elsewhere name differ) among) in
+        (longer v found.0, found.1)
 
-verdict_kept : (set : List Message) (v : VerdictFields) → Contains set (Verdict v) → Contains (verdicts_in set) (Verdict v)
-verdict_kept [] v m = absurd (no_member (Verdict v) m)
-verdict_kept (Verdict w ∷ more) v m =
-    elim (Contains-cases (Verdict w) more (Verdict v) m) as (λ _. Contains (Verdict w ∷ verdicts_in more) (Verdict v)) [
-      | inl same ↦ subst (λ (x : Message). Contains (Verdict w ∷ verdicts_in more) x) same (Contains-head (Verdict w) (verdicts_in more))
-      | inr later ↦ Contains-behind (Verdict w) (verdicts_in more) (Verdict v) (verdict_kept more v later)
-    ]
-verdict_kept (Request q ∷ more) v m =
-    elim (Contains-cases (Request q) more (Verdict v) m) as (λ _. Contains (verdicts_in more) (Verdict v)) [ inl same ↦ absurd cc | inr later ↦ verdict_kept more v later ]
+    kept : (v : VerdictFields) → (name_meant w ≡ name_meant v) ⊎ (name_meant w ≡ name_meant v → ⊥) → Contains (waiting_at old (name_meant v)) v → Contains (waiting_at new (name_meant v)) v
+    kept v (inl same) was =
+        let before : Contains (waiting_at old (name_meant w)) v = subst (λ (n : RequestName). Contains (waiting_at old n) v) (sym same) was in
+        subst (λ (n : RequestName). Contains (waiting_at new n) v) same (subst (λ (vs : List VerdictFields). Contains vs v) (sym added.here) (Contains-append_left (waiting_at old (name_meant w)) (w ∷ []) v before))
+    kept v (inr differ) was = subst (λ (vs : List VerdictFields). Contains vs v) (sym (added.elsewhere (name_meant v) differ)) was
 
-requests_of : (set : List Message) (m : Message) → Contains (requests_in set) m → Contains set m
-requests_of [] m h = absurd (no_member m h)
-requests_of (Request q ∷ more) m h =
-    elim (Contains-cases (Request q) (requests_in more) m h) as (λ _. Contains (Request q ∷ more) m) [
-      | inl same ↦ subst (λ (x : Message). Contains (Request q ∷ more) x) same (Contains-head (Request q) more)
-      | inr later ↦ Contains-behind (Request q) more m (requests_of more m later)
-    ]
-requests_of (Verdict v ∷ more) m h = Contains-behind (Verdict v) more m (requests_of more m h)
-
-verdicts_of : (set : List Message) (m : Message) → Contains (verdicts_in set) m → Contains set m
-verdicts_of [] m h = absurd (no_member m h)
-verdicts_of (Verdict v ∷ more) m h =
-    elim (Contains-cases (Verdict v) (verdicts_in more) m h) as (λ _. Contains (Verdict v ∷ more) m) [
-      | inl same ↦ subst (λ (x : Message). Contains (Verdict v ∷ more) x) same (Contains-head (Verdict v) more)
-      | inr later ↦ Contains-behind (Verdict v) more m (verdicts_of more m later)
-    ]
-verdicts_of (Request q ∷ more) m h = Contains-behind (Request q) more m (verdicts_of more m h)
-
-kept : (set : List Message) (m : Message) → Contains set m → Contains (requests_in set ++ verdicts_in set) m
-kept set (Request q) m = Contains-append_left (requests_in set) (verdicts_in set) (Request q) (request_kept set q m)
-kept set (Verdict v) m = Contains-append_right (requests_in set) (verdicts_in set) (Verdict v) (verdict_kept set v m)
-
-pub whole : (set : List Message) → SameMessages (requests_in set ++ verdicts_in set) set
-whole set m = (
-  λ h. elim (Contains-append_cases (requests_in set) (verdicts_in set) m h) as (λ _. Contains set m) [ inl left ↦ requests_of set m left | inr right ↦ verdicts_of set m right ],
-  kept set m,
-)
+    there : (v : VerdictFields) → Contains set (Verdict v) ⊎ (Verdict w ≡ Verdict v) → NobodyAsks set (name_meant v) → Contains (waiting_at new (name_meant v)) v
+    there v (inl old_one) nobody = kept v (same_cases (name_meant w) (name_meant v)) (waits.all v old_one nobody)
+    there v (inr is) nobody =
+        let same : w ≡ v = cc in
+        subst (λ (x : VerdictFields). Contains (waiting_at new (name_meant x)) x) same (subst (λ (vs : List VerdictFields). Contains vs w) (sym added.here) (Contains-push (waiting_at old (name_meant w)) w))
 
 -- ---- another list of the same messages
 
@@ -196,14 +197,3 @@ gathers_same s t m same g = record { ordered = g.ordered; each = λ name. at nam
     at : (name : RequestName) (o : Option Kept) → IsAt s name o → IsAt t name o
     at name None nobody = λ q h named. nobody q ((same (Request q)).1 h) named
     at name (Some k) is = record { named = is.named; stands = stands_same s t k same is.stands }
-
-pub all_gathered : (set : List Message) (i : ℕ) (m : BTreeMap NameKey Kept) → length set ≤ i → Gathers (requests_in set ++ verdicts_in (take i set)) m → Gathers set m
-all_gathered set i m end g =
-    gathers_same (requests_in set ++ verdicts_in set) set m (whole set) (subst (λ (l : List Message). Gathers (requests_in set ++ verdicts_in l) m) (take_all i set end) g)
-
--- who asks is known from the requests alone
-pub nobody_of_requests : (set : List Message) (name : RequestName) → NobodyAsks (requests_in set) name → NobodyAsks set name
-nobody_of_requests set name nobody = λ q h named. nobody q (request_kept set q h) named
-
-pub requests_nobody : (set : List Message) (name : RequestName) → NobodyAsks set name → NobodyAsks (requests_in set) name
-requests_nobody set name nobody = λ q h named. nobody q (requests_of set (Request q) h) named

@@ -16,10 +16,10 @@ use Rattle.desk_outcomes.specs.Names.{at_name, key_cmp, key_name}
 
 pub keys_total : IsTotalOrder key_cmp
 keys_total =
-    then_total (on_total (λ (k : NameKey). k.by.now) nat_list_cmp_total) (on_total (λ (k : NameKey). k.no) nat_cmp_total)
+    then_total (on_total (λ (k : NameKey). k.by) nat_list_cmp_total) (on_total (λ (k : NameKey). k.no) nat_cmp_total)
 
 abbrev key_with : RequestName → NameKey
-key_with name = record { by = record { ref_ptr = (0, 0); now = name.by }; no = name.no }
+key_with name = record { by = name.by; no = name.no }
 
 same_from_equal : (a b : RequestName) → ordering_then (slice_cmp nat_cmp a.by b.by) (nat_cmp a.no b.no) ≡ Equal → a ≡ b
 same_from_equal a b h =
@@ -60,4 +60,4 @@ sets_from {X} old new key x updates = record {
 
 pub at_none : {X : Type 0} (m : BTreeMap NameKey X) (name : RequestName) → m.entries ≡ [] → at_name m name ≡ None
 at_none {X} m name empty =
-    ap (λ (es : List (NameKey × X)). lookup (is_at (λ (k : NameKey). ordering_then (slice_cmp nat_cmp name.by k.by.now) (nat_cmp name.no k.no))) es) empty
+    ap (λ (es : List (NameKey × X)). lookup (is_at (λ (k : NameKey). ordering_then (slice_cmp nat_cmp name.by k.by) (nat_cmp name.no k.no))) es) empty

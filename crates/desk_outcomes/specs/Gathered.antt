@@ -1,5 +1,7 @@
--- The summaries of a set of messages, by name. For private clauses.
-use Rattle.std.specs.Prelude.{◌≡◌, ℕ, nat_le, ◌&&◌, if◌then◌else◌, List, [], ◌∷◌, ◌++◌, Contains, Option, Some, None, MatchOption, IfSome, is_some}
+-- What is known of a set of messages, by name. For private clauses.
+use Rattle.std.specs.Prelude.{◌≡◌, ℕ, nat_le, ◌&&◌, if◌then◌else◌, List, [], ◌∷◌, ◌++◌, Contains, Option, Some, None, MatchOption, IfSome, is_some, Vec}
+use Rattle.std.specs.declared.alloc.Global.{Global}
+use Rattle.std.specs.List.{AllByRecursion}
 use Rattle.std.specs.BTreeMap.{BTreeMap, IsOrdered}
 use Rattle.sudo_words.specs.declared.cmnd.Cmnd.{Cmnd}
 use Rattle.messages.specs.Fields.{RequestFields, VerdictFields}
@@ -13,6 +15,7 @@ use Rattle.grants.specs.Summaries.{Kept, StandsFor}
 use Rattle.grants.specs.declared.outcome.Status.{Status}
 use Rattle.grants.specs.declared.outcome.Status.TheVariants.{Disputed, Lapsed, Refused, Waiting, Void, Granted}
 use Rattle.grants.specs.declared.outcome.Window.{Window}
+use Rattle.desk_outcomes.specs.declared.gathering.Gathered.{Gathered}
 use Rattle.desk_outcomes.specs.declared.naming.NameKey.{NameKey}
 use Rattle.desk_outcomes.specs.Names.{key_cmp, at_name}
 use Rattle.desk_outcomes.specs.Outcomes.{LiveGrant, NobodyAsks}
@@ -32,21 +35,36 @@ pub record Gathers (messages : List Message) (summaries : BTreeMap NameKey Kept)
 abbrev pub AreNamed : BTreeMap NameKey Kept → Type 0
 AreNamed summaries = (name : RequestName) → IfSome (at_name summaries name) (λ k. IsNamed k.request name)
 
--- no verdict is among the messages
-abbrev pub IsOfRequests : List Message → Type 0
-IsOfRequests messages = (v : VerdictFields) → ¬ Contains messages (Verdict v)
+-- ---- verdicts that came before their request
 
--- ---- the requests of a list of messages, and its verdicts
+abbrev pub items_of : Option (Vec VerdictFields Global) → List VerdictFields
+items_of None = []
+items_of (Some verdicts) = verdicts.items
 
-abbrev pub requests_in : List Message → List Message
-requests_in [] = []
-requests_in (Request q ∷ more) = Request q ∷ requests_in more
-requests_in (Verdict v ∷ more) = requests_in more
+-- the verdicts that the map has at a name
+abbrev pub waiting_at : BTreeMap NameKey (Vec VerdictFields Global) → RequestName → List VerdictFields
+waiting_at waiting name = items_of (at_name waiting name)
 
-abbrev pub verdicts_in : List Message → List Message
-verdicts_in [] = []
-verdicts_in (Request q ∷ more) = verdicts_in more
-verdicts_in (Verdict v ∷ more) = Verdict v ∷ verdicts_in more
+-- Each is one of the set's verdicts on that name, and where nobody asks the set has no other.
+pub record Waits (messages : List Message) (waiting : BTreeMap NameKey (Vec VerdictFields Global)) : Type 0 where
+  pub each : (name : RequestName) (v : VerdictFields) → Contains (waiting_at waiting name) v → Contains messages (Verdict v) × (name_meant v ≡ name)
+  pub all : (v : VerdictFields) → Contains messages (Verdict v) → NobodyAsks messages (name_meant v) → Contains (waiting_at waiting (name_meant v)) v
+
+-- each verdict stands at the name that it is about
+abbrev pub AreMeant : BTreeMap NameKey (Vec VerdictFields Global) → Type 0
+AreMeant waiting = (name : RequestName) → AllByRecursion (λ v. name_meant v ≡ name) (waiting_at waiting name)
+
+-- the verdict is added at the name, and at others nothing
+pub record IsAddedAt (old new : BTreeMap NameKey (Vec VerdictFields Global)) (name : RequestName) (v : VerdictFields) : Type 0 where
+  pub here : waiting_at new name ≡ waiting_at old name ++ v ∷ []
+  pub elsewhere : (other : RequestName) → (name ≡ other → ⊥) → waiting_at new other ≡ waiting_at old other
+
+-- ---- both
+
+-- what is known of the messages
+pub record AreGathered (messages : List Message) (g : Gathered) : Type 0 where
+  pub summaries : Gathers messages g.summaries
+  pub waiting : Waits messages g.waiting
 
 -- ---- the texts of the verdicts at whose names there is nothing
 

@@ -1,9 +1,14 @@
-//! The summaries of a set of messages, by the names of its requests.
+//! What is known of a set of messages, by the names of its requests, as one message after another joins it.
 
-ghost use Rattle.std.specs.Prelude.{◌≡◌, List, [], ◌∷◌, ◌++◌, IfOk, OnOk};
+ghost use Rattle.std.specs.Prelude.{◌≡◌, List, [], ◌∷◌, ◌++◌, IfOk, OnOk, map};
+ghost use Rattle.std.specs.List.{AllByRecursion};
+ghost use Rattle.messages.specs.Names as names;
 ghost use Rattle.messages.specs.declared.message.Message.{Message as AnyMessage};
 ghost use Rattle.messages.specs.declared.message.Message.TheVariants as message_of;
-ghost use Rattle.desk_outcomes.specs.Gathered.{AreNamed, Gathers, IsOfRequests, requests_in, verdicts_in};
+ghost use Rattle.grants.specs.Summaries.{StandsFor};
+ghost use Rattle.desk_outcomes.specs.Gathered.{AreGathered, AreMeant, AreNamed, Gathers, IsAddedAt, Waits, waiting_at};
+ghost use Rattle.desk_outcomes.specs.Names.{key_name};
+ghost use Rattle.desk_outcomes.specs.Parked.{name_meant};
 
 use crate::naming::{NameKey, key_meant, key_of};
 use grants::{Summary, apply, ask, ask_again};
@@ -12,97 +17,135 @@ use std::alloc::Global;
 use std::collections::BTreeMap;
 use sudo_words::NoMemory;
 
-/// Adds a request to the summaries of requests.
-fn ask_one<'a>(
+/// What is known of a set of messages: of each name that somebody asks under a summary of the messages about it, and the verdicts that
+/// came before their request.
+#[derive(Drop)]
+pub struct Gathered {
+    pub(crate) alloc: Global,
+    pub(crate) summaries: BTreeMap<NameKey, Summary>,
+    pub(crate) waiting: BTreeMap<NameKey, Vec<Verdict>>,
+}
+
+/// The verdicts that came before a request of the name.
+fn waiting_for<'a>(
+    waiting: &'a BTreeMap<NameKey, Vec<Verdict>>,
+    name: &NameKey,
+) -> &'a [Verdict]
+    ensures { result.now ≡ waiting_at waiting.now (key_name name.now) }
+{
+    match waiting.get(name) {
+        Some(verdicts) => verdicts.as_slice(),
+        None => &[],
+    }
+}
+
+/// The summary of a request and of the verdicts that came before it.
+fn summary_with(
     alloc: Global,
-    summaries: &mut BTreeMap<NameKey<'a>, Summary>,
-    request: &'a Request,
+    request: &Request,
+    verdicts: &[Verdict],
+) -> Result<Summary, NoMemory>
+    requires { AllByRecursion (λ v. name_meant v ≡ names.name_of request.now) verdicts.now }
+    ensures { IfOk result (StandsFor (message_of.Request request.now ∷ map message_of.Verdict verdicts.now)) }
+{
+    let mut summary = ask(alloc, request)?;
+    for verdict in verdicts {
+        apply(&mut summary, verdict)?;
+    }
+    Ok(summary)
+}
+
+/// Adds a request.
+fn ask_one(
+    alloc: Global,
+    summaries: &mut BTreeMap<NameKey, Summary>,
+    waiting: &BTreeMap<NameKey, Vec<Verdict>>,
+    request: &Request,
 ) -> Result<(), NoMemory>
-    requires { AreNamed summaries.old }
-    ensures { (set : List AnyMessage) → IsOfRequests set → Gathers set summaries.old
+    requires named { AreNamed summaries.old }
+    requires meant { AreMeant waiting.now }
+    ensures { (set : List AnyMessage) → Gathers set summaries.old → Waits set waiting.now
         → OnOk result (Gathers (set ++ message_of.Request request.now ∷ []) summaries.new) }
 {
-    let name = key_of(request);
+    let name = key_of(request)?;
     match summaries.get_mut(&name) {
         Some(summary) => ask_again(summary, request),
         None => {
-            let summary = ask(alloc, request)?;
+            let summary = summary_with(alloc, request, waiting_for(waiting, &name))?;
             summaries.insert(name, summary)?;
         }
     }
     Ok(())
 }
 
-/// Adds a verdict, where its request is among them.
-fn hear<'a>(
-    summaries: &mut BTreeMap<NameKey<'a>, Summary>,
-    verdict: &'a Verdict,
-) -> Result<(), NoMemory>
-    requires { AreNamed summaries.old }
-    ensures { (set : List AnyMessage) → Gathers set summaries.old
-        → OnOk result (Gathers (set ++ message_of.Verdict verdict.now ∷ []) summaries.new) }
-{
-    match summaries.get_mut(&key_meant(verdict)) {
-        Some(summary) => apply(summary, verdict),
-        None => Ok(()),
-    }
-}
-
-/// Adds a message: what it asks, if anything.
-fn ask_message<'a>(
+/// Keeps a verdict until its request comes.
+fn wait(
     alloc: Global,
-    summaries: &mut BTreeMap<NameKey<'a>, Summary>,
-    message: &'a Message,
+    waiting: &mut BTreeMap<NameKey, Vec<Verdict>>,
+    name: NameKey,
+    verdict: &Verdict,
 ) -> Result<(), NoMemory>
-    requires { AreNamed summaries.old }
-    ensures { (seen : List AnyMessage) → Gathers (requests_in seen) summaries.old
-        → OnOk result (Gathers (requests_in (seen ++ message.now ∷ [])) summaries.new) }
+    ensures { OnOk result (IsAddedAt waiting.old waiting.new (key_name name) verdict.now) }
 {
-    match message {
-        Message::Request(request) => ask_one(alloc, summaries, request),
-        Message::Verdict(_) => Ok(()),
+    let copy = verdict.clone()?;
+    match waiting.get_mut(&name) {
+        Some(verdicts) => verdicts.push(copy)?,
+        None => {
+            let mut verdicts = Vec::new(alloc);
+            verdicts.push(copy)?;
+            waiting.insert(name, verdicts)?;
+        }
     }
+    Ok(())
 }
 
-/// Adds a message: what it says of a request, if anything.
-fn hear_message<'a>(
-    summaries: &mut BTreeMap<NameKey<'a>, Summary>,
-    message: &'a Message,
-) -> Result<(), NoMemory>
-    requires { AreNamed summaries.old }
-    ensures { (set seen : List AnyMessage) → Gathers (requests_in set ++ verdicts_in seen) summaries.old
-        → OnOk result (Gathers (requests_in set ++ verdicts_in (seen ++ message.now ∷ [])) summaries.new) }
-{
-    match message {
-        Message::Request(_) => Ok(()),
-        Message::Verdict(verdict) => hear(summaries, verdict),
+impl Gathered {
+    /// What is known of no messages. It takes no memory.
+    pub fn new(alloc: Global) -> Gathered
+        ensures { AreGathered [] result }
+    {
+        Gathered {
+            alloc,
+            summaries: BTreeMap::new(alloc),
+            waiting: BTreeMap::new(alloc),
+        }
     }
-}
 
-/// The summaries of the set's requests alone, by name. Each message is looked up once.
-pub(crate) fn asked<'a>(
-    alloc: Global,
-    set: &'a [Message],
-) -> Result<BTreeMap<NameKey<'a>, Summary>, NoMemory>
-    ensures { IfOk result (Gathers (requests_in set.now)) }
-{
-    let mut summaries = BTreeMap::new(alloc);
-    for message in set {
-        ask_message(alloc, &mut summaries, message)?;
+    /// Adds a verdict: to the summary of its request, or to those that wait.
+    fn hear(&mut self, verdict: &Verdict) -> Result<(), NoMemory>
+        requires { (set : List AnyMessage) × AreGathered set self.old }
+        ensures { (set : List AnyMessage) → AreGathered set self.old
+            → OnOk result (AreGathered (set ++ message_of.Verdict verdict.now ∷ []) self.new) }
+    {
+        let name = key_meant(verdict)?;
+        match self.summaries.get_mut(&name) {
+            Some(summary) => apply(summary, verdict),
+            None => wait(self.alloc, &mut self.waiting, name, verdict),
+        }
     }
-    Ok(summaries)
-}
 
-/// The summaries of the set, by the names of its requests. Each message is looked up once, or twice.
-pub(crate) fn gathered<'a>(
-    alloc: Global,
-    set: &'a [Message],
-) -> Result<BTreeMap<NameKey<'a>, Summary>, NoMemory>
-    ensures { IfOk result (Gathers set.now) }
-{
-    let mut summaries = asked(alloc, set)?;
-    for message in set {
-        hear_message(&mut summaries, message)?;
+    /// Adds a message: what is known is then that of the set with the message. Where memory runs out, it may be of neither set.
+    pub fn take(&mut self, message: &Message) -> Result<(), NoMemory>
+        requires { (set : List AnyMessage) × AreGathered set self.old }
+        ensures { (set : List AnyMessage) → AreGathered set self.old
+            → OnOk result (AreGathered (set ++ message.now ∷ []) self.new) }
+    {
+        match message {
+            Message::Request(request) => {
+                ask_one(self.alloc, &mut self.summaries, &self.waiting, request)
+            }
+            Message::Verdict(verdict) => self.hear(verdict),
+        }
     }
-    Ok(summaries)
+
+    /// What is known of these messages. Each is looked up once, or twice.
+    pub fn of(alloc: Global, set: &[Message]) -> Result<Gathered, NoMemory>
+        ensures { IfOk result (AreGathered set.now) }
+    {
+        let mut gathered = Gathered::new(alloc);
+        for message in set {
+            gathered.take(message)?;
+        }
+        Ok(gathered)
+    }
 }

@@ -8,14 +8,13 @@ ghost use Rattle.grants.specs.Bases.{FitsBase};
 ghost use Rattle.grants.specs.GrantRules.{IsGrantRule};
 ghost use Rattle.grants.specs.Summaries.{StandsFor};
 ghost use Rattle.grants.specs.declared.host_fault.HostFault.TheVariants as fault;
-ghost use Rattle.desk_outcomes.specs.Gathered.{Adds, Gathers, Give};
+ghost use Rattle.desk_outcomes.specs.Gathered.{Adds, AreGathered, Gathers, Give};
 ghost use Rattle.desk_outcomes.specs.HostFile.{Line, AreLines};
 ghost use Rattle.desk_outcomes.specs.LinesLeft as left;
 
-use crate::gathering::gathered;
+use crate::gathering::Gathered;
 use crate::naming::NameKey;
 use grants::{HostFault, Summary, host_policy, rules_of};
-use messages::Message;
 use roster::Roster;
 use std::alloc::Global;
 use std::collections::BTreeMap;
@@ -63,10 +62,10 @@ fn push_rules(
 }
 
 /// Those rules that the summaries' requests give the host which are left, in the order of their names: `TooManyRules` past 8,192.
-fn lines<'a>(
+fn lines(
     alloc: Global,
     roster: &Roster,
-    summaries: &BTreeMap<NameKey<'a>, Summary>,
+    summaries: &BTreeMap<NameKey, Summary>,
     host: &HostName,
     after: &Option<Moment>,
 ) -> Result<Vec<Rule>, HostFault>
@@ -94,21 +93,21 @@ pub fn host_file_in(
     alloc: Global,
     roster: &Roster,
     base: &Policy,
-    set: &[Message],
+    gathered: &Gathered,
     host: &HostName,
     after: Option<Moment>,
 ) -> Result<String, HostFault>
     requires { FitsBase base.now }
-    ensures file { IfOk result (λ s. left.IsFileLeft roster.now.says base.now set.now host.now after (string_bytes s)) }
+    ensures file { (set : List AnyMessage) → AreGathered set gathered.now
+        → IfOk result (λ s. left.IsFileLeft roster.now.says base.now set host.now after (string_bytes s)) }
     // Where the lines are few it comes, and where they are too many it is refused.
-    ensures few { (ls : List Line) → AreLines roster.now.says set.now host.now ls → length (left.lines_left after ls) ≤ 8_192
-        → IfErr result (λ e. e ≡ fault.NoMemory) }
-    ensures many { (ls : List Line) → AreLines roster.now.says set.now host.now ls → 8_192 < length (left.lines_left after ls)
-        → MatchResult result (λ _. ⊥) (λ e. (e ≡ fault.TooManyRules) ⊎ (e ≡ fault.NoMemory)) }
-    ensures err { IfErr result (left.IsPast roster.now.says set.now host.now after) }
+    ensures few { (set : List AnyMessage) (ls : List Line) → AreGathered set gathered.now → AreLines roster.now.says set host.now ls
+        → length (left.lines_left after ls) ≤ 8_192 → IfErr result (λ e. e ≡ fault.NoMemory) }
+    ensures many { (set : List AnyMessage) (ls : List Line) → AreGathered set gathered.now → AreLines roster.now.says set host.now ls
+        → 8_192 < length (left.lines_left after ls) → MatchResult result (λ _. ⊥) (λ e. (e ≡ fault.TooManyRules) ⊎ (e ≡ fault.NoMemory)) }
+    ensures err { (set : List AnyMessage) → AreGathered set gathered.now → IfErr result (left.IsPast roster.now.says set host.now after) }
 {
-    let summaries = gathered(alloc, set)?;
-    let rules = lines(alloc, roster, &summaries, host, &after)?;
+    let rules = lines(alloc, roster, &gathered.summaries, host, &after)?;
     let policy = host_policy(alloc, base, rules)?;
     Ok(print_policy(alloc, &policy)?)
 }

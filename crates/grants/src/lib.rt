@@ -14,6 +14,7 @@ mod reached;
 mod rules;
 mod status_laws;
 mod summary;
+mod voices;
 mod voters;
 mod within;
 mod within_laws;
@@ -35,5 +36,6 @@ pub use status_laws::{
     uncounted_changes_nothing, who_does_not_count, worked_statuses,
 };
 pub use summary::{Summary, apply, ask, ask_again};
+pub use voices::{Voices, ask_after};
 pub use within::is_inside;
 pub use within_laws::{forms_of_inclusion, worked_inclusions};
