@@ -30,8 +30,8 @@ fn push_who(text: &mut String, host: &HostName, request: &Request) -> Result<(),
 }
 
 /// And when, up to the space before the command.
-fn push_when(text: &mut String, window: Window) -> Result<(), AllocError>
-    ensures { OnOk result (string_bytes text.new ≡ string_bytes text.old ++ lines.when window.start window.end) }
+fn push_when(text: &mut String, window: &Window) -> Result<(), AllocError>
+    ensures { OnOk result (string_bytes text.new ≡ string_bytes text.old ++ lines.when window.now.start window.now.end) }
 {
     text.push_str(") NOTBEFORE=")?;
     push_moment(text, window.start)?;
@@ -46,12 +46,12 @@ fn push_line(
     text: &mut String,
     host: &HostName,
     request: &Request,
-    window: Window,
+    window: &Window,
     cmnd: &Cmnd,
 ) -> Result<(), NoMemory>
     requires { IsLawful cmnd.now }
     ensures { OnOk result
-        (string_bytes text.new ≡ string_bytes text.old ++ line_text (entries.Rule (grant_rule host.now request.now window.start window.end cmnd.now))) }
+        (string_bytes text.new ≡ string_bytes text.old ++ line_text (entries.Rule (grant_rule host.now request.now window.now.start window.now.end cmnd.now))) }
 {
     push_who(text, host, request)?;
     push_when(text, window)?;
@@ -66,16 +66,15 @@ fn push_commands(
     text: &mut String,
     host: &HostName,
     request: &Request,
-    window: Window,
+    window: &Window,
 ) -> Result<usize, NoMemory>
-    ensures { IfOk result (λ count. lines.AreAdded (map (grant_rule host.now request.now window.start window.end) request.now.cmnds)
+    ensures { IfOk result (λ count. lines.AreAdded (map (grant_rule host.now request.now window.now.start window.now.end) request.now.cmnds)
         (string_bytes text.old) (string_bytes text.new) count) }
 {
-    let cmnds = request.cmnds();
-    for cmnd in cmnds {
+    for cmnd in request.cmnds() {
         push_line(alloc, text, host, request, window, cmnd)?;
     }
-    Ok(cmnds.len())
+    Ok(request.cmnds().len())
 }
 
 /// Whether the lines of the window are left.
@@ -102,7 +101,7 @@ fn push_left(
 {
     match status {
         Status::Granted(window) if is_left(after, window) && request.hosts().contains(host) => {
-            push_commands(alloc, text, host, request, window)
+            push_commands(alloc, text, host, request, &window)
         }
         _ => Ok(0),
     }
