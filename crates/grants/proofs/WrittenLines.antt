@@ -1,6 +1,8 @@
 -- The lines of a grant's rules, from the pieces that are written.
-use Rattle.std.proofs.Common.{◌≡◌, ℕ, zero, suc, ◌+◌, ◌<◌, Bool, true, false, List, [], ◌∷◌, ◌++◌, length, get_or, take, map, filter, Option, Some, None, append_assoc, refl, sym, ap, ◌∙◌, arith}
+use Rattle.std.proofs.Common.{◌≡◌, ℕ, zero, suc, ◌+◌, ◌<◌, Bool, true, false, cond, List, [], ◌∷◌, ◌++◌, length, get_or, take, map, filter, Option, Some, None, append_assoc, refl, sym, ap, ◌∙◌, arith}
 use Rattle.std.specs.Prelude.{codes}
+use Rattle.std.specs.List.{list_any}
+use Rattle.std.specs.Str.{bytes_eq}
 use Rattle.std.proofs.lemmas.List.{append-nil}
 use Rattle.sudo_words.specs.Command.{cmnd_text}
 use Rattle.sudo_words.specs.Moment.{stamp}
@@ -10,7 +12,9 @@ use Rattle.sudo_policy.specs.declared.entry.Entry.TheVariants as entries
 use Rattle.sudo_policy.specs.Printing.{line_text}
 use Rattle.messages.specs.Fields.{RequestFields}
 use Rattle.grants.specs.GrantRules.{grant_rule}
-use Rattle.grants.specs.private.Lines.{is_left, lines_text, stays, when, who}
+use Rattle.grants.specs.private.Lines.{AreAdded, is_left, lines_text, rules_left, stays, when, who}
+use Rattle.grants.specs.declared.outcome.Status.TheVariants.{Granted}
+use Rattle.grants.specs.declared.outcome.Window.{Window}
 
 -- ---- one line
 
@@ -39,17 +43,37 @@ lines_more rule cmnds i d old h =
 
 -- ---- those that are left: all of a request, or none
 
-module _ (host : List ℕ) (q : RequestFields) (first : ℕ) where
-  stays_is : (after : Option ℕ) (last : ℕ) (cmnd : Cmnd) → stays after (grant_rule host q first last cmnd) ≡ is_left after last
-  stays_is None last cmnd = refl
-  stays_is (Some moment) last cmnd = refl
+module _ (host : List ℕ) (q : RequestFields) (after : Option ℕ) (w : Window) where
+  abbrev pub rule_of : Cmnd → Rule
+  rule_of = grant_rule host q w.start w.end
 
-  pub all_left : (after : Option ℕ) (last : ℕ) (cmnds : List Cmnd) → is_left after last ≡ true → filter (stays after) (map (grant_rule host q first last) cmnds) ≡ map (grant_rule host q first last) cmnds
-  all_left after last [] left = refl
-  all_left after last (c ∷ cmnds) left =
-      rw (stays_is after last c, left, all_left after last cmnds left)
+  stays_is : (o : Option ℕ) (cmnd : Cmnd) → stays o (rule_of cmnd) ≡ is_left o w.end
+  stays_is None cmnd = refl
+  stays_is (Some moment) cmnd = refl
 
-  pub none_left : (after : Option ℕ) (last : ℕ) (cmnds : List Cmnd) → is_left after last ≡ false → filter (stays after) (map (grant_rule host q first last) cmnds) ≡ []
-  none_left after last [] over = refl
-  none_left after last (c ∷ cmnds) over =
-      rw (stays_is after last c, over) (none_left after last cmnds over)
+  all_stay : is_left after w.end ≡ true → (cmnds : List Cmnd) → filter (stays after) (map rule_of cmnds) ≡ map rule_of cmnds
+  all_stay left [] = refl
+  all_stay left (c ∷ cmnds) =
+      let stay : stays after (rule_of c) ≡ true = stays_is after c ∙ left in
+      rw (stay, all_stay left cmnds)
+
+  none_stays : is_left after w.end ≡ false → (cmnds : List Cmnd) → filter (stays after) (map rule_of cmnds) ≡ []
+  none_stays over [] = refl
+  none_stays over (c ∷ cmnds) =
+      let gone : stays after (rule_of c) ≡ false = stays_is after c ∙ over in
+      rw gone (none_stays over cmnds)
+
+  pub all_left : list_any (λ h. bytes_eq h host) q.hosts ≡ true → is_left after w.end ≡ true → rules_left after host q (Granted w) ≡ map rule_of q.cmnds
+  all_left named left =
+      ap (λ (t : Bool). filter (stays after) (cond t (map rule_of q.cmnds) [])) named ∙ all_stay left q.cmnds
+
+  -- whether it names the host or not
+  none_of : is_left after w.end ≡ false → (t : Bool) → filter (stays after) (cond t (map rule_of q.cmnds) []) ≡ []
+  none_of over true = none_stays over q.cmnds
+  none_of over false = refl
+
+  pub none_left : is_left after w.end ≡ false → rules_left after host q (Granted w) ≡ []
+  none_left over = none_of over (list_any (λ h. bytes_eq h host) q.hosts)
+
+pub none_added : (text : List ℕ) → AreAdded [] text text 0
+none_added text = record { text_is = sym (append-nil text); count_is = refl }
