@@ -26,3 +26,4 @@ pub mod WindowLaws
 pub mod LawfulRules
 pub mod RuleLemmas
 pub mod LookUps
+pub mod WrittenLines
