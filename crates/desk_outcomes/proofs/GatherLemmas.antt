@@ -1,6 +1,6 @@
 -- The summaries by name, as a set grows.
-use Rattle.std.proofs.Common.{◌≡◌, ◌⊎◌, List, [], ◌∷◌, ◌++◌, map, Option, Some, None, Vec, Global, refl, sym, ap, ◌∙◌, subst, inl, inr}
-use Rattle.std.specs.List.{AllByRecursion, Contains}
+use Rattle.std.proofs.Common.{◌≡◌, ◌⊎◌, List, [], ◌∷◌, ◌++◌, Option, Some, None, refl, sym, ap, ◌∙◌, subst, inl, inr}
+use Rattle.std.specs.List.{Contains}
 use Rattle.std.specs.Option.{MatchOption, IfSome}
 use Rattle.std.specs.Prelude.{Result, Ok, Err, OnOk}
 use Rattle.std.specs.BTreeMap.{BTreeMap, IsOrdered}
@@ -10,14 +10,17 @@ use Rattle.messages.specs.Names.{RequestName, IsNamed, SameMessages, name_of}
 use Rattle.messages.specs.declared.message.Message.{Message}
 use Rattle.messages.specs.declared.message.Message.TheVariants.{Request, Verdict}
 use Rattle.grants.specs.Summaries.{Kept, StandsFor}
+use Rattle.grants.specs.Voices.{IsMeant, SpeakFor}
+use Rattle.grants.specs.declared.voices.Voices.{Voices}
+use Rattle.grants.proofs.VoiceLemmas.{speak_still}
 use Rattle.desk_outcomes.specs.declared.naming.NameKey.{NameKey}
-use Rattle.desk_outcomes.specs.Gathered.{AreMeant, AreNamed, Gathers, IsAddedAt, IsSummaryOf, Waits, items_of, waiting_at}
+use Rattle.desk_outcomes.specs.Gathered.{AreNamed, Gathers, IsSummaryOf, SpeakAt, Waits}
 use Rattle.desk_outcomes.specs.Names.{at_name, key_cmp}
 use Rattle.desk_outcomes.specs.Outcomes.{NobodyAsks}
 use Rattle.desk_outcomes.specs.Parked.{name_meant}
-use Rattle.desk_outcomes.proofs.Membership.{no_member, Contains-head, Contains-behind, Contains-cases}
+use Rattle.desk_outcomes.proofs.Membership.{no_member}
 use Rattle.desk_outcomes.proofs.NameMaps.{SetsAt, at_none, same_cases}
-use Rattle.desk_outcomes.proofs.Standing.{Mentions, name_from_named, named_from_name, only_request, stands_first, stands_same, stands_still}
+use Rattle.desk_outcomes.proofs.Standing.{Mentions, name_from_named, named_from_name, stands_same, stands_still}
 
 -- what stands at a name, of a set
 abbrev pub IsAt : List Message → RequestName → Option Kept → Type 0
@@ -35,10 +38,6 @@ none_gathered m ordered empty = record {
   ordered = ordered;
   each = λ name. subst (IsAt [] name) (sym (at_none m name empty)) (λ q h named. no_member (Request q) h);
 }
-
-all_from_members : {X : Type 0} (P : X → Type 0) (xs : List X) → ((x : X) → Contains xs x → P x) → AllByRecursion P xs
-all_from_members P [] each = tt
-all_from_members P (x ∷ xs) each = (each x (Contains-head x xs), all_from_members P xs (λ y among. each y (Contains-behind x xs y among)))
 
 -- ---- a message about another name
 
@@ -67,14 +66,11 @@ one_more set m name old new k only sets ordered here g = record { ordered = orde
 request_only : (q : RequestFields) (other : RequestName) → Mentions (Request q) other → name_of q ≡ other
 request_only q other mentions = mentions
 
-pub first_asked : (set : List Message) (q : RequestFields) (old new : BTreeMap NameKey Kept) (waiting : BTreeMap NameKey (Vec VerdictFields Global)) (k : Kept) → at_name old (name_of q) ≡ None → SetsAt old new (name_of q) k → IsOrdered key_cmp new → StandsFor (Request q ∷ map Verdict (waiting_at waiting (name_of q))) k → Waits set waiting → Gathers set old → Gathers (set ++ Request q ∷ []) new
-first_asked set q old new waiting k bare sets ordered stands waits g =
-    let vs = waiting_at waiting (name_of q) in
-    let nobody : NobodyAsks set (name_of q) = subst (IsAt set (name_of q)) bare (g.each (name_of q)) in
+pub first_asked : (set : List Message) (q : RequestFields) (old new : BTreeMap NameKey Kept) (k : Kept) → SetsAt old new (name_of q) k → IsOrdered key_cmp new → k.request ≡ q → StandsFor (set ++ Request q ∷ []) k → Gathers set old → Gathers (set ++ Request q ∷ []) new
+first_asked set q old new k sets ordered same stands g =
     one_more set (Request q) (name_of q) old new k (request_only q) sets ordered (record {
-      named = named_from_name k.request (name_of q) (ap name_of (only_request q vs k stands));
-      stands = stands_first set q vs k nobody (λ v among. (waits.each (name_of q) v among).0) (λ v given meant.
-          subst (λ (n : RequestName). Contains (waiting_at waiting n) v) meant (waits.all v given (subst (NobodyAsks set) (sym meant) nobody))) stands;
+      named = named_from_name k.request (name_of q) (ap name_of same);
+      stands = stands;
     }) g
 
 pub asked_again : (set : List Message) (q : RequestFields) (old new : BTreeMap NameKey Kept) (before after : Kept) → at_name old (name_of q) ≡ Some before → SetsAt old new (name_of q) after → IsOrdered key_cmp new → after.request ≡ before.request → ((s : List Message) → StandsFor s before → StandsFor (s ++ Request q ∷ []) after) → Gathers set old → Gathers (set ++ Request q ∷ []) new
@@ -118,76 +114,56 @@ unheard set v m bare g = record { ordered = g.ordered; each = λ other. at other
 
 -- ---- verdicts that wait
 
-pub none_waits : (m : BTreeMap NameKey (Vec VerdictFields Global)) → m.entries ≡ [] → Waits [] m
-none_waits m empty = record {
-  each = λ name v among. absurd (no_member v (subst (λ (o : Option (Vec VerdictFields Global)). Contains (items_of o) v) (at_none m name empty) among));
-  all = λ v given nobody. absurd (no_member (Verdict v) given);
-}
-
-pub are_meant : (set : List Message) (m : BTreeMap NameKey (Vec VerdictFields Global)) → Waits set m → AreMeant m
-are_meant set m waits = λ name. all_from_members (λ (v : VerdictFields). name_meant v ≡ name) (waiting_at m name) (λ v among. (waits.each name v among).1)
+pub none_waits : (m : BTreeMap NameKey Voices) → m.entries ≡ [] → Waits [] m
+none_waits m empty = λ name nobody.
+    subst (λ (o : Option Voices). MatchOption o ((v : VerdictFields) → Contains [] (Verdict v) → IsMeant v name → ⊥) (SpeakFor [] name)) (sym (at_none m name empty)) (λ v given meant. no_member (Verdict v) given)
 
 nobody_before : (set : List Message) (m : Message) (name : RequestName) → NobodyAsks (set ++ m ∷ []) name → NobodyAsks set name
 nobody_before set m name nobody = λ q old named. nobody q (Contains-append_left set (m ∷ []) (Request q) old) named
 
--- a request comes: nothing waits more
-pub waits_asked : (set : List Message) (q : RequestFields) (m : BTreeMap NameKey (Vec VerdictFields Global)) → Waits set m → Waits (set ++ Request q ∷ []) m
-waits_asked set q m waits = record {
-  each = λ name v among. let found = waits.each name v among in (Contains-append_left set (Request q ∷ []) (Verdict v) found.0, found.1);
-  all = λ v given nobody.
-      elim (Contains-push_cases set (Request q) (Verdict v) given) as (λ _. Contains (waiting_at m (name_meant v)) v) [
-        | inl old ↦ waits.all v old (nobody_before set (Request q) (name_meant v) nobody)
-        | inr new ↦ absurd cc
-      ];
-}
+pub meant_name : (v : VerdictFields) (name : RequestName) → IsMeant v name → name_meant v ≡ name
+meant_name v name meant = rw (meant.0, meant.1) refl
 
--- a verdict comes whose request is there: nothing waits more
-pub waits_heard : (set : List Message) (w : VerdictFields) (m : BTreeMap NameKey (Vec VerdictFields Global)) → (NobodyAsks set (name_meant w) → ⊥) → Waits set m → Waits (set ++ Verdict w ∷ []) m
-waits_heard set w m asked waits = record {
-  each = λ name v among. let found = waits.each name v among in (Contains-append_left set (Verdict w ∷ []) (Verdict v) found.0, found.1);
-  all = λ v given nobody.
-      let before = nobody_before set (Verdict w) (name_meant v) nobody in
-      elim (Contains-push_cases set (Verdict w) (Verdict v) given) as (λ _. Contains (waiting_at m (name_meant v)) v) [
-        | inl old ↦ waits.all v old before
-        | inr new ↦
-            let same : w ≡ v = cc in
-            absurd (asked (subst (λ (x : VerdictFields). NobodyAsks set (name_meant x)) (sym same) before))
-      ];
-}
+pub name_is_meant : (v : VerdictFields) (name : RequestName) → name_meant v ≡ name → IsMeant v name
+name_is_meant v name same = (ap (λ (n : RequestName). n.by) same, ap (λ (n : RequestName). n.no) same)
+
+-- what is said at a name stays, where the message is no verdict on it
+speak_on : (set : List Message) (m : Message) (name : RequestName) → ((v : VerdictFields) → m ≡ Verdict v → IsMeant v name → ⊥) → (o : Option Voices) → MatchOption o ((v : VerdictFields) → Contains set (Verdict v) → IsMeant v name → ⊥) (SpeakFor set name) → MatchOption o ((v : VerdictFields) → Contains (set ++ m ∷ []) (Verdict v) → IsMeant v name → ⊥) (SpeakFor (set ++ m ∷ []) name)
+speak_on set m name other None none = λ v given meant.
+    elim (Contains-push_cases set m (Verdict v) given) as (λ _. ⊥) [ inl old ↦ none v old meant | inr new ↦ other v new meant ]
+speak_on set m name other (Some voices) speak = speak_still set m name voices other speak
+
+-- a message comes: at each name but its own what is said stays
+pub waits_on : (set : List Message) (m : Message) (mine : RequestName) (old new : BTreeMap NameKey Voices) → ((v : VerdictFields) → m ≡ Verdict v → name_meant v ≡ mine) → ((other : RequestName) → (mine ≡ other → ⊥) → at_name new other ≡ at_name old other) → (NobodyAsks (set ++ m ∷ []) mine → SpeakAt (set ++ m ∷ []) new mine) → Waits set old → Waits (set ++ m ∷ []) new
+waits_on set m mine old new own others here waits = λ name nobody. at name nobody (same_cases mine name)
+  where
+    at : (name : RequestName) → NobodyAsks (set ++ m ∷ []) name → (mine ≡ name) ⊎ (mine ≡ name → ⊥) → SpeakAt (set ++ m ∷ []) new name
+    at name nobody (inl same) = subst (SpeakAt (set ++ m ∷ []) new) same (here (subst (NobodyAsks (set ++ m ∷ [])) (sym same) nobody))
+    at name nobody (inr differ) =
+        let stays = speak_on set m name (λ v is meant. differ (sym (own v is) ∙ meant_name v name meant)) (at_name old name) (waits name (nobody_before set m name nobody)) in
+        subst (λ (o : Option Voices). MatchOption o ((v : VerdictFields) → Contains (set ++ m ∷ []) (Verdict v) → IsMeant v name → ⊥) (SpeakFor (set ++ m ∷ []) name)) (sym (others name differ)) stays
+
+no_verdict : (q : RequestFields) (v : VerdictFields) → ◌≡◌ {A = Message} (Request q) (Verdict v) → ⊥
+no_verdict q v e = absurd cc
+
+-- a request comes
+pub waits_asked : (set : List Message) (q : RequestFields) (old new : BTreeMap NameKey Voices) → ((other : RequestName) → (name_of q ≡ other → ⊥) → at_name new other ≡ at_name old other) → Waits set old → Waits (set ++ Request q ∷ []) new
+waits_asked set q old new others waits =
+    waits_on set (Request q) (name_of q) old new (λ v is. absurd (no_verdict q v is)) others (λ nobody. absurd (nobody q (Contains-push set (Request q)) (refl, refl))) waits
+
+own_name : (v w : VerdictFields) → ◌≡◌ {A = Message} (Verdict v) (Verdict w) → name_meant w ≡ name_meant v
+own_name v w e =
+    let same : v ≡ w = cc in ap name_meant (sym same)
+
+-- a verdict comes whose request is there
+pub waits_heard : (set : List Message) (v : VerdictFields) (m : BTreeMap NameKey Voices) → (NobodyAsks set (name_meant v) → ⊥) → Waits set m → Waits (set ++ Verdict v ∷ []) m
+waits_heard set v m asked waits =
+    waits_on set (Verdict v) (name_meant v) m m (λ w is. own_name v w is) (λ other differ. refl) (λ nobody. absurd (asked (nobody_before set (Verdict v) (name_meant v) nobody))) waits
 
 -- a verdict comes that has to wait
-pub waits_more : (set : List Message) (w : VerdictFields) (old new : BTreeMap NameKey (Vec VerdictFields Global)) → IsAddedAt old new (name_meant w) w → Waits set old → Waits (set ++ Verdict w ∷ []) new
-waits_more set w old new added waits = record {
-  each = λ name v among. at name v (same_cases (name_meant w) name) among;
-  all = λ v given nobody. there v (Contains-push_cases set (Verdict w) (Verdict v) given) (nobody_before set (Verdict w) (name_meant v) nobody);
-}
-  where
-    longer : (v : VerdictFields) → Contains set (Verdict v) → Contains (set ++ Verdict w ∷ []) (Verdict v)
-    longer v = Contains-append_left set (Verdict w ∷ []) (Verdict v)
-
-    at : (name : RequestName) (v : VerdictFields) → (name_meant w ≡ name) ⊎ (name_meant w ≡ name → ⊥) → Contains (waiting_at new name) v → Contains (set ++ Verdict w ∷ []) (Verdict v) × (name_meant v ≡ name)
-    at name v (inl same) among =
-        let here : Contains (waiting_at old (name_meant w) ++ w ∷ []) v = subst (λ (vs : List VerdictFields). Contains vs v) added.here (subst (λ (n : RequestName). Contains (waiting_at new n) v) (sym same) among) in
-        elim (Contains-push_cases (waiting_at old (name_meant w)) w v here) as (λ _. Contains (set ++ Verdict w ∷ []) (Verdict v) × (name_meant v ≡ name)) [
-          | inl was ↦ let found = waits.each (name_meant w) v was in (longer v found.0, found.1 ∙ same)
-          | inr is ↦
-              (subst (λ (x : VerdictFields). Contains (set ++ Verdict w ∷ []) (Verdict x)) is (Contains-push set (Verdict w)), ap name_meant (sym is) ∙ same)
-        ]
-    at name v (inr differ) among =
-        let found = waits.each name v (subst (λ (vs : List VerdictFields). Contains vs v) (added.elsewhere name differ) among) in
-        (longer v found.0, found.1)
-
-    kept : (v : VerdictFields) → (name_meant w ≡ name_meant v) ⊎ (name_meant w ≡ name_meant v → ⊥) → Contains (waiting_at old (name_meant v)) v → Contains (waiting_at new (name_meant v)) v
-    kept v (inl same) was =
-        let before : Contains (waiting_at old (name_meant w)) v = subst (λ (n : RequestName). Contains (waiting_at old n) v) (sym same) was in
-        subst (λ (n : RequestName). Contains (waiting_at new n) v) same (subst (λ (vs : List VerdictFields). Contains vs v) (sym added.here) (Contains-append_left (waiting_at old (name_meant w)) (w ∷ []) v before))
-    kept v (inr differ) was = subst (λ (vs : List VerdictFields). Contains vs v) (sym (added.elsewhere (name_meant v) differ)) was
-
-    there : (v : VerdictFields) → Contains set (Verdict v) ⊎ (Verdict w ≡ Verdict v) → NobodyAsks set (name_meant v) → Contains (waiting_at new (name_meant v)) v
-    there v (inl old_one) nobody = kept v (same_cases (name_meant w) (name_meant v)) (waits.all v old_one nobody)
-    there v (inr is) nobody =
-        let same : w ≡ v = cc in
-        subst (λ (x : VerdictFields). Contains (waiting_at new (name_meant x)) x) same (subst (λ (vs : List VerdictFields). Contains vs w) (sym added.here) (Contains-push (waiting_at old (name_meant w)) w))
+pub waits_more : (set : List Message) (v : VerdictFields) (old new : BTreeMap NameKey Voices) → ((other : RequestName) → (name_meant v ≡ other → ⊥) → at_name new other ≡ at_name old other) → (SpeakAt set old (name_meant v) → SpeakAt (set ++ Verdict v ∷ []) new (name_meant v)) → Waits set old → Waits (set ++ Verdict v ∷ []) new
+waits_more set v old new others more waits =
+    waits_on set (Verdict v) (name_meant v) old new (λ w is. own_name v w is) others (λ nobody. more (waits (name_meant v) (nobody_before set (Verdict v) (name_meant v) nobody))) waits
 
 -- ---- another list of the same messages
 

@@ -1,7 +1,7 @@
 -- A summary stands for each set that has the same messages about its name.
-use Rattle.std.proofs.Common.{◌≡◌, List, [], ◌∷◌, ◌++◌, map, refl, sym, ap, subst, inl, inr}
+use Rattle.std.proofs.Common.{◌≡◌, List, [], ◌∷◌, ◌++◌, refl, sym, ap, subst, inl, inr}
 use Rattle.std.specs.List.{Contains, AllByRecursion}
-use Rattle.std.proofs.lemmas.List.Elements.{Contains-append_left, Contains-append_right, Contains-push_cases}
+use Rattle.std.proofs.lemmas.List.Elements.{Contains-append_left, Contains-push_cases}
 use Rattle.messages.specs.Fields.{RequestFields, VerdictFields}
 use Rattle.messages.specs.Names.{RequestName, IsNamed, IsAbout, SameMessages, SameName, name_of}
 use Rattle.messages.specs.declared.message.Message.{Message}
@@ -11,9 +11,7 @@ use Rattle.messages.specs.declared.kind.VerdictKind.TheVariants.{Approve, Refuse
 use Rattle.grants.specs.declared.marks.Mark.{Mark}
 use Rattle.grants.specs.Marks.{Keep, verdict_of}
 use Rattle.grants.specs.Summaries.{Kept, StandsFor}
-use Rattle.desk_outcomes.specs.Outcomes.{NobodyAsks}
 use Rattle.desk_outcomes.specs.Parked.{name_meant}
-use Rattle.desk_outcomes.proofs.Membership.{Contains-behind, Contains-cases, Contains-head, no_member}
 
 -- the message asks, or is about what is asked, under the name
 abbrev pub Mentions : Message → RequestName → Type 0
@@ -70,62 +68,3 @@ stands_still set m k other =
       | inl old ↦ old
       | inr new ↦ absurd (other (subst (λ (x : Message). Mentions x (name_of k.request)) (sym new) named))
     ])
-
--- ---- a request and the verdicts that came before it
-
-no_request : (vs : List VerdictFields) (q : RequestFields) → Contains (map Verdict vs) (Request q) → ⊥
-no_request [] q m = no_member (Request q) m
-no_request (v ∷ vs) q m =
-    elim (Contains-cases (Verdict v) (map Verdict vs) (Request q) m) as (λ _. ⊥) [ inl same ↦ absurd cc | inr later ↦ no_request vs q later ]
-
-pub verdict_from_map : (vs : List VerdictFields) (m : Message) → Contains (map Verdict vs) m → (v : VerdictFields) × Contains vs v × (Verdict v ≡ m)
-verdict_from_map [] m h = absurd (no_member m h)
-verdict_from_map (v ∷ vs) m h =
-    elim (Contains-cases (Verdict v) (map Verdict vs) m h) as (λ _. (w : VerdictFields) × Contains (v ∷ vs) w × (Verdict w ≡ m)) [
-      | inl same ↦ (v, Contains-head v vs, same)
-      | inr later ↦ let found = verdict_from_map vs m later in (found.0, Contains-behind v vs found.0 found.1, found.2)
-    ]
-
-verdict_in_map : (vs : List VerdictFields) (v : VerdictFields) → Contains vs v → Contains (map Verdict vs) (Verdict v)
-verdict_in_map [] v m = absurd (no_member v m)
-verdict_in_map (w ∷ vs) v m =
-    elim (Contains-cases w vs v m) as (λ _. Contains (Verdict w ∷ map Verdict vs) (Verdict v)) [
-      | inl same ↦ subst (λ (x : VerdictFields). Contains (Verdict w ∷ map Verdict vs) (Verdict x)) same (Contains-head (Verdict w) (map Verdict vs))
-      | inr later ↦ Contains-behind (Verdict w) (map Verdict vs) (Verdict v) (verdict_in_map vs v later)
-    ]
-
--- the request of their summary
-pub only_request : (q : RequestFields) (vs : List VerdictFields) (k : Kept) → StandsFor (Request q ∷ map Verdict vs) k → k.request ≡ q
-only_request q vs k stands =
-    elim (Contains-cases (Request q) (map Verdict vs) (Request k.request) stands.asked) as (λ _. k.request ≡ q) [
-      | inl same ↦ cc
-      | inr later ↦ absurd (no_request vs k.request later)
-    ]
-
--- The verdicts on a name, all that the set has, and the first request of it: their summary is the set's with the request.
-pub stands_first : (set : List Message) (q : RequestFields) (vs : List VerdictFields) (k : Kept) → NobodyAsks set (name_of q) → ((v : VerdictFields) → Contains vs v → Contains set (Verdict v)) → ((v : VerdictFields) → Contains set (Verdict v) → name_meant v ≡ name_of q → Contains vs v) → StandsFor (Request q ∷ map Verdict vs) k → StandsFor (set ++ Request q ∷ []) k
-stands_first set q vs k nobody each all stands =
-    stands_in (Request q ∷ map Verdict vs) (set ++ Request q ∷ []) k to back stands
-  where
-    named : name_of k.request ≡ name_of q
-    named = ap name_of (only_request q vs k stands)
-
-    to : Within (Request q ∷ map Verdict vs) (set ++ Request q ∷ []) (name_of k.request)
-    to m mentions h =
-        elim (Contains-cases (Request q) (map Verdict vs) m h) as (λ _. Contains (set ++ Request q ∷ []) m) [
-          | inl same ↦ Contains-append_right set (Request q ∷ []) m (subst (Contains (Request q ∷ [])) same (Contains-head (Request q) []))
-          | inr later ↦
-              let found = verdict_from_map vs m later in
-              Contains-append_left set (Request q ∷ []) m (subst (Contains set) found.2 (each found.0 found.1))
-        ]
-
-    of_set : (m : Message) → Mentions m (name_of q) → Contains set m → Contains (Request q ∷ map Verdict vs) m
-    of_set (Request p) mentions old = absurd (nobody p old (named_from_name p (name_of q) mentions))
-    of_set (Verdict v) mentions old = Contains-behind (Request q) (map Verdict vs) (Verdict v) (verdict_in_map vs v (all v old mentions))
-
-    back : Within (set ++ Request q ∷ []) (Request q ∷ map Verdict vs) (name_of k.request)
-    back m mentions h =
-        elim (Contains-push_cases set (Request q) m h) as (λ _. Contains (Request q ∷ map Verdict vs) m) [
-          | inl old ↦ of_set m (subst (Mentions m) named mentions) old
-          | inr new ↦ subst (Contains (Request q ∷ map Verdict vs)) new (Contains-head (Request q) (map Verdict vs))
-        ]

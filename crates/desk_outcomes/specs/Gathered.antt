@@ -1,7 +1,5 @@
 -- What is known of a set of messages, by name. For private clauses.
-use Rattle.std.specs.Prelude.{◌≡◌, ℕ, nat_le, ◌&&◌, if◌then◌else◌, List, [], ◌∷◌, ◌++◌, Contains, Option, Some, None, MatchOption, IfSome, is_some, Vec}
-use Rattle.std.specs.declared.alloc.Global.{Global}
-use Rattle.std.specs.List.{AllByRecursion}
+use Rattle.std.specs.Prelude.{◌≡◌, ℕ, nat_le, ◌&&◌, if◌then◌else◌, List, [], ◌∷◌, ◌++◌, Contains, Option, Some, None, MatchOption, IfSome, is_some}
 use Rattle.std.specs.BTreeMap.{BTreeMap, IsOrdered}
 use Rattle.sudo_words.specs.declared.cmnd.Cmnd.{Cmnd}
 use Rattle.messages.specs.Fields.{RequestFields, VerdictFields}
@@ -12,6 +10,8 @@ use Rattle.messages.specs.declared.message.Message.TheVariants.{Request, Verdict
 use Rattle.roster.specs.Fields.{RosterFields}
 use Rattle.grants.specs.Statuses.{IsStatus}
 use Rattle.grants.specs.Summaries.{Kept, StandsFor}
+use Rattle.grants.specs.Voices.{IsMeant, SpeakFor}
+use Rattle.grants.specs.declared.voices.Voices.{Voices}
 use Rattle.grants.specs.declared.outcome.Status.{Status}
 use Rattle.grants.specs.declared.outcome.Status.TheVariants.{Disputed, Lapsed, Refused, Waiting, Void, Granted}
 use Rattle.grants.specs.declared.outcome.Window.{Window}
@@ -37,27 +37,14 @@ AreNamed summaries = (name : RequestName) → IfSome (at_name summaries name) (�
 
 -- ---- verdicts that came before their request
 
-abbrev pub items_of : Option (Vec VerdictFields Global) → List VerdictFields
-items_of None = []
-items_of (Some verdicts) = verdicts.items
+-- What the verdicts on a name say stands at it, and nothing where the set has none.
+abbrev pub SpeakAt : List Message → BTreeMap NameKey Voices → RequestName → Type 0
+SpeakAt messages waiting name =
+    MatchOption (at_name waiting name) ((v : VerdictFields) → Contains messages (Verdict v) → ¬ IsMeant v name) (SpeakFor messages name)
 
--- the verdicts that the map has at a name
-abbrev pub waiting_at : BTreeMap NameKey (Vec VerdictFields Global) → RequestName → List VerdictFields
-waiting_at waiting name = items_of (at_name waiting name)
-
--- Each is one of the set's verdicts on that name, and where nobody asks the set has no other.
-pub record Waits (messages : List Message) (waiting : BTreeMap NameKey (Vec VerdictFields Global)) : Type 0 where
-  pub each : (name : RequestName) (v : VerdictFields) → Contains (waiting_at waiting name) v → Contains messages (Verdict v) × (name_meant v ≡ name)
-  pub all : (v : VerdictFields) → Contains messages (Verdict v) → NobodyAsks messages (name_meant v) → Contains (waiting_at waiting (name_meant v)) v
-
--- each verdict stands at the name that it is about
-abbrev pub AreMeant : BTreeMap NameKey (Vec VerdictFields Global) → Type 0
-AreMeant waiting = (name : RequestName) → AllByRecursion (λ v. name_meant v ≡ name) (waiting_at waiting name)
-
--- the verdict is added at the name, and at others nothing
-pub record IsAddedAt (old new : BTreeMap NameKey (Vec VerdictFields Global)) (name : RequestName) (v : VerdictFields) : Type 0 where
-  pub here : waiting_at new name ≡ waiting_at old name ++ v ∷ []
-  pub elsewhere : (other : RequestName) → (name ≡ other → ⊥) → waiting_at new other ≡ waiting_at old other
+-- so it is at each name under which nobody asks
+abbrev pub Waits : List Message → BTreeMap NameKey Voices → Type 0
+Waits messages waiting = (name : RequestName) → NobodyAsks messages name → SpeakAt messages waiting name
 
 -- ---- both
 

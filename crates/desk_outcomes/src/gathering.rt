@@ -1,99 +1,63 @@
 //! What is known of a set of messages, by the names of its requests, as one message after another joins it.
 
-ghost use Rattle.std.specs.Prelude.{◌≡◌, List, [], ◌∷◌, ◌++◌, IfOk, OnOk, map};
-ghost use Rattle.std.specs.List.{AllByRecursion};
-ghost use Rattle.messages.specs.Names as names;
+ghost use Rattle.std.specs.Prelude.{◌≡◌, List, [], ◌∷◌, ◌++◌, IfOk, OnOk, None};
+ghost use Rattle.messages.specs.Names.{RequestName as AnyName};
 ghost use Rattle.messages.specs.declared.message.Message.{Message as AnyMessage};
 ghost use Rattle.messages.specs.declared.message.Message.TheVariants as message_of;
-ghost use Rattle.grants.specs.Summaries.{StandsFor};
-ghost use Rattle.desk_outcomes.specs.Gathered.{AreGathered, AreMeant, AreNamed, Gathers, IsAddedAt, Waits, waiting_at};
-ghost use Rattle.desk_outcomes.specs.Names.{key_name};
-ghost use Rattle.desk_outcomes.specs.Parked.{name_meant};
+ghost use Rattle.grants.specs.Voices.{IsMeant, SpeakFor};
+ghost use Rattle.desk_outcomes.specs.Gathered.{AreGathered, AreNamed, SpeakAt};
+ghost use Rattle.desk_outcomes.specs.Names.{at_name, key_name};
 
 use crate::naming::{NameKey, key_meant, key_of};
-use grants::{Summary, apply, ask, ask_again};
+use grants::{Summary, Voices, apply, ask_after, ask_again};
 use messages::{Message, Request, Verdict};
 use std::alloc::Global;
 use std::collections::BTreeMap;
 use sudo_words::NoMemory;
 
-/// What is known of a set of messages: of each name that somebody asks under a summary of the messages about it, and the verdicts that
-/// came before their request.
+/// What is known of a set of messages: of each name that somebody asks under a summary of the messages about it, and of each other
+/// what the verdicts on it say.
 #[derive(Drop)]
 pub struct Gathered {
     pub(crate) alloc: Global,
     pub(crate) summaries: BTreeMap<NameKey, Summary>,
-    pub(crate) waiting: BTreeMap<NameKey, Vec<Verdict>>,
+    pub(crate) waiting: BTreeMap<NameKey, Voices>,
 }
 
-/// The verdicts that came before a request of the name.
-fn waiting_for<'a>(
-    waiting: &'a BTreeMap<NameKey, Vec<Verdict>>,
+/// Takes what the verdicts on a name say that came before its request.
+fn heard_before(
+    alloc: Global,
+    waiting: &mut BTreeMap<NameKey, Voices>,
     name: &NameKey,
-) -> &'a [Verdict]
-    ensures { result.now ≡ waiting_at waiting.now (key_name name.now) }
+) -> Voices
+    ensures said { (set : List AnyMessage) → SpeakAt set waiting.old (key_name name.now) → SpeakFor set (key_name name.now) result }
+    ensures taken { at_name waiting.new (key_name name.now) ≡ None }
+    ensures others { (other : AnyName) → (key_name name.now ≡ other → ⊥) → at_name waiting.new other ≡ at_name waiting.old other }
 {
-    match waiting.get(name) {
-        Some(verdicts) => verdicts.as_slice(),
-        None => &[],
+    match waiting.remove(name) {
+        Some(voices) => voices,
+        None => Voices::new(alloc),
     }
 }
 
-/// The summary of a request and of the verdicts that came before it.
-fn summary_with(
-    alloc: Global,
-    request: &Request,
-    verdicts: &[Verdict],
-) -> Result<Summary, NoMemory>
-    requires { AllByRecursion (λ v. name_meant v ≡ names.name_of request.now) verdicts.now }
-    ensures { IfOk result (StandsFor (message_of.Request request.now ∷ map message_of.Verdict verdicts.now)) }
-{
-    let mut summary = ask(alloc, request)?;
-    for verdict in verdicts {
-        apply(&mut summary, verdict)?;
-    }
-    Ok(summary)
-}
-
-/// Adds a request.
-fn ask_one(
-    alloc: Global,
-    summaries: &mut BTreeMap<NameKey, Summary>,
-    waiting: &BTreeMap<NameKey, Vec<Verdict>>,
-    request: &Request,
-) -> Result<(), NoMemory>
-    requires named { AreNamed summaries.old }
-    requires meant { AreMeant waiting.now }
-    ensures { (set : List AnyMessage) → Gathers set summaries.old → Waits set waiting.now
-        → OnOk result (Gathers (set ++ message_of.Request request.now ∷ []) summaries.new) }
-{
-    let name = key_of(request)?;
-    match summaries.get_mut(&name) {
-        Some(summary) => ask_again(summary, request),
-        None => {
-            let summary = summary_with(alloc, request, waiting_for(waiting, &name))?;
-            summaries.insert(name, summary)?;
-        }
-    }
-    Ok(())
-}
-
-/// Keeps a verdict until its request comes.
+/// Adds a verdict to those that wait.
 fn wait(
     alloc: Global,
-    waiting: &mut BTreeMap<NameKey, Vec<Verdict>>,
+    waiting: &mut BTreeMap<NameKey, Voices>,
     name: NameKey,
     verdict: &Verdict,
 ) -> Result<(), NoMemory>
-    ensures { OnOk result (IsAddedAt waiting.old waiting.new (key_name name) verdict.now) }
+    requires { IsMeant verdict.now (key_name name) }
+    ensures said { (set : List AnyMessage) → SpeakAt set waiting.old (key_name name)
+        → OnOk result (SpeakAt (set ++ message_of.Verdict verdict.now ∷ []) waiting.new (key_name name)) }
+    ensures others { (other : AnyName) → (key_name name ≡ other → ⊥) → OnOk result (at_name waiting.new other ≡ at_name waiting.old other) }
 {
-    let copy = verdict.clone()?;
     match waiting.get_mut(&name) {
-        Some(verdicts) => verdicts.push(copy)?,
+        Some(voices) => voices.hear(verdict)?,
         None => {
-            let mut verdicts = Vec::new(alloc);
-            verdicts.push(copy)?;
-            waiting.insert(name, verdicts)?;
+            let mut voices = Voices::new(alloc);
+            voices.hear(verdict)?;
+            waiting.insert(name, voices)?;
         }
     }
     Ok(())
@@ -111,9 +75,27 @@ impl Gathered {
         }
     }
 
+    /// Adds a request: to the summary of its name, or as the first of it.
+    fn ask(&mut self, request: &Request) -> Result<(), NoMemory>
+        requires { AreNamed self.old.summaries }
+        ensures { (set : List AnyMessage) → AreGathered set self.old
+            → OnOk result (AreGathered (set ++ message_of.Request request.now ∷ []) self.new) }
+    {
+        let name = key_of(request)?;
+        match self.summaries.get_mut(&name) {
+            Some(summary) => ask_again(summary, request),
+            None => {
+                let voices = heard_before(self.alloc, &mut self.waiting, &name);
+                let summary = ask_after(request, voices)?;
+                self.summaries.insert(name, summary)?;
+            }
+        }
+        Ok(())
+    }
+
     /// Adds a verdict: to the summary of its request, or to those that wait.
     fn hear(&mut self, verdict: &Verdict) -> Result<(), NoMemory>
-        requires { (set : List AnyMessage) × AreGathered set self.old }
+        requires { AreNamed self.old.summaries }
         ensures { (set : List AnyMessage) → AreGathered set self.old
             → OnOk result (AreGathered (set ++ message_of.Verdict verdict.now ∷ []) self.new) }
     {
@@ -126,19 +108,17 @@ impl Gathered {
 
     /// Adds a message: what is known is then that of the set with the message. Where memory runs out, it may be of neither set.
     pub fn take(&mut self, message: &Message) -> Result<(), NoMemory>
-        requires { (set : List AnyMessage) × AreGathered set self.old }
+        requires { AreNamed self.old.summaries }
         ensures { (set : List AnyMessage) → AreGathered set self.old
             → OnOk result (AreGathered (set ++ message.now ∷ []) self.new) }
     {
         match message {
-            Message::Request(request) => {
-                ask_one(self.alloc, &mut self.summaries, &self.waiting, request)
-            }
+            Message::Request(request) => self.ask(request),
             Message::Verdict(verdict) => self.hear(verdict),
         }
     }
 
-    /// What is known of these messages. Each is looked up once, or twice.
+    /// What is known of these messages.
     pub fn of(alloc: Global, set: &[Message]) -> Result<Gathered, NoMemory>
         ensures { IfOk result (AreGathered set.now) }
     {

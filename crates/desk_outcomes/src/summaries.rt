@@ -17,7 +17,7 @@ fn in_order(
     alloc: Global,
     summaries: BTreeMap<NameKey, Summary>,
 ) -> Result<Vec<Summary>, NoMemory>
-    ensures { IfOk result (λ list. list.items ≡ values summaries.entry) }
+    ensures { IfOk result (λ list. list.items ≡ values summaries) }
 {
     let list: Vec<Summary> = summaries.into_values().collect(alloc)?;
     Ok(list)
