@@ -27,3 +27,4 @@ pub mod LawfulRules
 pub mod RuleLemmas
 pub mod LookUps
 pub mod WrittenLines
+pub mod SomeStatus

@@ -1,13 +1,17 @@
 //! The lines of a grant, written behind a text: those of its rules, which it does not build.
 
-ghost use Rattle.std.specs.Prelude.{◌≡◌, ◌++◌, IfOk, List, OnOk, map, string_bytes};
+ghost use Rattle.std.specs.Prelude.{◌≡◌, ◌++◌, IfOk, List, OnOk, map, string_bytes, true};
 ghost use Rattle.sudo_words.specs.Command.{IsLawful};
 ghost use Rattle.sudo_policy.specs.Printing.{line_text};
 ghost use Rattle.sudo_policy.specs.declared.entry.Entry.TheVariants as entries;
+ghost use Rattle.messages.specs.Fields.{IsRequest};
+ghost use Rattle.messages.specs.Names.{name_of};
 ghost use Rattle.messages.specs.declared.message.Message.{Message as AnyMessage};
 ghost use Rattle.grants.specs.private.Lines as lines;
 ghost use Rattle.grants.specs.GrantRules.{grant_rule};
+ghost use Rattle.grants.specs.Statuses.{IsStatus};
 ghost use Rattle.grants.specs.Summaries.{StandsFor};
+ghost use Rattle.grants.specs.declared.outcome.Status.{Status as AnyStatus};
 
 use crate::outcome::{Status, Window};
 use crate::reached::status;
@@ -77,17 +81,25 @@ fn push_commands(
     Ok(request.cmnds().len())
 }
 
-/// Whether the lines of the window are left.
-fn is_left(after: Option<Moment>, window: Window) -> bool
-    ensures { result ≡ lines.is_left after window.end }
+/// Whether what has this last moment is left.
+fn is_left(after: Option<Moment>, last: Moment) -> bool
+    ensures { result ≡ lines.is_left after last }
 {
     match after {
         None => true,
-        Some(moment) => moment <= window.end,
+        Some(moment) => moment <= last,
     }
 }
 
-/// The lines that are left, of a request that has come to this.
+/// Whether the request can have lines for the host that are left, whatever it has come to: its window ends by its own last moment.
+fn may_have(request: &Request, host: &HostName, after: Option<Moment>) -> bool
+    ensures value { result ≡ lines.may_have after host.now request.now }
+    ensures request { IsRequest request.now }
+{
+    is_left(after, request.until()) && request.hosts().contains(host)
+}
+
+/// The lines that are left, of a request that names the host and has come to this.
 fn push_left(
     alloc: Global,
     text: &mut String,
@@ -96,15 +108,24 @@ fn push_left(
     status: Status,
     after: Option<Moment>,
 ) -> Result<usize, NoMemory>
+    requires { lines.names request.now host.now ≡ true }
     ensures { IfOk result (λ count. lines.AreAdded (lines.rules_left after host.now request.now status)
         (string_bytes text.old) (string_bytes text.new) count) }
 {
     match status {
-        Status::Granted(window) if is_left(after, window) && request.hosts().contains(host) => {
+        Status::Granted(window) if is_left(after, window.end) => {
             push_commands(alloc, text, host, request, &window)
         }
         _ => Ok(0),
     }
+}
+
+/// The request has come to something, whether it is looked up or not.
+fn has_status(roster: &Roster, s: &Summary)
+    ensures { (set : List AnyMessage) → StandsFor set s.now → (status : AnyStatus) × IsStatus roster.now.says set (name_of s.now.request) status }
+{
+    let _text = roster.text();
+    let _hosts = s.request.hosts();
 }
 
 /// Adds the lines that the request gives the host under this roster to the text, and tells how many they are: one for each of its
@@ -121,5 +142,10 @@ pub fn push_lines(
     ensures { (set : List AnyMessage) → StandsFor set s.now → IfOk result
         (lines.AreWritten roster.now.says set s.now.request host.now after (string_bytes text.old) (string_bytes text.new)) }
 {
-    push_left(alloc, text, host, &s.request, status(roster, s), after)
+    if may_have(&s.request, host, after) {
+        push_left(alloc, text, host, &s.request, status(roster, s), after)
+    } else {
+        has_status(roster, s);
+        Ok(0)
+    }
 }

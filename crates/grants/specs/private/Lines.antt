@@ -1,6 +1,7 @@
 -- The lines of a grant, written behind a text. For private clauses.
-use Rattle.std.specs.Prelude.{◌≡◌, ℕ, Bool, true, List, ◌++◌, Option, Some, None, nat_le, filter, length, map, codes}
-use Rattle.std.specs.List.{AllByRecursion}
+use Rattle.std.specs.Prelude.{◌≡◌, ℕ, Bool, true, List, ◌++◌, Option, Some, None, ◌&&◌, nat_le, filter, length, map, codes}
+use Rattle.std.specs.List.{AllByRecursion, list_any}
+use Rattle.std.specs.Str.{bytes_eq}
 use Rattle.sudo_words.specs.Moment.{stamp}
 use Rattle.sudo_words.specs.declared.cmnd.Cmnd.{Cmnd}
 use Rattle.sudo_policy.specs.declared.entry.Entry.TheVariants as entries
@@ -40,10 +41,17 @@ abbrev pub stays : Option ℕ → Rule → Bool
 stays None rule = true
 stays (Some moment) rule = lasts_until rule.not_after moment
 
--- the same of a window's last moment
+-- the same of a last moment alone
 abbrev pub is_left : Option ℕ → ℕ → Bool
 is_left None last = true
 is_left (Some moment) last = nat_le moment last
+
+abbrev pub names : RequestFields → List ℕ → Bool
+names q host = list_any (λ h. bytes_eq h host) q.hosts
+
+-- It names the host, and asks for a moment at which a line would be left.
+abbrev pub may_have : Option ℕ → List ℕ → RequestFields → Bool
+may_have after host q = is_left after q.until && names q host
 
 -- of the rules that a request gives the host
 abbrev pub rules_left : Option ℕ → List ℕ → RequestFields → Status → List Rule
