@@ -82,18 +82,18 @@ fn push_commands(
 }
 
 /// Whether what has this last moment is left.
-fn is_left(after: Option<Moment>, last: Moment) -> bool
-    ensures { result ≡ lines.is_left after last }
+fn is_left(after: &Option<Moment>, last: Moment) -> bool
+    ensures { result ≡ lines.is_left after.now last }
 {
-    match after {
+    match *after {
         None => true,
         Some(moment) => moment <= last,
     }
 }
 
 /// Whether the request can have lines for the host that are left, whatever it has come to: its window ends by its own last moment.
-fn may_have(request: &Request, host: &HostName, after: Option<Moment>) -> bool
-    ensures value { result ≡ lines.may_have after host.now request.now }
+fn may_have(request: &Request, host: &HostName, after: &Option<Moment>) -> bool
+    ensures value { result ≡ lines.may_have after.now host.now request.now }
     ensures request { IsRequest request.now }
 {
     is_left(after, request.until()) && request.hosts().contains(host)
@@ -106,10 +106,10 @@ fn push_left(
     host: &HostName,
     request: &Request,
     status: Status,
-    after: Option<Moment>,
+    after: &Option<Moment>,
 ) -> Result<usize, NoMemory>
     requires { lines.names request.now host.now ≡ true }
-    ensures { IfOk result (λ count. lines.AreAdded (lines.rules_left after host.now request.now status)
+    ensures { IfOk result (λ count. lines.AreAdded (lines.rules_left after.now host.now request.now status)
         (string_bytes text.old) (string_bytes text.new) count) }
 {
     match status {
@@ -142,8 +142,8 @@ pub fn push_lines(
     ensures { (set : List AnyMessage) → StandsFor set s.now → IfOk result
         (lines.AreWritten roster.now.says set s.now.request host.now after (string_bytes text.old) (string_bytes text.new)) }
 {
-    if may_have(&s.request, host, after) {
-        push_left(alloc, text, host, &s.request, status(roster, s), after)
+    if may_have(&s.request, host, &after) {
+        push_left(alloc, text, host, &s.request, status(roster, s), &after)
     } else {
         has_status(roster, s);
         Ok(0)

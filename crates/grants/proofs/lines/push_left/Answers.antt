@@ -13,8 +13,8 @@ returns-in-Granted c =
     let w = c.in-Granted.window in
     let old = string_bytes c.args.text.now in
     let new = string_bytes c.push_commands.new.text in
-    let left : is_left c.args.after w.end ≡ true = sym c.is_left.ensures ∙ c.if-is_left.true in
-    let all = ap (λ (s : Status). rules_left c.args.after host q s) c.in-Granted.is ∙ all_left host q c.args.after w c.requires left in
+    let left : is_left c.args.after.now w.end ≡ true = sym c.is_left.ensures ∙ c.if-is_left.true in
+    let all = ap (λ (s : Status). rules_left c.args.after.now host q s) c.in-Granted.is ∙ all_left host q c.args.after.now w c.requires left in
     subst (λ (rules : List Rule). IfOk c.push_commands.result (λ count. AreAdded rules old new count)) (sym all) c.push_commands.ensures
 
 pub returns-in_default : goal.returns-in_default
@@ -23,6 +23,6 @@ returns-in_default c =
     let q = c.args.request.now in
     let w = c.in-Granted.window in
     let old = string_bytes c.args.text.now in
-    let over : is_left c.args.after w.end ≡ false = sym c.is_left.ensures ∙ c.if-is_left.false in
-    let none = ap (λ (s : Status). rules_left c.args.after host q s) c.in-Granted.is ∙ none_left host q c.args.after w c.requires over in
+    let over : is_left c.args.after.now w.end ≡ false = sym c.is_left.ensures ∙ c.if-is_left.false in
+    let none = ap (λ (s : Status). rules_left c.args.after.now host q s) c.in-Granted.is ∙ none_left host q c.args.after.now w c.requires over in
     subst (λ (rules : List Rule). AreAdded rules old old 0) (sym none) (none_added old)
