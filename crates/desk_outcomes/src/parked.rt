@@ -25,9 +25,10 @@ fn push_parked(
         return Ok(());
     };
     let name = key_meant(verdict)?;
-    if !asked.contains_key(&name) {
-        texts.push(text(alloc, message)?)?;
+    if asked.contains_key(&name) {
+        return Ok(());
     }
+    texts.push(text(alloc, message)?)?;
     Ok(())
 }
 
