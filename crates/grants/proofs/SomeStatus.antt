@@ -1,5 +1,5 @@
 -- What a summary stands for has come to something.
-use Rattle.std.proofs.Common.{ℕ, ◌≤◌, List, Some, inl, inr, sym}
+use Rattle.std.proofs.Common.{ℕ, List, Some, inl, inr, sym}
 use Rattle.std.proofs.lemmas.Bool.{cases_Bool}
 use Rattle.sudo_words.specs.declared.cmnd.Cmnd.{Cmnd}
 use Rattle.messages.specs.Fields.{IsRequest}
