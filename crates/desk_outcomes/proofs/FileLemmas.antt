@@ -1,5 +1,5 @@
 -- A host's file, from its lines' rules.
-use Rattle.std.proofs.Common.{◌≡◌, ℕ, ◌+◌, ◌≤◌, leb, Bool, true, false, cond, List, [], ◌∷◌, ◌++◌, map, length, Option, Some, None, refl, sym, ap, ◌∙◌, subst, inl, inr, arith, append_assoc, length-append}
+use Rattle.std.proofs.Common.{◌≡◌, ℕ, ◌+◌, ◌<◌, ◌≤◌, leb, Bool, true, false, cond, List, [], ◌∷◌, ◌++◌, map, length, Option, Some, None, refl, sym, ap, ◌∙◌, subst, inl, inr, arith, append_assoc, length-append}
 use Rattle.std.specs.Prelude.{◌↔◌, Contains, filter}
 use Rattle.std.specs.List.{AllByRecursion}
 use Rattle.std.specs.BTreeMap.{BTreeMap, values}
@@ -131,6 +131,11 @@ is_file_left f base set host after m text fits g b =
     let spelled = canon_spells (with_rules base b.rules) (extended_policy base b.rules fits b.few b.grants) in
     let is : text ≡ canon (with_rules base b.rules) = b.text_is ∙ sym (canon_both base (map entries.Rule b.rules)) in
     is_left f base set host after text b.rules (has_rules f set host after m b.rules g b.given) is (subst (λ (t : List ℕ). Spells t (with_rules base b.rules)) (sym is) spelled)
+
+-- and then they are not too many
+pub not_past : (f : RosterFields Cmnd) (set : List Message) (host : List ℕ) (after : Option ℕ) (m : BTreeMap NameKey Kept) (old new : List ℕ) (lines : List Line) → Gathers set m → AreBehind f set host after (values m) old new → AreLines f set host lines → 8_192 < length (lines_left after lines) → ⊥
+not_past f set host after m old new lines g b are past =
+    omega (arith, past, b.few, same_count f set host after b.rules lines (has_rules f set host after m b.rules g b.given) are)
 
 -- why there are no lines
 pub memory_alone : (f : RosterFields Cmnd) (set : List Message) (host : List ℕ) (after : Option ℕ) (e : HostFault) (lines : List Line) → IsPast f set host after e → AreLines f set host lines → length (lines_left after lines) ≤ 8_192 → e ≡ NoMemory

@@ -165,6 +165,11 @@ pub waits_more : (set : List Message) (v : VerdictFields) (old new : BTreeMap Na
 waits_more set v old new others more waits =
     waits_on set (Verdict v) (name_meant v) old new (λ w is. own_name v w is) others (λ nobody. more (waits (name_meant v) (nobody_before set (Verdict v) (name_meant v) nobody))) waits
 
+-- where memory lasts
+pub ok_waits : {X E : Type 0} (result : Result X E) (set : List Message) (v : VerdictFields) (old new : BTreeMap NameKey Voices) → ((other : RequestName) → (name_meant v ≡ other → ⊥) → OnOk result (at_name new other ≡ at_name old other)) → (SpeakAt set old (name_meant v) → OnOk result (SpeakAt (set ++ Verdict v ∷ []) new (name_meant v))) → Waits set old → OnOk result (Waits (set ++ Verdict v ∷ []) new)
+ok_waits (Ok x) set v old new others more waits = waits_more set v old new others more waits
+ok_waits (Err e) set v old new others more waits = tt
+
 -- ---- another list of the same messages
 
 pub gathers_same : (s t : List Message) (m : BTreeMap NameKey Kept) → SameMessages s t → Gathers s m → Gathers t m
