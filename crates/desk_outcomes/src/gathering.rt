@@ -25,11 +25,7 @@ pub struct Gathered {
 }
 
 /// Takes what the verdicts on a name say that came before its request.
-fn heard_before(
-    alloc: Global,
-    waiting: &mut BTreeMap<NameKey, Voices>,
-    name: &NameKey,
-) -> Voices
+fn heard_before(alloc: Global, waiting: &mut BTreeMap<NameKey, Voices>, name: &NameKey) -> Voices
     ensures said { (set : List AnyMessage) → SpeakAt set waiting.old (key_name name.now) → SpeakFor set (key_name name.now) result }
     ensures taken { at_name waiting.new (key_name name.now) ≡ None }
     ensures others { (other : AnyName) → (key_name name.now ≡ other → ⊥) → at_name waiting.new other ≡ at_name waiting.old other }

@@ -68,13 +68,6 @@ pub fn host_file_in(
     ensures err { (set : List AnyMessage) → AreGathered set gathered.now → IfErr result (left.IsPast roster.now.says set host.now after) }
 {
     let mut text = print_policy(alloc, base)?;
-    push_all(
-        alloc,
-        &mut text,
-        roster,
-        &gathered.summaries,
-        host,
-        &after,
-    )?;
+    push_all(alloc, &mut text, roster, &gathered.summaries, host, &after)?;
     Ok(text)
 }

@@ -13,10 +13,7 @@ use std::collections::BTreeMap;
 use sudo_words::NoMemory;
 
 /// The summaries in the order of their names.
-fn in_order(
-    alloc: Global,
-    summaries: BTreeMap<NameKey, Summary>,
-) -> Result<Vec<Summary>, NoMemory>
+fn in_order(alloc: Global, summaries: BTreeMap<NameKey, Summary>) -> Result<Vec<Summary>, NoMemory>
     ensures { IfOk result (λ list. list.items ≡ values summaries) }
 {
     let list: Vec<Summary> = summaries.into_values().collect(alloc)?;
