@@ -4,7 +4,7 @@ use Rattle.std.specs.List.{Contains}
 use Rattle.std.specs.Option.{IfSome}
 use Rattle.std.proofs.lemmas.List.Elements.{Contains-append_left, Contains-push, Contains-push_cases}
 use Rattle.messages.specs.declared.message.Message.{Message}
-use Rattle.desk_store.specs.Sets.{IsNothing, IsWith, Lists}
+use Rattle.desk_store.specs.Sets.{IsNothing, IsWith, Lists, SameSet}
 use Rattle.desk_outcomes.specs.declared.gathering.Gathered.{Gathered}
 use Rattle.desk_outcomes.specs.Gathered.{AreGathered}
 use Rattle.desk_outcomes.proofs.Membership.{no_member}
@@ -28,6 +28,12 @@ with_lists S T m list grown lists = λ n. (there n, back n)
           | inl old ↦ (grown n).0 (inl ((lists n).1 old))
           | inr new ↦ (grown n).0 (inr (sym new))
         ]
+
+-- the same is held
+pub known_still : (Up Later : Type 0) (S T : Message → Type 0) (o : Option Gathered) → IsKnown Up S o → (Later → Up) → (Later → SameSet S T) → IsKnown Later T o
+known_still Up Later S T None known was same = tt
+known_still Up Later S T (Some g) known was same =
+    (known.0, known.1, λ later n. (λ held. (known.2 (was later) n).0 ((same later n).1 held), λ among. (same later n).0 ((known.2 (was later) n).1 among)))
 
 -- a message more is held
 pub known_more : (Up Later : Type 0) (S T : Message → Type 0) (m : Message) (old new : Option Gathered) → IsKnown Up S old → (Later → Up) → (Later → IsWith S m T) → ((set : List Message) → IfSome old (AreGathered set) → IfSome new (AreGathered (set ++ m ∷ []))) → (old ≡ None → new ≡ None) → IsKnown Later T new

@@ -16,9 +16,12 @@ use desk_store::{Keeper, KeeperError};
 use messages::Message;
 use std::alloc::Global;
 
-/// Brings the messages into memory, where the keeper lends them. The desk stays as it is, and so does what a crash leaves of it.
-pub(crate) fn load<K: Keeper>(keeper: &mut K) -> Result<(), KeeperError>
-    requires { K.is_up keeper.old → K.is_desk keeper.old }
+/// Brings the messages into memory, where the keeper lends them. The desk stays as it is, and so does what a crash leaves of it, and what is
+/// known of the messages, which is named for the proof alone.
+pub(crate) fn load<K: Keeper>(keeper: &mut K, _known: &Option<Gathered>) -> Result<(), KeeperError>
+    requires desk { K.is_up keeper.old → K.is_desk keeper.old }
+    requires known { IsKnown (K.is_up keeper.old) (K.holds keeper.old) _known.now }
+    ensures known { IsKnown (K.is_up keeper.new) (K.holds keeper.new) _known.now }
     ensures loaded { K.is_up keeper.new → OnOk result (K.is_loaded keeper.new) }
     ensures same { K.is_up keeper.new → K.is_same keeper.old keeper.new }
     ensures desk { K.is_up keeper.new → K.is_desk keeper.new }
@@ -60,7 +63,7 @@ pub(crate) fn known_of<K: Keeper>(
     match known {
         Some(gathered) => Ok(gathered),
         None => {
-            load(keeper)?;
+            load(keeper, &None)?;
             Ok(Gathered::of(alloc, keeper.messages())?)
         }
     }
@@ -72,7 +75,9 @@ pub(crate) fn with_message(known: Option<Gathered>, message: &Message) -> Option
     ensures more { (set : List AnyMessage) → IfSome known (AreGathered set) → IfSome result (AreGathered (set ++ message.now ∷ [])) }
     ensures nothing { known ≡ None → result ≡ None }
 {
-    let mut gathered = known?;
+    let Some(mut gathered) = known else {
+        return None;
+    };
     match gathered.take(message) {
         Ok(()) => Some(gathered),
         Err(_) => None,

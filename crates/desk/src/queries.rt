@@ -80,7 +80,7 @@ impl<K: Keeper> Desk<K> {
         ensures counts { K.failures self.old.keeper ≤ K.failures self.new.keeper }
         ensures cause { result ≡ Err refusal.Storage → HasFailed (K.failures self.old.keeper) (K.failures self.new.keeper) }
     {
-        load(&mut self.keeper)?;
+        load(&mut self.keeper, &self.known)?;
         let set = self.keeper.messages();
         Ok(parked_in(self.alloc, set)?)
     }
@@ -101,7 +101,7 @@ impl<K: Keeper> Desk<K> {
         ensures counts { K.failures self.old.keeper ≤ K.failures self.new.keeper }
         ensures cause { result ≡ Err refusal.Storage → HasFailed (K.failures self.old.keeper) (K.failures self.new.keeper) }
     {
-        load(&mut self.keeper)?;
+        load(&mut self.keeper, &self.known)?;
         let set = self.keeper.messages();
         Ok(summaries_in(self.alloc, set)?)
     }

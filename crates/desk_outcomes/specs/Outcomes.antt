@@ -4,7 +4,6 @@ use Rattle.sudo_words.specs.declared.cmnd.Cmnd.{Cmnd}
 use Rattle.messages.specs.Fields.{RequestFields}
 use Rattle.messages.specs.Names.{RequestName, IsNamed}
 use Rattle.messages.specs.declared.message.Message.{Message}
-use Rattle.messages.specs.declared.message.Message.TheVariants.{Request}
 use Rattle.roster.specs.Fields.{RosterFields}
 pub use Rattle.grants.specs.Voices.{NobodyAsks}
 use Rattle.grants.specs.Statuses.{InWindow, IsFirstMoment, IsLastMoment, IsStatus}

@@ -1,5 +1,5 @@
 -- What verdicts say before their request comes, as a set grows.
-use Rattle.std.proofs.Common.{◌≡◌, ◌≢◌, ℕ, ◌⊎◌, true, false, List, [], ◌∷◌, ◌++◌, refl, sym, ap, ◌∙◌, subst, inl, inr}
+use Rattle.std.proofs.Common.{◌≡◌, ◌≢◌, ℕ, ◌⊎◌, false, List, [], ◌∷◌, ◌++◌, refl, sym, ap, ◌∙◌, subst, inl, inr}
 use Rattle.std.specs.List.{Contains}
 use Rattle.std.proofs.lemmas.List.Elements.{Contains-push, Contains-push_cases}
 use Rattle.messages.specs.Fields.{RequestFields, VerdictFields}
@@ -12,7 +12,7 @@ use Rattle.grants.specs.declared.marks.Mark.{Mark}
 use Rattle.grants.specs.declared.voices.Voices.{Voices}
 use Rattle.grants.specs.Marks.{Keep}
 use Rattle.grants.specs.private.Noting.{noted}
-use Rattle.grants.specs.Summaries.{Kept, StandsFor}
+use Rattle.grants.specs.Summaries.{StandsFor}
 use Rattle.grants.specs.Voices.{IsMeant, NobodyAsks, SpeakFor}
 use Rattle.grants.proofs.MarkLemmas.{keep_other}
 use Rattle.grants.proofs.StandLemmas.{keep_at, keep_apart}

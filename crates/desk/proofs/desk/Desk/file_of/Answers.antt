@@ -15,7 +15,7 @@ pub returns-in_err-file-clause-few : goal.returns-in_err-file-clause-few
 returns-in_err-file-clause-few g c =
     let K = g.K.Keeper in
     let old = c.self.inside.keeper in
-    let new = c.known_of-known.new.keeper in
+    let new = c.known_of.new.keeper in
     let f = c.self.inside.roster.says in
     let host = c.args.host.now in
     let known = c.in_ok-known.ensures.known in
@@ -31,7 +31,7 @@ pub returns-clause-file : goal.returns-clause-file
 returns-clause-file g c =
     let K = g.K.Keeper in
     let old = c.self.inside.keeper in
-    let new = c.known_of-known.new.keeper in
+    let new = c.known_of.new.keeper in
     let f = c.self.inside.roster.says in
     let after = c.args.after in
     let known = c.in_ok-known.ensures.known in
@@ -45,7 +45,7 @@ pub returns-clause-many : goal.returns-clause-many
 returns-clause-many g c =
     let K = g.K.Keeper in
     let old = c.self.inside.keeper in
-    let new = c.known_of-known.new.keeper in
+    let new = c.known_of.new.keeper in
     let f = c.self.inside.roster.says in
     let host = c.args.host.now in
     let known = c.in_ok-known.ensures.known in

@@ -10,7 +10,7 @@ pub returns-clause-live : goal.returns-clause-live
 returns-clause-live g c =
     let K = g.K.Keeper in
     let old = c.self.inside.keeper in
-    let new = c.known_of-known.new.keeper in
+    let new = c.known_of.new.keeper in
     let f = c.self.inside.roster.says in
     let known = c.in_ok-known.ensures.known in
     let answer : (set : List Message) → K.is_up new → Lists (K.holds old) set → AreLive f set c.args.at c.in_ok-list.field-0.items = λ set up lists.

@@ -3,8 +3,6 @@ use Rattle.std.specs.Option.{IfSome}
 use Rattle.messages.specs.Names.{RequestName, IsNamed, name_of}
 use Rattle.grants.specs.Summaries.{Kept}
 use Rattle.grants.specs.Voices.{NobodyAsks, SpeakFor}
-use Rattle.std.specs.BTreeMap.{BTreeMap}
-use Rattle.desk_outcomes.specs.declared.naming.NameKey.{NameKey}
 use Rattle.desk_outcomes.specs.Gathered.{Gathers, SpeakAt}
 use Rattle.desk_outcomes.specs.Names.{at_name}
 use Rattle.desk_outcomes.proofs.GatherLemmas.{IsAt, asked_again, first_asked, waits_asked}
