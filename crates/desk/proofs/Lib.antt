@@ -6,3 +6,4 @@ pub mod QueryLemmas
 pub mod AnswerLemmas
 pub mod CrashLemmas
 pub mod RestartLemmas
+pub mod KnownLemmas

@@ -8,4 +8,5 @@ pub mod Crash
 pub mod Runs
 pub mod Same
 -- for private clauses
+pub mod Known
 pub mod Serving

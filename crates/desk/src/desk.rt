@@ -12,8 +12,10 @@ ghost use Rattle.desk.specs.declared.refusal.Refusal.TheVariants as refusal;
 
 use crate::ack::Ack;
 use crate::delivery::admitted;
-use crate::opening::find_or_make;
+use crate::loading::with_message;
+use crate::opening::{find_or_make, known_at_first};
 use crate::refusal::Refusal;
+use desk_outcomes::Gathered;
 use desk_store::Keeper;
 use grants::fits_base;
 use roster::Roster;
@@ -30,12 +32,14 @@ pub struct Desk<K: Keeper> {
     pub(crate) roster: Roster,
     pub(crate) base: Policy,
     pub(crate) keeper: K,
+    pub(crate) known: Option<Gathered>,
 }
 
 impl<K: Keeper> Model for Desk<K> {
     ghost use Rattle.std.specs.Prelude.{◌≡◌};
     ghost use Rattle.grants.specs.Bases.{FitsBase};
     ghost use Rattle.desk_store.specs.Left.{IsDeskOf, LeavesOnly};
+    ghost use Rattle.desk.specs.Known.{IsKnown};
     ghost use Rattle.desk.specs.State.{DeskState};
 
     ghost Value = { DeskState K };
@@ -43,7 +47,8 @@ impl<K: Keeper> Model for Desk<K> {
     ghost view = { λ d. record { roster = d.roster; base = d.base; keeper = d.keeper } };
 
     ghost invariant = { λ d. FitsBase d.base × (K.is_up d.keeper → K.is_desk d.keeper) × (K.is_up d.keeper → K.roster d.keeper ≡ d.roster.text)
-        × (K.is_up d.keeper → LeavesOnly (K.may_leave d.keeper) (IsDeskOf (K.roster d.keeper) (K.holds d.keeper))) };
+        × (K.is_up d.keeper → LeavesOnly (K.may_leave d.keeper) (IsDeskOf (K.roster d.keeper) (K.holds d.keeper)))
+        × IsKnown (K.is_up d.keeper) (K.holds d.keeper) d.known };
 }
 
 impl<K: Keeper> Desk<K> {
@@ -90,11 +95,12 @@ impl<K: Keeper> Desk<K> {
         }
         let mut keeper = keeper;
         match find_or_make(&mut keeper, roster.text()) {
-            Ok(()) => Ok(Desk {
+            Ok(origin) => Ok(Desk {
                 alloc,
                 roster,
                 base,
                 keeper,
+                known: known_at_first(alloc, origin),
             }),
             Err(refusal) => Err((refusal, keeper)),
         }
@@ -132,7 +138,10 @@ impl<K: Keeper> Desk<K> {
             return Err(Refusal::UnknownRelay);
         }
         let message = admitted(self.alloc, &self.roster, body)?;
+        // What is known stays only where the message is kept.
+        let known = with_message(self.known.take(), &message);
         self.keeper.add(message)?;
+        self.known = known;
         Ok(Ack)
     }
 
@@ -224,6 +233,7 @@ impl<K: Keeper> Desk<K> {
             roster: _,
             base: _,
             keeper,
+            known: _,
         } = self;
         keeper
     }

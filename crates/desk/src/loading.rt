@@ -1,15 +1,27 @@
-//! A desk's messages, brought into memory.
+//! What is known of a desk's messages, kept from one call to the next.
 
-ghost use Rattle.std.specs.Prelude.{◌≡◌, ◌⊎◌, ◌≤◌, OnOk, Err};
+ghost use Rattle.std.specs.Prelude.{◌≡◌, ◌⊎◌, ◌≤◌, List, [], ◌∷◌, ◌++◌, IfErr, IfOk, IfSome, OnOk, Err, None, Some};
+ghost use Rattle.messages.specs.declared.message.Message.{Message as AnyMessage};
+ghost use Rattle.desk_outcomes.specs.Gathered.{AreGathered};
+ghost use Rattle.desk.specs.Known.{IsKnown};
+ghost use Rattle.desk.specs.Refusals.{IsWant};
+ghost use Rattle.desk.specs.declared.refusal.Refusal.TheVariants as refusal;
 ghost use Rattle.desk_store.specs.Keeping.{HasFailed};
 ghost use Rattle.desk_store.specs.Left.{IsDeskOf, LeavesOnly};
 ghost use Rattle.desk_store.specs.Sets.{SameSet};
 
+use crate::refusal::Refusal;
+use desk_outcomes::Gathered;
 use desk_store::{Keeper, KeeperError};
+use messages::Message;
+use std::alloc::Global;
 
-/// Brings the messages into memory, where the keeper lends them. The desk stays as it is, and so does what a crash leaves of it.
-pub(crate) fn load<K: Keeper>(keeper: &mut K) -> Result<(), KeeperError>
-    requires { K.is_up keeper.old → K.is_desk keeper.old }
+/// Brings the messages into memory, where the keeper lends them. The desk stays as it is, and so does what a crash leaves of it, and what is
+/// known of the messages, which is named for the proof alone.
+pub(crate) fn load<K: Keeper>(keeper: &mut K, _known: &Option<Gathered>) -> Result<(), KeeperError>
+    requires desk { K.is_up keeper.old → K.is_desk keeper.old }
+    requires known { IsKnown (K.is_up keeper.old) (K.holds keeper.old) _known.now }
+    ensures known { IsKnown (K.is_up keeper.new) (K.holds keeper.new) _known.now }
     ensures loaded { K.is_up keeper.new → OnOk result (K.is_loaded keeper.new) }
     ensures same { K.is_up keeper.new → K.is_same keeper.old keeper.new }
     ensures desk { K.is_up keeper.new → K.is_desk keeper.new }
@@ -23,4 +35,51 @@ pub(crate) fn load<K: Keeper>(keeper: &mut K) -> Result<(), KeeperError>
     ensures durable { K.is_up keeper.new → LeavesOnly (K.may_leave keeper.new) (IsDeskOf (K.roster keeper.new) (K.holds keeper.new)) }
 {
     keeper.load()
+}
+
+/// What is known of the messages: what was known already, or else it is gathered from the keeper's. The desk stays as it is, and so does
+/// what a crash leaves of it.
+pub(crate) fn known_of<K: Keeper>(
+    alloc: Global,
+    known: Option<Gathered>,
+    keeper: &mut K,
+) -> Result<Gathered, Refusal>
+    requires desk { K.is_up keeper.old → K.is_desk keeper.old }
+    requires known { IsKnown (K.is_up keeper.old) (K.holds keeper.old) known }
+    requires durable { K.is_up keeper.old → LeavesOnly (K.may_leave keeper.old) (IsDeskOf (K.roster keeper.old) (K.holds keeper.old)) }
+    ensures known { IfOk result (λ g. IsKnown (K.is_up keeper.new) (K.holds keeper.old) (Some g)) }
+    ensures still_known { IfOk result (λ g. IsKnown (K.is_up keeper.new) (K.holds keeper.new) (Some g)) }
+    ensures err { IfErr result IsWant }
+    ensures same { K.is_up keeper.new → K.is_same keeper.old keeper.new }
+    ensures desk { K.is_up keeper.new → K.is_desk keeper.new }
+    ensures roster { K.is_up keeper.new → K.roster keeper.new ≡ K.roster keeper.old }
+    ensures was_up { K.is_up keeper.new → K.is_up keeper.old }
+    ensures was_clean { K.is_clean keeper.new → K.is_clean keeper.old }
+    ensures shuts { K.is_up keeper.old → K.is_clean keeper.new → K.is_up keeper.new ⊎ HasFailed (K.failures keeper.old) (K.failures keeper.new) }
+    ensures counts { K.failures keeper.old ≤ K.failures keeper.new }
+    ensures cause { result ≡ Err refusal.Storage → HasFailed (K.failures keeper.old) (K.failures keeper.new) }
+    ensures durable { K.is_up keeper.new → LeavesOnly (K.may_leave keeper.new) (IsDeskOf (K.roster keeper.new) (K.holds keeper.new)) }
+{
+    match known {
+        Some(gathered) => Ok(gathered),
+        None => {
+            load(keeper, &None)?;
+            Ok(Gathered::of(alloc, keeper.messages())?)
+        }
+    }
+}
+
+/// What is known with one message more; nothing, where memory runs out.
+pub(crate) fn with_message(known: Option<Gathered>, message: &Message) -> Option<Gathered>
+    requires { IfSome known (λ g. (set : List AnyMessage) × AreGathered set g) }
+    ensures more { (set : List AnyMessage) → IfSome known (AreGathered set) → IfSome result (AreGathered (set ++ message.now ∷ [])) }
+    ensures nothing { known ≡ None → result ≡ None }
+{
+    let Some(mut gathered) = known else {
+        return None;
+    };
+    match gathered.take(message) {
+        Ok(()) => Some(gathered),
+        Err(_) => None,
+    }
 }

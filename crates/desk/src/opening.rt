@@ -1,18 +1,43 @@
-//! A desk found at its keeper's, or made there.
+//! A desk found at its keeper's, or made there, and what is known of its messages at first.
 
-ghost use Rattle.std.specs.Prelude.{◌≡◌, ◌≢◌, ◌⊎◌, ◌≤◌, ⊤, OnOk, OnErr, IfErr, Err};
+ghost use Rattle.std.specs.Prelude.{◌≡◌, ◌≢◌, ◌⊎◌, ◌≤◌, ⊤, IfOk, OnOk, OnErr, IfErr, Err};
 ghost use Rattle.desk_store.specs.Keeping.{HasFailed};
 ghost use Rattle.desk_store.specs.Left.{IsDeskOf, LeavesOnly};
+ghost use Rattle.desk_store.specs.Sets.{IsNothing};
 ghost use Rattle.desk.specs.Crash.{IsLeftByOpening};
+ghost use Rattle.desk.specs.Known.{IsKnownAtFirst};
 ghost use Rattle.desk.specs.Opening.{Opens, Refuses};
 ghost use Rattle.desk.specs.Refusals.{IsWant};
+ghost use Rattle.desk.specs.declared.opening.Origin.TheVariants as origins;
 ghost use Rattle.desk.specs.declared.refusal.Refusal.TheVariants as refusal;
 
 use crate::refusal::Refusal;
+use desk_outcomes::Gathered;
 use desk_store::{Found, Keeper};
+use std::alloc::Global;
+
+/// Where a desk comes from.
+#[derive(Clone, Copy)]
+pub(crate) enum Origin {
+    /// It was there.
+    Found,
+    /// It was made, without messages.
+    Made,
+}
+
+/// What is known of its messages at first: there are none where it was made, and else it is gathered when it is asked for.
+pub(crate) fn known_at_first(alloc: Global, origin: Origin) -> Option<Gathered>
+    ensures { IsKnownAtFirst origin result }
+{
+    match origin {
+        Origin::Made => Some(Gathered::new(alloc)),
+        Origin::Found => None,
+    }
+}
 
 /// Finds a desk of this roster's text at the keeper's, or makes one where the keeper keeps nothing of a desk's.
-pub(crate) fn find_or_make<K: Keeper>(keeper: &mut K, text: &str) -> Result<(), Refusal>
+pub(crate) fn find_or_make<K: Keeper>(keeper: &mut K, text: &str) -> Result<Origin, Refusal>
+    ensures made { K.is_up keeper.new → IfOk result (λ origin. origin ≡ origins.Made → IsNothing (K.holds keeper.new)) }
     ensures desk { K.is_up keeper.new → OnOk result (K.is_desk keeper.new) }
     ensures roster { K.is_up keeper.new → OnOk result (K.roster keeper.new ≡ text.now) }
     ensures opens { K.is_up keeper.new
@@ -33,9 +58,9 @@ pub(crate) fn find_or_make<K: Keeper>(keeper: &mut K, text: &str) -> Result<(), 
     match keeper.look()? {
         Found::Empty => {
             keeper.make(text)?;
-            Ok(())
+            Ok(Origin::Made)
         }
-        Found::Desk(recorded) if recorded.as_str() == text => Ok(()),
+        Found::Desk(recorded) if recorded.as_str() == text => Ok(Origin::Found),
         Found::Desk(_) => Err(Refusal::RosterChanged),
         Found::NotADesk => Err(Refusal::NotADesk),
     }

@@ -15,7 +15,7 @@ ghost use Rattle.desk_outcomes.specs.Summaries.{AreSummaries};
 ghost use Rattle.desk.specs.declared.refusal.Refusal.TheVariants as refusal;
 
 use crate::desk::Desk;
-use crate::loading::load;
+use crate::loading::{known_of, load};
 use crate::refusal::Refusal;
 use desk_outcomes::{Live, RequestName, host_file_in, live_in, parked_in, status_in, summaries_in};
 use desk_store::Keeper;
@@ -38,9 +38,10 @@ impl<K: Keeper> Desk<K> {
         ensures counts { K.failures self.old.keeper ≤ K.failures self.new.keeper }
         ensures cause { result ≡ Err refusal.Storage → HasFailed (K.failures self.old.keeper) (K.failures self.new.keeper) }
     {
-        load(&mut self.keeper)?;
-        let set = self.keeper.messages();
-        Ok(status_in(self.alloc, &self.roster, set, name)?)
+        let known = known_of(self.alloc, self.known.take(), &mut self.keeper)?;
+        let status = status_in(&self.roster, &known, name);
+        self.known = Some(known);
+        Ok(status?)
     }
 
     /// The grants that are in force at the moment, by the asker in byte order, then by the number.
@@ -58,9 +59,10 @@ impl<K: Keeper> Desk<K> {
         ensures counts { K.failures self.old.keeper ≤ K.failures self.new.keeper }
         ensures cause { result ≡ Err refusal.Storage → HasFailed (K.failures self.old.keeper) (K.failures self.new.keeper) }
     {
-        load(&mut self.keeper)?;
-        let set = self.keeper.messages();
-        Ok(live_in(self.alloc, &self.roster, set, at)?)
+        let known = known_of(self.alloc, self.known.take(), &mut self.keeper)?;
+        let list = live_in(self.alloc, &self.roster, &known, at);
+        self.known = Some(known);
+        Ok(list?)
     }
 
     /// The texts of the verdicts that wait for their request, each once, in byte order.
@@ -78,7 +80,7 @@ impl<K: Keeper> Desk<K> {
         ensures counts { K.failures self.old.keeper ≤ K.failures self.new.keeper }
         ensures cause { result ≡ Err refusal.Storage → HasFailed (K.failures self.old.keeper) (K.failures self.new.keeper) }
     {
-        load(&mut self.keeper)?;
+        load(&mut self.keeper, &self.known)?;
         let set = self.keeper.messages();
         Ok(parked_in(self.alloc, set)?)
     }
@@ -99,7 +101,7 @@ impl<K: Keeper> Desk<K> {
         ensures counts { K.failures self.old.keeper ≤ K.failures self.new.keeper }
         ensures cause { result ≡ Err refusal.Storage → HasFailed (K.failures self.old.keeper) (K.failures self.new.keeper) }
     {
-        load(&mut self.keeper)?;
+        load(&mut self.keeper, &self.known)?;
         let set = self.keeper.messages();
         Ok(summaries_in(self.alloc, set)?)
     }
@@ -194,8 +196,9 @@ impl<K: Keeper> Desk<K> {
         if !self.roster.has_host(host) {
             return Err(Refusal::UnknownHost);
         }
-        load(&mut self.keeper)?;
-        let set = self.keeper.messages();
-        Ok(host_file_in(self.alloc, &self.roster, &self.base, set, host, after)?)
+        let known = known_of(self.alloc, self.known.take(), &mut self.keeper)?;
+        let file = host_file_in(self.alloc, &self.roster, &self.base, &known, host, after);
+        self.known = Some(known);
+        Ok(file?)
     }
 }

@@ -1,10 +1,10 @@
 -- A host's file, from its lines' rules.
-use Rattle.std.proofs.Common.{◌≡◌, ℕ, ◌≤◌, leb, Bool, true, false, List, [], ◌∷◌, ◌++◌, map, length, Option, Some, None, refl, sym, ap, ◌∙◌, subst, inl, inr, arith}
-use Rattle.std.specs.Prelude.{◌↔◌, Contains}
+use Rattle.std.proofs.Common.{◌≡◌, ℕ, ◌+◌, ◌<◌, ◌≤◌, leb, Bool, true, false, cond, List, [], ◌∷◌, ◌++◌, map, length, Option, Some, None, refl, sym, ap, ◌∙◌, subst, inl, inr, arith, append_assoc, length-append}
+use Rattle.std.specs.Prelude.{◌↔◌, Contains, filter}
 use Rattle.std.specs.List.{AllByRecursion}
 use Rattle.std.specs.BTreeMap.{BTreeMap, values}
 use Rattle.std.proofs.lemmas.Bool.{leb-true, le-leb}
-use Rattle.std.proofs.lemmas.List.{length-map}
+use Rattle.std.proofs.lemmas.List.{length-map, map-append}
 use Rattle.std.proofs.lemmas.List.Elements.{All-contains, filter_agree}
 use Rattle.sudo_words.specs.Word.{is_host_name}
 use Rattle.sudo_words.specs.Command.{IsLawful}
@@ -22,10 +22,13 @@ use Rattle.sudo_policy.specs.Reading.{with_rules}
 use Rattle.sudo_policy.specs.Spelling.{Spells}
 use Rattle.sudo_policy.proofs.Canon.{canon_spells}
 use Rattle.sudo_policy.proofs.One.{text_one}
+use Rattle.sudo_policy.proofs.PolicyFronts.{canon_both}
 use Rattle.roster.specs.Fields.{RosterFields}
 use Rattle.grants.specs.Bases.{FitsBase}
 use Rattle.grants.specs.GrantRules.{IsGrantRule}
 use Rattle.grants.specs.Summaries.{Kept}
+use Rattle.grants.specs.private.Given.{rules_for}
+use Rattle.grants.specs.private.Lines as written
 use Rattle.grants.proofs.LawfulRules.{extended_policy}
 use Rattle.desk_outcomes.specs.declared.naming.NameKey.{NameKey}
 use Rattle.grants.specs.declared.host_fault.HostFault.{HostFault}
@@ -34,10 +37,10 @@ use Rattle.sudo_decide.specs.Decision.{is_not_after}
 use Rattle.sudo_decide.specs.declared.invocation.Invocation.{Invocation}
 use Rattle.desk_outcomes.specs.Gathered.{Gathers, Give}
 use Rattle.desk_outcomes.specs.HostFile.{Line, IsLine, LinePrecedes, AreLines, IsHostFile, IsHostFileAfter, lines_after, with_lines}
-use Rattle.desk_outcomes.specs.LinesLeft.{IsFileLeft, IsPast, lines_left, rules_left}
+use Rattle.desk_outcomes.specs.LinesLeft.{AreBehind, IsFileLeft, IsPast, lines_left, rules_left, stays}
 use Rattle.desk_outcomes.specs.Rights.{GivesRights, GivesRightsAfter}
 use Rattle.desk_outcomes.proofs.Filters.{all_left, kept, passes, was_there}
-use Rattle.desk_outcomes.proofs.GivenLists.{is_roll}
+use Rattle.desk_outcomes.proofs.GivenLists.{all_both, is_roll, one_given}
 use Rattle.desk_outcomes.proofs.HostLines.{are_lines, left_given, rule_in}
 use Rattle.desk_outcomes.proofs.Headline.{SpeakFor, all_speak, bare_as_base, covered_allowed, entries_of_rules, left_speak}
 use Rattle.desk_outcomes.proofs.Membership.{Contains-head, Contains-behind, Contains-from_get}
@@ -83,6 +86,56 @@ same_count f set host after rules lines found are =
     ap length found.2
     ∙ length-map (lines_left after found.0) rule_in
     ∙ ap (λ (ls : List Line). length (lines_left after ls)) (one_lines f set host found.0 lines found.1 are)
+
+-- ---- lines behind a text
+
+lasts : (o : Option ℕ) (moment : ℕ) → written.lasts_until o moment ≡ is_not_after o moment
+lasts None moment = refl
+lasts (Some last) moment = refl
+
+same_stays : (after : Option ℕ) (rule : Rule) → written.stays after rule ≡ stays after rule
+same_stays None rule = refl
+same_stays (Some moment) rule = lasts rule.not_after moment
+
+-- what is written of a request is what is left
+pub same_left : (after : Option ℕ) (rules : List Rule) → filter (written.stays after) rules ≡ filter (stays after) rules
+same_left after [] = refl
+same_left after (r ∷ rules) =
+    ap (λ (b : Bool). cond b (r ∷ filter (written.stays after) rules) (filter (written.stays after) rules)) (same_stays after r)
+    ∙ ap (λ (rs : List Rule). cond (stays after r) (r ∷ rs) rs) (same_left after rules)
+
+-- of one list of rules behind another
+pub canon_more : (xs ys : List Rule) → canon (map entries.Rule (xs ++ ys)) ≡ canon (map entries.Rule xs) ++ canon (map entries.Rule ys)
+canon_more xs ys =
+    ap canon (map-append entries.Rule xs ys) ∙ canon_both (map entries.Rule xs) (map entries.Rule ys)
+
+-- one turn: the lines of one summary more
+pub one_behind : (f : RosterFields Cmnd) (set : List Message) (host : List ℕ) (after : Option ℕ) (seen : List Kept) (k : Kept) (first old new : List ℕ) (count more : ℕ) → (rules : List Rule) × Give f set (rules_left after host) seen rules × AllByRecursion IsGrantRule rules × (old ≡ first ++ canon (map entries.Rule rules)) × (count ≡ length rules) → written.AreWritten f set k.request host after old new more → (all : List Rule) × Give f set (rules_left after host) (seen ++ k ∷ []) all × AllByRecursion IsGrantRule all × (new ≡ first ++ canon (map entries.Rule all)) × (count + more ≡ length all)
+one_behind f set host after seen k first old new count more before w =
+    let rules = before.0 in
+    let here = written.rules_left after host k.request w.status in
+    let is_left : here ≡ rules_left after host k.request w.status = same_left after (rules_for host k.request w.status) in (
+      rules ++ here,
+      one_given f set (rules_left after host) seen k rules (rules ++ here) before.1 (w.status, w.status_is, ap (λ (rs : List Rule). rules ++ rs) is_left),
+      all_both IsGrantRule rules here before.2 w.grants,
+      w.added.text_is
+          ∙ ap (λ (t : List ℕ). t ++ canon (map entries.Rule here)) before.3
+          ∙ append_assoc first (canon (map entries.Rule rules)) (canon (map entries.Rule here))
+          ∙ ap (λ (t : List ℕ). first ++ t) (sym (canon_more rules here)),
+      rw (before.4, w.added.count_is) (sym (length-append rules here)),
+    )
+
+-- the base's text and the lines behind it are the file
+pub is_file_left : (f : RosterFields Cmnd) (base : List Entry) (set : List Message) (host : List ℕ) (after : Option ℕ) (m : BTreeMap NameKey Kept) (text : List ℕ) → FitsBase base → Gathers set m → AreBehind f set host after (values m) (canon base) text → IsFileLeft f base set host after text
+is_file_left f base set host after m text fits g b =
+    let spelled = canon_spells (with_rules base b.rules) (extended_policy base b.rules fits b.few b.grants) in
+    let is : text ≡ canon (with_rules base b.rules) = b.text_is ∙ sym (canon_both base (map entries.Rule b.rules)) in
+    is_left f base set host after text b.rules (has_rules f set host after m b.rules g b.given) is (subst (λ (t : List ℕ). Spells t (with_rules base b.rules)) (sym is) spelled)
+
+-- and then they are not too many
+pub not_past : (f : RosterFields Cmnd) (set : List Message) (host : List ℕ) (after : Option ℕ) (m : BTreeMap NameKey Kept) (old new : List ℕ) (lines : List Line) → Gathers set m → AreBehind f set host after (values m) old new → AreLines f set host lines → 8_192 < length (lines_left after lines) → ⊥
+not_past f set host after m old new lines g b are past =
+    omega (arith, past, b.few, same_count f set host after b.rules lines (has_rules f set host after m b.rules g b.given) are)
 
 -- why there are no lines
 pub memory_alone : (f : RosterFields Cmnd) (set : List Message) (host : List ℕ) (after : Option ℕ) (e : HostFault) (lines : List Line) → IsPast f set host after e → AreLines f set host lines → length (lines_left after lines) ≤ 8_192 → e ≡ NoMemory

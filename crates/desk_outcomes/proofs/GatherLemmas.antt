@@ -1,24 +1,26 @@
 -- The summaries by name, as a set grows.
-use Rattle.std.proofs.Common.{◌≡◌, ℕ, ◌⊎◌, List, [], ◌∷◌, ◌++◌, Option, Some, None, refl, sym, ap, ◌∙◌, subst, inl, inr, append_assoc, take, length, ◌≤◌}
+use Rattle.std.proofs.Common.{◌≡◌, ◌⊎◌, List, [], ◌∷◌, ◌++◌, Option, Some, None, refl, sym, ap, ◌∙◌, subst, inl, inr}
 use Rattle.std.specs.List.{Contains}
 use Rattle.std.specs.Option.{MatchOption, IfSome}
 use Rattle.std.specs.Prelude.{Result, Ok, Err, OnOk}
-use Rattle.std.proofs.lemmas.List.{append-nil, take_all}
 use Rattle.std.specs.BTreeMap.{BTreeMap, IsOrdered}
-use Rattle.std.proofs.lemmas.List.Elements.{Contains-append_left, Contains-append_right, Contains-append_cases, Contains-push_cases}
+use Rattle.std.proofs.lemmas.List.Elements.{Contains-append_left, Contains-push, Contains-push_cases}
 use Rattle.messages.specs.Fields.{RequestFields, VerdictFields}
 use Rattle.messages.specs.Names.{RequestName, IsNamed, SameMessages, name_of}
 use Rattle.messages.specs.declared.message.Message.{Message}
 use Rattle.messages.specs.declared.message.Message.TheVariants.{Request, Verdict}
 use Rattle.grants.specs.Summaries.{Kept, StandsFor}
+use Rattle.grants.specs.Voices.{IsMeant, SpeakFor}
+use Rattle.grants.specs.declared.voices.Voices.{Voices}
+use Rattle.grants.proofs.VoiceLemmas.{speak_still}
 use Rattle.desk_outcomes.specs.declared.naming.NameKey.{NameKey}
-use Rattle.desk_outcomes.specs.Gathered.{AreNamed, Gathers, IsOfRequests, IsSummaryOf, requests_in, verdicts_in}
+use Rattle.desk_outcomes.specs.Gathered.{AreNamed, Gathers, IsSummaryOf, SpeakAt, Waits}
 use Rattle.desk_outcomes.specs.Names.{at_name, key_cmp}
 use Rattle.desk_outcomes.specs.Outcomes.{NobodyAsks}
 use Rattle.desk_outcomes.specs.Parked.{name_meant}
-use Rattle.desk_outcomes.proofs.Membership.{no_member, Contains-head, Contains-behind, Contains-cases}
+use Rattle.desk_outcomes.proofs.Membership.{no_member}
 use Rattle.desk_outcomes.proofs.NameMaps.{SetsAt, at_none, same_cases}
-use Rattle.desk_outcomes.proofs.Standing.{Mentions, name_from_named, named_from_name, only_request, stands_first, stands_same, stands_still}
+use Rattle.desk_outcomes.proofs.Standing.{Mentions, name_from_named, named_from_name, stands_same, stands_still}
 
 -- what stands at a name, of a set
 abbrev pub IsAt : List Message → RequestName → Option Kept → Type 0
@@ -64,11 +66,11 @@ one_more set m name old new k only sets ordered here g = record { ordered = orde
 request_only : (q : RequestFields) (other : RequestName) → Mentions (Request q) other → name_of q ≡ other
 request_only q other mentions = mentions
 
-pub first_asked : (set : List Message) (q : RequestFields) (old new : BTreeMap NameKey Kept) (k : Kept) → IsOfRequests set → at_name old (name_of q) ≡ None → SetsAt old new (name_of q) k → IsOrdered key_cmp new → StandsFor (Request q ∷ []) k → Gathers set old → Gathers (set ++ Request q ∷ []) new
-first_asked set q old new k requests bare sets ordered stands g =
+pub first_asked : (set : List Message) (q : RequestFields) (old new : BTreeMap NameKey Kept) (k : Kept) → SetsAt old new (name_of q) k → IsOrdered key_cmp new → k.request ≡ q → StandsFor (set ++ Request q ∷ []) k → Gathers set old → Gathers (set ++ Request q ∷ []) new
+first_asked set q old new k sets ordered same stands g =
     one_more set (Request q) (name_of q) old new k (request_only q) sets ordered (record {
-      named = named_from_name k.request (name_of q) (ap name_of (only_request q k stands));
-      stands = stands_first set q k requests (subst (IsAt set (name_of q)) bare (g.each (name_of q))) stands;
+      named = named_from_name k.request (name_of q) (ap name_of same);
+      stands = stands;
     }) g
 
 pub asked_again : (set : List Message) (q : RequestFields) (old new : BTreeMap NameKey Kept) (before after : Kept) → at_name old (name_of q) ≡ Some before → SetsAt old new (name_of q) after → IsOrdered key_cmp new → after.request ≡ before.request → ((s : List Message) → StandsFor s before → StandsFor (s ++ Request q ∷ []) after) → Gathers set old → Gathers (set ++ Request q ∷ []) new
@@ -110,83 +112,63 @@ unheard set v m bare g = record { ordered = g.ordered; each = λ other. at other
     at other (inl same) = subst (λ (n : RequestName). IsAt (set ++ Verdict v ∷ []) n (at_name m n)) same (subst (IsAt (set ++ Verdict v ∷ []) (name_meant v)) (sym bare) nobody)
     at other (inr differ) = still_at set (Verdict v) other (λ mentions. differ mentions) (at_name m other) (g.each other)
 
--- ---- requests first, then verdicts
+-- ---- verdicts that wait
 
-pub requests_more : (xs ys : List Message) → requests_in (xs ++ ys) ≡ requests_in xs ++ requests_in ys
-requests_more [] ys = refl
-requests_more (Request q ∷ xs) ys = ap (λ (l : List Message). Request q ∷ l) (requests_more xs ys)
-requests_more (Verdict v ∷ xs) ys = requests_more xs ys
+pub none_waits : (m : BTreeMap NameKey Voices) → m.entries ≡ [] → Waits [] m
+none_waits m empty = λ name nobody.
+    subst (λ (o : Option Voices). MatchOption o ((v : VerdictFields) → Contains [] (Verdict v) → IsMeant v name → ⊥) (SpeakFor [] name)) (sym (at_none m name empty)) (λ v given meant. no_member (Verdict v) given)
 
-pub verdicts_more : (xs ys : List Message) → verdicts_in (xs ++ ys) ≡ verdicts_in xs ++ verdicts_in ys
-verdicts_more [] ys = refl
-verdicts_more (Request q ∷ xs) ys = verdicts_more xs ys
-verdicts_more (Verdict v ∷ xs) ys = ap (λ (l : List Message). Verdict v ∷ l) (verdicts_more xs ys)
+nobody_before : (set : List Message) (m : Message) (name : RequestName) → NobodyAsks (set ++ m ∷ []) name → NobodyAsks set name
+nobody_before set m name nobody = λ q old named. nobody q (Contains-append_left set (m ∷ []) (Request q) old) named
 
-pub no_request_more : (seen : List Message) (v : VerdictFields) (m : BTreeMap NameKey Kept) → Gathers (requests_in seen) m → Gathers (requests_in (seen ++ Verdict v ∷ [])) m
-no_request_more seen v m g =
-    subst (λ (s : List Message). Gathers s m) (sym (requests_more seen (Verdict v ∷ []) ∙ append-nil (requests_in seen))) g
+pub meant_name : (v : VerdictFields) (name : RequestName) → IsMeant v name → name_meant v ≡ name
+meant_name v name meant = rw (meant.0, meant.1) refl
 
-pub no_verdict_more : (set seen : List Message) (q : RequestFields) (m : BTreeMap NameKey Kept) → Gathers (requests_in set ++ verdicts_in seen) m → Gathers (requests_in set ++ verdicts_in (seen ++ Request q ∷ [])) m
-no_verdict_more set seen q m g =
-    subst (λ (s : List Message). Gathers (requests_in set ++ s) m) (sym (verdicts_more seen (Request q ∷ []) ∙ append-nil (verdicts_in seen))) g
+pub name_is_meant : (v : VerdictFields) (name : RequestName) → name_meant v ≡ name → IsMeant v name
+name_is_meant v name same = (ap (λ (n : RequestName). n.by) same, ap (λ (n : RequestName). n.no) same)
 
-pub verdict_more : (set seen : List Message) (v : VerdictFields) (m : BTreeMap NameKey Kept) → Gathers ((requests_in set ++ verdicts_in seen) ++ Verdict v ∷ []) m → Gathers (requests_in set ++ verdicts_in (seen ++ Verdict v ∷ [])) m
-verdict_more set seen v m g =
-    subst (λ (s : List Message). Gathers s m) (append_assoc (requests_in set) (verdicts_in seen) (Verdict v ∷ []) ∙ ap (λ (s : List Message). requests_in set ++ s) (sym (verdicts_more seen (Verdict v ∷ [])))) g
+-- what is said at a name stays, where the message is no verdict on it
+speak_on : (set : List Message) (m : Message) (name : RequestName) → ((v : VerdictFields) → m ≡ Verdict v → IsMeant v name → ⊥) → (o : Option Voices) → MatchOption o ((v : VerdictFields) → Contains set (Verdict v) → IsMeant v name → ⊥) (SpeakFor set name) → MatchOption o ((v : VerdictFields) → Contains (set ++ m ∷ []) (Verdict v) → IsMeant v name → ⊥) (SpeakFor (set ++ m ∷ []) name)
+speak_on set m name other None none = λ v given meant.
+    elim (Contains-push_cases set m (Verdict v) given) as (λ _. ⊥) [ inl old ↦ none v old meant | inr new ↦ other v new meant ]
+speak_on set m name other (Some voices) speak = speak_still set m name voices other speak
 
-pub of_requests : (set : List Message) → IsOfRequests (requests_in set)
-of_requests [] v m = no_member (Verdict v) m
-of_requests (Request q ∷ more) v m =
-    elim (Contains-cases (Request q) (requests_in more) (Verdict v) m) as (λ _. ⊥) [ inl same ↦ absurd cc | inr later ↦ of_requests more v later ]
-of_requests (Verdict w ∷ more) v m = of_requests more v m
+-- a message comes: at each name but its own what is said stays
+pub waits_on : (set : List Message) (m : Message) (mine : RequestName) (old new : BTreeMap NameKey Voices) → ((v : VerdictFields) → m ≡ Verdict v → name_meant v ≡ mine) → ((other : RequestName) → (mine ≡ other → ⊥) → at_name new other ≡ at_name old other) → (NobodyAsks (set ++ m ∷ []) mine → SpeakAt (set ++ m ∷ []) new mine) → Waits set old → Waits (set ++ m ∷ []) new
+waits_on set m mine old new own others here waits = λ name nobody. at name nobody (same_cases mine name)
+  where
+    at : (name : RequestName) → NobodyAsks (set ++ m ∷ []) name → (mine ≡ name) ⊎ (mine ≡ name → ⊥) → SpeakAt (set ++ m ∷ []) new name
+    at name nobody (inl same) = subst (SpeakAt (set ++ m ∷ []) new) same (here (subst (NobodyAsks (set ++ m ∷ [])) (sym same) nobody))
+    at name nobody (inr differ) =
+        let stays = speak_on set m name (λ v is meant. differ (sym (own v is) ∙ meant_name v name meant)) (at_name old name) (waits name (nobody_before set m name nobody)) in
+        subst (λ (o : Option Voices). MatchOption o ((v : VerdictFields) → Contains (set ++ m ∷ []) (Verdict v) → IsMeant v name → ⊥) (SpeakFor (set ++ m ∷ []) name)) (sym (others name differ)) stays
 
-request_kept : (set : List Message) (q : RequestFields) → Contains set (Request q) → Contains (requests_in set) (Request q)
-request_kept [] q m = absurd (no_member (Request q) m)
-request_kept (Request p ∷ more) q m =
-    elim (Contains-cases (Request p) more (Request q) m) as (λ _. Contains (Request p ∷ requests_in more) (Request q)) [
-      | inl same ↦ subst (λ (x : Message). Contains (Request p ∷ requests_in more) x) same (Contains-head (Request p) (requests_in more))
-      | inr later ↦ Contains-behind (Request p) (requests_in more) (Request q) (request_kept more q later)
-    ]
-request_kept (Verdict v ∷ more) q m =
-    elim (Contains-cases (Verdict v) more (Request q) m) as (λ _. Contains (requests_in more) (Request q)) [ inl same ↦ absurd cc | inr later ↦ request_kept more q later ]
+no_verdict : (q : RequestFields) (v : VerdictFields) → ◌≡◌ {A = Message} (Request q) (Verdict v) → ⊥
+no_verdict q v e = absurd cc
 
-verdict_kept : (set : List Message) (v : VerdictFields) → Contains set (Verdict v) → Contains (verdicts_in set) (Verdict v)
-verdict_kept [] v m = absurd (no_member (Verdict v) m)
-verdict_kept (Verdict w ∷ more) v m =
-    elim (Contains-cases (Verdict w) more (Verdict v) m) as (λ _. Contains (Verdict w ∷ verdicts_in more) (Verdict v)) [
-      | inl same ↦ subst (λ (x : Message). Contains (Verdict w ∷ verdicts_in more) x) same (Contains-head (Verdict w) (verdicts_in more))
-      | inr later ↦ Contains-behind (Verdict w) (verdicts_in more) (Verdict v) (verdict_kept more v later)
-    ]
-verdict_kept (Request q ∷ more) v m =
-    elim (Contains-cases (Request q) more (Verdict v) m) as (λ _. Contains (verdicts_in more) (Verdict v)) [ inl same ↦ absurd cc | inr later ↦ verdict_kept more v later ]
+-- a request comes
+pub waits_asked : (set : List Message) (q : RequestFields) (old new : BTreeMap NameKey Voices) → ((other : RequestName) → (name_of q ≡ other → ⊥) → at_name new other ≡ at_name old other) → Waits set old → Waits (set ++ Request q ∷ []) new
+waits_asked set q old new others waits =
+    waits_on set (Request q) (name_of q) old new (λ v is. absurd (no_verdict q v is)) others (λ nobody. absurd (nobody q (Contains-push set (Request q)) (refl, refl))) waits
 
-requests_of : (set : List Message) (m : Message) → Contains (requests_in set) m → Contains set m
-requests_of [] m h = absurd (no_member m h)
-requests_of (Request q ∷ more) m h =
-    elim (Contains-cases (Request q) (requests_in more) m h) as (λ _. Contains (Request q ∷ more) m) [
-      | inl same ↦ subst (λ (x : Message). Contains (Request q ∷ more) x) same (Contains-head (Request q) more)
-      | inr later ↦ Contains-behind (Request q) more m (requests_of more m later)
-    ]
-requests_of (Verdict v ∷ more) m h = Contains-behind (Verdict v) more m (requests_of more m h)
+own_name : (v w : VerdictFields) → ◌≡◌ {A = Message} (Verdict v) (Verdict w) → name_meant w ≡ name_meant v
+own_name v w e =
+    let same : v ≡ w = cc in ap name_meant (sym same)
 
-verdicts_of : (set : List Message) (m : Message) → Contains (verdicts_in set) m → Contains set m
-verdicts_of [] m h = absurd (no_member m h)
-verdicts_of (Verdict v ∷ more) m h =
-    elim (Contains-cases (Verdict v) (verdicts_in more) m h) as (λ _. Contains (Verdict v ∷ more) m) [
-      | inl same ↦ subst (λ (x : Message). Contains (Verdict v ∷ more) x) same (Contains-head (Verdict v) more)
-      | inr later ↦ Contains-behind (Verdict v) more m (verdicts_of more m later)
-    ]
-verdicts_of (Request q ∷ more) m h = Contains-behind (Request q) more m (verdicts_of more m h)
+-- a verdict comes whose request is there
+pub waits_heard : (set : List Message) (v : VerdictFields) (m : BTreeMap NameKey Voices) → (NobodyAsks set (name_meant v) → ⊥) → Waits set m → Waits (set ++ Verdict v ∷ []) m
+waits_heard set v m asked waits =
+    waits_on set (Verdict v) (name_meant v) m m (λ w is. own_name v w is) (λ other differ. refl) (λ nobody. absurd (asked (nobody_before set (Verdict v) (name_meant v) nobody))) waits
 
-kept : (set : List Message) (m : Message) → Contains set m → Contains (requests_in set ++ verdicts_in set) m
-kept set (Request q) m = Contains-append_left (requests_in set) (verdicts_in set) (Request q) (request_kept set q m)
-kept set (Verdict v) m = Contains-append_right (requests_in set) (verdicts_in set) (Verdict v) (verdict_kept set v m)
+-- a verdict comes that has to wait
+pub waits_more : (set : List Message) (v : VerdictFields) (old new : BTreeMap NameKey Voices) → ((other : RequestName) → (name_meant v ≡ other → ⊥) → at_name new other ≡ at_name old other) → (SpeakAt set old (name_meant v) → SpeakAt (set ++ Verdict v ∷ []) new (name_meant v)) → Waits set old → Waits (set ++ Verdict v ∷ []) new
+waits_more set v old new others more waits =
+    waits_on set (Verdict v) (name_meant v) old new (λ w is. own_name v w is) others (λ nobody. more (waits (name_meant v) (nobody_before set (Verdict v) (name_meant v) nobody))) waits
 
-pub whole : (set : List Message) → SameMessages (requests_in set ++ verdicts_in set) set
-whole set m = (
-  λ h. elim (Contains-append_cases (requests_in set) (verdicts_in set) m h) as (λ _. Contains set m) [ inl left ↦ requests_of set m left | inr right ↦ verdicts_of set m right ],
-  kept set m,
-)
+-- where memory lasts
+pub ok_waits : {X E : Type 0} (result : Result X E) (set : List Message) (v : VerdictFields) (old new : BTreeMap NameKey Voices) → ((other : RequestName) → (name_meant v ≡ other → ⊥) → OnOk result (at_name new other ≡ at_name old other)) → (SpeakAt set old (name_meant v) → OnOk result (SpeakAt (set ++ Verdict v ∷ []) new (name_meant v))) → Waits set old → OnOk result (Waits (set ++ Verdict v ∷ []) new)
+ok_waits (Ok x) set v old new others more waits = waits_more set v old new others more waits
+ok_waits (Err e) set v old new others more waits = tt
 
 -- ---- another list of the same messages
 
@@ -196,14 +178,3 @@ gathers_same s t m same g = record { ordered = g.ordered; each = λ name. at nam
     at : (name : RequestName) (o : Option Kept) → IsAt s name o → IsAt t name o
     at name None nobody = λ q h named. nobody q ((same (Request q)).1 h) named
     at name (Some k) is = record { named = is.named; stands = stands_same s t k same is.stands }
-
-pub all_gathered : (set : List Message) (i : ℕ) (m : BTreeMap NameKey Kept) → length set ≤ i → Gathers (requests_in set ++ verdicts_in (take i set)) m → Gathers set m
-all_gathered set i m end g =
-    gathers_same (requests_in set ++ verdicts_in set) set m (whole set) (subst (λ (l : List Message). Gathers (requests_in set ++ verdicts_in l) m) (take_all i set end) g)
-
--- who asks is known from the requests alone
-pub nobody_of_requests : (set : List Message) (name : RequestName) → NobodyAsks (requests_in set) name → NobodyAsks set name
-nobody_of_requests set name nobody = λ q h named. nobody q (request_kept set q h) named
-
-pub requests_nobody : (set : List Message) (name : RequestName) → NobodyAsks set name → NobodyAsks (requests_in set) name
-requests_nobody set name nobody = λ q h named. nobody q (requests_of set (Request q) h) named

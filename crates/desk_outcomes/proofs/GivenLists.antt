@@ -82,7 +82,7 @@ entries_in_order (e ∷ es) sorted named = (
   behind_from_each KeptPrecedes e.1 (values_of es) (λ k m.
       let found = value_from_entry es k m in
       let less = key_above e.0 es (sorted_head key_cmp e.0 (keys_of es) sorted) found.0 found.1 in
-      let before : NamePrecedes (key_name e.0) (key_name found.0.0) = lower_by_cases (key_name e.0) (key_name found.0.0) (slice_cmp nat_cmp e.0.by.now found.0.0.by.now) refl less in
+      let before : NamePrecedes (key_name e.0) (key_name found.0.0) = lower_by_cases (key_name e.0) (key_name found.0.0) (slice_cmp nat_cmp e.0.by found.0.0.by) refl less in
       let here : name_of e.1.request ≡ key_name e.0 = named e (Contains-head e es) in
       let there : name_of found.0.1.request ≡ key_name found.0.0 = named found.0 (Contains-behind e es found.0 found.1) in
       subst (KeptPrecedes e.1) found.2 (subst (λ (n : RequestName). NamePrecedes n (name_of found.0.1.request)) (sym here) (subst (NamePrecedes (key_name e.0)) (sym there) before))),
@@ -112,7 +112,7 @@ module _ (set : List Message) (m : BTreeMap NameKey Kept) (g : Gathers set m) wh
       at : (o : Option Kept) → at_name m (name_of q) ≡ o → IsAt set (name_of q) o → (k : Kept) × Contains (values m) k × IsNamed k.request (name_of q)
       at None was nobody = absurd (nobody q asked (refl, refl))
       at (Some k) was is =
-          let place = place_from_lookup (is_at (λ (x : NameKey). ordering_then (slice_cmp nat_cmp q.by x.by.now) (nat_cmp q.no x.no))) m.entries k was in
+          let place = place_from_lookup (is_at (λ (x : NameKey). ordering_then (slice_cmp nat_cmp q.by x.by) (nat_cmp q.no x.no))) m.entries k was in
           (k, entry_value m.entries (place.1, k) (Contains-from_get m.entries place.0 (place.1, k) place.2), is.named)
 
   -- a request that stands alone is that of a summary

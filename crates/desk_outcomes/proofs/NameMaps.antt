@@ -1,5 +1,5 @@
 -- Maps whose keys are the names of requests: what they have at each name once one name is set.
-use Rattle.std.proofs.Common.{◌≡◌, ℕ, ◌⊎◌, true, false, List, [], Some, None, refl, sym, ap, ◌∙◌, subst, inl, inr}
+use Rattle.std.proofs.Common.{◌≡◌, ℕ, ◌⊎◌, true, false, List, [], Option, Some, None, refl, sym, ap, ◌∙◌, subst, inl, inr}
 use Rattle.std.specs.BTreeMap.{BTreeMap, Updates, is_at}
 use Rattle.std.specs.Cmp.{IsTotalOrder}
 use Rattle.std.specs.Map.{lookup}
@@ -16,10 +16,10 @@ use Rattle.desk_outcomes.specs.Names.{at_name, key_cmp, key_name}
 
 pub keys_total : IsTotalOrder key_cmp
 keys_total =
-    then_total (on_total (λ (k : NameKey). k.by.now) nat_list_cmp_total) (on_total (λ (k : NameKey). k.no) nat_cmp_total)
+    then_total (on_total (λ (k : NameKey). k.by) nat_list_cmp_total) (on_total (λ (k : NameKey). k.no) nat_cmp_total)
 
 abbrev key_with : RequestName → NameKey
-key_with name = record { by = record { ref_ptr = (0, 0); now = name.by }; no = name.no }
+key_with name = record { by = name.by; no = name.no }
 
 same_from_equal : (a b : RequestName) → ordering_then (slice_cmp nat_cmp a.by b.by) (nat_cmp a.no b.no) ≡ Equal → a ≡ b
 same_from_equal a b h =
@@ -51,13 +51,14 @@ pub record SetsAt {X : Type 0} (old new : BTreeMap NameKey X) (name : RequestNam
   pub here : at_name new name ≡ Some x
   pub elsewhere : (other : RequestName) → (name ≡ other → ⊥) → at_name new other ≡ at_name old other
 
+-- one key is set or taken out, and at other names there is what there was
+pub others_from : {X : Type 0} (old new : BTreeMap NameKey X) (key : NameKey) (w : Option X) → Updates key_cmp old new key w → (other : RequestName) → (key_name key ≡ other → ⊥) → at_name new other ≡ at_name old other
+others_from {X} old new key w updates other differ =
+    updates.2 (key_with other) (false_from_ne_true (is_at (key_cmp key) (key_with other)) (λ equal. differ (same_from_equal (key_name key) other (equal_from_test (key_cmp key (key_with other)) equal))))
+
 pub sets_from : {X : Type 0} (old new : BTreeMap NameKey X) (key : NameKey) (x : X) → Updates key_cmp old new key (Some x) → SetsAt old new (key_name key) x
-sets_from {X} old new key x updates = record {
-  here = updates.1;
-  elsewhere = λ other differ.
-      updates.2 (key_with other) (false_from_ne_true (is_at (key_cmp key) (key_with other)) (λ equal. differ (same_from_equal (key_name key) other (equal_from_test (key_cmp key (key_with other)) equal))));
-}
+sets_from {X} old new key x updates = record { here = updates.1; elsewhere = others_from old new key (Some x) updates }
 
 pub at_none : {X : Type 0} (m : BTreeMap NameKey X) (name : RequestName) → m.entries ≡ [] → at_name m name ≡ None
 at_none {X} m name empty =
-    ap (λ (es : List (NameKey × X)). lookup (is_at (λ (k : NameKey). ordering_then (slice_cmp nat_cmp name.by k.by.now) (nat_cmp name.no k.no))) es) empty
+    ap (λ (es : List (NameKey × X)). lookup (is_at (λ (k : NameKey). ordering_then (slice_cmp nat_cmp name.by k.by) (nat_cmp name.no k.no))) es) empty

@@ -21,12 +21,12 @@ use Rattle.messages.specs.declared.message.Message.{Message}
 use Rattle.messages.specs.declared.message.Message.TheVariants.{Request, Verdict}
 use Rattle.grants.specs.Summaries.{Kept}
 use Rattle.desk_outcomes.specs.declared.naming.NameKey.{NameKey}
-use Rattle.desk_outcomes.specs.Gathered.{Gathers, parked_for, parked_of, requests_in}
+use Rattle.desk_outcomes.specs.Gathered.{Gathers, parked_for, parked_of}
 use Rattle.desk_outcomes.specs.Names.{at_name}
 use Rattle.desk_outcomes.specs.Order.{AllBehind, AreInOrder, TextPrecedes}
 use Rattle.desk_outcomes.specs.Outcomes.{NobodyAsks}
 use Rattle.desk_outcomes.specs.Parked.{AreParked, IsParked, name_meant}
-use Rattle.desk_outcomes.proofs.GatherLemmas.{IsAt, nobody_of_requests, requests_nobody}
+use Rattle.desk_outcomes.proofs.GatherLemmas.{IsAt}
 use Rattle.desk_outcomes.proofs.Membership.{no_member, Contains-head, Contains-behind, Contains-cases}
 
 pub parked_more : (asked : BTreeMap NameKey Kept) (xs ys : List Message) → parked_of asked (xs ++ ys) ≡ parked_of asked xs ++ parked_of asked ys
@@ -51,15 +51,14 @@ not_pushed asked v old some =
 
 -- ---- which they are
 
-module _ (set : List Message) (asked : BTreeMap NameKey Kept) (g : Gathers (requests_in set) asked) where
-  nothing_there : (v : VerdictFields) (o : Option Kept) → IsAt (requests_in set) (name_meant v) o → is_some o ≡ false → NobodyAsks set (name_meant v)
-  nothing_there v None nobody e = nobody_of_requests set (name_meant v) nobody
+module _ (set : List Message) (asked : BTreeMap NameKey Kept) (g : Gathers set asked) where
+  nothing_there : (v : VerdictFields) (o : Option Kept) → IsAt set (name_meant v) o → is_some o ≡ false → NobodyAsks set (name_meant v)
+  nothing_there v None nobody e = nobody
   nothing_there v (Some k) is e = absurd cc
 
-  there_is_none : (v : VerdictFields) (o : Option Kept) → IsAt (requests_in set) (name_meant v) o → NobodyAsks set (name_meant v) → is_some o ≡ false
+  there_is_none : (v : VerdictFields) (o : Option Kept) → IsAt set (name_meant v) o → NobodyAsks set (name_meant v) → is_some o ≡ false
   there_is_none v None is nobody = refl
-  there_is_none v (Some k) is nobody =
-      absurd (requests_nobody set (name_meant v) nobody k.request is.stands.asked is.named)
+  there_is_none v (Some k) is nobody = absurd (nobody k.request is.stands.asked is.named)
 
   chosen : (b : Bool) (x text : List ℕ) → Contains (cond b [] (x ∷ [])) text → (b ≡ false) × (text ≡ x)
   chosen true x text m = absurd (no_member text m)
@@ -118,7 +117,7 @@ texts_in_order [] s = tt
 texts_in_order (x ∷ xs) s =
     (texts_behind x xs (sorted_head string_cmp x xs s), texts_in_order xs (sorted_tail string_cmp x xs s))
 
-module _ (set : List Message) (asked : BTreeMap NameKey Kept) (g : Gathers (requests_in set) asked) (texts sorted kept : List (String Global)) (are : map string_bytes texts ≡ parked_of asked set) (moved : IsPermutation texts sorted) (ordered : IsSorted string_cmp sorted) (filtered : IsFiltered (DiffersFromLast string_eq) [] sorted kept) where
+module _ (set : List Message) (asked : BTreeMap NameKey Kept) (g : Gathers set asked) (texts sorted kept : List (String Global)) (are : map string_bytes texts ≡ parked_of asked set) (moved : IsPermutation texts sorted) (ordered : IsSorted string_cmp sorted) (filtered : IsFiltered (DiffersFromLast string_eq) [] sorted kept) where
   kept_is : kept ≡ dedup string_eq sorted
   kept_is = dedup_is string_eq sorted kept filtered
 

@@ -1,7 +1,7 @@
 -- A summary stands for each set that has the same messages about its name.
 use Rattle.std.proofs.Common.{◌≡◌, List, [], ◌∷◌, ◌++◌, refl, sym, ap, subst, inl, inr}
 use Rattle.std.specs.List.{Contains, AllByRecursion}
-use Rattle.std.proofs.lemmas.List.Elements.{Contains-append_left, Contains-append_right, Contains-push, Contains-push_cases}
+use Rattle.std.proofs.lemmas.List.Elements.{Contains-append_left, Contains-push_cases}
 use Rattle.messages.specs.Fields.{RequestFields, VerdictFields}
 use Rattle.messages.specs.Names.{RequestName, IsNamed, IsAbout, SameMessages, SameName, name_of}
 use Rattle.messages.specs.declared.message.Message.{Message}
@@ -11,10 +11,7 @@ use Rattle.messages.specs.declared.kind.VerdictKind.TheVariants.{Approve, Refuse
 use Rattle.grants.specs.declared.marks.Mark.{Mark}
 use Rattle.grants.specs.Marks.{Keep, verdict_of}
 use Rattle.grants.specs.Summaries.{Kept, StandsFor}
-use Rattle.desk_outcomes.specs.Gathered.{IsOfRequests}
-use Rattle.desk_outcomes.specs.Outcomes.{NobodyAsks}
 use Rattle.desk_outcomes.specs.Parked.{name_meant}
-use Rattle.desk_outcomes.proofs.Membership.{Contains-cases, no_member}
 
 -- the message asks, or is about what is asked, under the name
 abbrev pub Mentions : Message → RequestName → Type 0
@@ -71,25 +68,3 @@ stands_still set m k other =
       | inl old ↦ old
       | inr new ↦ absurd (other (subst (λ (x : Message). Mentions x (name_of k.request)) (sym new) named))
     ])
-
--- the request of the summary of one alone
-pub only_request : (q : RequestFields) (k : Kept) → StandsFor (Request q ∷ []) k → k.request ≡ q
-only_request q k stands =
-    elim (Contains-cases (Request q) [] (Request k.request) stands.asked) as (λ _. k.request ≡ q) [
-      | inl same ↦ cc
-      | inr none ↦ absurd (no_member (Request k.request) none)
-    ]
-
--- a first request of its name among requests
-pub stands_first : (set : List Message) (q : RequestFields) (k : Kept) → IsOfRequests set → NobodyAsks set (name_of q) → StandsFor (Request q ∷ []) k → StandsFor (set ++ Request q ∷ []) k
-stands_first set q k requests nobody stands =
-    let named : name_of k.request ≡ name_of q = ap name_of (only_request q k stands) in
-    stands_in (Request q ∷ []) (set ++ Request q ∷ []) k (λ m _. Contains-append_right set (Request q ∷ []) m) (λ m mentions h.
-    elim (Contains-push_cases set (Request q) m h) as (λ _. Contains (Request q ∷ []) m) [
-      | inl old ↦ absurd (nobody_mentions m (subst (Mentions m) named mentions) old)
-      | inr new ↦ subst (λ (x : Message). Contains (Request q ∷ []) x) new (Contains-push [] (Request q))
-    ]) stands
-  where
-    nobody_mentions : (m : Message) → Mentions m (name_of q) → Contains set m → ⊥
-    nobody_mentions (Request p) mentions old = nobody p old (named_from_name p (name_of q) mentions)
-    nobody_mentions (Verdict v) mentions old = requests v old

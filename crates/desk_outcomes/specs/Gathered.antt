@@ -1,4 +1,4 @@
--- The summaries of a set of messages, by name. For private clauses.
+-- What is known of a set of messages, by name. For private clauses.
 use Rattle.std.specs.Prelude.{◌≡◌, ℕ, nat_le, ◌&&◌, if◌then◌else◌, List, [], ◌∷◌, ◌++◌, Contains, Option, Some, None, MatchOption, IfSome, is_some}
 use Rattle.std.specs.BTreeMap.{BTreeMap, IsOrdered}
 use Rattle.sudo_words.specs.declared.cmnd.Cmnd.{Cmnd}
@@ -10,9 +10,12 @@ use Rattle.messages.specs.declared.message.Message.TheVariants.{Request, Verdict
 use Rattle.roster.specs.Fields.{RosterFields}
 use Rattle.grants.specs.Statuses.{IsStatus}
 use Rattle.grants.specs.Summaries.{Kept, StandsFor}
+use Rattle.grants.specs.Voices.{IsMeant, SpeakFor}
+use Rattle.grants.specs.declared.voices.Voices.{Voices}
 use Rattle.grants.specs.declared.outcome.Status.{Status}
 use Rattle.grants.specs.declared.outcome.Status.TheVariants.{Disputed, Lapsed, Refused, Waiting, Void, Granted}
 use Rattle.grants.specs.declared.outcome.Window.{Window}
+use Rattle.desk_outcomes.specs.declared.gathering.Gathered.{Gathered}
 use Rattle.desk_outcomes.specs.declared.naming.NameKey.{NameKey}
 use Rattle.desk_outcomes.specs.Names.{key_cmp, at_name}
 use Rattle.desk_outcomes.specs.Outcomes.{LiveGrant, NobodyAsks}
@@ -32,21 +35,23 @@ pub record Gathers (messages : List Message) (summaries : BTreeMap NameKey Kept)
 abbrev pub AreNamed : BTreeMap NameKey Kept → Type 0
 AreNamed summaries = (name : RequestName) → IfSome (at_name summaries name) (λ k. IsNamed k.request name)
 
--- no verdict is among the messages
-abbrev pub IsOfRequests : List Message → Type 0
-IsOfRequests messages = (v : VerdictFields) → ¬ Contains messages (Verdict v)
+-- ---- verdicts that came before their request
 
--- ---- the requests of a list of messages, and its verdicts
+-- What the verdicts on a name say stands at it, and nothing where the set has none.
+abbrev pub SpeakAt : List Message → BTreeMap NameKey Voices → RequestName → Type 0
+SpeakAt messages waiting name =
+    MatchOption (at_name waiting name) ((v : VerdictFields) → Contains messages (Verdict v) → ¬ IsMeant v name) (SpeakFor messages name)
 
-abbrev pub requests_in : List Message → List Message
-requests_in [] = []
-requests_in (Request q ∷ more) = Request q ∷ requests_in more
-requests_in (Verdict v ∷ more) = requests_in more
+-- so it is at each name under which nobody asks
+abbrev pub Waits : List Message → BTreeMap NameKey Voices → Type 0
+Waits messages waiting = (name : RequestName) → NobodyAsks messages name → SpeakAt messages waiting name
 
-abbrev pub verdicts_in : List Message → List Message
-verdicts_in [] = []
-verdicts_in (Request q ∷ more) = verdicts_in more
-verdicts_in (Verdict v ∷ more) = Verdict v ∷ verdicts_in more
+-- ---- both
+
+-- what is known of the messages
+pub record AreGathered (messages : List Message) (g : Gathered) : Type 0 where
+  pub summaries : Gathers messages g.summaries
+  pub waiting : Waits messages g.waiting
 
 -- ---- the texts of the verdicts at whose names there is nothing
 

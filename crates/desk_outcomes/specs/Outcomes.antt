@@ -4,18 +4,14 @@ use Rattle.sudo_words.specs.declared.cmnd.Cmnd.{Cmnd}
 use Rattle.messages.specs.Fields.{RequestFields}
 use Rattle.messages.specs.Names.{RequestName, IsNamed}
 use Rattle.messages.specs.declared.message.Message.{Message}
-use Rattle.messages.specs.declared.message.Message.TheVariants.{Request}
 use Rattle.roster.specs.Fields.{RosterFields}
+pub use Rattle.grants.specs.Voices.{NobodyAsks}
 use Rattle.grants.specs.Statuses.{InWindow, IsFirstMoment, IsLastMoment, IsStatus}
 use Rattle.grants.specs.declared.outcome.Status.{Status}
 use Rattle.grants.specs.declared.outcome.Window.{Window}
 use Rattle.desk_outcomes.specs.Order.{AreInOrder, NamePrecedes}
 
 -- ---- statuses
-
--- The set has no request of the name.
-abbrev pub NobodyAsks : List Message → RequestName → Type 0
-NobodyAsks messages name = (q : RequestFields) → Contains messages (Request q) → ¬ IsNamed q name
 
 -- The name's status, or none where nobody asks.
 abbrev pub ComesTo : RosterFields Cmnd → List Message → RequestName → Option Status → Type 0

@@ -1,108 +1,127 @@
-//! The summaries of a set of messages, by the names of its requests.
+//! What is known of a set of messages, by the names of its requests, as one message after another joins it.
 
-ghost use Rattle.std.specs.Prelude.{◌≡◌, List, [], ◌∷◌, ◌++◌, IfOk, OnOk};
+ghost use Rattle.std.specs.Prelude.{◌≡◌, List, [], ◌∷◌, ◌++◌, IfOk, OnOk, None};
+ghost use Rattle.messages.specs.Names.{RequestName as AnyName};
 ghost use Rattle.messages.specs.declared.message.Message.{Message as AnyMessage};
 ghost use Rattle.messages.specs.declared.message.Message.TheVariants as message_of;
-ghost use Rattle.desk_outcomes.specs.Gathered.{AreNamed, Gathers, IsOfRequests, requests_in, verdicts_in};
+ghost use Rattle.grants.specs.Voices.{IsMeant, SpeakFor};
+ghost use Rattle.desk_outcomes.specs.Gathered.{AreGathered, AreNamed, SpeakAt};
+ghost use Rattle.desk_outcomes.specs.Names.{at_name, key_name};
 
 use crate::naming::{NameKey, key_meant, key_of};
-use grants::{Summary, apply, ask, ask_again};
+use grants::{Summary, Voices, apply, ask_after, ask_again};
 use messages::{Message, Request, Verdict};
 use std::alloc::Global;
 use std::collections::BTreeMap;
 use sudo_words::NoMemory;
 
-/// Adds a request to the summaries of requests.
-fn ask_one<'a>(
-    alloc: Global,
-    summaries: &mut BTreeMap<NameKey<'a>, Summary>,
-    request: &'a Request,
-) -> Result<(), NoMemory>
-    requires { AreNamed summaries.old }
-    ensures { (set : List AnyMessage) → IsOfRequests set → Gathers set summaries.old
-        → OnOk result (Gathers (set ++ message_of.Request request.now ∷ []) summaries.new) }
+/// What is known of a set of messages: of each name that somebody asks under a summary of the messages about it, and of each other
+/// what the verdicts on it say.
+#[derive(Drop)]
+pub struct Gathered {
+    pub(crate) alloc: Global,
+    pub(crate) summaries: BTreeMap<NameKey, Summary>,
+    pub(crate) waiting: BTreeMap<NameKey, Voices>,
+}
+
+/// Takes what the verdicts on a name say that came before its request.
+fn heard_before(alloc: Global, waiting: &mut BTreeMap<NameKey, Voices>, name: &NameKey) -> Voices
+    ensures said { (set : List AnyMessage) → SpeakAt set waiting.old (key_name name.now) → SpeakFor set (key_name name.now) result }
+    ensures taken { at_name waiting.new (key_name name.now) ≡ None }
+    ensures others { (other : AnyName) → (key_name name.now ≡ other → ⊥) → at_name waiting.new other ≡ at_name waiting.old other }
 {
-    let name = key_of(request);
-    match summaries.get_mut(&name) {
-        Some(summary) => ask_again(summary, request),
+    match waiting.remove(name) {
+        Some(voices) => voices,
+        None => Voices::new(alloc),
+    }
+}
+
+/// Adds a verdict to those that wait.
+fn wait(
+    alloc: Global,
+    waiting: &mut BTreeMap<NameKey, Voices>,
+    name: NameKey,
+    verdict: &Verdict,
+) -> Result<(), NoMemory>
+    requires { IsMeant verdict.now (key_name name) }
+    ensures said { (set : List AnyMessage) → SpeakAt set waiting.old (key_name name)
+        → OnOk result (SpeakAt (set ++ message_of.Verdict verdict.now ∷ []) waiting.new (key_name name)) }
+    ensures others { (other : AnyName) → (key_name name ≡ other → ⊥) → OnOk result (at_name waiting.new other ≡ at_name waiting.old other) }
+{
+    match waiting.get_mut(&name) {
+        Some(voices) => voices.hear(verdict)?,
         None => {
-            let summary = ask(alloc, request)?;
-            summaries.insert(name, summary)?;
+            let mut voices = Voices::new(alloc);
+            voices.hear(verdict)?;
+            waiting.insert(name, voices)?;
         }
     }
     Ok(())
 }
 
-/// Adds a verdict, where its request is among them.
-fn hear<'a>(
-    summaries: &mut BTreeMap<NameKey<'a>, Summary>,
-    verdict: &'a Verdict,
-) -> Result<(), NoMemory>
-    requires { AreNamed summaries.old }
-    ensures { (set : List AnyMessage) → Gathers set summaries.old
-        → OnOk result (Gathers (set ++ message_of.Verdict verdict.now ∷ []) summaries.new) }
-{
-    match summaries.get_mut(&key_meant(verdict)) {
-        Some(summary) => apply(summary, verdict),
-        None => Ok(()),
+impl Gathered {
+    /// What is known of no messages. It takes no memory.
+    pub fn new(alloc: Global) -> Gathered
+        ensures { AreGathered [] result }
+    {
+        Gathered {
+            alloc,
+            summaries: BTreeMap::new(alloc),
+            waiting: BTreeMap::new(alloc),
+        }
     }
-}
 
-/// Adds a message: what it asks, if anything.
-fn ask_message<'a>(
-    alloc: Global,
-    summaries: &mut BTreeMap<NameKey<'a>, Summary>,
-    message: &'a Message,
-) -> Result<(), NoMemory>
-    requires { AreNamed summaries.old }
-    ensures { (seen : List AnyMessage) → Gathers (requests_in seen) summaries.old
-        → OnOk result (Gathers (requests_in (seen ++ message.now ∷ [])) summaries.new) }
-{
-    match message {
-        Message::Request(request) => ask_one(alloc, summaries, request),
-        Message::Verdict(_) => Ok(()),
+    /// Adds a request: to the summary of its name, or as the first of it.
+    fn ask(&mut self, request: &Request) -> Result<(), NoMemory>
+        requires { AreNamed self.old.summaries }
+        ensures { (set : List AnyMessage) → AreGathered set self.old
+            → OnOk result (AreGathered (set ++ message_of.Request request.now ∷ []) self.new) }
+    {
+        let name = key_of(request)?;
+        match self.summaries.get_mut(&name) {
+            Some(summary) => ask_again(summary, request),
+            None => {
+                let voices = heard_before(self.alloc, &mut self.waiting, &name);
+                let summary = ask_after(request, voices)?;
+                self.summaries.insert(name, summary)?;
+            }
+        }
+        Ok(())
     }
-}
 
-/// Adds a message: what it says of a request, if anything.
-fn hear_message<'a>(
-    summaries: &mut BTreeMap<NameKey<'a>, Summary>,
-    message: &'a Message,
-) -> Result<(), NoMemory>
-    requires { AreNamed summaries.old }
-    ensures { (set seen : List AnyMessage) → Gathers (requests_in set ++ verdicts_in seen) summaries.old
-        → OnOk result (Gathers (requests_in set ++ verdicts_in (seen ++ message.now ∷ [])) summaries.new) }
-{
-    match message {
-        Message::Request(_) => Ok(()),
-        Message::Verdict(verdict) => hear(summaries, verdict),
+    /// Adds a verdict: to the summary of its request, or to those that wait.
+    fn hear(&mut self, verdict: &Verdict) -> Result<(), NoMemory>
+        requires { AreNamed self.old.summaries }
+        ensures { (set : List AnyMessage) → AreGathered set self.old
+            → OnOk result (AreGathered (set ++ message_of.Verdict verdict.now ∷ []) self.new) }
+    {
+        let name = key_meant(verdict)?;
+        match self.summaries.get_mut(&name) {
+            Some(summary) => apply(summary, verdict),
+            None => wait(self.alloc, &mut self.waiting, name, verdict),
+        }
     }
-}
 
-/// The summaries of the set's requests alone, by name. Each message is looked up once.
-pub(crate) fn asked<'a>(
-    alloc: Global,
-    set: &'a [Message],
-) -> Result<BTreeMap<NameKey<'a>, Summary>, NoMemory>
-    ensures { IfOk result (Gathers (requests_in set.now)) }
-{
-    let mut summaries = BTreeMap::new(alloc);
-    for message in set {
-        ask_message(alloc, &mut summaries, message)?;
+    /// Adds a message: what is known is then that of the set with the message. Where memory runs out, it may be of neither set.
+    pub fn take(&mut self, message: &Message) -> Result<(), NoMemory>
+        requires { AreNamed self.old.summaries }
+        ensures { (set : List AnyMessage) → AreGathered set self.old
+            → OnOk result (AreGathered (set ++ message.now ∷ []) self.new) }
+    {
+        match message {
+            Message::Request(request) => self.ask(request),
+            Message::Verdict(verdict) => self.hear(verdict),
+        }
     }
-    Ok(summaries)
-}
 
-/// The summaries of the set, by the names of its requests. Each message is looked up once, or twice.
-pub(crate) fn gathered<'a>(
-    alloc: Global,
-    set: &'a [Message],
-) -> Result<BTreeMap<NameKey<'a>, Summary>, NoMemory>
-    ensures { IfOk result (Gathers set.now) }
-{
-    let mut summaries = asked(alloc, set)?;
-    for message in set {
-        hear_message(&mut summaries, message)?;
+    /// What is known of these messages.
+    pub fn of(alloc: Global, set: &[Message]) -> Result<Gathered, NoMemory>
+        ensures { IfOk result (AreGathered set.now) }
+    {
+        let mut gathered = Gathered::new(alloc);
+        for message in set {
+            gathered.take(message)?;
+        }
+        Ok(gathered)
     }
-    Ok(summaries)
 }

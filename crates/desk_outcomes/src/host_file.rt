@@ -1,89 +1,48 @@
 //! One host's file.
 
-ghost use Rattle.std.specs.Prelude.{◌≡◌, ◌⊎◌, ◌<◌, ◌≤◌, List, IfOk, IfErr, OnOk, MatchResult, filter, length, string_bytes};
+ghost use Rattle.std.specs.Prelude.{◌≡◌, ◌⊎◌, ◌<◌, ◌≤◌, List, IfOk, IfErr, OnOk, MatchResult, length, string_bytes};
 ghost use Rattle.std.specs.BTreeMap.{values};
-ghost use Rattle.std.specs.List.{AllByRecursion};
 ghost use Rattle.messages.specs.declared.message.Message.{Message as AnyMessage};
 ghost use Rattle.grants.specs.Bases.{FitsBase};
-ghost use Rattle.grants.specs.GrantRules.{IsGrantRule};
-ghost use Rattle.grants.specs.Summaries.{StandsFor};
 ghost use Rattle.grants.specs.declared.host_fault.HostFault.TheVariants as fault;
-ghost use Rattle.desk_outcomes.specs.Gathered.{Adds, Gathers, Give};
+ghost use Rattle.desk_outcomes.specs.Gathered.{AreGathered, Gathers};
 ghost use Rattle.desk_outcomes.specs.HostFile.{Line, AreLines};
 ghost use Rattle.desk_outcomes.specs.LinesLeft as left;
 
-use crate::gathering::gathered;
+use crate::gathering::Gathered;
 use crate::naming::NameKey;
-use grants::{HostFault, Summary, host_policy, rules_of};
-use messages::Message;
+use grants::{HostFault, Summary, push_lines};
 use roster::Roster;
 use std::alloc::Global;
 use std::collections::BTreeMap;
-use sudo_policy::{Policy, Rule, print_policy};
+use sudo_policy::{Policy, print_policy};
 use sudo_words::{HostName, Moment, NoMemory};
 
 /// The most lines of a host's file beside the base's.
 const MOST_LINES: usize = 8_192;
 
-/// Whether the rule's line is left: each is without a moment, and with one each that ends then or later.
-fn stays(rule: &Rule, after: Option<Moment>) -> bool
-    ensures { result ≡ left.stays after rule.now }
-{
-    match (after, rule.not_after) {
-        (Some(moment), Some(last)) => moment <= last,
-        _ => true,
-    }
-}
-
-/// Takes out the rules whose lines are not left.
-fn drop_ended(rules: &mut Vec<Rule>, after: Option<Moment>)
-    ensures { rules.new.items ≡ filter (left.stays after) rules.old.items }
-{
-    rules.retain(|rule| stays(rule, after));
-}
-
-/// Adds those rules that a summary's request gives the host which are left.
-fn push_rules(
+/// Adds the lines that the summaries' requests give the host and that are left, in the order of their names: `TooManyRules` past 8,192.
+fn push_all(
     alloc: Global,
-    rules: &mut Vec<Rule>,
+    text: &mut String,
     roster: &Roster,
-    summary: &Summary,
+    summaries: &BTreeMap<NameKey, Summary>,
     host: &HostName,
     after: &Option<Moment>,
-) -> Result<(), NoMemory>
-    ensures rules { (set : List AnyMessage) → StandsFor set summary.now
-        → OnOk result (Adds roster.now.says set (left.rules_left after.now host.now) summary.now rules.old.items rules.new.items) }
-    ensures grants { (set : List AnyMessage) → StandsFor set summary.now → AllByRecursion IsGrantRule rules.old.items
-        → OnOk result (AllByRecursion IsGrantRule rules.new.items) }
-{
-    let mut more = rules_of(alloc, roster, summary, host)?;
-    drop_ended(&mut more, *after);
-    rules.append(&mut more)?;
-    Ok(())
-}
-
-/// Those rules that the summaries' requests give the host which are left, in the order of their names: `TooManyRules` past 8,192.
-fn lines<'a>(
-    alloc: Global,
-    roster: &Roster,
-    summaries: &BTreeMap<NameKey<'a>, Summary>,
-    host: &HostName,
-    after: &Option<Moment>,
-) -> Result<Vec<Rule>, HostFault>
-    ensures rules { (set : List AnyMessage) → Gathers set summaries.now
-        → IfOk result (λ v. Give roster.now.says set (left.rules_left after.now host.now) (values summaries.now) v.items) }
-    ensures grants { (set : List AnyMessage) → Gathers set summaries.now → IfOk result (λ v. AllByRecursion IsGrantRule v.items) }
-    ensures few { IfOk result (λ v. length v.items ≤ 8_192) }
+) -> Result<(), HostFault>
+    ensures ok { (set : List AnyMessage) → Gathers set summaries.now
+        → OnOk result (left.AreBehind roster.now.says set host.now after.now (values summaries.now) (string_bytes text.old) (string_bytes text.new)) }
     ensures err { (set : List AnyMessage) → Gathers set summaries.now → IfErr result (left.IsPast roster.now.says set host.now after.now) }
 {
-    let mut rules = Vec::new(alloc);
+    let mut count = 0;
     for summary in summaries.values() {
-        push_rules(alloc, &mut rules, roster, summary, host, after)?;
-        if rules.len() > MOST_LINES {
+        let more = push_lines(alloc, text, roster, summary, host, *after)?;
+        if more > MOST_LINES - count {
             return Err(HostFault::TooManyRules);
         }
+        count += more;
     }
-    Ok(rules)
+    Ok(())
 }
 
 /// The text of the host's sudoers file: the base's canonical text, and behind it a line for each command of each request that is
@@ -94,21 +53,21 @@ pub fn host_file_in(
     alloc: Global,
     roster: &Roster,
     base: &Policy,
-    set: &[Message],
+    gathered: &Gathered,
     host: &HostName,
     after: Option<Moment>,
 ) -> Result<String, HostFault>
     requires { FitsBase base.now }
-    ensures file { IfOk result (λ s. left.IsFileLeft roster.now.says base.now set.now host.now after (string_bytes s)) }
+    ensures file { (set : List AnyMessage) → AreGathered set gathered.now
+        → IfOk result (λ s. left.IsFileLeft roster.now.says base.now set host.now after (string_bytes s)) }
     // Where the lines are few it comes, and where they are too many it is refused.
-    ensures few { (ls : List Line) → AreLines roster.now.says set.now host.now ls → length (left.lines_left after ls) ≤ 8_192
-        → IfErr result (λ e. e ≡ fault.NoMemory) }
-    ensures many { (ls : List Line) → AreLines roster.now.says set.now host.now ls → 8_192 < length (left.lines_left after ls)
-        → MatchResult result (λ _. ⊥) (λ e. (e ≡ fault.TooManyRules) ⊎ (e ≡ fault.NoMemory)) }
-    ensures err { IfErr result (left.IsPast roster.now.says set.now host.now after) }
+    ensures few { (set : List AnyMessage) (ls : List Line) → AreGathered set gathered.now → AreLines roster.now.says set host.now ls
+        → length (left.lines_left after ls) ≤ 8_192 → IfErr result (λ e. e ≡ fault.NoMemory) }
+    ensures many { (set : List AnyMessage) (ls : List Line) → AreGathered set gathered.now → AreLines roster.now.says set host.now ls
+        → 8_192 < length (left.lines_left after ls) → MatchResult result (λ _. ⊥) (λ e. (e ≡ fault.TooManyRules) ⊎ (e ≡ fault.NoMemory)) }
+    ensures err { (set : List AnyMessage) → AreGathered set gathered.now → IfErr result (left.IsPast roster.now.says set host.now after) }
 {
-    let summaries = gathered(alloc, set)?;
-    let rules = lines(alloc, roster, &summaries, host, &after)?;
-    let policy = host_policy(alloc, base, rules)?;
-    Ok(print_policy(alloc, &policy)?)
+    let mut text = print_policy(alloc, base)?;
+    push_all(alloc, &mut text, roster, &gathered.summaries, host, &after)?;
+    Ok(text)
 }

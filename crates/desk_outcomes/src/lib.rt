@@ -11,6 +11,7 @@ mod outcomes;
 mod parked;
 mod summaries;
 
+pub use gathering::Gathered;
 pub use grant_laws::{
     disputed_gives_nothing, each_has_one, ended_lines_give_nothing, file_gives_rights, one_of_each,
     order_free, parked_until_asked, refusal_in_time, revocation_ends, who_changes_nothing,

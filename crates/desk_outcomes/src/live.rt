@@ -4,13 +4,13 @@ ghost use Rattle.std.specs.Prelude.{◌≡◌, List, IfOk, OnOk};
 ghost use Rattle.std.specs.BTreeMap.{values};
 ghost use Rattle.messages.specs.declared.message.Message.{Message as AnyMessage};
 ghost use Rattle.grants.specs.Summaries.{StandsFor};
-ghost use Rattle.desk_outcomes.specs.Gathered.{Adds, Gathers, Give, grant_of, live_for, window_at};
+ghost use Rattle.desk_outcomes.specs.Gathered.{Adds, AreGathered, Gathers, Give, grant_of, live_for, window_at};
 ghost use Rattle.desk_outcomes.specs.Outcomes.{AreLive};
 
-use crate::gathering::gathered;
+use crate::gathering::Gathered;
 use crate::naming::{NameKey, RequestName};
 use grants::{Status, Summary, Window, status};
-use messages::{Message, Request};
+use messages::Request;
 use roster::Roster;
 use std::alloc::Global;
 use std::collections::BTreeMap;
@@ -83,10 +83,10 @@ fn push_live(
 }
 
 /// The grants of the summaries that are in force at the moment, in the order of their names.
-fn live_among<'a>(
+fn live_among(
     alloc: Global,
     roster: &Roster,
-    summaries: &BTreeMap<NameKey<'a>, Summary>,
+    summaries: &BTreeMap<NameKey, Summary>,
     at: Moment,
 ) -> Result<Vec<Live>, NoMemory>
     ensures { (set : List AnyMessage) → Gathers set summaries.now
@@ -103,11 +103,10 @@ fn live_among<'a>(
 pub fn live_in(
     alloc: Global,
     roster: &Roster,
-    set: &[Message],
+    gathered: &Gathered,
     at: Moment,
 ) -> Result<Vec<Live>, NoMemory>
-    ensures { IfOk result (λ list. AreLive roster.now.says set.now at list.items) }
+    ensures { (set : List AnyMessage) → AreGathered set gathered.now → IfOk result (λ list. AreLive roster.now.says set at list.items) }
 {
-    let summaries = gathered(alloc, set)?;
-    live_among(alloc, roster, &summaries, at)
+    live_among(alloc, roster, &gathered.summaries, at)
 }

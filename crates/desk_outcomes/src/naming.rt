@@ -1,11 +1,12 @@
 //! What requests are called by.
 
-ghost use Rattle.std.specs.Prelude.{◌≡◌};
+ghost use Rattle.std.specs.Prelude.{◌≡◌, IfOk};
 ghost use Rattle.messages.specs.Names as names;
 ghost use Rattle.desk_outcomes.specs.Parked.{name_meant as name_about};
 ghost use Rattle.desk_outcomes.specs.Names.{key_name};
 
 use messages::{Request, Verdict};
+use std::alloc::AllocError;
 use std::marker::Model;
 use sudo_words::Name;
 
@@ -26,39 +27,39 @@ impl Model for RequestName {
     ghost view = { λ n. record { by = n.by; no = n.no } };
 }
 
-/// A name that is lent. Names are in the byte order of their askers, and then by number.
-#[derive(Clone, Copy, PartialEq, Eq, PartialOrd, Ord)]
-pub(crate) struct NameKey<'a> {
-    pub(crate) by: &'a str,
+/// A name as the key of a map. Names are in the byte order of their askers, and then by number.
+#[derive(Debug, Drop, PartialEq, Eq, PartialOrd, Ord)]
+pub(crate) struct NameKey {
+    pub(crate) by: Name,
     pub(crate) no: u32,
 }
 
 /// The name of a request.
-pub(crate) fn key_of<'a>(request: &'a Request) -> NameKey<'a>
-    ensures { key_name result ≡ names.name_of request.now }
+pub(crate) fn key_of(request: &Request) -> Result<NameKey, AllocError>
+    ensures { IfOk result (λ k. key_name k ≡ names.name_of request.now) }
 {
-    NameKey {
-        by: request.by().as_str(),
+    Ok(NameKey {
+        by: request.by().clone()?,
         no: request.no(),
-    }
+    })
 }
 
 /// The name of the request that a verdict is about.
-pub(crate) fn key_meant<'a>(verdict: &'a Verdict) -> NameKey<'a>
-    ensures { key_name result ≡ name_about verdict.now }
+pub(crate) fn key_meant(verdict: &Verdict) -> Result<NameKey, AllocError>
+    ensures { IfOk result (λ k. key_name k ≡ name_about verdict.now) }
 {
-    NameKey {
-        by: verdict.of().as_str(),
+    Ok(NameKey {
+        by: verdict.of().clone()?,
         no: verdict.no(),
-    }
+    })
 }
 
-/// The name as it is lent.
-pub(crate) fn key_for<'a>(name: &'a RequestName) -> NameKey<'a>
-    ensures { key_name result ≡ name.now }
+/// A copy of the name.
+pub(crate) fn key_for(name: &RequestName) -> Result<NameKey, AllocError>
+    ensures { IfOk result (λ k. key_name k ≡ name.now) }
 {
-    NameKey {
-        by: name.by.as_str(),
+    Ok(NameKey {
+        by: name.by.clone()?,
         no: name.no,
-    }
+    })
 }

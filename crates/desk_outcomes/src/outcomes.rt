@@ -1,27 +1,26 @@
 //! What a name comes to.
 
-ghost use Rattle.std.specs.Prelude.{IfOk};
+ghost use Rattle.std.specs.Prelude.{List, IfOk};
+ghost use Rattle.messages.specs.declared.message.Message.{Message as AnyMessage};
+ghost use Rattle.desk_outcomes.specs.Gathered.{AreGathered};
 ghost use Rattle.desk_outcomes.specs.Outcomes.{ComesTo};
 
-use crate::gathering::gathered;
+use crate::gathering::Gathered;
 use crate::naming::{RequestName, key_for};
 use grants::{Status, status};
-use messages::Message;
 use roster::Roster;
-use std::alloc::Global;
 use sudo_words::NoMemory;
 
 /// The name's status, none where the set has no request of it.
 pub fn status_in(
-    alloc: Global,
     roster: &Roster,
-    set: &[Message],
+    gathered: &Gathered,
     name: &RequestName,
 ) -> Result<Option<Status>, NoMemory>
-    ensures { IfOk result (ComesTo roster.now.says set.now name.now) }
+    ensures { (set : List AnyMessage) → AreGathered set gathered.now → IfOk result (ComesTo roster.now.says set name.now) }
 {
-    let summaries = gathered(alloc, set)?;
-    match summaries.get(&key_for(name)) {
+    let key = key_for(name)?;
+    match gathered.summaries.get(&key) {
         Some(summary) => Ok(Some(status(roster, summary))),
         None => Ok(None),
     }

@@ -4,7 +4,7 @@ ghost use Rattle.std.specs.Prelude.{◌≡◌, ◌++◌, IfOk, OnOk, map, string
 ghost use Rattle.desk_outcomes.specs.Gathered.{parked_for, parked_of};
 ghost use Rattle.desk_outcomes.specs.Parked.{AreParked};
 
-use crate::gathering::asked;
+use crate::gathering::Gathered;
 use crate::naming::{NameKey, key_meant};
 use grants::Summary;
 use messages::{Message, text};
@@ -13,28 +13,30 @@ use std::collections::BTreeMap;
 use sudo_words::NoMemory;
 
 /// Adds the message's text, where it is a verdict without its request.
-fn push_parked<'a>(
+fn push_parked(
     alloc: Global,
     texts: &mut Vec<String>,
-    asked: &BTreeMap<NameKey<'a>, Summary>,
-    message: &'a Message,
+    asked: &BTreeMap<NameKey, Summary>,
+    message: &Message,
 ) -> Result<(), NoMemory>
     ensures { OnOk result (map string_bytes texts.new.items ≡ map string_bytes texts.old.items ++ parked_for asked.now message.now) }
 {
-    match message {
-        Message::Verdict(verdict) if !asked.contains_key(&key_meant(verdict)) => {
-            texts.push(text(alloc, message)?)?;
-            Ok(())
-        }
-        _ => Ok(()),
+    let Message::Verdict(verdict) = message else {
+        return Ok(());
+    };
+    let name = key_meant(verdict)?;
+    if asked.contains_key(&name) {
+        return Ok(());
     }
+    texts.push(text(alloc, message)?)?;
+    Ok(())
 }
 
 /// The texts of the verdicts without their request, in the order of the set.
-fn parked_among<'a>(
+fn parked_among(
     alloc: Global,
-    set: &'a [Message],
-    asked: &BTreeMap<NameKey<'a>, Summary>,
+    set: &[Message],
+    asked: &BTreeMap<NameKey, Summary>,
 ) -> Result<Vec<String>, NoMemory>
     ensures { IfOk result (λ texts. map string_bytes texts.items ≡ parked_of asked.now set.now) }
 {
@@ -49,8 +51,8 @@ fn parked_among<'a>(
 pub fn parked_in(alloc: Global, set: &[Message]) -> Result<Vec<String>, NoMemory>
     ensures { IfOk result (λ texts. AreParked set.now (map string_bytes texts.items)) }
 {
-    let asked = asked(alloc, set)?;
-    let mut texts = parked_among(alloc, set, &asked)?;
+    let gathered = Gathered::of(alloc, set)?;
+    let mut texts = parked_among(alloc, set, &gathered.summaries)?;
     texts.sort_unstable();
     texts.dedup();
     Ok(texts)

@@ -4,7 +4,7 @@ ghost use Rattle.std.specs.Prelude.{◌≡◌, IfOk};
 ghost use Rattle.std.specs.BTreeMap.{values};
 ghost use Rattle.desk_outcomes.specs.Summaries.{AreSummaries};
 
-use crate::gathering::gathered;
+use crate::gathering::Gathered;
 use crate::naming::NameKey;
 use grants::Summary;
 use messages::Message;
@@ -13,11 +13,8 @@ use std::collections::BTreeMap;
 use sudo_words::NoMemory;
 
 /// The summaries in the order of their names.
-fn in_order<'a>(
-    alloc: Global,
-    summaries: BTreeMap<NameKey<'a>, Summary>,
-) -> Result<Vec<Summary>, NoMemory>
-    ensures { IfOk result (λ list. list.items ≡ values summaries.entry) }
+fn in_order(alloc: Global, summaries: BTreeMap<NameKey, Summary>) -> Result<Vec<Summary>, NoMemory>
+    ensures { IfOk result (λ list. list.items ≡ values summaries) }
 {
     let list: Vec<Summary> = summaries.into_values().collect(alloc)?;
     Ok(list)
@@ -27,6 +24,10 @@ fn in_order<'a>(
 pub fn summaries_in(alloc: Global, set: &[Message]) -> Result<Vec<Summary>, NoMemory>
     ensures { IfOk result (λ list. AreSummaries set.now list.items) }
 {
-    let summaries = gathered(alloc, set)?;
+    let Gathered {
+        alloc: _,
+        summaries,
+        waiting: _,
+    } = Gathered::of(alloc, set)?;
     in_order(alloc, summaries)
 }

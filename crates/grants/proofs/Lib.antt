@@ -11,6 +11,7 @@ pub mod SomeAnswer
 pub mod WorkedSite
 pub mod MarkLemmas
 pub mod StandLemmas
+pub mod VoiceLemmas
 pub mod CountLemmas
 pub mod LeastLemmas
 pub mod NthLemmas
@@ -25,3 +26,5 @@ pub mod WindowLaws
 pub mod LawfulRules
 pub mod RuleLemmas
 pub mod LookUps
+pub mod WrittenLines
+pub mod SomeStatus

@@ -29,7 +29,7 @@ still_alone : (set : List Message) (v : VerdictFields) (q : RequestFields) → (
 still_alone set v q alone p h named =
     elim (request_cases set (Verdict v) p h) as (λ _. p ≡ q) [ inl old ↦ alone p old named | inr new ↦ absurd cc ]
 
-keep_at : (set : List Message) (q : RequestFields) (v : VerdictFields) (kind : VerdictKind) (person : List ℕ) (moment : ℕ) (old new : List Mark) → IsAbout q v → v.kind ≡ kind → person ≡ v.by → moment ≡ v.at → new ≡ noted person moment old → Keep set q kind old → Keep (set ++ Verdict v ∷ []) q kind new
+pub keep_at : (set : List Message) (q : RequestFields) (v : VerdictFields) (kind : VerdictKind) (person : List ℕ) (moment : ℕ) (old new : List Mark) → IsAbout q v → v.kind ≡ kind → person ≡ v.by → moment ≡ v.at → new ≡ noted person moment old → Keep set q kind old → Keep (set ++ Verdict v ∷ []) q kind new
 keep_at set q v kind person moment old new about kind_is by_is at_is new_is k =
     let P : VerdictKind → Type 0 = λ x. Keep set q x old in
     let Q : VerdictKind → Type 0 = λ x. Keep (set ++ Verdict v ∷ []) q x new in
@@ -37,7 +37,7 @@ keep_at set q v kind person moment old new about kind_is by_is at_is new_is k =
     let R : List Mark → Type 0 = λ x. Keep (set ++ Verdict v ∷ []) q v.kind x in
     subst Q kind_is (subst R (sym same) (keep_noted set q v old about (subst P (sym kind_is) k)))
 
-keep_apart : (set : List Message) (q : RequestFields) (v : VerdictFields) (kind : VerdictKind) (marks : List Mark) → v.kind ≢ kind → Keep set q kind marks → Keep (set ++ Verdict v ∷ []) q kind marks
+pub keep_apart : (set : List Message) (q : RequestFields) (v : VerdictFields) (kind : VerdictKind) (marks : List Mark) → v.kind ≢ kind → Keep set q kind marks → Keep (set ++ Verdict v ∷ []) q kind marks
 keep_apart set q v kind marks differ k =
     keep_other set (Verdict v) q kind marks (λ w e about is. differ (ap (λ (x : VerdictFields). x.kind) (one_verdict v w e) ∙ is)) k
 

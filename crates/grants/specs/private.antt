@@ -5,3 +5,4 @@ pub mod Ranks
 pub mod Voters
 pub mod Reached
 pub mod Given
+pub mod Lines

@@ -67,7 +67,8 @@ fn push_who(out: &mut String, rule: &Rule) -> Result<(), AllocError>
     out.push_str(") ")
 }
 
-fn push_moment(out: &mut String, moment: Moment) -> Result<(), AllocError>
+/// Adds the moment's canonical text.
+pub fn push_moment(out: &mut String, moment: Moment) -> Result<(), AllocError>
     ensures { OnOk result (string_bytes out.new ≡ string_bytes out.old ++ stamp moment) }
 {
     write!(out, "{moment}")
@@ -96,8 +97,8 @@ fn push_tag(out: &mut String, nopasswd: bool) -> Result<(), AllocError>
     Ok(())
 }
 
-/// A command's text. One without a rule for its arguments is its head, which needs no text of its own.
-fn push_command(alloc: Global, out: &mut String, cmnd: &Cmnd) -> Result<(), NoMemory>
+/// Adds a command's text. One without a rule for its arguments is its head, which needs no text of its own.
+pub fn push_command(alloc: Global, out: &mut String, cmnd: &Cmnd) -> Result<(), NoMemory>
     requires { IsLawful cmnd.now }
     ensures { OnOk result (string_bytes out.new ≡ string_bytes out.old ++ cmnd_text cmnd.now) }
 {

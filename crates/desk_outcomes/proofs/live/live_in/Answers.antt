@@ -5,7 +5,6 @@ use Rattle.desk_outcomes.proofs.LiveLemmas.{are_live}
 use Rattle.desk_outcomes.proofs.live.live_in.Goals as goal
 
 pub returns : goal.returns
-returns c =
-    let set = c.args.set.now in
-    let gathers = c.in_ok-summaries.ensures in
-    IfOk-weaker c.live_among.result _ _ (λ list given. are_live c.args.roster.now.says set c.args.at (values c.in_ok-summaries.summaries) (is_roll set c.in_ok-summaries.summaries gathers) list.items given) (c.live_among.ensures set gathers)
+returns c = λ set g.
+    let m = c.args.gathered.now.summaries in
+    IfOk-weaker c.live_among.result _ _ (λ list given. are_live c.args.roster.now.says set c.args.at (values m) (is_roll set m g.summaries) list.items given) (c.live_among.ensures set g.summaries)

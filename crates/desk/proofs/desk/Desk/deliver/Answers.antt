@@ -1,8 +1,10 @@
-use Rattle.std.proofs.Common.{◌≡◌, Ok, true, rules}
+use Rattle.std.proofs.Common.{◌≡◌, ◌∙◌, Ok, true, rules, subst, sym}
 use Rattle.std.proofs.lemmas.Result.{err_from_is_err_and}
 use Rattle.roster.specs.Rules.{is_among}
 use Rattle.desk.specs.Delivery.{Delivery, IsDeliveryAnswer}
+use Rattle.desk.specs.Known.{IsKnown}
 use Rattle.desk.proofs.DeliveryLemmas.{acknowledged, held_at_ok, refused}
+use Rattle.desk.proofs.KnownLemmas.{known_more}
 use Rattle.desk.proofs.desk.Desk.deliver.Goals as goal
 
 pub returns-in_err-message-clause-answer : goal.returns-in_err-message-clause-answer
@@ -29,3 +31,16 @@ returns-clause-held g c = λ up.
     let K = g.K.Keeper in
     let held = held_at_ok (K.holds c.self.inside.keeper) (K.holds c.add.new.self) d (record {}) c.in_ok-message.message c.in_ok-message.ensures.found.0 (c.in_ok-add.ensures.added up) in
     rw (← c.self.view_is) held
+
+pub invariant_of-self-2 : goal.invariant_of-self-2
+invariant_of-self-2 g c =
+    let K = g.K.Keeper in
+    let old = c.self.inside.keeper in
+    let new = c.add.new.self in
+    let known = subst (IsKnown (K.is_up old) (K.holds old)) (sym c.take.ensures.value) c.self.invariant.4 in (
+      c.self.invariant.0,
+      λ up. c.add.ensures.desk up,
+      λ up. c.add.ensures.roster up ∙ c.self.invariant.2 (c.add.ensures.was_up up),
+      λ up. c.add.ensures.durable up,
+      known_more (K.is_up old) (K.is_up new) (K.holds old) (K.holds new) c.in_ok-message.message c.take.result c.with_message-known.result known c.add.ensures.was_up c.in_ok-add.ensures.added c.with_message-known.ensures.more c.with_message-known.ensures.nothing,
+    )

@@ -1,0 +1,10 @@
+use Rattle.desk.proofs.KnownLemmas.{known_still}
+use Rattle.desk.proofs.loading.load.Goals as goal
+
+pub returns-clause-known : goal.returns-clause-known
+returns-clause-known g c =
+    let K = g.K.Keeper in
+    let old = c.args.keeper.now in
+    let new = c.load.new.self in
+    known_still (K.is_up old) (K.is_up new) (K.holds old) (K.holds new) c.args._known.now c.requires.known c.load.ensures.was_up
+    (λ up. g.met.K.Keeper.stays_set old new (c.load.ensures.same up) (c.requires.desk (c.load.ensures.was_up up)))

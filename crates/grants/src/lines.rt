@@ -1,0 +1,151 @@
+//! The lines of a grant, written behind a text: those of its rules, which it does not build.
+
+ghost use Rattle.std.specs.Prelude.{◌≡◌, ◌++◌, IfOk, List, OnOk, map, string_bytes, true};
+ghost use Rattle.sudo_words.specs.Command.{IsLawful};
+ghost use Rattle.sudo_policy.specs.Printing.{line_text};
+ghost use Rattle.sudo_policy.specs.declared.entry.Entry.TheVariants as entries;
+ghost use Rattle.messages.specs.Fields.{IsRequest};
+ghost use Rattle.messages.specs.Names.{name_of};
+ghost use Rattle.messages.specs.declared.message.Message.{Message as AnyMessage};
+ghost use Rattle.grants.specs.private.Lines as lines;
+ghost use Rattle.grants.specs.GrantRules.{grant_rule};
+ghost use Rattle.grants.specs.Statuses.{IsStatus};
+ghost use Rattle.grants.specs.Summaries.{StandsFor};
+ghost use Rattle.grants.specs.declared.outcome.Status.{Status as AnyStatus};
+
+use crate::outcome::{Status, Window};
+use crate::reached::status;
+use crate::summary::Summary;
+use messages::Request;
+use roster::Roster;
+use std::alloc::{AllocError, Global};
+use sudo_policy::{push_command, push_moment};
+use sudo_words::{Cmnd, HostName, Moment, NoMemory};
+
+/// Who may run a command, on which host and as whom.
+fn push_who(text: &mut String, host: &HostName, request: &Request) -> Result<(), AllocError>
+    ensures { OnOk result (string_bytes text.new ≡ string_bytes text.old ++ lines.who host.now request.now) }
+{
+    text.push_str(request.by().as_str())?;
+    text.push_str(" ")?;
+    text.push_str(host.as_str())?;
+    text.push_str(" = (")?;
+    text.push_str(request.runas().as_str())
+}
+
+/// And when, up to the space before the command.
+fn push_when(text: &mut String, window: &Window) -> Result<(), AllocError>
+    ensures { OnOk result (string_bytes text.new ≡ string_bytes text.old ++ lines.when window.now.start window.now.end) }
+{
+    text.push_str(") NOTBEFORE=")?;
+    push_moment(text, window.start)?;
+    text.push_str(" NOTAFTER=")?;
+    push_moment(text, window.end)?;
+    text.push_str(" ")
+}
+
+/// The line of one command.
+fn push_line(
+    alloc: Global,
+    text: &mut String,
+    host: &HostName,
+    request: &Request,
+    window: &Window,
+    cmnd: &Cmnd,
+) -> Result<(), NoMemory>
+    requires { IsLawful cmnd.now }
+    ensures { OnOk result
+        (string_bytes text.new ≡ string_bytes text.old ++ line_text (entries.Rule (grant_rule host.now request.now window.now.start window.now.end cmnd.now))) }
+{
+    push_who(text, host, request)?;
+    push_when(text, window)?;
+    push_command(alloc, text, cmnd)?;
+    text.push_str("\n")?;
+    Ok(())
+}
+
+/// The lines of all commands, in their order.
+fn push_commands(
+    alloc: Global,
+    text: &mut String,
+    host: &HostName,
+    request: &Request,
+    window: &Window,
+) -> Result<usize, NoMemory>
+    ensures { IfOk result (λ count. lines.AreAdded (map (grant_rule host.now request.now window.now.start window.now.end) request.now.cmnds)
+        (string_bytes text.old) (string_bytes text.new) count) }
+{
+    for cmnd in request.cmnds() {
+        push_line(alloc, text, host, request, window, cmnd)?;
+    }
+    Ok(request.cmnds().len())
+}
+
+/// Whether what has this last moment is left.
+fn is_left(after: &Option<Moment>, last: Moment) -> bool
+    ensures { result ≡ lines.is_left after.now last }
+{
+    match *after {
+        None => true,
+        Some(moment) => moment <= last,
+    }
+}
+
+/// Whether the request can have lines for the host that are left, whatever it has come to: its window ends by its own last moment.
+fn may_have(request: &Request, host: &HostName, after: &Option<Moment>) -> bool
+    ensures value { result ≡ lines.may_have after.now host.now request.now }
+    ensures request { IsRequest request.now }
+{
+    is_left(after, request.until()) && request.hosts().contains(host)
+}
+
+/// The lines that are left, of a request that names the host and has come to this.
+fn push_left(
+    alloc: Global,
+    text: &mut String,
+    host: &HostName,
+    request: &Request,
+    status: Status,
+    after: &Option<Moment>,
+) -> Result<usize, NoMemory>
+    requires { lines.names request.now host.now ≡ true }
+    ensures { IfOk result (λ count. lines.AreAdded (lines.rules_left after.now host.now request.now status)
+        (string_bytes text.old) (string_bytes text.new) count) }
+{
+    match status {
+        Status::Granted(window) if is_left(after, window.end) => {
+            push_commands(alloc, text, host, request, &window)
+        }
+        _ => Ok(0),
+    }
+}
+
+/// The request has come to something, whether it is looked up or not.
+fn has_status(roster: &Roster, s: &Summary)
+    ensures { (set : List AnyMessage) → StandsFor set s.now → (status : AnyStatus) × IsStatus roster.now.says set (name_of s.now.request) status }
+{
+    let _text = roster.text();
+    let _hosts = s.request.hosts();
+}
+
+/// Adds the lines that the request gives the host under this roster to the text, and tells how many they are: one for each of its
+/// commands, in its order, where it names the host and is granted. With a moment, lines that end before it are left out.
+pub fn push_lines(
+    alloc: Global,
+    text: &mut String,
+    roster: &Roster,
+    s: &Summary,
+    host: &HostName,
+    after: Option<Moment>,
+) -> Result<usize, NoMemory>
+    // They come from what the messages come to of each set that the summary stands for, and are lines of rules of grants.
+    ensures { (set : List AnyMessage) → StandsFor set s.now → IfOk result
+        (lines.AreWritten roster.now.says set s.now.request host.now after (string_bytes text.old) (string_bytes text.new)) }
+{
+    if may_have(&s.request, host, &after) {
+        push_left(alloc, text, host, &s.request, status(roster, s), &after)
+    } else {
+        has_status(roster, s);
+        Ok(0)
+    }
+}
