@@ -34,3 +34,15 @@ pub returns-clause-only : goal.returns-clause-only
 returns-clause-only g c = λ defs d.
     let h = defined_behind _ (toks c.in-Some.next.now) c.in-Some.ensures.1 defs d in
     ap Some (c.in_ok-list.ensures.only defs [] (c.requires [] tt) tt h.1).0
+
+pub returns-then-not-begins_spaced-clause-other : goal.returns-then-not-begins_spaced-clause-other
+returns-then-not-begins_spaced-clause-other g c = λ none. absurd (none c.in-Some.ensures.0 (toks c.in-Some.next.now) c.in-Some.ensures.1)
+
+pub returns-in_err-list-clause-other : goal.returns-in_err-list-clause-other
+returns-in_err-list-clause-other g c = λ none. absurd (none c.in-Some.ensures.0 (toks c.in-Some.next.now) c.in-Some.ensures.1)
+
+pub returns-then-not-is_empty-clause-other : goal.returns-then-not-is_empty-clause-other
+returns-then-not-is_empty-clause-other g c = λ none. absurd (none c.in-Some.ensures.0 (toks c.in-Some.next.now) c.in-Some.ensures.1)
+
+pub returns-clause-other : goal.returns-clause-other
+returns-clause-other g c = λ none. absurd (none c.in-Some.ensures.0 (toks c.in-Some.next.now) c.in-Some.ensures.1)
