@@ -13,8 +13,9 @@ ghost use Rattle.relay_http.specs.declared.serving.ServeFault.TheVariants.{NoMem
 
 use crate::answering::answered;
 use crate::counted::Counted;
-use crate::reading::{buffer, read_request};
+use crate::reading::read_request;
 use crate::request::wanted;
+use crate::room::Room;
 use crate::routes::Routes;
 use crate::sending::{self, send_reply};
 use desk::{Desk, Keeper};
@@ -81,11 +82,12 @@ fn reply_to<K: Keeper, W: Write>(
 
 /// Reads a request, has the desk answer it, and writes the reply.
 ///
-/// The buffer and the routes are made before anything is read: where memory is refused for them it is `NoMemory`, and nothing was read.
-/// Want of memory later is a reply of the desk. Once a message is acknowledged no memory is taken.
+/// The buffer and the routes are those of the room. Where an earlier exchange did not leave them there, they are made before anything is read: where memory is refused for
+/// them it is `NoMemory`, and nothing was read. Want of memory later is a reply of the desk. Once a message is acknowledged no memory is taken.
 pub fn serve_one<K: Keeper, R: Read, W: Write>(
     alloc: Global,
     desk: &mut Desk<K>,
+    room: &mut Room,
     reader: &mut Counted<R>,
     writer: &mut Counted<W>,
 ) -> Result<(), ServeFault>
@@ -111,16 +113,13 @@ pub fn serve_one<K: Keeper, R: Read, W: Write>(
         → K.is_up desk.new.keeper ⊎ HasFailed (K.failures desk.old.keeper) (K.failures desk.new.keeper) }
     ensures counts { K.failures desk.old.keeper ≤ K.failures desk.new.keeper }
 {
-    let Ok(mut buf) = buffer(alloc) else {
+    let Ok(kept) = room.kept(alloc) else {
         return Err(ServeFault::NoMemory);
     };
-    let Ok(routes) = Routes::new(alloc) else {
-        return Err(ServeFault::NoMemory);
-    };
-    let Ok(filled) = read_request(&routes, reader, &mut buf) else {
+    let Ok(filled) = read_request(&kept.routes, reader, &mut kept.buf) else {
         return Err(ServeFault::ReadFailed);
     };
-    match reply_to(alloc, &routes, desk, writer, &buf[..filled]) {
+    match reply_to(alloc, &kept.routes, desk, writer, &kept.buf[..filled]) {
         Ok(()) => Ok(()),
         Err(_) => Err(ServeFault::WriteFailed),
     }

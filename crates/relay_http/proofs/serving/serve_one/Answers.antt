@@ -29,22 +29,22 @@ returns-in-Ok-reply_to-clause-changes g c =
     let asks : Asks bytes x.0 = asks_lent _ _ _ _ _ x.0 c.deref.ensures.value (c.read_request.ensures.len ∙ c.deref_mut.ensures.len) x.1 in
     λ _ up. all_changes _ _ _ _ _ _ _ _ (g.R.Read.remaining c.args.reader.now.inner) bytes x.0 asks c.in-Ok-read_request.ensures.asks x.2 up
 
-pub returns-clause-exchange : goal.returns-clause-exchange
-returns-clause-exchange g c =
+pub returns-in-Err-clause-exchange : goal.returns-in-Err-clause-exchange
+returns-in-Err-clause-exchange g c =
     let x = c.in-Err.ensures.exchange in
     let bytes = take c.in-Ok-read_request.filled c.read_request.new.buf in
     let asks : Asks bytes x.0 = asks_lent _ _ _ _ _ x.0 c.deref.ensures.value (c.read_request.ensures.len ∙ c.deref_mut.ensures.len) x.1 in
     λ _. holds_of_all _ (g.R.Read.remaining c.args.reader.now.inner) bytes x.0 asks c.in-Ok-read_request.ensures.asks x.2
 
-pub returns-clause-queries : goal.returns-clause-queries
-returns-clause-queries g c =
+pub returns-in-Err-clause-queries : goal.returns-in-Err-clause-queries
+returns-in-Err-clause-queries g c =
     let x = c.in-Err.ensures.exchange in
     let bytes = take c.in-Ok-read_request.filled c.read_request.new.buf in
     let asks : Asks bytes x.0 = asks_lent _ _ _ _ _ x.0 c.deref.ensures.value (c.read_request.ensures.len ∙ c.deref_mut.ensures.len) x.1 in
     λ _ up. all_queries _ _ _ _ _ _ _ _ (g.R.Read.remaining c.args.reader.now.inner) bytes x.0 asks c.in-Ok-read_request.ensures.asks x.2 up
 
-pub returns-clause-changes : goal.returns-clause-changes
-returns-clause-changes g c =
+pub returns-in-Err-clause-changes : goal.returns-in-Err-clause-changes
+returns-in-Err-clause-changes g c =
     let x = c.in-Err.ensures.exchange in
     let bytes = take c.in-Ok-read_request.filled c.read_request.new.buf in
     let asks : Asks bytes x.0 = asks_lent _ _ _ _ _ x.0 c.deref.ensures.value (c.read_request.ensures.len ∙ c.deref_mut.ensures.len) x.1 in
