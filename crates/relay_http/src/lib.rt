@@ -42,6 +42,6 @@ pub use reply::{refused, written};
 pub use request::{More, SoFar, wanted, wanted_so_far};
 pub use room::Room;
 pub use routes::Routes;
-pub use serving::{ServeFault, serve_one};
+pub use serving::{ServeFault, serve_in, serve_one};
 pub use status::Status;
 pub use worked::{worked_refusals, worked_replies, worked_requests};

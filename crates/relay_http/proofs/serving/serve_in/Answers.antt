@@ -2,7 +2,7 @@ use Rattle.std.proofs.Common.{◌∙◌, ℕ, subst, sym, take}
 use Rattle.desk_store.specs.Keeping.{HasFailed}
 use Rattle.relay_http.specs.Wanted.{Asks}
 use Rattle.relay_http.proofs.ExchangeLemmas.{all_changes, all_queries, asks_lent, failure_seen, holds_of_all}
-use Rattle.relay_http.proofs.serving.serve_one.Goals as goal
+use Rattle.relay_http.proofs.serving.serve_in.Goals as goal
 
 pub returns-in_default-read_request-clause-read_failed : goal.returns-in_default-read_request-clause-read_failed
 returns-in_default-read_request-clause-read_failed g c = λ _.
