@@ -224,6 +224,18 @@ pub fn write_answer<W: Write, E: Write>(answer: &Answer, out: &mut W, err: &mut 
     answer.status
 }
 
+/// Writes the answer of a job on `out`, or says on `err` why there is none.
+fn conclude<W: Write, E: Write>(answer: Result<Answer, Refusal>, out: &mut W, err: &mut E) -> Status
+    ensures answered { IfOk answer (λ a. result ≢ Status.Refused → (result ≡ a.status)
+        × Appends (W.contents out.old) (W.contents out.new) (string_bytes a.text) × (E.contents err.new ≡ E.contents err.old)) }
+    ensures unanswered { IfErr answer (λ _. (result ≡ Status.Refused) × (W.contents out.new ≡ W.contents out.old)) }
+{
+    match answer {
+        Ok(answer) => write_answer(&answer, out, err),
+        Err(refusal) => refuse(refusal, err),
+    }
+}
+
 /// Does the job over the bytes of the files that it names, in their order, and over the input. The answer goes to `out`,
 /// and why there is none to `err`, as does what `print` says of lines of the input that it does not take.
 ///
@@ -245,10 +257,8 @@ pub fn run<R: Read, W: Write, E: Write>(
     ensures refused { result ≡ Status.Refused → (W.contents out.new ≡ W.contents out.old)
         ⊎ HasAnswer job.now (map (λ f. f.items) files.old) (R.remaining input.old) }
 {
-    match answered(alloc, job, files, input, err) {
-        Ok(answer) => write_answer(&answer, out, err),
-        Err(refusal) => refuse(refusal, err),
-    }
+    let answer = answered(alloc, job, files, input, err);
+    conclude(answer, out, err)
 }
 
 /// The last step of a job, after `run`: writes out what the buffer of its output still holds.

@@ -3,9 +3,13 @@
 use desk_commands::{Job, Refusal, Text};
 use std::{fs, io};
 
+/// The bytes of a file. The room that was made for more is given back.
 fn file(rt: &HostRuntime, path: &Text) -> Result<Vec<u8>, Refusal> {
     match fs::read(rt, path.as_str()) {
-        Ok(bytes) => Ok(bytes),
+        Ok(mut bytes) => {
+            bytes.shrink_to_fit();
+            Ok(bytes)
+        }
         Err(error) if error.kind() == io::ErrorKind::OutOfMemory => Err(Refusal::NoMemory),
         Err(_) => Err(Refusal::FileFailed),
     }

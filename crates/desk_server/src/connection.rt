@@ -1,7 +1,7 @@
 //! One connection: its limits of time, its exchange, and how it ends.
 
 use desk::{Desk, Keeper};
-use relay_http::{Counted, ServeFault, serve_one};
+use relay_http::{Counted, Room, ServeFault, serve_in};
 use std::alloc::Global;
 use std::io::{self, Read};
 use std::net::{Shutdown, TcpStream};
@@ -40,6 +40,7 @@ fn hang_up(stream: &TcpStream) -> io::Result<()> {
 pub(crate) fn serve_stream<K: Keeper>(
     alloc: Global,
     desk: &mut Desk<K>,
+    room: &mut Room,
     stream: &TcpStream,
 ) -> Result<(), ServeFault> {
     if limit(stream).is_err() {
@@ -47,7 +48,7 @@ pub(crate) fn serve_stream<K: Keeper>(
     }
     let mut reader = Counted::new(stream);
     let mut writer = Counted::new(stream);
-    serve_one(alloc, desk, &mut reader, &mut writer)?;
+    serve_in(alloc, desk, room, &mut reader, &mut writer)?;
     let _ = hang_up(stream);
     Ok(())
 }

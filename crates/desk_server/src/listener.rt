@@ -2,6 +2,7 @@
 
 use crate::connection::serve_stream;
 use desk::{Desk, Keeper};
+use relay_http::Room;
 use std::io;
 use std::net::TcpListener;
 
@@ -12,8 +13,9 @@ fn serve_streams<K: Keeper>(
     listener: &TcpListener,
     requests: usize,
 ) -> io::Result<()> {
+    let mut room = Room::new();
     for stream in listener.incoming().take(requests) {
-        if let Err(fault) = serve_stream(rt.alloc(), desk, &stream?) {
+        if let Err(fault) = serve_stream(rt.alloc(), desk, &mut room, &stream?) {
             let _ = eprintln!(rt; "{fault}");
         }
     }

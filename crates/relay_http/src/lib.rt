@@ -21,6 +21,7 @@ mod reading;
 mod refusal_line;
 mod reply;
 mod request;
+mod room;
 mod routes;
 mod sending;
 mod serving;
@@ -39,7 +40,8 @@ pub use laws::{
 pub use place::Methods;
 pub use reply::{refused, written};
 pub use request::{More, SoFar, wanted, wanted_so_far};
+pub use room::Room;
 pub use routes::Routes;
-pub use serving::{ServeFault, serve_one};
+pub use serving::{ServeFault, serve_in, serve_one};
 pub use status::Status;
 pub use worked::{worked_refusals, worked_replies, worked_requests};

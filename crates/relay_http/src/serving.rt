@@ -13,8 +13,9 @@ ghost use Rattle.relay_http.specs.declared.serving.ServeFault.TheVariants.{NoMem
 
 use crate::answering::answered;
 use crate::counted::Counted;
-use crate::reading::{buffer, read_request};
+use crate::reading::read_request;
 use crate::request::wanted;
+use crate::room::Room;
 use crate::routes::Routes;
 use crate::sending::{self, send_reply};
 use desk::{Desk, Keeper};
@@ -79,6 +80,51 @@ fn reply_to<K: Keeper, W: Write>(
     )
 }
 
+/// Does what `serve_one` does, in the room that one exchange leaves to the next.
+///
+/// The buffer and the routes are those of the room. Where an earlier exchange did not leave them there, they are made before anything is read: where memory is refused for
+/// them it is `NoMemory`, and nothing was read. Want of memory later is a reply of the desk. Once a message is acknowledged no memory is taken.
+pub fn serve_in<K: Keeper, R: Read, W: Write>(
+    alloc: Global,
+    desk: &mut Desk<K>,
+    room: &mut Room,
+    reader: &mut Counted<R>,
+    writer: &mut Counted<W>,
+) -> Result<(), ServeFault>
+    // The bytes that the reader has left ask for one thing. The desk's reply to it was written, or where a write failed a beginning of it.
+    ensures exchange { HasReplied result → IfSome (R.remaining reader.old.inner) (λ all. (request : Request ℕ) → Asks all request
+        → IsExchange desk.old.roster.says desk.old.base (K.is_up desk.new.keeper) (K.holds desk.old.keeper) (K.holds desk.new.keeper)
+        (K.is_same desk.old.keeper desk.new.keeper) (HasFailed (K.failures desk.old.keeper) (K.failures desk.new.keeper))
+        (λ bytes. Sends (W.contents writer.old.inner) (W.contents writer.new.inner) result bytes) request) }
+    // A GET or HEAD leaves all as it was, and so does each exchange but that of a POST to a relay's messages with the status 200.
+    ensures queries { HasReplied result → K.is_up desk.new.keeper → IfSome (R.remaining reader.old.inner) (λ all. (head : RequestHead) → HasHead all head
+        → head.method ≢ codes "POST" → K.is_same desk.old.keeper desk.new.keeper) }
+    ensures changes { HasReplied result → K.is_up desk.new.keeper → IfSome (R.remaining reader.old.inner) (λ all. K.is_same desk.old.keeper desk.new.keeper
+        ⊎ IsAcknowledged all (λ bytes. Sends (W.contents writer.old.inner) (W.contents writer.new.inner) result bytes)) }
+    ensures unanswered { (result ≡ Err ReadFailed) ⊎ (result ≡ Err NoMemory) → (desk.new ≡ desk.old) × (writer.new ≡ writer.old) }
+    ensures unread { result ≡ Err NoMemory → reader.new ≡ reader.old }
+    ensures read_failed { result ≡ Err ReadFailed → HasFailed reader.old.failures reader.new.failures }
+    ensures write_failed { result ≡ Err WriteFailed → HasFailed writer.old.failures writer.new.failures }
+    ensures roster { desk.new.roster ≡ desk.old.roster }
+    ensures base { desk.new.base ≡ desk.old.base }
+    ensures was_up { K.is_up desk.new.keeper → K.is_up desk.old.keeper }
+    ensures was_clean { K.is_clean desk.new.keeper → K.is_clean desk.old.keeper }
+    ensures shuts { K.is_up desk.old.keeper → K.is_clean desk.new.keeper
+        → K.is_up desk.new.keeper ⊎ HasFailed (K.failures desk.old.keeper) (K.failures desk.new.keeper) }
+    ensures counts { K.failures desk.old.keeper ≤ K.failures desk.new.keeper }
+{
+    let Ok(kept) = room.kept(alloc) else {
+        return Err(ServeFault::NoMemory);
+    };
+    let Ok(filled) = read_request(&kept.routes, reader, &mut kept.buf) else {
+        return Err(ServeFault::ReadFailed);
+    };
+    match reply_to(alloc, &kept.routes, desk, writer, &kept.buf[..filled]) {
+        Ok(()) => Ok(()),
+        Err(_) => Err(ServeFault::WriteFailed),
+    }
+}
+
 /// Reads a request, has the desk answer it, and writes the reply.
 ///
 /// The buffer and the routes are made before anything is read: where memory is refused for them it is `NoMemory`, and nothing was read.
@@ -111,17 +157,6 @@ pub fn serve_one<K: Keeper, R: Read, W: Write>(
         → K.is_up desk.new.keeper ⊎ HasFailed (K.failures desk.old.keeper) (K.failures desk.new.keeper) }
     ensures counts { K.failures desk.old.keeper ≤ K.failures desk.new.keeper }
 {
-    let Ok(mut buf) = buffer(alloc) else {
-        return Err(ServeFault::NoMemory);
-    };
-    let Ok(routes) = Routes::new(alloc) else {
-        return Err(ServeFault::NoMemory);
-    };
-    let Ok(filled) = read_request(&routes, reader, &mut buf) else {
-        return Err(ServeFault::ReadFailed);
-    };
-    match reply_to(alloc, &routes, desk, writer, &buf[..filled]) {
-        Ok(()) => Ok(()),
-        Err(_) => Err(ServeFault::WriteFailed),
-    }
+    let mut room = Room::new();
+    serve_in(alloc, desk, &mut room, reader, writer)
 }

@@ -2,7 +2,7 @@ use Rattle.std.proofs.Common.{◌∙◌, ℕ, subst, sym, take}
 use Rattle.desk_store.specs.Keeping.{HasFailed}
 use Rattle.relay_http.specs.Wanted.{Asks}
 use Rattle.relay_http.proofs.ExchangeLemmas.{all_changes, all_queries, asks_lent, failure_seen, holds_of_all}
-use Rattle.relay_http.proofs.serving.serve_one.Goals as goal
+use Rattle.relay_http.proofs.serving.serve_in.Goals as goal
 
 pub returns-in_default-read_request-clause-read_failed : goal.returns-in_default-read_request-clause-read_failed
 returns-in_default-read_request-clause-read_failed g c = λ _.
@@ -29,22 +29,22 @@ returns-in-Ok-reply_to-clause-changes g c =
     let asks : Asks bytes x.0 = asks_lent _ _ _ _ _ x.0 c.deref.ensures.value (c.read_request.ensures.len ∙ c.deref_mut.ensures.len) x.1 in
     λ _ up. all_changes _ _ _ _ _ _ _ _ (g.R.Read.remaining c.args.reader.now.inner) bytes x.0 asks c.in-Ok-read_request.ensures.asks x.2 up
 
-pub returns-clause-exchange : goal.returns-clause-exchange
-returns-clause-exchange g c =
+pub returns-in-Err-clause-exchange : goal.returns-in-Err-clause-exchange
+returns-in-Err-clause-exchange g c =
     let x = c.in-Err.ensures.exchange in
     let bytes = take c.in-Ok-read_request.filled c.read_request.new.buf in
     let asks : Asks bytes x.0 = asks_lent _ _ _ _ _ x.0 c.deref.ensures.value (c.read_request.ensures.len ∙ c.deref_mut.ensures.len) x.1 in
     λ _. holds_of_all _ (g.R.Read.remaining c.args.reader.now.inner) bytes x.0 asks c.in-Ok-read_request.ensures.asks x.2
 
-pub returns-clause-queries : goal.returns-clause-queries
-returns-clause-queries g c =
+pub returns-in-Err-clause-queries : goal.returns-in-Err-clause-queries
+returns-in-Err-clause-queries g c =
     let x = c.in-Err.ensures.exchange in
     let bytes = take c.in-Ok-read_request.filled c.read_request.new.buf in
     let asks : Asks bytes x.0 = asks_lent _ _ _ _ _ x.0 c.deref.ensures.value (c.read_request.ensures.len ∙ c.deref_mut.ensures.len) x.1 in
     λ _ up. all_queries _ _ _ _ _ _ _ _ (g.R.Read.remaining c.args.reader.now.inner) bytes x.0 asks c.in-Ok-read_request.ensures.asks x.2 up
 
-pub returns-clause-changes : goal.returns-clause-changes
-returns-clause-changes g c =
+pub returns-in-Err-clause-changes : goal.returns-in-Err-clause-changes
+returns-in-Err-clause-changes g c =
     let x = c.in-Err.ensures.exchange in
     let bytes = take c.in-Ok-read_request.filled c.read_request.new.buf in
     let asks : Asks bytes x.0 = asks_lent _ _ _ _ _ x.0 c.deref.ensures.value (c.read_request.ensures.len ∙ c.deref_mut.ensures.len) x.1 in

@@ -1,0 +1,47 @@
+//! What exchanges share.
+
+ghost use Rattle.std.specs.Prelude.{◌≡◌, length};
+ghost use Rattle.relay_http.specs.Settled.{most_read};
+
+use crate::reading::buffer;
+use crate::routes::Routes;
+use std::alloc::Global;
+use sudo_words::NoMemory;
+
+/// The routes, and a buffer for a request. What an earlier request left in the buffer is never looked at.
+#[derive(Drop)]
+pub(crate) struct Kept {
+    pub(crate) routes: Routes,
+    pub(crate) buf: Vec<u8>,
+    ghost whole: { length buf.items ≡ most_read },
+}
+
+impl Kept {
+    fn new(alloc: Global) -> Result<Kept, NoMemory> {
+        Ok(Kept {
+            buf: buffer(alloc)?,
+            routes: Routes::new(alloc)?,
+        })
+    }
+}
+
+/// What one exchange leaves to the next, so that it is not made anew for each: the routes, and the room for a request. The first exchange makes it.
+#[derive(Drop)]
+pub struct Room {
+    kept: Option<Kept>,
+}
+
+impl Room {
+    /// Nothing is made yet, and no memory is taken.
+    pub fn new() -> Room {
+        Room { kept: None }
+    }
+
+    /// What is kept. It is made where it is not there yet.
+    pub(crate) fn kept(&mut self, alloc: Global) -> Result<&mut Kept, NoMemory> {
+        if self.kept.is_none() {
+            self.kept = Some(Kept::new(alloc)?);
+        }
+        self.kept.as_mut().ok_or(NoMemory)
+    }
+}
