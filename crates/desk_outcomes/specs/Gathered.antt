@@ -1,4 +1,4 @@
--- What is known of a set of messages, by name. For private clauses.
+-- What is known of a set of messages, by name.
 use Rattle.std.specs.Prelude.{◌≡◌, ℕ, nat_le, ◌&&◌, if◌then◌else◌, List, [], ◌∷◌, ◌++◌, Contains, Option, Some, None, MatchOption, IfSome, is_some}
 use Rattle.std.specs.BTreeMap.{BTreeMap, IsOrdered}
 use Rattle.sudo_words.specs.declared.cmnd.Cmnd.{Cmnd}

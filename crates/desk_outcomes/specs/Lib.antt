@@ -6,10 +6,11 @@ pub mod Rights
 pub mod Outcomes
 pub mod Parked
 pub mod Summaries
+-- what is known of the messages, by name
+pub mod Names
+pub mod Gathered
+-- a host's lines and file, the whole or that after a moment
+pub mod LinesLeft
 -- laws: sets that grant the same, and verdicts that count for nothing
 pub mod Same
 pub mod Uncounted
--- for private clauses
-pub mod Names
-pub mod Gathered
-pub mod LinesLeft

@@ -1,4 +1,4 @@
--- What is left of a host's lines: all of them, or those that end at a moment or later. For private clauses.
+-- What is left of a host's lines: all of them, or those that end at a moment or later.
 use Rattle.std.specs.Prelude.{◌≡◌, ◌⊎◌, ℕ, ◌<◌, ◌≤◌, Bool, true, List, ◌++◌, filter, length, map, Option, Some, None}
 use Rattle.std.specs.List.{AllByRecursion}
 use Rattle.sudo_words.specs.declared.cmnd.Cmnd.{Cmnd}

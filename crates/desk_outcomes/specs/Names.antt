@@ -1,4 +1,4 @@
--- Maps whose keys are the names of requests. For private clauses.
+-- Maps whose keys are the names of requests.
 use Rattle.std.specs.Prelude.{Option}
 use Rattle.std.specs.Cmp.Lexicographic.{slice_cmp}
 use Rattle.std.specs.Ordering.{nat_cmp, ordering_then}

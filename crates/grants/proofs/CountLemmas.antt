@@ -41,7 +41,7 @@ count_not test r rs e =
     let none : ◌≡◌ {A = ℕ} (cond (test r) 1 0) 0 = cond-false (test r) 1 0 e in
     omega (arith, s, none)
 
-count_more : (test : Mark → Bool) (r : Mark) (rs : List Mark) → (count_by test rs ≤ count_by test (r ∷ rs)) × (count_by test (r ∷ rs) ≤ suc (count_by test rs))
+pub count_more : (test : Mark → Bool) (r : Mark) (rs : List Mark) → (count_by test rs ≤ count_by test (r ∷ rs)) × (count_by test (r ∷ rs) ≤ suc (count_by test rs))
 count_more test r rs =
     elim (cases_Bool (test r)) as (λ _. (count_by test rs ≤ count_by test (r ∷ rs)) × (count_by test (r ∷ rs) ≤ suc (count_by test rs))) [
       | inl e ↦ let s = count_yes test r rs e in (omega (arith, s), omega (arith, s))

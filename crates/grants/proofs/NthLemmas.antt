@@ -5,8 +5,8 @@ use Rattle.std.specs.Option.{MatchOption}
 use Rattle.std.proofs.lemmas.Bool.{cases_Bool, cases_eq, and_parts, and_from, and_left, both_ways, false_from_ne_true, leb-true, leb-false, le-leb, lt-leb, ltb-true, lt-ltb}
 use Rattle.std.proofs.lemmas.List.Sums.{sum_by-cons}
 use Rattle.grants.specs.declared.marks.Mark.{Mark}
-use Rattle.grants.specs.private.Ranks.{rank, is_after, is_enough, least_from, nth_of}
-use Rattle.grants.proofs.CountLemmas.{Has, has_weaker, has_each, both_each, each_weaker, count_not}
+use Rattle.grants.specs.private.Ranks.{is_by, rank, is_after, is_enough, least_from, nth_of}
+use Rattle.grants.proofs.CountLemmas.{Has, has_weaker, has_each, both_each, each_weaker, count_yes, count_not, count_more}
 use Rattle.grants.proofs.LeastLemmas.{IsLeast, Passes, is_least, one_least}
 
 abbrev by : (Mark → Bool) → ℕ → Mark → Bool
@@ -155,3 +155,19 @@ pub reached_is : (test : Mark → Bool) (n : ℕ) (all : List Mark) (moment : �
 reached_is test n all moment at many =
     one_least (is_enough test n all) all (nth_of test n all) (Some moment) (is_least (is_enough test n all) all)
     (has_weaker (Passes test moment) (Passes (is_enough test n all) moment) all (λ r s. (and_from (test r) _ s.0 (le-leb n _ (subst (λ (t : ℕ). n ≤ rank test all t) (sym s.1) many)), s.1)) at.has, at.below)
+
+-- by the moment of a mark that counts, one has come
+one_has_come : (test : Mark → Bool) (moment : ℕ) (all : List Mark) → Has (Passes test moment) all → 1 ≤ rank test all moment
+one_has_come test moment [] has = absurd has
+one_has_come test moment (r ∷ rs) (inl here) =
+    let yes = count_yes (is_by test moment) r rs (and_from (test r) _ here.0 (le-leb r.at moment (omega (arith, here.1)))) in
+    omega (arith, yes)
+one_has_come test moment (r ∷ rs) (inr later) =
+    let rest : 1 ≤ count_by (is_by test moment) rs = one_has_come test moment rs later in
+    let more = count_more (is_by test moment) r rs in
+    omega (arith, rest, more.0)
+
+pub first_is : (test : Mark → Bool) (n : ℕ) (all : List Mark) (moment : ℕ) → n ≤ 1 → least_from None (is_after test None) all ≡ Some moment → nth_of test n all ≡ Some moment
+first_is test n all moment few e =
+    let at = first_reached test n all moment e in
+    reached_is test n all moment at (omega (arith, few, one_has_come test moment all at.has))

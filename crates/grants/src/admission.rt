@@ -14,7 +14,14 @@ use crate::denial::Denial;
 use crate::within::dir_of;
 use messages::{Message, Request, Verdict};
 use roster::{Ceiling, Roster};
-use sudo_words::{ArgRule, Cmnd, FilePath};
+use sudo_words::{ArgRule, Cmnd, FilePath, Label};
+
+/// Whether the duty is one of these.
+fn is_held(duty: &Label, duties: &[Label]) -> bool
+    ensures { result ≡ is_among duties.now duty.now }
+{
+    duties.contains(duty)
+}
 
 /// The ceiling that the request names, where who asks is listed and may ask under it.
 fn ceiling_for<'r>(roster: &'r Roster, request: &Request) -> Result<&'r Ceiling, Denial>
@@ -22,13 +29,13 @@ fn ceiling_for<'r>(roster: &'r Roster, request: &Request) -> Result<&'r Ceiling,
         (λ c. MayAskUnder roster.now.says request.now c.now)
         (IsDenial roster.now.says (message_of.Request request.now)) }
 {
-    if !roster.has_person(request.by()) {
+    let Some(duties) = roster.duties(request.by()) else {
         return Err(Denial::UnknownPerson);
-    }
+    };
     let Some(ceiling) = roster.ceiling(request.ceiling()) else {
         return Err(Denial::UnknownCeiling);
     };
-    if !roster.holds(request.by(), ceiling.ask()) {
+    if !is_held(ceiling.ask(), duties) {
         return Err(Denial::NotAsker);
     }
     Ok(ceiling)

@@ -12,7 +12,7 @@ use sudo_words::Moment;
 fn is_by(voters: &Voters, moment: Moment, mark: &Mark) -> bool
     ensures { result ≡ spec.is_by (counting voters.now) moment mark.now }
 {
-    voters.count(mark) && mark.at <= moment
+    mark.at <= moment && voters.count(mark)
 }
 
 /// How many marks count and are no later than the moment.
@@ -31,7 +31,7 @@ fn is_after(voters: &Voters, moment: &Option<Moment>, mark: &Mark) -> bool
 {
     match moment {
         None => voters.count(mark),
-        Some(moment) => voters.count(mark) && *moment < mark.at,
+        Some(moment) => *moment < mark.at && voters.count(mark),
     }
 }
 
@@ -57,11 +57,16 @@ fn first_after(voters: &Voters, marks: &[Mark], moment: &Option<Moment>) -> Opti
     first
 }
 
-/// The n-th smallest moment of the marks that count. It goes through them twice for each moment up to that one.
+/// The n-th smallest moment of the marks that count. It goes through them once where n is 1, and else twice for each moment
+/// up to that one.
 pub(crate) fn nth(voters: &Voters, n: u64, marks: &[Mark]) -> Option<Moment>
     ensures { result ≡ spec.nth_of (counting voters.now) n marks.now }
 {
     let mut moment = first_after(voters, marks, &None)?;
+    // (by the first moment one has come)
+    if n <= 1 {
+        return Some(moment);
+    }
     while rank(voters, marks, moment) < n {
         moment = first_after(voters, marks, &Some(moment))?;
     }

@@ -1,6 +1,7 @@
 //! Rosters.
 
 ghost use Rattle.std.specs.Prelude.{◌≡◌, ◌≢◌, ◌≤◌, IfOk, IfErr, IfSome, MatchResult, option_map};
+ghost use Rattle.std.specs.List.{list_any};
 ghost use Rattle.sudo_words.specs.declared.cmnd.Cmnd.{Cmnd};
 ghost use Rattle.roster.specs.Faults.{IsLeastFault, IsRosterText};
 ghost use Rattle.roster.specs.Fields.{RosterFields};
@@ -90,6 +91,16 @@ impl Roster {
         entry_of(self.people(), person).is_some()
     }
 
+    /// The duties that the text gives the person, none where the roster does not list the person.
+    pub fn duties(&self, person: &Name) -> Option<&[Label]>
+        ensures { option_map (λ d. d.now) result ≡ relations.entry_of self.now.says.people person.now }
+    {
+        match entry_of(self.people(), person) {
+            Some(duties) => Some(duties.as_slice()),
+            None => None,
+        }
+    }
+
     /// Whether the roster lists the host.
     pub fn has_host(&self, host: &HostName) -> bool
         ensures { result ≡ rules.is_among self.now.says.hosts host.now }
@@ -139,9 +150,11 @@ impl Roster {
     pub fn eligible(&self, person: &Name, asker: &Name, ceiling: &Ceiling) -> bool
         ensures { result ≡ relations.eligible self.now.says person.now asker.now ceiling.now }
     {
+        // (the duties are looked up once for both)
+        let duties = duties_of(self.people(), person);
         *person != *asker
-            && self.holds(person, &ceiling.approve)
-            && !self.holds_against(person, &ceiling.approve)
+            && is_among(duties, ceiling.approve.as_str())
+            && !self.is_one_against(duties, &ceiling.approve)
     }
 
     /// Whether the person may revoke what the asker asked for under the ceiling: it is the asker, or someone who holds
@@ -152,14 +165,10 @@ impl Roster {
         *person == *asker || self.holds(person, &ceiling.approve)
     }
 
-    /// Whether the person holds a duty that conflicts with this one.
-    fn holds_against(&self, person: &Name, duty: &Label) -> bool
-        ensures { result ≡ relations.holds_against self.now.says person.now duty.now }
+    /// Whether one of the duties conflicts with this one.
+    fn is_one_against(&self, duties: &[Label], duty: &Label) -> bool
+        ensures { result ≡ list_any (λ d. relations.conflicting self.now.says d duty.now) duties.now }
     {
-        is_one_paired(
-            self.pairs.as_slice(),
-            duties_of(self.people(), person),
-            duty,
-        )
+        is_one_paired(self.pairs.as_slice(), duties, duty)
     }
 }

@@ -1,12 +1,16 @@
 use Rattle.std.proofs.Common.{sym, arith, rules}
 use Rattle.grants.specs.private.Voters.{counting}
-use Rattle.grants.proofs.NthLemmas.{first_reached, first_none, next_reached, next_none, reached_is}
+use Rattle.grants.proofs.NthLemmas.{first_is, first_reached, first_none, next_reached, next_none, reached_is}
 use Rattle.grants.proofs.ranks.nth.Goals as goal
 
 pub returns-in_err-moment : goal.returns-in_err-moment
 returns-in_err-moment c =
     let none = first_none (counting c.args.voters.now) c.args.n c.args.marks.now (sym c.in_err-moment.ensures) in
     search (rules, none)
+
+pub returns-then-n-le1 : goal.returns-then-n-le1
+returns-then-n-le1 c =
+    sym (first_is (counting c.args.voters.now) c.args.n c.args.marks.now c.in_ok-moment.moment (omega (arith, c.if-n-le1.true)) (sym c.in_ok-moment.ensures))
 
 pub loop-moment-init : goal.loop-moment-init
 loop-moment-init c =
