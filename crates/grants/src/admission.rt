@@ -16,11 +16,11 @@ use messages::{Message, Request, Verdict};
 use roster::{Ceiling, Roster};
 use sudo_words::{ArgRule, Cmnd, FilePath, Label};
 
-/// Whether the duty is one of these.
-fn is_held(duty: &Label, duties: &[Label]) -> bool
-    ensures { result ≡ is_among duties.now duty.now }
+/// Whether one of the duties is that which the ceiling wants of whoever asks.
+fn may_ask(duties: &[Label], ceiling: &Ceiling) -> bool
+    ensures { result ≡ is_among duties.now ceiling.now.ask }
 {
-    duties.contains(duty)
+    duties.contains(ceiling.ask())
 }
 
 /// The ceiling that the request names, where who asks is listed and may ask under it.
@@ -35,7 +35,7 @@ fn ceiling_for<'r>(roster: &'r Roster, request: &Request) -> Result<&'r Ceiling,
     let Some(ceiling) = roster.ceiling(request.ceiling()) else {
         return Err(Denial::UnknownCeiling);
     };
-    if !is_held(ceiling.ask(), duties) {
+    if !may_ask(duties, ceiling) {
         return Err(Denial::NotAsker);
     }
     Ok(ceiling)
