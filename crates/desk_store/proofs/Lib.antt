@@ -1,5 +1,6 @@
 pub mod CollectedLemmas
 pub mod MemoryLemmas
+pub mod OutcomeLemmas
 -- what the SQL texts mean
 pub mod Layers
 pub mod Exists
