@@ -1,6 +1,6 @@
 //! A keeper over a database.
 
-ghost use Rattle.std.specs.Prelude.{◌≡◌, ◌↔◌, ◌≤◌, false, string_bytes, IfOk, IsOk, IsErr, OnOk, OnErr, Err};
+ghost use Rattle.std.specs.Prelude.{◌≡◌, ◌↔◌, ◌≤◌, false, string_bytes, IsSomeAnd, IfOk, IsOk, IsErr, OnOk, OnErr, Err};
 ghost use Rattle.messages.specs.Wire.{wire, IsMessage};
 ghost use Rattle.sqlite.specs.State.{HasCleanDisk};
 ghost use Rattle.sqlite.specs.Held.{state};
@@ -153,6 +153,25 @@ fn concluded(failed: &mut u64, inserted: Result<usize, Error>) -> Result<(), Kee
     }
 }
 
+/// Keeps the messages that were read, in place of those that were kept. Where the rows show something else, that is a failure of the storage.
+fn keep(
+    failed: &mut u64,
+    messages: &mut Vec<Message>,
+    read: Option<Vec<Message>>,
+) -> Result<(), KeeperError>
+    ensures kept { OnOk result (IsSomeAnd read (λ found. messages.new.items ≡ found.items)) }
+    ensures counted { OnErr result (HasFailed failed.old failed.new) }
+    ensures counts { failed.old ≤ failed.new }
+{
+    match read {
+        Some(found) => {
+            *messages = found;
+            Ok(())
+        }
+        None => Err(storage(failed)),
+    }
+}
+
 impl<S: Alter> Keeper for SqliteKeeper<S> {
     ghost is_empty = { λ k. IsFree (state S.Store k.conn).now.schema };
 
@@ -247,13 +266,8 @@ impl<S: Alter> Keeper for SqliteKeeper<S> {
             Ok(rows) => rows,
             Err(error) => return Err(told(&mut self.failed, error)),
         };
-        match messages_in(self.alloc, rows.as_slice())? {
-            Some(messages) => {
-                self.messages = messages;
-                Ok(())
-            }
-            None => Err(storage(&mut self.failed)),
-        }
+        let read = messages_in(self.alloc, rows.as_slice())?;
+        keep(&mut self.failed, &mut self.messages, read)
     }
 
     fn messages(&self) -> &[Message] {
