@@ -23,6 +23,7 @@ pub mod QueryLemmas
 pub mod LookLemmas
 pub mod RecognizedLemmas
 -- how a desk is made
+pub mod EndLemmas
 pub mod Grown
 pub mod Makes
 pub mod MadeLemmas
