@@ -13,6 +13,7 @@ use Rattle.messages.specs.Wire.{wire, IsMessage}
 use Rattle.messages.specs.declared.message.Message.{Message}
 use Rattle.messages.proofs.Uniqueness.{one_message}
 use Rattle.desk_store.specs.Collected.{IsKept, has_text}
+use Rattle.desk_store.specs.private.Learning.{Learns, Knows}
 
 abbrev Text : Type 0
 Text = String Global
@@ -79,21 +80,20 @@ from_not_too : (b : Bool) → false ≡ not b → b ≡ true
 from_not_too true is = refl
 from_not_too false is = cc
 
--- where the text is new, the message is
-pub is_absent : (ms : List Message) (ks : List Text) (m : Message) (k : Text) → IsKept ms ks → IsMessage m → string_bytes k ≡ wire m
-    → true ≡ not (has_text ks (string_bytes k)) → ¬ Contains ms m
-is_absent ms ks m k kept is text new there =
-    let bytes = ap (λ b. has_text ks b) text in
-    let known : has_text ks (wire m) ≡ true = kept.known m is there in
-    let unknown : has_text ks (string_bytes k) ≡ false = from_not (has_text ks (string_bytes k)) new in
-    let wrong : true ≡ false = sym known ∙ sym bytes ∙ unknown in
-    cc
+-- what `insert` tells of a text
+pub learns : (m : Message) (k : Text) (old new : List Text) (is_new : Bool) → string_bytes k ≡ wire m → is_new ≡ not (has_text old (string_bytes k)) → new ≡ insert_key string_cmp old k → is_new ≡ true → Learns m old new
+learns m k old new is_new text told keys is = record {
+  key = k;
+  text = text;
+  missing = ap (has_text old) (sym text) ∙ from_not (has_text old (string_bytes k)) (sym is ∙ told);
+  keys = keys;
+}
 
--- where the text is there, the message is
-pub is_there : (ms : List Message) (ks : List Text) (m : Message) (k : Text) → IsKept ms ks → IsMessage m → string_bytes k ≡ wire m
-    → false ≡ not (has_text ks (string_bytes k)) → Contains ms m
-is_there ms ks m k kept is text old =
-    kept.found m is (ap (λ b. has_text ks b) (sym text) ∙ from_not_too (has_text ks (string_bytes k)) old)
+pub knows : (m : Message) (k : Text) (old new : List Text) (is_new : Bool) → string_bytes k ≡ wire m → is_new ≡ not (has_text old (string_bytes k)) → new ≡ old → is_new ≡ false → Knows m old new
+knows m k old new is_new text told keys is = record {
+  known = ap (has_text old) (sym text) ∙ from_not_too (has_text old (string_bytes k)) (sym is ∙ told);
+  keys = keys;
+}
 
 -- a new message and its text
 pub stays_kept : (ms : List Message) (ks : List Text) (m : Message) (k : Text) → IsKept ms ks → IsMessage m → string_bytes k ≡ wire m
@@ -123,3 +123,15 @@ stays_kept ms ks m k kept is text absent = record {
         let P : Message → Type 0 = λ x. Contains (ms ++ m ∷ []) x in
         subst P equal (Contains-push ms m)
     found_now n message (inr before) = Contains-append_left ms (m ∷ []) n (kept.found n message before)
+
+module _ (ms : List Message) (ks new : List Text) (m : Message) (kept : IsKept ms ks) (is : IsMessage m) where
+  -- where the text is new, the message is
+  pub is_absent : Learns m ks new → ¬ Contains ms m
+  is_absent it there = let wrong : true ≡ false = sym (kept.known m is there) ∙ it.missing in cc
+
+  -- where the text is there, the message is
+  pub is_there : Knows m ks new → Contains ms m
+  is_there it = kept.found m is it.known
+
+  pub learned_kept : Learns m ks new → IsKept (ms ++ m ∷ []) new
+  learned_kept it = subst (λ (x : List Text). IsKept (ms ++ m ∷ []) x) (sym it.keys) (stays_kept ms ks m it.key kept is it.text (is_absent it))

@@ -1,5 +1,6 @@
 pub mod CollectedLemmas
 pub mod MemoryLemmas
+pub mod OutcomeLemmas
 -- what the SQL texts mean
 pub mod Layers
 pub mod Exists
@@ -22,6 +23,7 @@ pub mod QueryLemmas
 pub mod LookLemmas
 pub mod RecognizedLemmas
 -- how a desk is made
+pub mod EndLemmas
 pub mod Grown
 pub mod Makes
 pub mod MadeLemmas

@@ -1,6 +1,7 @@
 -- What the rows of the messages say of the desk.
-use Rattle.std.proofs.Common.{◌≡◌, ◌⊎◌, inl, inr, ℕ, ◌<◌, ◌+◌, List, [], ◌∷◌, ◌++◌, length, get_or, take, map, Bool, true, false, ◌||◌, refl, sym, ap, subst, ◌∙◌, arith}
-use Rattle.std.specs.Prelude.{Contains}
+use Rattle.std.proofs.Common.{◌≡◌, ◌⊎◌, inl, inr, ℕ, ◌<◌, ◌+◌, List, [], ◌∷◌, ◌++◌, length, get_or, take, map, Bool, true, false, ◌||◌, Option, Some, None, Result, Ok, Err, Vec, refl, sym, ap, subst, ◌∙◌, arith}
+use Rattle.std.specs.Prelude.{⊤, Contains, IfSome, IsSomeAnd, OnOk}
+use Rattle.std.specs.declared.alloc.Global.{Global}
 use Rattle.std.specs.List.{list_any}
 use Rattle.std.proofs.lemmas.List.{take_more, map-append}
 use Rattle.std.proofs.lemmas.List.Elements.{Contains-push_cases}
@@ -108,3 +109,13 @@ lists_all db rows ms shows are = λ m. (
       let P : Message → Type 0 = λ x. Contains ms x in subst P same it.1,
   λ there. ((are.only m there).message, holds_is db rows ms shows are (wire m) ∙ texts_have ms m there),
 )
+
+-- the list that is kept in memory, behind a reading
+pub loads : {E : Type 0} (r : Result ⊤ E) (read : Option (Vec Message Global)) (old new : Database) (rows : List Row) (kept : List Message)
+    → OnOk r (IsSomeAnd read (λ ms. kept ≡ ms.items)) → IfSome read (λ ms. AreBodies rows ms.items) → ShowsBodies old rows → new ≡ old → OnOk r (Lists (HoldsText new) kept)
+loads (Err e) read old new rows kept is are shows same = tt
+loads (Ok a) None old new rows kept is are shows same = absurd is
+loads (Ok a) (Some ms) old new rows kept is are shows same =
+    let P : Database → Type 0 = λ d. Lists (HoldsText d) kept in
+    let Q : List Message → Type 0 = λ l. Lists (HoldsText old) l in
+    subst P (sym same) (subst Q (sym is) (lists_all old rows ms.items shows are))

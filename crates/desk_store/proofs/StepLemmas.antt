@@ -6,13 +6,14 @@ use Rattle.std.specs.FinSet as set
 use Rattle.sqlite.specs.declared.types.Value.TheVariants.{Text}
 use Rattle.sqlite.specs.Schema.{Schema}
 use Rattle.sqlite.specs.Tree.{Trees}
+use Rattle.sqlite.specs.Effect.{Database}
 use Rattle.sqlite.specs.Does.{Tally}
 use Rattle.sqlite.specs.Listing.{understood}
 use Rattle.sqlite.specs.declared.error.Error.{Error}
 use Rattle.sqlite.specs.State.{State, HasCleanDisk, Survives, Executes}
 use Rattle.sqlite.proofs.Callers.{statement_of, runs_as}
 use Rattle.sqlite.proofs.InsideLemmas.{fails_whole}
-use Rattle.desk_store.specs.Stored.{IsDeskIn, IsDeskDatabase, IsWritten, content_in, content_of, has, with_text, recorded, tree_of}
+use Rattle.desk_store.specs.Stored.{Content, IsDeskIn, IsDeskDatabase, IsWritten, content_in, content_of, has, with_text, recorded, tree_of}
 use Rattle.desk_store.specs.SqliteStates.{IsUp, IsAtRest, Rests}
 use Rattle.desk_store.specs.private.Statements.{KeepsOthers}
 use Rattle.desk_store.proofs.Missing.{insert_text, missing_means}
@@ -100,3 +101,8 @@ ends_up text old new (Ok count) desk before clean ran =
     let w = runs_as insert_text (Text text ∷ []) old new s refl (insertion was.schema.m tree) means.command means.plain count ran in
     record { clean = clean; is_open = w.shown.is_open }
 ends_up text old new (Err e) desk before clean ran = tt
+
+-- whether or not the text was put in, the roster is the same
+pub same_roster : (r : Result ℕ Error) (text : List ℕ) (old new : Database) → OnOk r (content_of new ≡ with_text text (content_of old)) → OnErr r (new ≡ old) → (content_of new).roster ≡ (content_of old).roster
+same_roster (Ok count) text old new content same = ap (λ (c : Content). c.roster) content
+same_roster (Err e) text old new content same = ap (λ (d : Database). (content_of d).roster) same

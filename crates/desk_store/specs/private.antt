@@ -5,3 +5,4 @@ pub mod Statements
 pub mod Making
 pub mod SqliteLaws
 pub mod Survival
+pub mod Learning

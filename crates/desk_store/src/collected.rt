@@ -1,9 +1,10 @@
 //! Messages, each once.
 
-ghost use Rattle.std.specs.Prelude.{◌≡◌, ◌≢◌, [], AllPairs, Contains, OnOk, OnErr, IfErr};
+ghost use Rattle.std.specs.Prelude.{◌≡◌, ◌≢◌, ◌<◌, true, false, [], AllPairs, Contains, IfOk, OnOk, OnErr, IfErr, vec_len, vec_capacity};
 ghost use Rattle.messages.specs.Wire.{IsMessage};
 ghost use Rattle.messages.specs.declared.message.Message.{Message as AnyMessage};
 ghost use Rattle.desk_store.specs.Collected.{IsPut};
+ghost use Rattle.desk_store.specs.private.Learning.{Learns, Knows};
 ghost use Rattle.desk_store.specs.declared.error.KeeperError.TheVariants as error;
 
 use crate::error::KeeperError;
@@ -33,6 +34,28 @@ impl Model for Collected {
     ghost invariant = { λ c. IsKept c.messages.items c.texts.keys };
 }
 
+/// Puts the message's text to the texts, and tells whether it was missing there. Behind the messages there is room for one more then.
+///
+/// The message is lent, so no exit of this drops it.
+fn learn(
+    alloc: Global,
+    messages: &mut Vec<Message>,
+    texts: &mut BTreeSet<String>,
+    message: &Message,
+) -> Result<bool, KeeperError>
+    ensures same { messages.new.items ≡ messages.old.items }
+    ensures room { OnOk result (vec_len messages.new < vec_capacity messages.new) }
+    ensures learns { IfOk result (λ is_new. is_new ≡ true → Learns message.now texts.old.keys texts.new.keys) }
+    ensures knows { IfOk result (λ is_new. is_new ≡ false → Knows message.now texts.old.keys texts.new.keys) }
+    ensures unchanged { OnErr result (texts.new.keys ≡ texts.old.keys) }
+    ensures err { IfErr result (λ e. e ≡ error.NoMemory) }
+{
+    let key = text(alloc, message)?;
+    messages.reserve(1)?;
+    let is_new = texts.insert(key)?;
+    Ok(is_new)
+}
+
 impl Collected {
     /// No messages. It takes no memory.
     pub(crate) fn new(alloc: Global) -> Collected
@@ -52,13 +75,21 @@ impl Collected {
         ensures unchanged { OnErr result (self.new ≡ self.old) }
         ensures err { IfErr result (λ e. e ≡ error.NoMemory) }
     {
-        let key = text(self.alloc, &message)?;
-        self.messages.reserve(1)?;
-        let is_new = self.texts.insert(key)?;
-        if is_new {
-            self.messages.push_reserved(message);
+        // A call drops the message: where an exit drops it in line, each of its fields is proved again there.
+        match learn(self.alloc, &mut self.messages, &mut self.texts, &message) {
+            Ok(true) => {
+                self.messages.push_reserved(message);
+                Ok(())
+            }
+            Ok(false) => {
+                drop(message);
+                Ok(())
+            }
+            Err(error) => {
+                drop(message);
+                Err(error)
+            }
         }
-        Ok(())
     }
 
     /// The messages.

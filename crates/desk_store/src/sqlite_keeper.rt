@@ -1,11 +1,12 @@
 //! A keeper over a database.
 
-ghost use Rattle.std.specs.Prelude.{◌≡◌, ◌↔◌, ◌≤◌, false};
+ghost use Rattle.std.specs.Prelude.{◌≡◌, ◌↔◌, ◌≤◌, false, string_bytes, IsSomeAnd, IfOk, IsOk, IsErr, OnOk, OnErr, Err};
+ghost use Rattle.messages.specs.Wire.{wire, IsMessage};
 ghost use Rattle.sqlite.specs.State.{HasCleanDisk};
 ghost use Rattle.sqlite.specs.Held.{state};
 ghost use Rattle.desk_store.specs.Keeping.{HasFailed};
 ghost use Rattle.desk_store.specs.Sets.{Lists, SameSet};
-ghost use Rattle.desk_store.specs.Stored.{HoldsText, IsDeskDatabase, IsFree, content_of};
+ghost use Rattle.desk_store.specs.Stored.{HoldsText, IsDeskDatabase, IsFree, IsWritten, content_of};
 ghost use Rattle.desk_store.specs.SqliteStates.{IsUp, Rests};
 ghost use Rattle.desk_store.specs.Crash.{MayLeave};
 ghost use Rattle.desk_store.specs.private.Props.{Rests-prop};
@@ -21,6 +22,7 @@ use crate::statements::{insert, select_bodies, select_desk, settles};
 use messages::{Message, text};
 use sqlite::{Alter, Connection, Error, ErrorCode};
 use std::alloc::Global;
+use sudo_words::NoMemory;
 
 /// The longest text that is read as a message again.
 const MOST_BYTES: usize = 16_384;
@@ -116,6 +118,60 @@ fn storage(failed: &mut u64) -> KeeperError
     KeeperError::Storage
 }
 
+/// The message's text. The message is dropped here, at one exit.
+fn text_of(alloc: Global, message: Message) -> Result<String, NoMemory>
+    ensures { IfOk result (λ body. string_bytes body ≡ wire message) }
+{
+    text(alloc, &message)
+}
+
+/// The message's text, where it is of the length that is read. A longer one is a failure of the storage.
+fn written(alloc: Global, failed: &mut u64, message: Message) -> Result<String, KeeperError>
+    requires { IsMessage message }
+    ensures text { IfOk result (λ body. string_bytes body ≡ wire message) }
+    ensures written { IfOk result (λ body. IsWritten (string_bytes body)) }
+    ensures counts { failed.old ≤ failed.new }
+    ensures cause { result ≡ Err KeeperError.Storage → HasFailed failed.old failed.new }
+{
+    let body = text_of(alloc, message)?;
+    if body.as_bytes().len() > MOST_BYTES {
+        return Err(storage(failed));
+    }
+    Ok(body)
+}
+
+/// What came of an INSERT. Where the database refused it, that is a failure, and it is counted.
+fn concluded(failed: &mut u64, inserted: Result<usize, Error>) -> Result<(), KeeperError>
+    ensures done { OnOk result (IsOk inserted) }
+    ensures refused { OnErr result (IsErr inserted) }
+    ensures counted { OnErr result (HasFailed failed.old failed.new) }
+    ensures counts { failed.old ≤ failed.new }
+{
+    match inserted {
+        Ok(_) => Ok(()),
+        Err(error) => Err(told(failed, error)),
+    }
+}
+
+/// Keeps the messages that were read, in place of those that were kept. Where the rows show something else, that is a failure of the storage.
+fn keep(
+    failed: &mut u64,
+    messages: &mut Vec<Message>,
+    read: Option<Vec<Message>>,
+) -> Result<(), KeeperError>
+    ensures kept { OnOk result (IsSomeAnd read (λ found. messages.new.items ≡ found.items)) }
+    ensures counted { OnErr result (HasFailed failed.old failed.new) }
+    ensures counts { failed.old ≤ failed.new }
+{
+    match read {
+        Some(found) => {
+            *messages = found;
+            Ok(())
+        }
+        None => Err(storage(failed)),
+    }
+}
+
 impl<S: Alter> Keeper for SqliteKeeper<S> {
     ghost is_empty = { λ k. IsFree (state S.Store k.conn).now.schema };
 
@@ -198,16 +254,10 @@ impl<S: Alter> Keeper for SqliteKeeper<S> {
     /// A message whose text is longer than what is read as one is refused, as what a database refuses is.
     fn add(&mut self, message: Message) -> Result<(), KeeperError> {
         settles(&self.conn);
-        let body = text(self.alloc, &message)?;
-        if body.as_bytes().len() > MOST_BYTES {
-            return Err(storage(&mut self.failed));
-        }
+        let body = written(self.alloc, &mut self.failed, message)?;
         let inserted = insert(&mut self.conn, body.as_str());
         settles(&self.conn);
-        match inserted {
-            Ok(_) => Ok(()),
-            Err(error) => Err(told(&mut self.failed, error)),
-        }
+        concluded(&mut self.failed, inserted)
     }
 
     fn load(&mut self) -> Result<(), KeeperError> {
@@ -216,13 +266,8 @@ impl<S: Alter> Keeper for SqliteKeeper<S> {
             Ok(rows) => rows,
             Err(error) => return Err(told(&mut self.failed, error)),
         };
-        match messages_in(self.alloc, rows.as_slice())? {
-            Some(messages) => {
-                self.messages = messages;
-                Ok(())
-            }
-            None => Err(storage(&mut self.failed)),
-        }
+        let read = messages_in(self.alloc, rows.as_slice())?;
+        keep(&mut self.failed, &mut self.messages, read)
     }
 
     fn messages(&self) -> &[Message] {

@@ -3,8 +3,10 @@ use Rattle.sqlite.specs.State.{HasCleanDisk, Survives}
 use Rattle.sqlite.specs.Held.{state}
 use Rattle.sqlite.proofs.Callers.{survives_begin}
 use Rattle.sqlite.proofs.StateLemmas.{survives_then}
+use Rattle.desk_store.specs.SqliteStates.{Rests}
 use Rattle.desk_store.specs.private.Making.{Fills}
 use Rattle.desk_store.specs.private.Survival.{MakesAt}
+use Rattle.desk_store.proofs.EndLemmas.{undone_rests}
 use Rattle.desk_store.proofs.SurvivalLemmas.{makes_again}
 use Rattle.desk_store.proofs.making.create.Goals as goal
 
@@ -25,3 +27,18 @@ returns-clause-survives g c up =
     (survives_begin g.S.Store old (state g.S.Store last) _ (rw begun at c.fill.ensures.survives)) c.commit.ensures.survives in
     let same : end ≡ c.conn-2-1.given.0 = search rules in
     subst (λ h. Survives (state g.S.Store old) (state g.S.Store h) (MakesAt roster)) same whole
+
+pub returns-in_err-fill-clause-rests : goal.returns-in_err-fill-clause-rests
+returns-in_err-fill-clause-rests g c =
+    let end = c.drop-tx.new.self.0 in
+    let same : end ≡ c.conn-1.given.0 = search rules in
+    subst (λ h. Rests (state g.S.Store h)) same (undone_rests (state g.S.Store c.fill.new.tx.conn.now) (state g.S.Store end) c.drop-tx.ensures.undone)
+
+pub returns-clause-rests : goal.returns-clause-rests
+returns-clause-rests g c up = search rules
+
+pub returns-clause-made : goal.returns-clause-made
+returns-clause-made g c up = search rules
+
+pub returns-clause-unmade : goal.returns-clause-unmade
+returns-clause-unmade g c up = search rules

@@ -1,39 +1,26 @@
-use Rattle.std.proofs.Common.{◌≡◌, ◌++◌, ◌∷◌, [], List, true, false, not, subst, inl, inr, rules}
-use Rattle.std.specs.Prelude.{Contains}
-use Rattle.std.specs.BTreeSet.{insert_key}
-use Rattle.std.specs.String.{string_bytes, string_cmp}
+use Rattle.std.proofs.Common.{◌≡◌, ◌++◌, ◌∷◌, [], List, ap, inl, inr, subst, sym, ◌∙◌}
 use Rattle.messages.specs.declared.message.Message.{Message}
-use Rattle.desk_store.specs.Collected.{IsPut, has_text}
-use Rattle.desk_store.proofs.CollectedLemmas.{is_absent, is_there, stays_kept}
+use Rattle.desk_store.specs.Collected.{IsKept, IsPut}
+use Rattle.desk_store.proofs.CollectedLemmas.{is_absent, is_there, learned_kept}
 use Rattle.desk_store.proofs.collected.Collected.put.Goals as goal
 
-pub invariant_of-self-then-is_new : goal.invariant_of-self-then-is_new
-invariant_of-self-then-is_new c =
+pub invariant_of-self : goal.invariant_of-self
+invariant_of-self c =
     let ms = c.self.inside.messages.items in
-    let ks = c.self.inside.texts.keys in
-    let new : true ≡ not (has_text ks (string_bytes c.in_ok-key.key)) = search rules in
-    let absent = is_absent ms ks c.args.message c.in_ok-key.key c.self.invariant c.requires c.in_ok-key.ensures new in
-    let stays = stays_kept ms ks c.args.message c.in_ok-key.key c.self.invariant c.requires c.in_ok-key.ensures absent in
-    let items : c.push_reserved.new.self.items ≡ ms ++ c.args.message ∷ [] = search rules in
-    let keys : c.insert.new.self.keys ≡ insert_key string_cmp ks c.in_ok-key.key = search rules in
-    rw (items, keys) stays
+    let items = c.push_reserved.ensures.items ∙ ap (λ (l : List Message). l ++ c.args.message ∷ []) c.in-Ok-true.ensures.same in
+    let P : List Message → Type 0 = λ l. IsKept l c.learn.new.texts.keys in
+    subst P (sym items) (learned_kept ms c.self.inside.texts.keys c.learn.new.texts.keys c.args.message c.self.invariant c.requires (c.in-Ok-true.ensures.learns c.in-Ok-true.field-0-test))
 
-pub returns-then-is_new-clause-put : goal.returns-then-is_new-clause-put
-returns-then-is_new-clause-put c =
+pub returns-in-Ok-true-clause-put : goal.returns-in-Ok-true-clause-put
+returns-in-Ok-true-clause-put c =
     let ms = c.self.inside.messages.items in
-    let ks = c.self.inside.texts.keys in
-    let new : true ≡ not (has_text ks (string_bytes c.in_ok-key.key)) = search rules in
-    let absent = is_absent ms ks c.args.message c.in_ok-key.key c.self.invariant c.requires c.in_ok-key.ensures new in
-    let items : c.push_reserved.new.self.items ≡ ms ++ c.args.message ∷ [] = search rules in
+    let items = c.push_reserved.ensures.items ∙ ap (λ (l : List Message). l ++ c.args.message ∷ []) c.in-Ok-true.ensures.same in
+    let absent = is_absent ms c.self.inside.texts.keys c.learn.new.texts.keys c.args.message c.self.invariant c.requires (c.in-Ok-true.ensures.learns c.in-Ok-true.field-0-test) in
     let P : List Message → Type 0 = λ old. IsPut old c.args.message c.push_reserved.new.self.items in
     subst P c.self.view_is (inr (absent, items))
 
-pub returns-else-is_new-clause-put : goal.returns-else-is_new-clause-put
-returns-else-is_new-clause-put c =
-    let ms = c.self.inside.messages.items in
-    let ks = c.self.inside.texts.keys in
-    let old : false ≡ not (has_text ks (string_bytes c.in_ok-key.key)) = search rules in
-    let there : Contains ms c.args.message = is_there ms ks c.args.message c.in_ok-key.key c.self.invariant c.requires c.in_ok-key.ensures old in
-    let same : c.match-message-4.self ≡ ms = search rules in
-    let P : List Message → Type 0 = λ old. IsPut old c.args.message c.match-message-4.self in
-    subst P c.self.view_is (inl (there, same))
+pub returns-in-Ok-false-clause-put : goal.returns-in-Ok-false-clause-put
+returns-in-Ok-false-clause-put c =
+    let there = is_there c.self.inside.messages.items c.self.inside.texts.keys c.learn.new.texts.keys c.args.message c.self.invariant c.requires (c.in-Ok-false.ensures.knows c.in-Ok-false.field-0-test) in
+    let P : List Message → Type 0 = λ old. IsPut old c.args.message c.learn.new.messages.items in
+    subst P c.self.view_is (inl (there, c.in-Ok-false.ensures.same))

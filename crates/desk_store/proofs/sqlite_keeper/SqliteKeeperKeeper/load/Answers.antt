@@ -1,20 +1,34 @@
-use Rattle.std.proofs.Common.{rules, subst}
-use Rattle.sqlite.specs.Effect.{Database}
+use Rattle.std.proofs.Common.{inl, inr}
 use Rattle.sqlite.specs.Held.{state}
-use Rattle.desk_store.specs.Sets.{Lists}
-use Rattle.desk_store.specs.Stored.{HoldsText}
-use Rattle.desk_store.specs.private.Statements.{ShowsBodies}
-use Rattle.desk_store.specs.private.Reading.{AreBodies}
-use Rattle.std.proofs.Common.{◌≡◌, sym}
-use Rattle.desk_store.proofs.ReadingLemmas.{lists_all}
+use Rattle.desk_store.proofs.LeftLemmas.{as_kept}
+use Rattle.desk_store.proofs.OutcomeLemmas.{of_err}
+use Rattle.desk_store.proofs.ReadingLemmas.{loads}
 use Rattle.desk_store.proofs.sqlite_keeper.SqliteKeeperKeeper.load.Goals as goal
 
-pub returns-in-Some-clause-loaded : goal.returns-in-Some-clause-loaded
-returns-in-Some-clause-loaded g c up =
+pub returns-clause-loaded : goal.returns-clause-loaded
+returns-clause-loaded g c up =
     let old = (state g.S.Store c.args.self.now.conn).now in
     let new = (state g.S.Store c.select_bodies.new.conn).now in
-    let shows : ShowsBodies old c.in-Ok.rows.items = search rules in
-    let are : AreBodies c.in-Ok.rows.items c.in-Some.messages.items = search rules in
-    let same : new ≡ old = search rules in
-    let P : Database → Type 0 = λ d. Lists (HoldsText d) c.in-Some.messages.items in
-    subst P (sym same) (lists_all old c.in-Ok.rows.items c.in-Some.messages.items shows are)
+    loads c.keep.result c.in_ok-read.read old new c.in-Ok.rows.items c.keep.new.messages.items c.keep.ensures.kept (rw c.as_slice.ensures.value at c.in_ok-read.ensures.all) (c.in-Ok.ensures.shows up) (c.select_bodies.ensures.same up)
+
+pub returns-clause-shuts : goal.returns-clause-shuts
+returns-clause-shuts g c up clean = inl (c.in-Ok.ensures.up up clean)
+
+pub returns-clause-cause : goal.returns-clause-cause
+returns-clause-cause g c is = of_err c.keep.result _ _ c.keep.ensures.counted is
+
+pub returns-clause-crash : goal.returns-clause-crash
+returns-clause-crash g c up clean left may = (as_kept (state g.S.Store c.args.self.now.conn) (state g.S.Store c.select_bodies.new.conn) c.settles.ensures up clean left may (c.select_bodies.ensures.survives up)).desk (c.requires up)
+
+pub returns-in_err-read-clause-shuts : goal.returns-in_err-read-clause-shuts
+returns-in_err-read-clause-shuts g c up clean = inl (c.in-Ok.ensures.up up clean)
+
+pub returns-in_err-read-clause-crash : goal.returns-in_err-read-clause-crash
+returns-in_err-read-clause-crash g c up clean left may =
+    (as_kept (state g.S.Store c.args.self.now.conn) (state g.S.Store c.select_bodies.new.conn) c.settles.ensures up clean left may (c.select_bodies.ensures.survives up)).desk (c.requires up)
+
+pub returns-in-Err-clause-shuts : goal.returns-in-Err-clause-shuts
+returns-in-Err-clause-shuts g c up clean = inr c.told.ensures.failed
+
+pub returns-in-Err-clause-crash : goal.returns-in-Err-clause-crash
+returns-in-Err-clause-crash g c up clean left may = (as_kept (state g.S.Store c.args.self.now.conn) (state g.S.Store c.select_bodies.new.conn) c.settles.ensures up clean left may (c.select_bodies.ensures.survives up)).desk (c.requires up)

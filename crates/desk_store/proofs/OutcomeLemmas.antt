@@ -1,0 +1,54 @@
+-- What came of one call, behind which another tells what came of both.
+use Rattle.std.proofs.Common.{◌≡◌, ◌⊎◌, inl, inr, ℕ, ◌≤◌, Result, Ok, Err, arith}
+use Rattle.std.specs.Prelude.{OnOk, OnErr, IsOk, IsErr}
+use Rattle.desk_store.specs.Keeping.{HasFailed}
+
+module _ {T U E F : Type 0} (r : Result T E) (s : Result U F) where
+  -- what the Ok of the one says, the Ok of the other says
+  pub behind_ok : (P Q : Type 0) → OnOk r (IsOk s) → (P → Q) → OnOk s P → OnOk r Q
+  behind_ok P Q done on p = go r s done p
+    where
+      go : (r : Result T E) (s : Result U F) → OnOk r (IsOk s) → OnOk s P → OnOk r Q
+      go (Ok a) (Ok b) done p = on p
+      go (Ok a) (Err f) done p = absurd cc
+      go (Err e) s done p = tt
+
+  -- and what else it says where that holds
+  pub then_ok : (P Q R : Type 0) → OnOk r (IsOk s) → OnOk s P → (P → OnOk s Q) → (P → Q → R) → OnOk r R
+  then_ok P Q R done p more on = go r s done p more
+    where
+      go : (r : Result T E) (s : Result U F) → OnOk r (IsOk s) → OnOk s P → (P → OnOk s Q) → OnOk r R
+      go (Ok a) (Ok b) done p more = on p (more p)
+      go (Ok a) (Err f) done p more = absurd cc
+      go (Err e) s done p more = tt
+
+  pub behind_err : (P : Type 0) → OnErr r (IsErr s) → OnErr s P → OnErr r P
+  behind_err P refused p = go r s refused p
+    where
+      go : (r : Result T E) (s : Result U F) → OnErr r (IsErr s) → OnErr s P → OnErr r P
+      go (Err a) (Err b) refused p = p
+      go (Err a) (Ok f) refused p = absurd cc
+      go (Ok e) s refused p = tt
+
+  -- it is up, or a failure was counted
+  pub up_or_failed : (P Q : Type 0) → OnOk r (IsOk s) → OnOk s P → OnErr r Q → P ⊎ Q
+  up_or_failed P Q done p q = go r s done p q
+    where
+      go : (r : Result T E) (s : Result U F) → OnOk r (IsOk s) → OnOk s P → OnErr r Q → P ⊎ Q
+      go (Ok a) (Ok b) done p q = inl p
+      go (Ok a) (Err f) done p q = absurd cc
+      go (Err e) s done p q = inr q
+
+-- a refusal is an Err
+pub of_err : {T E : Type 0} (r : Result T E) (e : E) (P : Type 0) → OnErr r P → r ≡ Err e → P
+of_err (Ok a) e P p is = absurd cc
+of_err (Err x) e P p is = p
+
+-- where an Err has the property, it has what follows
+pub on_err : {T E : Type 0} (r : Result T E) (P Q : Type 0) → (P → Q) → OnErr r P → OnErr r Q
+on_err (Ok a) P Q on p = tt
+on_err (Err e) P Q on p = on p
+
+-- a failure that was counted later
+pub failed_since : (a b c : ℕ) → a ≤ b → HasFailed b c → HasFailed a c
+failed_since a b c before failed = elim failed [ inl rose ↦ inl (omega (arith, before, rose)) | inr most ↦ inr most ]
