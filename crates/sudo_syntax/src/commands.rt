@@ -1,6 +1,6 @@
 //! Commands read from tokens.
 
-ghost use Rattle.std.specs.Prelude.{◌≡◌, ◌≤◌, ◌++◌, List, ℕ, length, IfOk, MatchResult, true};
+ghost use Rattle.std.specs.Prelude.{◌≡◌, ◌≤◌, ◌++◌, ◌∷◌, [], List, ℕ, length, IfErr, IfOk, MatchResult, OnOk, true};
 ghost use Rattle.std.specs.List.{AllByRecursion};
 ghost use Rattle.sudo_words.specs.Bytes.{comma};
 ghost use Rattle.sudo_words.specs.Command.{IsArgRule, IsLawful, arg_text, head_text, rule_of};
@@ -39,6 +39,17 @@ fn arg_of(alloc: Global, text: &str) -> Result<Arg, LineFault>
     }
 }
 
+/// Adds the argument that a word is.
+fn push_arg(alloc: Global, args: &mut Vec<Arg>, text: &str) -> Result<(), LineFault>
+    ensures found { OnOk result ((a : List ℕ) × (args.new.items ≡ args.old.items ++ a ∷ []) × (text.now ≡ arg_text a)
+        × ((b : List ℕ) → is_arg b ≡ true → text.now ≡ arg_text b → a ≡ b)) }
+    ensures only { (a : List ℕ) → is_arg a ≡ true → text.now ≡ arg_text a → IfErr result (λ e. e ≡ NoMemory) }
+{
+    let arg = arg_of(alloc, text)?;
+    args.push(arg)?;
+    Ok(())
+}
+
 /// The arguments at the front, each behind blanks, and what follows them.
 fn args_at<'a, 'b>(
     alloc: Global,
@@ -55,7 +66,7 @@ fn args_at<'a, 'b>(
         if read.0 == MOST_ARGS {
             return Err(LineFault::TooLarge);
         }
-        args.push(arg_of(alloc, text)?)?;
+        push_arg(alloc, &mut args, text)?;
         read = (read.0 + 1, after);
     }
     Ok((Items::new(args), read.1))

@@ -10,8 +10,8 @@ ghost use Rattle.sudo_policy.specs.Grammar.{SpellsCmnd, SpellsDef, SpellsItem};
 ghost use Rattle.sudo_policy.specs.Lex.{Tok};
 ghost use Rattle.sudo_policy.specs.private.Tokens.{toks};
 
-use crate::fronts::{begins_spaced, behind_word, head_at};
-use crate::items::{NameForm, Spelled, list_at, word_of};
+use crate::fronts::{behind_word, head_at};
+use crate::items::{NameForm, Spelled, list_at, rest_as, word_of};
 use crate::misplaced::misplaced;
 use std::alloc::Global;
 use sudo_policy::{CmndItem, Definition, Item, LineFault, Mark, Signed, Token};
@@ -81,12 +81,6 @@ where
     let Some(next) = behind_word(kind, tokens) else {
         return Ok(None);
     };
-    if !begins_spaced(next) {
-        return Err(misplaced(next));
-    }
-    let (list, rest) = list_at(alloc, Mark::Colon, next)?;
-    if !rest.is_empty() {
-        return Err(misplaced(rest));
-    }
+    let list = rest_as(alloc, next)?;
     Ok(Some(list))
 }

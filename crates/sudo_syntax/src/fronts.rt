@@ -92,8 +92,11 @@ pub(crate) fn arg_at<'a, 'b>(tokens: &'b [Token<'a>]) -> Option<(&'a str, &'b [T
     ensures found { MatchOption result (NoArg (toks tokens.now)) (λ x. toks tokens.now ≡ lex.word true 0 x.0.now ∷ toks x.1.now) }
     ensures shorter { IfSome result (λ x. length x.1.now < length tokens.now) }
 {
-    match tokens {
-        [first, rest @ ..] if first.spaced => Some((plain_word(first)?, rest)),
+    let [first, rest @ ..] = tokens else {
+        return None;
+    };
+    match plain_word(first) {
+        Some(text) if first.spaced => Some((text, rest)),
         _ => None,
     }
 }
@@ -105,11 +108,12 @@ pub(crate) fn date_at<'a, 'b>(
     ensures found { MatchOption result (NoDate (toks tokens.now)) (λ x. (a : Bool) × (toks tokens.now ≡ lex.word a 0 x.0.now ∷ lex.mark false equals ∷ lex.word false 0 x.1.now ∷ toks x.2.now)) }
     ensures shorter { IfSome result (λ x. length x.2.now < length tokens.now) }
 {
-    match tokens {
-        [name, sign, time, rest @ ..]
-            if is_mark(sign, Mark::Equals) && !sign.spaced && !time.spaced => {
-            Some((plain_word(name)?, plain_word(time)?, rest))
-        }
+    let [name, sign, time, rest @ ..] = tokens else {
+        return None;
+    };
+    match (plain_word(name), plain_word(time)) {
+        (Some(option), Some(text)) if is_mark(sign, Mark::Equals) && !sign.spaced && !time.spaced =>
+            { Some((option, text, rest)) }
         _ => None,
     }
 }
@@ -122,8 +126,11 @@ pub(crate) fn head_at<'a, 'b>(
     ensures found { MatchOption result (NoHead (mark_byte mark) (toks tokens.now)) (λ x. (a b : Bool) × (toks tokens.now ≡ lex.word a 0 x.0.now ∷ lex.mark b (mark_byte mark) ∷ toks x.1.now)) }
     ensures shorter { IfSome result (λ x. length x.1.now < length tokens.now) }
 {
-    match tokens {
-        [name, next, rest @ ..] if is_mark(next, mark) => Some((plain_word(name)?, rest)),
+    let [name, next, rest @ ..] = tokens else {
+        return None;
+    };
+    match plain_word(name) {
+        Some(text) if is_mark(next, mark) => Some((text, rest)),
         _ => None,
     }
 }

@@ -1,9 +1,10 @@
 //! Lists of what tokens spell in one way, and the items of users, hosts and targets.
 
-ghost use Rattle.std.specs.Prelude.{◌≡◌, ◌<◌, ◌∷◌, Bool, List, ℕ, length, IfOk, MatchResult, true, false};
+ghost use Rattle.std.specs.Prelude.{◌≡◌, ◌<◌, ◌∷◌, [], Bool, List, ℕ, length, IfOk, MatchResult, true, false};
+ghost use Rattle.sudo_words.specs.Bytes.{colon};
 ghost use Rattle.sudo_policy.specs.declared.fault.LineFault.TheVariants.{NoMemory};
-ghost use Rattle.sudo_syntax.specs.private.Fronts.{NoMark, begins_upper};
-ghost use Rattle.sudo_policy.specs.Grammar.{Listed, SpellsItem};
+ghost use Rattle.sudo_syntax.specs.private.Fronts.{EndsBy, NoMark, begins_upper};
+ghost use Rattle.sudo_policy.specs.Grammar.{Listed, SpellsItem, begins_spaced};
 ghost use Rattle.sudo_policy.specs.Lex as lex;
 ghost use Rattle.sudo_policy.specs.Lex.{Tok};
 ghost use Rattle.sudo_policy.specs.private.Tokens.{mark_byte, toks};
@@ -11,7 +12,7 @@ ghost use Rattle.sudo_policy.specs.declared.entry.Item.{Item as Said};
 ghost use Rattle.sudo_policy.specs.Policy.{IsItem};
 ghost use Rattle.sudo_policy.specs.Printing.{item_text};
 
-use crate::fronts::{behind_mark, word_at};
+use crate::fronts::{begins_spaced, behind_mark, word_at};
 use crate::misplaced::{bad_word, misplaced};
 use std::alloc::Global;
 use sudo_policy::{Item, LineFault, Mark, Signed, Token};
@@ -58,6 +59,26 @@ pub(crate) fn list_at<'a, 'b, T: Spelled>(
         rest = after;
     }
     Ok((Items::new(items), rest))
+}
+
+/// One or more with `:` between, behind blanks and up to the last token.
+pub(crate) fn rest_as<T: Spelled>(
+    alloc: Global,
+    tokens: &[Token<'_>],
+) -> Result<Items<T>, LineFault>
+    requires { (rest : List Tok) → EndsBy colon rest → T.follows rest }
+    ensures found { IfOk result (λ xs. (begins_spaced (toks tokens.now) ≡ true) × Listed colon T.spells (toks tokens.now) xs []) }
+    ensures only { (xs : List T) → begins_spaced (toks tokens.now) ≡ true → Listed colon T.spells (toks tokens.now) xs []
+        → MatchResult result (λ ys. ys ≡ xs) (λ e. e ≡ NoMemory) }
+{
+    if !begins_spaced(tokens) {
+        return Err(misplaced(tokens));
+    }
+    let (list, rest) = list_at(alloc, Mark::Colon, tokens)?;
+    if !rest.is_empty() {
+        return Err(misplaced(rest));
+    }
+    Ok(list)
 }
 
 /// A form of names: none begins with an upper-case letter, as `ALL` and the aliases do.

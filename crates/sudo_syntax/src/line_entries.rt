@@ -237,6 +237,23 @@ fn add_specs(
     add_last(alloc, draft, users, hosts, held, last)
 }
 
+/// Adds the rules of a part: the users are copied.
+fn add_part(
+    alloc: Global,
+    draft: &mut Draft,
+    users: &Items<Signed<Item<Name>>>,
+    part: Part,
+) -> Result<(), LineFault>
+    requires draft { IsDraft draft.old }
+    requires entries { AllByRecursion IsEntry (inheritance.part_rules users.now part) }
+    ensures found { OnOk result (Adds draft.old draft.new (inheritance.part_rules users.now part)) }
+    ensures only { IsPolicy (draft.old.entries.items ++ inheritance.part_rules users.now part) → IfErr result (λ e. e ≡ fault.NoMemory) }
+{
+    let users = copy_names(users)?;
+    let Part { hosts, specs } = part;
+    add_specs(alloc, draft, users, hosts, specs.into_vec())
+}
+
 /// Adds the rules of each part before the last: the users are copied.
 fn add_front_parts(
     alloc: Global,
@@ -250,8 +267,7 @@ fn add_front_parts(
     ensures only { IsPolicy (draft.old.entries.items ++ flat_map (inheritance.part_rules users.now) front.items) → IfErr result (λ e. e ≡ fault.NoMemory) }
 {
     for part in front {
-        let Part { hosts, specs } = part;
-        add_specs(alloc, draft, copy_names(users)?, hosts, specs.into_vec())?;
+        add_part(alloc, draft, users, part)?;
     }
     Ok(())
 }

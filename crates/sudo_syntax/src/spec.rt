@@ -101,13 +101,9 @@ fn tag_at<'a, 'b>(tokens: &'b [Token<'a>]) -> Option<(bool, &'b [Token<'a>])>
     ensures found { MatchOption result (NoTag (toks tokens.now)) (λ x. (a b : Bool) × (toks tokens.now ≡ word a 0 (tag_word x.0) ∷ mark b colon ∷ toks x.1.now)) }
     ensures shorter { IfSome result (λ x. length x.1.now < length tokens.now) }
 {
-    match head_at(Mark::Colon, tokens) {
-        Some((name, rest)) => match tag_of(name) {
-            Some(tag) => Some((tag, rest)),
-            None => None,
-        },
-        None => None,
-    }
+    let (name, rest) = head_at(Mark::Colon, tokens)?;
+    let tag = tag_of(name)?;
+    Some((tag, rest))
 }
 
 /// What the last of the tags at the front says, if there is one, and what follows them.

@@ -13,8 +13,8 @@ ghost use Rattle.sudo_policy.specs.private.Tokens.{toks};
 ghost use Rattle.sudo_policy.specs.declared.tree.Line.{Line as Tree};
 
 use crate::definitions::aliases_of;
-use crate::fronts::{begins_spaced, behind_mark};
-use crate::items::{Spelled, list_at};
+use crate::fronts::behind_mark;
+use crate::items::{Spelled, list_at, rest_as};
 use crate::misplaced::misplaced;
 use std::alloc::Global;
 use sudo_policy::{CmndItem, Item, Line, LineFault, Mark, Part, Signed, Token};
@@ -52,13 +52,7 @@ pub(crate) fn user_spec_of(alloc: Global, tokens: &[Token<'_>]) -> Result<UserSp
         → MatchResult result (λ r. (r.users ≡ users) × (r.parts ≡ parts)) (λ e. e ≡ NoMemory) }
 {
     let (users, next) = list_at(alloc, Mark::Comma, tokens)?;
-    if !begins_spaced(next) {
-        return Err(misplaced(next));
-    }
-    let (parts, rest) = list_at(alloc, Mark::Colon, next)?;
-    if !rest.is_empty() {
-        return Err(misplaced(rest));
-    }
+    let parts = rest_as(alloc, next)?;
     Ok(UserSpec { users, parts })
 }
 
