@@ -15,7 +15,6 @@ pub(crate) fn is_among<F: Form>(words: &[Word<F>], text: &str) -> bool
 }
 
 /// What stands at the name, found by halving.
-#[tactic(auto, using(crate::proofs::Rising::all_below, crate::proofs::Rising::all_above, crate::proofs::Rising::found, crate::proofs::Rising::not_found))]
 pub(crate) fn entry_of<'e, F: Form, T>(entries: &'e [(Word<F>, T)], name: &Word<F>) -> Option<&'e T>
     requires { relations.AreRising entries.now }
     ensures { option_map (λ x. x.now) result ≡ relations.entry_of entries.now name.now }

@@ -75,15 +75,6 @@ fn each_pair(alloc: Global, values: &[Value]) -> Result<Items<(Text, Text)>, Ros
     Ok(Items::new(pairs))
 }
 
-fn pairs(alloc: Global, value: &Value) -> Result<Items<(Text, Text)>, RosterFault>
-    ensures { Reads WrongType (pairs_of (view value.now)) result }
-{
-    match value {
-        Value::Array(values) => each_pair(alloc, values),
-        _ => Err(RosterFault::WrongType),
-    }
-}
-
 fn each_person(alloc: Global, table: &Table) -> Result<Items<(Text, Items<Text>)>, RosterFault>
     ensures reads { Reads WrongType (each_member texts_of (table_view table.now)) result }
     ensures rising { IfOk result AreRising }
@@ -95,16 +86,6 @@ fn each_person(alloc: Global, table: &Table) -> Result<Items<(Text, Items<Text>)
         people.push((name, duties))?;
     }
     Ok(Items::new(people))
-}
-
-fn people(alloc: Global, value: &Value) -> Result<Items<(Text, Items<Text>)>, RosterFault>
-    ensures reads { Reads WrongType (people_of (view value.now)) result }
-    ensures rising { IfOk result AreRising }
-{
-    match value {
-        Value::Table(table) => each_person(alloc, table),
-        _ => Err(RosterFault::WrongType),
-    }
 }
 
 pub(crate) fn value_at<'t>(table: &'t Table, key: &str) -> Result<&'t Value, RosterFault>
@@ -195,20 +176,13 @@ fn each_ceiling(alloc: Global, table: &Table) -> Result<Items<(Text, DraftCeilin
     Ok(Items::new(ceilings))
 }
 
-fn ceilings(alloc: Global, value: &Value) -> Result<Items<(Text, DraftCeiling)>, RosterFault>
-    ensures reads { Reads WrongType (ceilings_of (view value.now)) result }
-    ensures rising { IfOk result AreRising }
-{
-    match value {
-        Value::Table(table) => each_ceiling(alloc, table),
-        _ => Err(RosterFault::WrongType),
-    }
-}
-
 fn pairs_at(alloc: Global, table: &Table, key: &str) -> Result<Items<(Text, Text)>, RosterFault>
     ensures { Reads WrongType (member_of pairs_of key.now (table_view table.now)) result }
 {
-    pairs(alloc, value_at(table, key)?)
+    match value_at(table, key)? {
+        Value::Array(values) => each_pair(alloc, values),
+        _ => Err(RosterFault::WrongType),
+    }
 }
 
 fn people_at(
@@ -219,7 +193,10 @@ fn people_at(
     ensures reads { Reads WrongType (member_of people_of key.now (table_view table.now)) result }
     ensures rising { IfOk result AreRising }
 {
-    people(alloc, value_at(table, key)?)
+    match value_at(table, key)? {
+        Value::Table(table) => each_person(alloc, table),
+        _ => Err(RosterFault::WrongType),
+    }
 }
 
 fn ceilings_at(
@@ -230,7 +207,10 @@ fn ceilings_at(
     ensures reads { Reads WrongType (member_of ceilings_of key.now (table_view table.now)) result }
     ensures rising { IfOk result AreRising }
 {
-    ceilings(alloc, value_at(table, key)?)
+    match value_at(table, key)? {
+        Value::Table(table) => each_ceiling(alloc, table),
+        _ => Err(RosterFault::WrongType),
+    }
 }
 
 /// What the document says, where no key is missing and each value has its type.
