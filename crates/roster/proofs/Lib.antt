@@ -9,3 +9,4 @@ pub mod Listed
 pub mod PairLemmas
 pub mod CommandLemmas
 pub mod Ranges
+pub mod KeyLemmas

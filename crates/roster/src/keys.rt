@@ -1,55 +1,51 @@
 //! The keys of a document that a roster has.
 
 ghost use Rattle.std.specs.Prelude.{◌≡◌, Some};
+ghost use Rattle.std.specs.List.{list_any};
+ghost use Rattle.std.specs.Str.{bytes_eq};
 ghost use Rattle.toml.specs.View.{table_view, view};
 ghost use Rattle.roster.specs.Document.{each_key, each_value, has_ceiling_keys as has_keys, have_ceiling_keys as have_keys, has_known_keys as known, is_ceiling_key as is_inner_key, is_roster_key as is_key};
 
 use crate::typed::value_at;
 use toml::{Table, Value};
 
-fn is_roster_key(key: &str) -> bool
-    ensures { result ≡ is_key key.now }
+/// Whether each key of the table is one of these.
+fn has_only(keys: &[&str], table: &Table) -> bool
+    ensures { result ≡ each_key (λ k. list_any (λ w. bytes_eq w.now k) keys.now) (table_view table.now) }
 {
-    key == "relays"
-        || key == "hosts"
-        || key == "duties"
-        || key == "conflicts"
-        || key == "people"
-        || key == "ceilings"
+    for (key, _value) in table.iter() {
+        if !(&*keys).contains(&key.as_str()) {
+            return false;
+        }
+    }
+    true
 }
 
 fn has_roster_keys(table: &Table) -> bool
     ensures { result ≡ each_key is_key (table_view table.now) }
 {
-    for (key, _value) in table.iter() {
-        if !is_roster_key(key.as_str()) {
-            return false;
-        }
-    }
-    true
-}
-
-fn is_ceiling_key(key: &str) -> bool
-    ensures { result ≡ is_inner_key key.now }
-{
-    key == "ask"
-        || key == "approve"
-        || key == "needs"
-        || key == "hosts"
-        || key == "runas"
-        || key == "commands"
-        || key == "longest"
+    has_only(
+        &[
+            "relays",
+            "hosts",
+            "duties",
+            "conflicts",
+            "people",
+            "ceilings",
+        ],
+        table,
+    )
 }
 
 fn has_only_ceiling_keys(table: &Table) -> bool
     ensures { result ≡ each_key is_inner_key (table_view table.now) }
 {
-    for (key, _value) in table.iter() {
-        if !is_ceiling_key(key.as_str()) {
-            return false;
-        }
-    }
-    true
+    has_only(
+        &[
+            "ask", "approve", "needs", "hosts", "runas", "commands", "longest",
+        ],
+        table,
+    )
 }
 
 fn has_ceiling_keys(value: &Value) -> bool
