@@ -19,7 +19,7 @@ use review::Scope;
 use std::alloc::{AllocError, Global};
 use std::io::{BufWriter, Read, Write};
 use sudo_decide::{Decision, Invocation, decide};
-use sudo_syntax::{Policy, print_policy, read_policy};
+use sudo_syntax::{Policy, print_owned, read_policy};
 use sudo_words::{HostName, Moment};
 
 fn status_of(decision: Decision) -> Status
@@ -57,7 +57,7 @@ fn check(alloc: Global, file: &mut Vec<u8>) -> Result<Answer, Refusal>
 {
     let policy = policy_of(alloc, file)?;
     Ok(Answer {
-        text: print_policy(alloc, &policy)?,
+        text: print_owned(alloc, policy)?,
         status: Status::Done,
     })
 }

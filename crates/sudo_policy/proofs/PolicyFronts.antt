@@ -1,7 +1,7 @@
 -- Entries behind entries: a front of a policy is a policy.
-use Rattle.std.proofs.Common.{◌≡◌, ℕ, ◌+◌, List, [], ◌∷◌, ◌++◌, length, reverse, map, sym, ap, subst, ◌∙◌, append_assoc, add_assoc, zero-add, arith}
+use Rattle.std.proofs.Common.{◌≡◌, ℕ, ◌+◌, List, [], ◌∷◌, ◌++◌, length, take, drop, reverse, map, sym, ap, subst, ◌∙◌, append_assoc, add_assoc, zero-add, arith}
 use Rattle.std.specs.List.{AllByRecursion}
-use Rattle.std.proofs.lemmas.List.{append-nil, length-append, reverse-append}
+use Rattle.std.proofs.lemmas.List.{append-nil, length-append, reverse-append, take-append-drop}
 use Rattle.std.proofs.lemmas.List.Concat.{flat_map-append}
 use Rattle.sudo_policy.specs.declared.entry.Rule.{Rule}
 use Rattle.sudo_policy.specs.declared.entry.Entry.{Entry}
@@ -64,6 +64,16 @@ weight_both above (e ∷ es) fs =
 
 pub canon_both : (es fs : List Entry) → canon (es ++ fs) ≡ canon es ++ canon fs
 canon_both es fs = flat_map-append line_text es fs
+
+-- entries in two halves, printed one behind the other
+pub canon_halves : (es : List Entry) (half : ℕ) → canon (take half es) ++ canon (drop half es) ≡ canon es
+canon_halves es half = sym (canon_both (take half es) (drop half es)) ∙ ap canon (take-append-drop half es)
+
+pub each_front : (es : List Entry) (half : ℕ) → AllByRecursion IsEntry es → AllByRecursion IsEntry (take half es)
+each_front es half h = all_front IsEntry (take half es) (drop half es) (subst (AllByRecursion IsEntry) (sym (take-append-drop half es)) h)
+
+pub each_rest : (es : List Entry) (half : ℕ) → AllByRecursion IsEntry es → AllByRecursion IsEntry (drop half es)
+each_rest es half h = all_rest IsEntry (take half es) (drop half es) (subst (AllByRecursion IsEntry) (sym (take-append-drop half es)) h)
 
 -- ---- policies
 

@@ -25,6 +25,6 @@ pub use fault::{FaultKind, LineFault, ReadFault};
 pub use laws::{canon_is_one, canon_spells, one_policy};
 pub use lengths::MOST_TEXT_BYTES;
 pub use policy::Policy;
-pub use printing::{print_policy, push_command, push_moment};
+pub use printing::{print_owned, print_policy, push_command, push_moment};
 pub use token::{Mark, Token, TokenKind, cut_text, is_blank, is_text, tokens};
 pub use tree::{CmndSpec, Definition, Line, Part, Settings};

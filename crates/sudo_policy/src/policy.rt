@@ -117,6 +117,15 @@ impl Policy {
         self.draft.scope.knows(rules)
     }
 
+    /// Gives the entries back, in order.
+    pub(crate) fn into_entries(self) -> Vec<Entry>
+        ensures value { result.items ≡ self }
+        ensures policy { IsPolicy self }
+    {
+        let Draft { entries, .. } = self.draft;
+        entries
+    }
+
     /// The policy of a draft's entries.
     pub fn of(draft: Draft) -> Policy
         requires { IsGrown draft }

@@ -252,3 +252,29 @@ pub fn print_policy(alloc: Global, policy: &Policy) -> Result<String, NoMemory>
 {
     printed(alloc, policy.entries(), policy.text_len())
 }
+
+/// The text of the entries, which has this length, one a line. The second half of them is printed by itself and given back before the first half is
+/// printed: so the whole text never stands beside all entries.
+fn printed_in_halves(alloc: Global, entries: Vec<Entry>, len: usize) -> Result<String, NoMemory>
+    requires { AllByRecursion IsEntry entries.items }
+    ensures { IfOk result (λ s. string_bytes s ≡ canon entries.items) }
+{
+    let half = entries.len() / 2;
+    let mut front = entries;
+    let (_, last) = front.as_slice().split_at(half);
+    let rest = printed(alloc, last, 0)?;
+    front.truncate(half);
+    front.shrink_to_fit();
+    let mut out = printed(alloc, front.as_slice(), len)?;
+    out.push_str(rest.as_str())?;
+    Ok(out)
+}
+
+/// The policy's canonical text, as `print_policy` prints it. The policy is given back on the way, which takes less memory at once.
+pub fn print_owned(alloc: Global, policy: Policy) -> Result<String, NoMemory>
+    ensures text { IfOk result (λ s. string_bytes s ≡ canon policy) }
+    ensures read_back { IfOk result (λ s. Spells (string_bytes s) policy) }
+{
+    let len = policy.text_len();
+    printed_in_halves(alloc, policy.into_entries(), len)
+}

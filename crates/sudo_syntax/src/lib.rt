@@ -20,7 +20,7 @@ pub use line_laws::{
 pub use read::read_policy;
 pub use sudo_policy::{
     CmndItem, Entry, FaultKind, Item, Policy, ReadFault, Rule, Signed, alias_weighs_its_list,
-    canon_is_one, canon_spells, extend, one_policy, print_policy,
+    canon_is_one, canon_spells, extend, one_policy, print_owned, print_policy,
 };
 pub use sudo_words::{
     AliasName, Arg, ArgRule, Cmnd, CmndFault, DirPath, FilePath, HostName, Items, Moment, Name,
