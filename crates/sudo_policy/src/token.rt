@@ -12,6 +12,7 @@ ghost use Rattle.sudo_policy.specs.private.Tokens as lexing;
 use crate::fault::LineFault;
 use std::alloc::Global;
 use std::str;
+use sudo_words::is_escaped;
 
 /// A byte that stands for itself between words.
 #[derive(Clone, Copy, PartialEq, Eq)]
@@ -91,13 +92,6 @@ fn is_word_byte(b: u8) -> bool
         b'.' | b'_' | b'/' | b'+' | b'-' | b'@' | b'%' => true,
         _ => false,
     }
-}
-
-/// A byte that a word has behind a backslash alone.
-fn is_escaped(b: u8) -> bool
-    ensures { result ≡ command.is_escaped b }
-{
-    b == b',' || b == b':' || b == b'='
 }
 
 /// How many blanks stand at the front.

@@ -21,11 +21,9 @@ use crate::misplaced::{bad_cmnd, bad_word, misplaced};
 use std::alloc::Global;
 use sudo_policy::{CmndItem, LineFault, Signed, Token};
 use sudo_words::{
-    AliasForm, Arg, ArgRule, Cmnd, CmndFault, Form, Items, WordFault, command_of, read_arg,
+    AliasForm, Arg, ArgRule, Cmnd, CmndFault, Form, Items, MOST_ARGS, WordFault, command_of,
+    read_arg,
 };
-
-/// How many arguments a command may have.
-const MOST_ARGS: usize = 16;
 
 /// The argument that a word is.
 fn arg_of(alloc: Global, text: &str) -> Result<Arg, LineFault>

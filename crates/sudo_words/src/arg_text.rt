@@ -11,8 +11,8 @@ use crate::arg::{Arg, is_arg_byte};
 use crate::fault::WordFault;
 use std::alloc::{AllocError, Global};
 
-/// Whether the byte stands behind a backslash.
-pub(crate) fn is_escaped(byte: u8) -> bool
+/// Whether the byte stands behind a backslash in an argument's text (sudoers(5), "Other special characters and reserved words").
+pub fn is_escaped(byte: u8) -> bool
     ensures { result ≡ command.is_escaped byte }
 {
     byte == b',' || byte == b':' || byte == b'='

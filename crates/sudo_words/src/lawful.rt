@@ -14,7 +14,7 @@ use crate::cmnd::{ArgRule, Cmnd};
 const LONGEST_PATH: usize = 255;
 
 /// The most arguments that a rule lists.
-const MOST_ARGS: usize = 16;
+pub const MOST_ARGS: usize = 16;
 
 /// The most bytes of a command's text.
 const LONGEST_TEXT: usize = 1024;

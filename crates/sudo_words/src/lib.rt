@@ -20,12 +20,12 @@ mod word;
 
 pub use alias::{AliasForm, AliasName};
 pub use arg::{Arg, ArgForm};
-pub use arg_text::read_arg;
+pub use arg_text::{is_escaped, read_arg};
 pub use cmnd::{ArgRule, Cmnd};
 pub use cmnd_text::{command_of, print_cmnd, read_cmnd};
 pub use fault::{CmndFault, NoMemory, WordFault};
 pub use items::Items;
-pub use lawful::{cmnd_len, is_lawful};
+pub use lawful::{MOST_ARGS, cmnd_len, is_lawful};
 pub use laws::{directory_and_component, one_command};
 pub use moment::Moment;
 pub use moment_laws::{one_moment, stamp_is_stamp, stamp_spells};

@@ -1,4 +1,4 @@
-use Rattle.std.proofs.Common.{◌++◌, List, ℕ, ap, ◌∙◌}
+use Rattle.std.proofs.Common.{ap, ◌∙◌}
 use Rattle.sudo_words.specs.Command.{is_directly_in}
 use Rattle.sudo_words.proofs.PathLemmas.{in_directory, is_in_directory}
 use Rattle.sudo_words.proofs.laws.directory_and_component.Goals as goal
