@@ -76,22 +76,12 @@ from_not : (b : Bool) → true ≡ not b → b ≡ false
 from_not true is = cc
 from_not false is = refl
 
-from_not_too : (b : Bool) → false ≡ not b → b ≡ true
-from_not_too true is = refl
-from_not_too false is = cc
-
 -- what `insert` tells of a text
 pub learns : (m : Message) (k : Text) (old new : List Text) (is_new : Bool) → string_bytes k ≡ wire m → is_new ≡ not (has_text old (string_bytes k)) → new ≡ insert_key string_cmp old k → is_new ≡ true → Learns m old new
 learns m k old new is_new text told keys is = record {
   key = k;
   text = text;
   missing = ap (has_text old) (sym text) ∙ from_not (has_text old (string_bytes k)) (sym is ∙ told);
-  keys = keys;
-}
-
-pub knows : (m : Message) (k : Text) (old new : List Text) (is_new : Bool) → string_bytes k ≡ wire m → is_new ≡ not (has_text old (string_bytes k)) → new ≡ old → is_new ≡ false → Knows m old new
-knows m k old new is_new text told keys is = record {
-  known = ap (has_text old) (sym text) ∙ from_not_too (has_text old (string_bytes k)) (sym is ∙ told);
   keys = keys;
 }
 

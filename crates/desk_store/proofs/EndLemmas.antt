@@ -1,5 +1,5 @@
 -- How a transaction ends.
-use Rattle.std.proofs.Common.{◌≡◌, sym, ◌∙◌}
+use Rattle.std.proofs.Common.{sym, ◌∙◌}
 use Rattle.sqlite.specs.State.{State, HasCleanDisk, IsRolledBack}
 use Rattle.desk_store.specs.SqliteStates.{Rests}
 

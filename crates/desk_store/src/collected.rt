@@ -1,9 +1,12 @@
 //! Messages, each once.
 
-ghost use Rattle.std.specs.Prelude.{◌≡◌, ◌≢◌, ◌<◌, true, false, [], AllPairs, Contains, IfOk, OnOk, OnErr, IfErr, vec_len, vec_capacity};
+ghost use Rattle.std.specs.Prelude.{◌≡◌, ◌≢◌, ◌<◌, not, true, false, [], AllPairs, Contains, IfOk, OnOk, OnErr, IfErr, string_bytes, vec_len, vec_capacity};
+ghost use Rattle.std.specs.BTreeSet.{insert_key};
+ghost use Rattle.std.specs.Bool.{OnFalse};
+ghost use Rattle.std.specs.String.{string_cmp};
 ghost use Rattle.messages.specs.Wire.{IsMessage};
 ghost use Rattle.messages.specs.declared.message.Message.{Message as AnyMessage};
-ghost use Rattle.desk_store.specs.Collected.{IsPut};
+ghost use Rattle.desk_store.specs.Collected.{IsPut, has_text};
 ghost use Rattle.desk_store.specs.private.Learning.{Learns, Knows};
 ghost use Rattle.desk_store.specs.declared.error.KeeperError.TheVariants as error;
 
@@ -34,6 +37,18 @@ impl Model for Collected {
     ghost invariant = { λ c. IsKept c.messages.items c.texts.keys };
 }
 
+/// Puts the text to the texts, and tells whether it was missing there.
+fn add_text(texts: &mut BTreeSet<String>, key: String) -> Result<bool, KeeperError>
+    ensures told { IfOk result (λ is_new. is_new ≡ not (has_text texts.old.keys (string_bytes key))) }
+    ensures keys { OnOk result (texts.new.keys ≡ insert_key string_cmp texts.old.keys key) }
+    ensures same { IfOk result (λ is_new. OnFalse is_new (texts.new.keys ≡ texts.old.keys)) }
+    ensures unchanged { OnErr result (texts.new.keys ≡ texts.old.keys) }
+    ensures err { IfErr result (λ e. e ≡ error.NoMemory) }
+{
+    let is_new = texts.insert(key)?;
+    Ok(is_new)
+}
+
 /// Puts the message's text to the texts, and tells whether it was missing there. Behind the messages there is room for one more then.
 ///
 /// The message is lent, so no exit of this drops it.
@@ -52,7 +67,7 @@ fn learn(
 {
     let key = text(alloc, message)?;
     messages.reserve(1)?;
-    let is_new = texts.insert(key)?;
+    let is_new = add_text(texts, key)?;
     Ok(is_new)
 }
 
