@@ -35,6 +35,7 @@ fn document(alloc: Global, text: &str) -> Result<Table, RosterFault>
 }
 
 /// The least fault of what the draft says, where each of its texts in a name's place is such a name.
+#[tactic(auto, using(crate::proofs::Texts::known_of_draft))]
 fn tested(text: &str, draft: &Draft, said: &Said) -> Result<(), RosterFault>
     requires draft { IsDraftOf text.now draft.now }
     requires named { GoodNames IsCmndText draft.now }
