@@ -332,10 +332,13 @@ def own_instructions(path, left_out):
     total, names, counts, is_called = 0, {}, True, False
     with open(path) as file:
         for line in file:
-            if line.startswith("ob="):
-                mark, _, name = line[3:].strip().partition(" ")
-                names.setdefault(mark, name)
-                counts = not names[mark].endswith(left_out)
+            if line.startswith(("ob=", "cob=")):
+                # (a name stands where its mark comes first, which may be that of a called object)
+                mark, _, name = line.partition("=")[2].strip().partition(" ")
+                if name:
+                    names[mark] = name
+                if line.startswith("ob="):
+                    counts = not names[mark].endswith(left_out)
             elif line.startswith("calls="):
                 is_called = True
             elif line[:1].isdigit() or line[:1] in "+-*":
