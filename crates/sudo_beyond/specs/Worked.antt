@@ -1,21 +1,20 @@
 -- Worked cases: two policies and an invocation.
 use Rattle.std.specs.Prelude.{ℕ, true, false, List, [], ◌∷◌, None, codes}
 use Rattle.sudo_words.specs.declared.cmnd.Cmnd.TheVariants as commands
-use Rattle.sudo_policy.specs.declared.entry.Signed.{Signed}
-use Rattle.sudo_policy.specs.declared.entry.Item.{Item}
 use Rattle.sudo_policy.specs.declared.entry.Item.TheVariants as items
 use Rattle.sudo_policy.specs.declared.entry.CmndItem.TheVariants as cmnds
 use Rattle.sudo_policy.specs.declared.entry.Entry.{Entry}
 use Rattle.sudo_policy.specs.declared.entry.Entry.TheVariants as entries
+use Rattle.sudo_policy.specs.Text.{Names}
 use Rattle.sudo_decide.specs.declared.invocation.Invocation.{Invocation}
 use Rattle.sudo_decide.specs.declared.scope.Scope.{Scope}
 
 -- a list of one name
-abbrev pub only : List ℕ → List (Signed (Item (List ℕ)))
+abbrev pub only : List ℕ → Names
 only name = record { negated = false; item = items.Name name } ∷ []
 
 -- `USERS db1 = ALL`
-abbrev pub all_commands_for : List (Signed (Item (List ℕ))) → List Entry
+abbrev pub all_commands_for : Names → List Entry
 all_commands_for users = entries.Rule (record {
   users = users;
   hosts = only (codes "db1");

@@ -10,6 +10,7 @@ ghost use Rattle.sudo_policy.specs.declared.entry.Item.{Item};
 ghost use Rattle.sudo_policy.specs.declared.entry.CmndItem.{CmndItem};
 ghost use Rattle.sudo_policy.specs.declared.tree.Definition.{Definition};
 ghost use Rattle.sudo_policy.specs.Policy.{IsPolicy};
+ghost use Rattle.sudo_policy.specs.Text.{Names};
 ghost use Rattle.sudo_decide.specs.declared.decision.Decision.{Decision};
 ghost use Rattle.sudo_decide.specs.declared.decision.Decision.TheVariants.{Deny};
 ghost use Rattle.sudo_decide.specs.declared.invocation.Invocation.{Invocation};
@@ -28,7 +29,7 @@ ghost use Rattle.sudo_beyond.specs.Alike.{AlikeNames, AlikeCmnds, AlikeMoments, 
 
 /// Two names that each name of a list and of the definitions answers alike, the list answers alike, through aliases.
 pub fn alike_names()
-    ensures { (defs : List (Definition (Item (List ℕ)))) (list : List (Signed (Item (List ℕ)))) (x y : List ℕ) →
+    ensures { (defs : List (Definition (Item (List ℕ)))) (list : Names) (x y : List ℕ) →
         AlikeNames (flat_map (λ d. names_in d.list) defs) x y → AlikeNames (names_in list) x y →
         names_say defs x list ≡ names_say defs y list }
 {}

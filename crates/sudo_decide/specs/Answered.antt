@@ -7,13 +7,14 @@ use Rattle.sudo_policy.specs.declared.entry.CmndItem.{CmndItem}
 use Rattle.sudo_policy.specs.declared.entry.Entry.{Entry}
 use Rattle.sudo_policy.specs.declared.tree.Definition.{Definition}
 use Rattle.sudo_policy.specs.Alias.{DefinedAt, cmnd_def, cmnd_defs}
+use Rattle.sudo_policy.specs.Text.{Names}
 use Rattle.sudo_decide.specs.Decision.{list_answer, cmnd_answer, name_alias_says, cmnd_alias_says, names_say}
 
 -- `NAME = LIST`, wherever it stands among the entries: whoever is asked for, the alias answers what its list answers, both by all
 -- that the entries define of the kind
 abbrev pub EachAnswersItsList : (Entry → List (Definition (Item (List ℕ)))) → List Entry → Type 0
 EachAnswersItsList def es =
-    (asked : List ℕ) (place : ℕ) (name : List ℕ) (list : List (Signed (Item (List ℕ)))) → DefinedAt def es place name list
+    (asked : List ℕ) (place : ℕ) (name : List ℕ) (list : Names) → DefinedAt def es place name list
     → name_alias_says (flat_map def (reverse es)) asked name ≡ names_say (flat_map def (reverse es)) asked list
 
 -- the same of aliases of commands, whatever is run

@@ -14,6 +14,7 @@ use Rattle.sudo_policy.specs.declared.entry.Entry.{Entry}
 use Rattle.sudo_policy.specs.declared.entry.Entry.TheVariants as entries
 use Rattle.sudo_policy.specs.declared.tree.Definition.{Definition}
 use Rattle.sudo_policy.specs.Alias.{by_definition, user_defs, host_defs, runas_defs, cmnd_defs}
+use Rattle.sudo_policy.specs.Text.{Names}
 use Rattle.sudo_decide.specs.declared.decision.Decision.{Decision}
 use Rattle.sudo_decide.specs.declared.decision.Decision.TheVariants.{Deny, Allow, AllowNoPassword}
 use Rattle.sudo_decide.specs.declared.invocation.Invocation.{Invocation}
@@ -57,7 +58,7 @@ abbrev pub cmnd_alias_says : List (Definition CmndItem) → List ℕ → List (L
 cmnd_alias_says defs path args = by_definition (λ says list. list_answer (cmnd_answer says path args) list) None defs
 
 -- what a list of users, hosts or targets says of the name asked for
-abbrev pub names_say : List (Definition (Item (List ℕ))) → List ℕ → List (Signed (Item (List ℕ))) → Option Bool
+abbrev pub names_say : List (Definition (Item (List ℕ))) → List ℕ → Names → Option Bool
 names_say defs asked list = list_answer (item_answer (name_alias_says defs asked) asked) list
 
 -- ---- rules

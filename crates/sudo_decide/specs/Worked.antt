@@ -3,7 +3,6 @@ use Rattle.std.specs.Prelude.{ℕ, Bool, true, false, List, [], ◌∷◌, rever
 use Rattle.sudo_words.specs.declared.cmnd.Cmnd.TheVariants as commands
 use Rattle.sudo_words.specs.declared.cmnd.ArgRule.TheVariants.{Any}
 use Rattle.sudo_policy.specs.declared.entry.Signed.{Signed}
-use Rattle.sudo_policy.specs.declared.entry.Item.{Item}
 use Rattle.sudo_policy.specs.declared.entry.Item.TheVariants as items
 use Rattle.sudo_policy.specs.declared.entry.CmndItem.{CmndItem}
 use Rattle.sudo_policy.specs.declared.entry.CmndItem.TheVariants as cmnds
@@ -11,19 +10,20 @@ use Rattle.sudo_policy.specs.declared.entry.Entry.{Entry}
 use Rattle.sudo_policy.specs.declared.entry.Entry.TheVariants as entries
 use Rattle.sudo_policy.specs.declared.entry.Rule.{Rule}
 use Rattle.sudo_policy.specs.Alias.{cmnd_defs}
+use Rattle.sudo_policy.specs.Text.{Names}
 use Rattle.sudo_decide.specs.declared.invocation.Invocation.{Invocation}
 use Rattle.sudo_decide.specs.Decision.{signed_answer, cmnd_answer, cmnd_alias_says}
 
 -- `ALL, !bob`
-abbrev pub all_but_bob : List (Signed (Item (List ℕ)))
+abbrev pub all_but_bob : Names
 all_but_bob = record { negated = false; item = items.All } ∷ record { negated = true; item = items.Name (codes "bob") } ∷ []
 
 -- `!bob`
-abbrev pub only_not_bob : List (Signed (Item (List ℕ)))
+abbrev pub only_not_bob : Names
 only_not_bob = record { negated = true; item = items.Name (codes "bob") } ∷ []
 
 -- `ALL`
-abbrev pub everyone : List (Signed (Item (List ℕ)))
+abbrev pub everyone : Names
 everyone = record { negated = false; item = items.All } ∷ []
 
 -- `ALL, !bob ALL = (ALL) /bin/ls` from moment 100 to moment 200, perhaps with `NOPASSWD:`, perhaps with `!` before the command
@@ -52,7 +52,7 @@ asks moment = record {
 -- ---- lists with aliases
 
 -- one item, which is an alias, perhaps negated
-abbrev pub alias_only : Bool → List ℕ → List (Signed (Item (List ℕ)))
+abbrev pub alias_only : Bool → List ℕ → Names
 alias_only negated name = record { negated = negated; item = items.Alias name } ∷ []
 
 -- `User_Alias X = ALL, !bob`

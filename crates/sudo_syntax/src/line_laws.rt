@@ -15,13 +15,14 @@ ghost use Rattle.sudo_policy.specs.Grammar.{SpellsItem, SpellsCmnd, SpellsCmndSp
 ghost use Rattle.sudo_policy.specs.Inheritance.{part_rules};
 ghost use Rattle.sudo_syntax.specs.Inherited.{HasRule};
 ghost use Rattle.sudo_policy.specs.Lex.{Tok, word};
+ghost use Rattle.sudo_policy.specs.Text.{Names};
 
 /// Each command of a list has one rule, at its own place, with the target, the bounds and the tag that were given last
 /// in the list up to and including it (sudoers(5), "Cmnd_Spec_List").
 pub fn inheritance()
-    ensures rule { (users : List (AnySigned (AnyItem (List ℕ)))) (part : Part) (before after : List CmndSpec) (s : CmndSpec) →
+    ensures rule { (users : Names) (part : Part) (before after : List CmndSpec) (s : CmndSpec) →
         part.specs ≡ before ++ s ∷ after → HasRule users part before s }
-    ensures each { (users : List (AnySigned (AnyItem (List ℕ)))) (part : Part) → length (part_rules users part) ≡ length part.specs }
+    ensures each { (users : Names) (part : Part) → length (part_rules users part) ≡ length part.specs }
 {}
 
 /// A comment may be left out: of two texts that have the same lines, but for a comment behind one of them, each spells what
@@ -57,7 +58,7 @@ pub fn tags()
 /// A specification joined by `:` spells what specifications of the same users spell on lines of their own (sudoers(5),
 /// "User specification").
 pub fn joined_parts()
-    ensures { (users_text first second : List ℕ) (users : List (AnySigned (AnyItem (List ℕ)))) (parts others : List Part) →
+    ensures { (users_text first second : List ℕ) (users : Names) (parts others : List Part) →
         AreUsers users_text users → AreParts first parts → AreParts second others → SpellsBoth users_text first second }
 {}
 

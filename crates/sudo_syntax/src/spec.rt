@@ -8,8 +8,7 @@ ghost use Rattle.sudo_syntax.specs.private.Fronts.{AddsBound, Dated, NoDate, NoT
 ghost use Rattle.sudo_policy.specs.Grammar.{tag_word, SpellsRunas, SpellsCmndSpec};
 ghost use Rattle.sudo_policy.specs.Lex.{Tok, word, mark};
 ghost use Rattle.sudo_policy.specs.private.Tokens.{toks};
-ghost use Rattle.sudo_policy.specs.declared.entry.Item.{Item as Said};
-ghost use Rattle.sudo_policy.specs.declared.entry.Signed.{Signed as Sign};
+ghost use Rattle.sudo_policy.specs.Text.{Names};
 
 use crate::fronts::{begins_spaced, behind_mark, date_at, head_at, word_at};
 use crate::items::{Spelled, list_at};
@@ -134,7 +133,7 @@ fn runas_at<'a, 'b>(
 ) -> Result<(Option<Items<Signed<Item<Name>>>>, &'b [Token<'a>]), LineFault>
     ensures found { IfOk result (λ x. SpellsRunas (toks tokens.now) x.0 (toks x.1.now)) }
     ensures shorter { IfOk result (λ x. length x.1.now ≤ length tokens.now) }
-    ensures only { (runas : Option (List (Sign (Said (List ℕ))))) (rest : List Tok) → NoMark opening rest → SpellsRunas (toks tokens.now) runas rest
+    ensures only { (runas : Option Names) (rest : List Tok) → NoMark opening rest → SpellsRunas (toks tokens.now) runas rest
         → MatchResult result (λ x. (x.0 ≡ runas) × (toks x.1.now ≡ rest)) (λ e. e ≡ NoMemory) }
 {
     let Some(inner) = behind_mark(Mark::Opening, tokens) else {

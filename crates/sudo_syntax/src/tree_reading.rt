@@ -2,8 +2,6 @@
 
 ghost use Rattle.std.specs.Prelude.{◌≡◌, List, ℕ, IfOk, MatchResult};
 ghost use Rattle.sudo_words.specs.Bytes.{colon};
-ghost use Rattle.sudo_policy.specs.declared.entry.Item.{Item as Said};
-ghost use Rattle.sudo_policy.specs.declared.entry.Signed.{Signed as Sign};
 ghost use Rattle.sudo_policy.specs.declared.fault.LineFault.TheVariants.{NoMemory};
 ghost use Rattle.sudo_policy.specs.declared.tree.Part.{Part as Parted};
 ghost use Rattle.sudo_syntax.specs.private.Fronts.{EndsBy};
@@ -11,6 +9,7 @@ ghost use Rattle.sudo_policy.specs.Grammar.{SpellsPart, SpellsUserSpec, SpellsTr
 ghost use Rattle.sudo_policy.specs.Lex.{Tok};
 ghost use Rattle.sudo_policy.specs.private.Tokens.{toks};
 ghost use Rattle.sudo_policy.specs.declared.tree.Line.{Line as Tree};
+ghost use Rattle.sudo_policy.specs.Text.{Names};
 
 use crate::definitions::aliases_of;
 use crate::fronts::behind_mark;
@@ -48,7 +47,7 @@ pub(crate) struct UserSpec {
 /// The user specification that the tokens spell.
 pub(crate) fn user_spec_of(alloc: Global, tokens: &[Token<'_>]) -> Result<UserSpec, LineFault>
     ensures found { IfOk result (λ r. SpellsUserSpec (toks tokens.now) r.users r.parts) }
-    ensures only { (users : List (Sign (Said (List ℕ)))) (parts : List Parted) → SpellsUserSpec (toks tokens.now) users parts
+    ensures only { (users : Names) (parts : List Parted) → SpellsUserSpec (toks tokens.now) users parts
         → MatchResult result (λ r. (r.users ≡ users) × (r.parts ≡ parts)) (λ e. e ≡ NoMemory) }
 {
     let (users, next) = list_at(alloc, Mark::Comma, tokens)?;
