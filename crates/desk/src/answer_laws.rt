@@ -12,7 +12,7 @@ ghost use Rattle.desk_outcomes.specs.Outcomes.{AreLive, ComesTo, LiveGrant};
 ghost use Rattle.desk_outcomes.specs.Parked.{AreParked};
 ghost use Rattle.desk.specs.Runs.{Event, IsRun, SameAcked};
 
-/// Behind two runs that begin with the same messages and acknowledge the same, every question is answered alike: each name's status,
+/// After two runs that begin with the same messages and acknowledge the same, every question is answered alike: each name's status,
 /// the grants of each moment, what is parked, each host's file, the whole and that after each moment, and how many lines it has, so whether these
 /// are too many.
 pub fn runs_answer_alike()

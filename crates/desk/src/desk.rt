@@ -59,7 +59,7 @@ impl<K: Keeper> Desk<K> {
     /// `NoMemory` wherever the storage or memory refuses. A refusal hands the keeper back, with what it keeps as it was.
     ///
     /// Whenever the call ends, a crash leaves a desk that was there whole, and of an empty keeper nothing, or a whole desk without
-    /// messages. While the keeper is up behind Ok, a crash leaves the desk.
+    /// messages. While the keeper is up after Ok, a crash leaves the desk.
     pub fn open(
         alloc: Global,
         roster: Roster,
@@ -113,7 +113,7 @@ impl<K: Keeper> Desk<K> {
     /// memory anywhere is `NoMemory`, and a failure of the storage is `Storage`. An acknowledgement says that the message is
     /// kept; one that was kept before changes nothing. After a refusal nothing changed.
     ///
-    /// Whenever the call ends, a crash leaves the whole desk without the message, or the whole desk with it; behind Ok only the latter.
+    /// Whenever the call ends, a crash leaves the whole desk without the message, or the whole desk with it; after Ok only the latter.
     /// While the keeper is up, a crash leaves what the desk holds.
     pub fn deliver(&mut self, relay: &str, body: &[u8]) -> Result<Ack, Refusal>
         ensures answer { IsDeliveryAnswer self.old.roster.says (record { relay = relay.now; body = body.now }) result }
@@ -182,7 +182,7 @@ impl<K: Keeper> Desk<K> {
         let _roster = &self.roster;
     }
 
-    /// Delivers each in order, and puts the answers behind one another. There is room for them.
+    /// Delivers each in order, and puts the answers after one another. There is room for them.
     fn deliver_each(&mut self, list: &[(String, Vec<u8>)], answers: &mut Vec<Result<Ack, Refusal>>)
         requires none { answers.old.items ≡ [] }
         requires room { length list.now ≤ vec_capacity answers.old }

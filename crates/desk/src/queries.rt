@@ -106,10 +106,10 @@ impl<K: Keeper> Desk<K> {
         Ok(summaries_in(self.alloc, set)?)
     }
 
-    /// The text of the host's sudoers file: the base's canonical text, and behind it a line for each command of each request
+    /// The text of the host's sudoers file: the base's canonical text, and after it a line for each command of each request
     /// that is granted on the host, with the first and the last moment of its window.
     ///
-    /// `UnknownHost` comes exactly where the roster has no such host, `TooManyRules` exactly where the lines behind the base are
+    /// `UnknownHost` comes exactly where the roster has no such host, `TooManyRules` exactly where the lines after the base are
     /// more than 8,192.
     pub fn host_file(&mut self, host: &HostName) -> Result<String, Refusal>
         // It is the file, and so it gives the rights.

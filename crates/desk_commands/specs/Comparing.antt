@@ -15,7 +15,7 @@ use Rattle.desk_commands.specs.declared.refusal.Refusal.TheVariants as reasons
 use Rattle.desk_jobs.specs.declared.status.Status.{Status}
 use Rattle.desk_jobs.specs.declared.status.Status.TheVariants.{Done, Found}
 
--- each word behind a space
+-- each word after a space
 abbrev pub spaced : List (List ℕ) → List ℕ
 spaced words = flat_map (λ word. codes " " ++ word) words
 

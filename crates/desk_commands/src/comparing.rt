@@ -14,7 +14,7 @@ use sudo_decide::Invocation;
 use sudo_syntax::{Policy, read_policy};
 use sudo_words::Arg;
 
-/// Adds the arguments, each behind a space.
+/// Adds the arguments, each after a space.
 fn add_args(text: &mut String, args: &[Arg]) -> Result<(), AllocError>
     ensures { OnOk result (string_bytes text.new ≡ string_bytes text.old ++ spaced args.now) }
 {

@@ -1,4 +1,4 @@
--- A host's file: the base's canonical text, and behind it one line for each command of each request that names the host
+-- A host's file: the base's canonical text, and after it one line for each command of each request that names the host
 -- and whose window is not empty, with the window's first and last moment as dates (sudoers(5), "NOTBEFORE").
 use Rattle.std.specs.Prelude.{◌≡◌, ℕ, ◌<◌, ◌⊎◌, List, ◌++◌, Contains, Some, filter, map, slice_get}
 use Rattle.sudo_words.specs.declared.cmnd.Cmnd.{Cmnd}

@@ -40,7 +40,7 @@ pub record IsFileLeft (f : RosterFields Cmnd) (base : List Entry) (messages : Li
   pub text_is : text ≡ canon (with_lines base (lines_left after lines))
   pub spelled : Spells text (with_lines base (lines_left after lines))
 
--- Behind the text stand the lines that are left of the summaries' requests in turn: each is of a rule of a grant, and they are not too many.
+-- After the text stand the lines that are left of the summaries' requests in turn: each is of a rule of a grant, and they are not too many.
 pub record AreBehind (f : RosterFields Cmnd) (messages : List Message) (host : List ℕ) (after : Option ℕ) (summaries : List Kept) (old new : List ℕ) : Type 0 where
   pub rules : List Rule
   pub given : Give f messages (rules_left after host) summaries rules

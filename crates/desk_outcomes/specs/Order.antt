@@ -8,7 +8,7 @@ abbrev pub AllBehind : {X : Type 0} → (X → X → Type 0) → X → List X �
 AllBehind Precedes x [] = Unit {0}
 AllBehind Precedes x (y ∷ ys) = Precedes x y × AllBehind Precedes x ys
 
--- each element precedes all behind it
+-- each element precedes all after it
 abbrev pub AreInOrder : {X : Type 0} → (X → X → Type 0) → List X → Type 0
 AreInOrder Precedes [] = Unit {0}
 AreInOrder Precedes (x ∷ more) = AllBehind Precedes x more × AreInOrder Precedes more

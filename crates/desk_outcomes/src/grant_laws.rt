@@ -32,7 +32,7 @@ pub fn order_free()
 {}
 
 /// A set of messages gives a name one status, or none; a moment one list of grants; one list of parked texts; and a host one file
-/// behind each base, and one after each moment.
+/// after each base, and one after each moment.
 pub fn one_of_each()
     ensures status { (f : RosterFields Cmnd) (set : List Message) (name : AnyName) (a b : Option Status) →
         ComesTo f set name a → ComesTo f set name b → a ≡ b }
@@ -46,7 +46,7 @@ pub fn one_of_each()
 {}
 
 /// Each set of messages has them all, where a roster's text says who may do what: a name its status or none, a moment its grants,
-/// a host its lines and so its file behind each base, the whole and that after each moment; and it has its parked texts.
+/// a host its lines and so its file after each base, the whole and that after each moment; and it has its parked texts.
 pub fn each_has_one()
     ensures status { (text : List ℕ) (f : RosterFields Cmnd) (set : List Message) (name : AnyName) →
         IsRosterText text f → ((m : Message) → Contains set m → IsMessage m) → (o : Option Status) × ComesTo f set name o }

@@ -45,10 +45,10 @@ fn push_all(
     Ok(())
 }
 
-/// The text of the host's sudoers file: the base's canonical text, and behind it a line for each command of each request that is
+/// The text of the host's sudoers file: the base's canonical text, and after it a line for each command of each request that is
 /// granted on the host, with the first and the last moment of its window. With a moment, the lines that end before it are left out.
 ///
-/// `TooManyRules` comes exactly where the lines behind the base are more than 8,192, and `NoMemory` where memory runs out.
+/// `TooManyRules` comes exactly where the lines after the base are more than 8,192, and `NoMemory` where memory runs out.
 pub fn host_file_in(
     alloc: Global,
     roster: &Roster,

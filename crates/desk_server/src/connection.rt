@@ -13,7 +13,7 @@ const PATIENCE: u64 = 10;
 /// The seconds that a peer may stall once the reply is written.
 const LAST_PATIENCE: u64 = 1;
 
-/// The reads of what a peer sends behind its request, once the reply is written.
+/// The reads of what a peer sends after its request, once the reply is written.
 const MOST_READS: usize = 64;
 
 fn limit(stream: &TcpStream) -> io::Result<()> {

@@ -49,7 +49,7 @@ fn add_text(texts: &mut BTreeSet<String>, key: String) -> Result<bool, KeeperErr
     Ok(is_new)
 }
 
-/// Puts the message's text to the texts, and tells whether it was missing there. Behind the messages there is room for one more then.
+/// Puts the message's text to the texts, and tells whether it was missing there. After the messages there is room for one more then.
 ///
 /// The message is lent, so no exit of this drops it.
 fn learn(
@@ -83,7 +83,7 @@ impl Collected {
         }
     }
 
-    /// Puts the message behind the others, unless it is there already.
+    /// Puts the message after the others, unless it is there already.
     pub(crate) fn put(&mut self, message: Message) -> Result<(), KeeperError>
         requires { IsMessage message }
         ensures put { OnOk result (IsPut self.old message self.new) }

@@ -18,9 +18,9 @@ use messages::Message;
 /// failure has shut it. A keeper in memory is always up. `Storage` is answered only where the count of failures rose in
 /// that call, or stands at the greatest number of 64 bits.
 ///
-/// A clause `crash` holds at each exit of its call, also behind a failure, as long as the storage has been honest: what a
+/// A clause `crash` holds at each exit of its call, also after a failure, as long as the storage has been honest: what a
 /// crash may leave then, for the next opening, is all that was kept as the call began, or all that the call was to commit.
-/// A clause `lasting` says that behind Ok it is the latter alone, and a clause `durable` that it is what the keeper keeps,
+/// A clause `lasting` says that after Ok it is the latter alone, and a clause `durable` that it is what the keeper keeps,
 /// as long as that is up.
 pub trait Keeper {
     /// It keeps nothing of a desk's.

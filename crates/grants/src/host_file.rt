@@ -11,7 +11,7 @@ use crate::host_fault::HostFault;
 use std::alloc::Global;
 use sudo_policy::{FaultKind, Policy, Rule, extend};
 
-/// The most rules of grants behind a base.
+/// The most rules of grants after a base.
 const MOST_RULES: usize = 8_192;
 
 /// The base's entries, then the rules of grants: `TooManyRules` where these are more than 8,192.

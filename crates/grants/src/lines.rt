@@ -1,4 +1,4 @@
-//! The lines of a grant, written behind a text: those of its rules, which it does not build.
+//! The lines of a grant, written after a text: those of its rules, which it does not build.
 
 ghost use Rattle.std.specs.Prelude.{◌≡◌, ◌++◌, IfOk, List, OnOk, map, string_bytes, true};
 ghost use Rattle.sudo_words.specs.Command.{IsLawful};

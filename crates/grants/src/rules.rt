@@ -116,7 +116,7 @@ pub fn rules_of(
     ensures rules { (set : List AnyMessage) → StandsFor set s.now → IfOk result (λ v. AreRules roster.now.says set s.now.request host.now v.items) }
     // They come from what its messages come to.
     ensures given { (set : List AnyMessage) → StandsFor set s.now → IfOk result (λ v. given.AreGiven roster.now.says set s.now.request host.now v.items) }
-    // And they may stand behind a base.
+    // And they may stand after a base.
     ensures grants { (set : List AnyMessage) → StandsFor set s.now → IfOk result (λ v. AllByRecursion IsGrantRule v.items) }
 {
     rules_for(alloc, host, &s.request, status(roster, s))

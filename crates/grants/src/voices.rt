@@ -48,7 +48,7 @@ impl Voices {
     }
 }
 
-/// The summary of the first request of its name, behind the verdicts on it that came before.
+/// The summary of the first request of its name, after the verdicts on it that came before.
 pub fn ask_after(request: &Request, voices: Voices) -> Result<Summary, NoMemory>
     ensures stands { (set : List AnyMessage) → NobodyAsks set (name_of request.now) → SpeakFor set (name_of request.now) voices
         → IfOk result (StandsFor (set ++ message_of.Request request.now ∷ [])) }

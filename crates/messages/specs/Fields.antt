@@ -43,7 +43,7 @@ AreHosts hs = IsShort hs × All (λ h. is_host_name h ≡ true) hs × IsRising h
 abbrev pub IsNumbered : ℕ → Type 0
 IsNumbered n = n ≤ 999_999_999
 
--- What holds of every request. The window's first moment may lie behind its last.
+-- What holds of every request. The window's first moment may lie after its last.
 pub record IsRequest (r : RequestFields) : Type 0 where
   pub at : IsMoment r.at
   pub by : is_name r.by ≡ true

@@ -21,7 +21,7 @@ moment_text t = stamp t
 unfoldable pub quoted : List ℕ → List ℕ
 quoted w = codes "\"" ++ escaped w ++ codes "\""
 
--- what stands behind the first text of a list, with the closing bracket
+-- what stands after the first text of a list, with the closing bracket
 unfoldable pub rest_text : List (List ℕ) → List ℕ
 rest_text [] = codes "]"
 rest_text (w ∷ ws) = codes "," ++ quoted w ++ rest_text ws

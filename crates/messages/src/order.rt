@@ -7,7 +7,7 @@ ghost use Rattle.messages.specs.Order as order;
 
 use serde_json::Value;
 
-/// Whether the texts stand behind `low`, each before the next.
+/// Whether the texts stand after `low`, each before the next.
 fn rise_from(low: &str, items: &[Value]) -> bool
     ensures { (ws : List (List ℕ)) → items_view items.now ≡ strings ws → result ≡ order.rises_from low.now ws }
 {

@@ -59,7 +59,7 @@ fn push_number(out: &mut String, no: u32) -> Result<(), AllocError>
     write!(out, "{no}")
 }
 
-/// Appends what stands behind the first host of a list.
+/// Appends what stands after the first host of a list.
 #[tactic(auto, using(crate::proofs::PlainTexts::escaped_host), unfolding(crate::specs::Wire::rest_text, crate::specs::Wire::list_text))]
 fn push_more_hosts(out: &mut String, hosts: &[HostName]) -> Result<(), AllocError>
     ensures { OnOk result (string_bytes out.new ≡ string_bytes out.old ++ wires.rest_text hosts.now) }
@@ -98,7 +98,7 @@ fn push_cmnd(out: &mut String, alloc: Global, cmnd: &Cmnd) -> Result<(), NoMemor
     Ok(())
 }
 
-/// Appends what stands behind the first command of a list.
+/// Appends what stands after the first command of a list.
 #[tactic(auto, unfolding(crate::specs::Wire::rest_text))]
 fn push_more_cmnds(out: &mut String, alloc: Global, cmnds: &[Cmnd]) -> Result<(), NoMemory>
     requires { All IsLawful cmnds.now }
@@ -157,7 +157,7 @@ fn push_lists(out: &mut String, alloc: Global, r: &Request) -> Result<(), NoMemo
     Ok(())
 }
 
-/// Appends the members behind the lists.
+/// Appends the members after the lists.
 #[tactic(auto, using(crate::proofs::PlainTexts::escaped_name, crate::proofs::PlainTexts::escaped_request))]
 fn push_rest(out: &mut String, r: &Request) -> Result<(), AllocError>
     ensures { OnOk result (string_bytes out.new ≡ string_bytes out.old

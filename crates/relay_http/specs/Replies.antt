@@ -52,7 +52,7 @@ moment_text t = stamp t
 unfoldable pub name_text : RequestName → List ℕ
 name_text name = name.by ++ space ∷ [] ++ decimal name.no
 
--- the first and the last moment, each behind a space
+-- the first and the last moment, each after a space
 unfoldable pub window_text : Window → List ℕ
 window_text w = space ∷ [] ++ moment_text w.start ++ space ∷ [] ++ moment_text w.end
 

@@ -26,7 +26,7 @@ impl Line {
         }
     }
 
-    /// Whether the byte ends the request line, or the empty line behind the fields.
+    /// Whether the byte ends the request line, or the empty line after the fields.
     fn ends_with(self, byte: u8) -> bool {
         byte == b'\n' && matches!(self, Line::First | Line::Begun)
     }

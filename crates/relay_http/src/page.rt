@@ -9,7 +9,7 @@ use itoa::Buffer;
 /// The bytes of a page, in which each head has room.
 pub const PAGE: usize = 4_096;
 
-/// Puts a part behind what is there, and answers where it ends.
+/// Puts a part after what is there, and answers where it ends.
 pub fn put(page: &mut [u8], at: usize, part: &[u8]) -> usize
     requires { at + length part.now ≤ length page.old }
     ensures len { length page.new ≡ length page.old }
@@ -21,7 +21,7 @@ pub fn put(page: &mut [u8], at: usize, part: &[u8]) -> usize
     end
 }
 
-/// Puts a number behind what is there, in decimal digits.
+/// Puts a number after what is there, in decimal digits.
 fn put_decimal(page: &mut [u8], at: usize, n: usize) -> usize
     requires { at + 20 ≤ length page.old }
     ensures len { length page.new ≡ length page.old }

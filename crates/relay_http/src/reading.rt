@@ -76,7 +76,7 @@ fn is_nothing(awaited: Awaited) -> bool
     matches!(awaited, Awaited::Nothing)
 }
 
-/// One read into the buffer behind what is there.
+/// One read into the buffer after what is there.
 fn read_on<R: Read>(reader: &mut Counted<R>, buf: &mut [u8], filled: usize) -> io::Result<usize>
     requires { filled < length buf.old }
     ensures fits { IfOk result (λ n. filled + n ≤ length buf.new) }

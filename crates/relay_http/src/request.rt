@@ -144,7 +144,7 @@ fn is_short(wanted: &Wanted<'_>) -> bool
     matches!(wanted.ask, Ask::Refused(RequestFault::ShortBody))
 }
 
-/// What may still change what is wanted, where the head is there and so many bytes behind it.
+/// What may still change what is wanted, where the head is there and so many bytes after it.
 fn more_after(wanted: &Wanted<'_>, buf: &[u8], headers: &[HeaderSpan], come: usize) -> More
     requires { All (IsHeaderWithin (length buf.now)) headers.now }
     ensures { result ≡ more.Nothing → is_short (request_of wanted.now) ≡ false }

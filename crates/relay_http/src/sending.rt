@@ -15,7 +15,7 @@ use std::io::Write;
 #[derive(Clone, Copy)]
 pub struct WriteFailed;
 
-/// One write of what is left behind the bytes that were sent.
+/// One write of what is left after the bytes that were sent.
 fn write_on<W: Write>(
     writer: &mut Counted<W>,
     bytes: &[u8],
@@ -49,7 +49,7 @@ fn send<W: Write>(writer: &mut Counted<W>, bytes: &[u8]) -> Result<(), WriteFail
     Ok(())
 }
 
-/// Writes the one behind the other.
+/// Writes the one after the other.
 fn send_both<W: Write>(writer: &mut Counted<W>, head: &[u8], body: &[u8]) -> Result<(), WriteFailed>
     ensures sent { Sends (W.contents writer.old.inner) (W.contents writer.new.inner) result (head.now ++ body.now) }
     ensures counted { MatchResult result (λ _. writer.new.failures ≡ writer.old.failures) (λ _. writer.new.failures ≡ one_failure writer.old.failures) }

@@ -71,7 +71,7 @@ pub record IsFirst (words : List (List ℕ)) (w : List ℕ) : Type 0 where
   pub among : is_among words w ≡ true
   pub first : list_all (λ v. not (is_before v w)) words ≡ true
 
--- each name comes before those behind it, so none comes twice
+-- each name comes before those after it, so none comes twice
 abbrev pub AreRising : {X : Type 0} → List (List ℕ × X) → Type 0
 AreRising entries = IsStrictlySortedBy (slice_cmp nat_cmp) (keys_of entries)
 

@@ -139,9 +139,9 @@ pub record AreCommandCases (cmnds : List Cmnd) (runs : List Run) : Type 0 where
   pub of_directories_are : AreParts (IsFreshFile (paths cmnds)) directories of_directories
   pub elsewhere_is : IsFreshFile (paths cmnds) (codes "/") elsewhere
 
--- ---- moments: 0, each NOTBEFORE, and the moment behind each NOTAFTER. Between two of them no rule begins or ceases to take part.
+-- ---- moments: 0, each NOTBEFORE, and the moment after each NOTAFTER. Between two of them no rule begins or ceases to take part.
 
--- 20991231235958Z: behind it there is one moment more, and behind that there is none
+-- 20991231235958Z: after it there is one moment more, and after that there is none
 abbrev pub last_but_one : ℕ
 last_but_one = 4_102_444_798
 

@@ -29,7 +29,7 @@ IsFreeFile taken dir path = (name : List ℕ) × (path ≡ dir ++ name) × IsFir
 abbrev pub IsFreeArgs : List (List (List ℕ)) → List (List ℕ) → Type 0
 IsFreeArgs lists args = (arg : List ℕ) × (args ≡ arg ∷ []) × IsFirstOther (λ word. has_args lists (word ∷ [])) arg
 
--- a part of this kind is added behind the old list
+-- a part of this kind is added after the old list
 abbrev pub Adds : {Y : Type 0} → (List Y → Type 0) → List Y → List Y → Type 0
 Adds {Y} IsPart old new = (part : List Y) × (new ≡ old ++ part) × IsPart part
 

@@ -108,7 +108,7 @@ outcome r answer = if answer then (if r.nopasswd then AllowNoPassword else Allow
 abbrev pub AllSilent : List Entry → List Entry → Invocation → Type 0
 AllSilent defined es i = AllByRecursion (λ e. entry_says defined e i ≡ None) es
 
--- a rule speaks, each entry behind it is silent, and the decision is the rule's
+-- a rule speaks, each entry after it is silent, and the decision is the rule's
 pub record DecidesByRule (defined : List Entry) (es : List Entry) (i : Invocation) (d : Decision) : Type 0 where
   pub before : List Entry
   pub rule : Rule

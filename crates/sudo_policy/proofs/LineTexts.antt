@@ -149,7 +149,7 @@ hash_bad line body rest c x note e bad other h = let t = subst (IsNote body) e (
 pub bad_front : (line front : List ℕ) → line ≡ front ++ backslash ∷ [] → last_passes may_go_on front ≡ false → (other : List ℕ) → IsContinued line other → ⊥
 bad_front line front e bad other k =
     let same = one_front front other backslash (sym e ∙ k.whole) in
-    false≢true (sym bad ∙ ap (last_passes may_go_on) same ∙ k.behind)
+    false≢true (sym bad ∙ ap (last_passes may_go_on) same ∙ k.ends)
 
 -- ---- joined lines
 

@@ -189,11 +189,11 @@ unfolding what_toks spec_of
 spec_spelled r is =
     let cmnd = cmnd_toks true r.cmnd ++ [] in
     record {
-      behind_runas = what_toks r;
+      after_runas = what_toks r;
       dates = dates_of r.not_before r.not_after;
-      behind_dates = tag_toks r.nopasswd ++ cmnd;
+      after_dates = tag_toks r.nopasswd ++ cmnd;
       tags = tags_of r.nopasswd;
-      behind_tags = cmnd;
+      after_tags = cmnd;
       runas = (true, false, list_toks item_toks false r.runas ++ (mark false closing ∷ what_toks r), mark false closing ∷ what_toks r, refl, users_spelled false r.runas (mark false closing ∷ what_toks r) is.runas, refl);
       dated = dates_spelled r.not_before r.not_after (tag_toks r.nopasswd ++ cmnd) is.not_before is.not_after (tag_spaced r.nopasswd cmnd refl);
       bounds = dates_bounds r.not_before r.not_after;

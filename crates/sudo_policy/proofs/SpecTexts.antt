@@ -211,15 +211,15 @@ same_spec s t a b c d e =
 
 pub spec_one : IsOne SpellsCmndSpec EndsCmnd
 spec_one ts s t r q g h n k =
-    let word_g = cmnd_word g.behind_tags s.cmnd r g.cmnd in
-    let word_h = cmnd_word h.behind_tags t.cmnd q h.cmnd in
-    let tags_g = tags_word g.behind_dates g.tags g.behind_tags g.tagged word_g in
-    let tags_h = tags_word h.behind_dates h.tags h.behind_tags h.tagged word_h in
-    let runas = runas_one ts s.runas t.runas g.behind_runas h.behind_runas g.runas h.runas (dates_word g.behind_runas g.dates g.behind_dates g.dated tags_g) (dates_word h.behind_runas h.dates h.behind_dates h.dated tags_h) in
-    let dates = dates_one h.behind_runas g.dates h.dates g.behind_dates h.behind_dates (subst (λ (x : List Tok). SpellsDates x g.dates g.behind_dates) runas.1 g.dated) h.dated
-    (tags_no_date g.behind_dates g.tags g.behind_tags g.tagged (cmnd_no_date g.behind_tags s.cmnd r g.cmnd n)) (tags_no_date h.behind_dates h.tags h.behind_tags h.tagged (cmnd_no_date h.behind_tags t.cmnd q h.cmnd k)) in
-    let tags = tags_one h.behind_dates g.tags h.tags g.behind_tags h.behind_tags (subst (λ (x : List Tok). SpellsTags x g.tags g.behind_tags) dates.1 g.tagged) h.tagged
-    (cmnd_no_tag g.behind_tags s.cmnd r g.cmnd) (cmnd_no_tag h.behind_tags t.cmnd q h.cmnd) in
-    let cmnd = spelled_cmnd_one h.behind_tags s.cmnd t.cmnd r q (subst (λ (x : List Tok). SpellsCmnd x s.cmnd r) tags.1 g.cmnd) h.cmnd n k in
+    let word_g = cmnd_word g.after_tags s.cmnd r g.cmnd in
+    let word_h = cmnd_word h.after_tags t.cmnd q h.cmnd in
+    let tags_g = tags_word g.after_dates g.tags g.after_tags g.tagged word_g in
+    let tags_h = tags_word h.after_dates h.tags h.after_tags h.tagged word_h in
+    let runas = runas_one ts s.runas t.runas g.after_runas h.after_runas g.runas h.runas (dates_word g.after_runas g.dates g.after_dates g.dated tags_g) (dates_word h.after_runas h.dates h.after_dates h.dated tags_h) in
+    let dates = dates_one h.after_runas g.dates h.dates g.after_dates h.after_dates (subst (λ (x : List Tok). SpellsDates x g.dates g.after_dates) runas.1 g.dated) h.dated
+    (tags_no_date g.after_dates g.tags g.after_tags g.tagged (cmnd_no_date g.after_tags s.cmnd r g.cmnd n)) (tags_no_date h.after_dates h.tags h.after_tags h.tagged (cmnd_no_date h.after_tags t.cmnd q h.cmnd k)) in
+    let tags = tags_one h.after_dates g.tags h.tags g.after_tags h.after_tags (subst (λ (x : List Tok). SpellsTags x g.tags g.after_tags) dates.1 g.tagged) h.tagged
+    (cmnd_no_tag g.after_tags s.cmnd r g.cmnd) (cmnd_no_tag h.after_tags t.cmnd q h.cmnd) in
+    let cmnd = spelled_cmnd_one h.after_tags s.cmnd t.cmnd r q (subst (λ (x : List Tok). SpellsCmnd x s.cmnd r) tags.1 g.cmnd) h.cmnd n k in
     let bounds = bounds_one None None h.dates s.not_before s.not_after t.not_before t.not_after (subst (λ (x : List Date). Bounds None None x s.not_before s.not_after) dates.0 g.bounds) h.bounds in
     (same_spec s t runas.0 bounds.0 bounds.1 (g.passwd ∙ ap last_tag tags.0 ∙ sym h.passwd) cmnd.0, cmnd.1)

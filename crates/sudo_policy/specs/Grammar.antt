@@ -51,7 +51,7 @@ pub record SpellsItem (form : List ℕ → Bool) (ts : List Tok) (s : Signed (It
   pub item : IsItem form s.item
   pub sign : s.negated ≡ is_odd bangs
 
--- what stands behind a path: nothing, `""`, or arguments, each behind blanks
+-- what stands after a path: nothing, `""`, or arguments, each after blanks
 abbrev pub rule_toks : ArgRule → List Tok
 rule_toks rules.Any = []
 rule_toks rules.Empty = mark true quote ∷ mark false quote ∷ []
@@ -95,7 +95,7 @@ pub record Date : Type 0 where
   pub word : List ℕ
   pub moment : ℕ
 
--- the options, with blanks behind each
+-- the options, with blanks after each
 abbrev pub SpellsDates : List Tok → List Date → List Tok → Type 0
 SpellsDates ts [] rest = ts ≡ rest
 SpellsDates ts (date ∷ dates) rest =
@@ -108,13 +108,13 @@ GivesBound before after date new_before new_after =
     ((date.word ≡ codes "NOTBEFORE") × (before ≡ None) × (new_before ≡ Some date.moment) × (new_after ≡ after))
     ⊎ ((date.word ≡ codes "NOTAFTER") × (after ≡ None) × (new_after ≡ Some date.moment) × (new_before ≡ before))
 
--- What the options say of the bounds, in order, behind options that gave these so far.
+-- What the options say of the bounds, in order, after options that gave these so far.
 abbrev pub Bounds : (before after : Option ℕ) → List Date → (not_before not_after : Option ℕ) → Type 0
 Bounds before after [] not_before not_after = (not_before ≡ before) × (not_after ≡ after)
 Bounds before after (date ∷ dates) not_before not_after =
     (new_before new_after : Option ℕ) × GivesBound before after date new_before new_after × Bounds new_before new_after dates not_before not_after
 
--- the tags, with `:` behind each; the last one holds
+-- the tags, with `:` after each; the last one holds
 abbrev pub tag_word : Bool → List ℕ
 tag_word nopasswd = if nopasswd then codes "NOPASSWD" else codes "PASSWD"
 
@@ -128,17 +128,17 @@ last_tag [] = None
 last_tag (tag ∷ tags) = option_or (last_tag tags) (Some tag)
 
 pub record SpellsCmndSpec (ts : List Tok) (s : CmndSpec) (rest : List Tok) : Type 0 where
-  pub behind_runas : List Tok
+  pub after_runas : List Tok
   pub dates : List Date
-  pub behind_dates : List Tok
+  pub after_dates : List Tok
   pub tags : List Bool
-  pub behind_tags : List Tok
-  pub runas : SpellsRunas ts s.runas behind_runas
-  pub dated : SpellsDates behind_runas dates behind_dates
+  pub after_tags : List Tok
+  pub runas : SpellsRunas ts s.runas after_runas
+  pub dated : SpellsDates after_runas dates after_dates
   pub bounds : Bounds None None dates s.not_before s.not_after
-  pub tagged : SpellsTags behind_dates tags behind_tags
+  pub tagged : SpellsTags after_dates tags after_tags
   pub passwd : s.nopasswd ≡ last_tag tags
-  pub cmnd : SpellsCmnd behind_tags s.cmnd rest
+  pub cmnd : SpellsCmnd after_tags s.cmnd rest
 
 abbrev pub CmndSpecs : List Tok → List CmndSpec → List Tok → Type 0
 CmndSpecs = Listed comma SpellsCmndSpec
@@ -159,12 +159,12 @@ pub record SpellsDef {X : Type 0} (Is : List Tok → Signed X → List Tok → T
   pub name : is_alias_name d.name ≡ true
   pub list : Listed comma Is next d.list rest
 
--- the word of a kind, and behind blanks definitions with `:` between
+-- the word of a kind, and after blanks definitions with `:` between
 abbrev pub SpellsAliases : {X : Type 0} → List ℕ → (List Tok → Signed X → List Tok → Type 0) → List Tok → List (Definition X) → Type 0
 SpellsAliases kind Is ts defs =
     (a : Bool) × (next : List Tok) × (ts ≡ word a 0 kind ∷ next) × (begins_spaced next ≡ true) × Listed colon (SpellsDef Is) next defs []
 
--- users, and behind blanks parts with `:` between
+-- users, and after blanks parts with `:` between
 abbrev pub SpellsUserSpec : List Tok → Names → List Part → Type 0
 SpellsUserSpec ts users parts =
     (next : List Tok) × Users ts users next × (begins_spaced next ≡ true) × Listed colon SpellsPart next parts []

@@ -24,7 +24,7 @@ is_word_byte b =
     is_letter_or_digit b || (b == byte ".") || (b == byte "_") || (b == byte "/") || (b == byte "+") || (b == byte "-") || (b == byte "@")
     || (b == byte "%")
 
--- and of `,`, `:` and `=`, each behind a backslash
+-- and of `,`, `:` and `=`, each after a backslash
 abbrev pub is_word_text : List ℕ → Bool
 is_word_text [] = true
 is_word_text (b ∷ []) = is_word_byte b

@@ -30,7 +30,7 @@ begins_with_digit (b ∷ bs) = is_digit b
 abbrev pub is_comment : Text → Bool
 is_comment text = not (begins_with_digit text) && not (starts_with nat_eq text (codes "include")) && not (ends_in_backslash text)
 
--- a comment begins a line, or stands behind a blank
+-- a comment begins a line, or stands after a blank
 abbrev pub is_before_comment : Text → Bool
 is_before_comment [] = true
 is_before_comment (b ∷ bs) = last_passes is_blank (b ∷ bs)
@@ -42,14 +42,14 @@ pub record IsPlain (line : Text) : Type 0 where
   pub each : Each is_no_hash line
   pub ends : ends_in_backslash line ≡ false
 
--- a line with a comment: a text without `#`, and behind it `#` and what may follow
+-- a line with a comment: a text without `#`, and after it `#` and what may follow
 pub record HasComment (line text comment : Text) : Type 0 where
   pub whole : line ≡ text ++ hash ∷ comment
   pub each : Each is_no_hash text
   pub before : is_before_comment text ≡ true
   pub allowed : is_comment comment ≡ true
 
--- a line may go on behind a blank, `,`, `=` or `:`
+-- a line may go on after a blank, `,`, `=` or `:`
 abbrev pub may_go_on : ℕ → Bool
 may_go_on b = is_blank b || (b == comma) || (b == equals) || (b == colon)
 
@@ -57,7 +57,7 @@ may_go_on b = is_blank b || (b == comma) || (b == equals) || (b == colon)
 pub record IsContinued (line front : Text) : Type 0 where
   pub whole : line ≡ front ++ backslash ∷ []
   pub each : Each is_no_hash front
-  pub behind : last_passes may_go_on front ≡ true
+  pub ends : last_passes may_go_on front ≡ true
 
 -- what is read of a line that does not go on: all of a plain line, or what stands before a comment
 abbrev pub IsBody : Text → Text → Type 0
@@ -69,5 +69,5 @@ Joined [] joined = joined ≡ []
 Joined (line ∷ lines) joined =
     -- the first is complete, and the rest is joined for itself
     ((body : Text) × (more : List Text) × IsBody line body × (joined ≡ body ∷ more) × Joined lines more)
-    -- or the first goes on, and what comes of the rest follows behind one blank
+    -- or the first goes on, and what comes of the rest follows after one blank
     ⊎ ((front body : Text) × (more : List Text) × IsContinued line front × (joined ≡ (front ++ space ∷ body) ∷ more) × Joined lines (body ∷ more))

@@ -15,6 +15,6 @@ HasOtherByte text = (front rest : Text) × (b : ℕ) × (text ≡ front ++ b ∷
 abbrev pub IsLineOf : Text → ℕ → Type 0
 IsLineOf text line = (1 ≤ line) × (line ≤ 1 + count_by (λ b. b == newline) text)
 
--- entries with these rules behind them
+-- entries with these rules after them
 abbrev pub with_rules : List Entry → List Rule → List Entry
 with_rules es rules = es ++ map entries.Rule rules

@@ -51,7 +51,7 @@ impl Draft {
         }
     }
 
-    /// Adds one more entry behind its own.
+    /// Adds one more entry after its own.
     ///
     /// `AliasTwice` comes where the entry defines an alias that is defined in its kind, else `UnknownAlias` where it uses one
     /// that is not, else `TooLarge` where the whole is past a limit. After a fault it is a draft no longer.

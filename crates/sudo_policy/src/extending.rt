@@ -1,4 +1,4 @@
-//! Policies with further rules behind them.
+//! Policies with further rules after them.
 
 ghost use Rattle.std.specs.Prelude.{◌≡◌, ◌⊎◌, [], ◌++◌, IfOk, IfErr, OnOk, MatchResult, map, reverse};
 ghost use Rattle.std.specs.List.{AllByRecursion};
@@ -69,7 +69,7 @@ fn add_both(
     add_rules(alloc, draft, rules)
 }
 
-/// The policy with these rules behind its entries.
+/// The policy with these rules after its entries.
 ///
 /// `UnknownAlias` comes where a rule uses an alias that the base lacks, else `TooLarge` where the whole is past a limit, and
 /// `NoMemory` where memory runs out. There is no text, so the line is 0.

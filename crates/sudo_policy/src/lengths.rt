@@ -72,7 +72,7 @@ fn signed_len<T: Lengthy>(signed: &Signed<T>) -> usize
     plus(bang, signed.item.text_len())
 }
 
-/// The items behind the first, with a comma and a space before each.
+/// The items after the first, with a comma and a space before each.
 fn tail_len<T: Lengthy>(items: &[Signed<T>]) -> usize
     requires { AllByRecursion (λ s. T.holds s.item) items.now }
     ensures { result ≡ stopped (length (tail_text (signed_text T.text) items.now)) }
@@ -105,7 +105,7 @@ fn who_len(rule: &Rule) -> usize
     plus(plus(users, hosts), plus(runas, 7))
 }
 
-/// A date, with its option, `=` and the blank behind it. A stamp has 15 bytes.
+/// A date, with its option, `=` and the blank after it. A stamp has 15 bytes.
 fn date_len(option: &str, date: Option<Moment>) -> usize
     requires { length option.now ≤ 16 }
     ensures value { result ≡ length (date_text option.now date) }
@@ -130,7 +130,7 @@ fn rule_line_len(rule: &Rule) -> usize
     )
 }
 
-/// The line of an alias: behind the kind a blank, behind the name ` = `, and a newline.
+/// The line of an alias: after the kind a blank, after the name ` = `, and a newline.
 fn alias_line_len<T: Lengthy>(kind: &str, name: &AliasName, list: &[Signed<T>]) -> usize
     requires kind { length kind.now ≤ 16 }
     requires list { AllByRecursion (λ s. T.holds s.item) list.now }

@@ -32,7 +32,7 @@ fn push_signed<F: Form>(out: &mut String, signed: &Signed<Item<Word<F>>>) -> Res
     push_item(out, &signed.item)
 }
 
-/// The items behind the first, with a comma and a space before each.
+/// The items after the first, with a comma and a space before each.
 fn push_tail<F: Form>(out: &mut String, items: &[Signed<Item<Word<F>>>]) -> Result<(), AllocError>
     ensures { OnOk result (string_bytes out.new ≡ string_bytes out.old ++ tail_text (signed_text item_text) items.now) }
 {
@@ -134,7 +134,7 @@ fn push_cmnd(alloc: Global, out: &mut String, signed: &Signed<CmndItem>) -> Resu
     push_cmnd_item(alloc, out, &signed.item)
 }
 
-/// The commands behind the first, with a comma and a space before each.
+/// The commands after the first, with a comma and a space before each.
 fn push_cmnd_tail(
     alloc: Global,
     out: &mut String,

@@ -21,11 +21,11 @@ pub enum Mark {
     Equals,
     /// `,`, between the items of a list.
     Comma,
-    /// `:`, between definitions or parts, and behind a tag.
+    /// `:`, between definitions or parts, and after a tag.
     Colon,
     /// `(`, before targets.
     Opening,
-    /// `)`, behind targets.
+    /// `)`, after targets.
     Closing,
     /// `"`, of which two say that no argument is allowed.
     Quote,
@@ -115,7 +115,7 @@ fn text_len(bytes: &[u8]) -> usize
     bytes.iter().take_while(|b| is_text_byte(**b)).count()
 }
 
-/// Whether a text may have each of the bytes. Each is looked at, also behind one that no text has: so many are tested at once.
+/// Whether a text may have each of the bytes. Each is looked at, also after one that no text has: so many are tested at once.
 pub fn is_text(bytes: &[u8]) -> bool
     ensures { result ≡ list_all lex.is_text_byte bytes.now }
 {

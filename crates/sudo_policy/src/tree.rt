@@ -36,7 +36,7 @@ pub struct Part {
     pub specs: Items<CmndSpec>,
 }
 
-/// What holds behind some commands of a list, for those that follow.
+/// What holds after some commands of a list, for those that follow.
 #[derive(Drop)]
 pub struct Settings {
     /// The targets that were given last, `root` before any.

@@ -108,11 +108,11 @@ only c = record { runas = None; not_before = None; not_after = None; nopasswd = 
 
 pub only_spelled : {ts : List Tok} {c : Signed CmndItem} {rest : List Tok} → SpellsCmnd ts c rest → SpellsCmndSpec ts (only c) rest
 only_spelled {ts} {c} {rest} h = record {
-  behind_runas = ts;
+  after_runas = ts;
   dates = [];
-  behind_dates = ts;
+  after_dates = ts;
   tags = [];
-  behind_tags = ts;
+  after_tags = ts;
   runas = refl;
   dated = refl;
   bounds = (refl, refl);

@@ -45,10 +45,10 @@ behind : Settings → List CmndSpec → Settings
 behind before [] = before
 behind before (s ∷ specs) = behind (with_spec before s) specs
 
-behind_runas : (h : Settings) (specs : List CmndSpec) → (behind h specs).runas ≡ unwrap_or (last_of (map (λ s. s.runas) specs)) h.runas
+after_runas : (h : Settings) (specs : List CmndSpec) → (behind h specs).runas ≡ unwrap_or (last_of (map (λ s. s.runas) specs)) h.runas
 unfolding behind last_of
-behind_runas h [] = refl
-behind_runas h (s ∷ specs) = behind_runas (with_spec h s) specs ∙ unwrap_later (last_of (map (λ c. c.runas) specs)) s.runas h.runas
+after_runas h [] = refl
+after_runas h (s ∷ specs) = after_runas (with_spec h s) specs ∙ unwrap_later (last_of (map (λ c. c.runas) specs)) s.runas h.runas
 
 behind_nopasswd : (h : Settings) (specs : List CmndSpec) → (behind h specs).nopasswd ≡ unwrap_or (last_of (map (λ s. s.nopasswd) specs)) h.nopasswd
 unfolding behind last_of
@@ -70,7 +70,7 @@ inherits users hosts specs s =
     let bound = λ (given : List (Option ℕ)) (held : Option ℕ) (e : held ≡ option_or (last_of given) None).
     subst (LastGiven given) (sym (e ∙ or_none (last_of given))) (last_is given) in
     record {
-      runas = (last_of (map (λ c. c.runas) specs), last_is (map (λ c. c.runas) specs), behind_runas first_settings specs);
+      runas = (last_of (map (λ c. c.runas) specs), last_is (map (λ c. c.runas) specs), after_runas first_settings specs);
       not_before = bound (map (λ c. c.not_before) specs) (behind first_settings specs).not_before (behind_not_before first_settings specs);
       not_after = bound (map (λ c. c.not_after) specs) (behind first_settings specs).not_after (behind_not_after first_settings specs);
       nopasswd = (last_of (map (λ c. c.nopasswd) specs), last_is (map (λ c. c.nopasswd) specs), behind_nopasswd first_settings specs);

@@ -132,17 +132,17 @@ tags_grows ts (tag ∷ tags) rest us (a, b, next, e, more) = (a, b, next ++ us, 
 
 spec_grows : Grows SpellsCmndSpec
 spec_grows ts s rest us g = record {
-  behind_runas = g.behind_runas ++ us;
+  after_runas = g.after_runas ++ us;
   dates = g.dates;
-  behind_dates = g.behind_dates ++ us;
+  after_dates = g.after_dates ++ us;
   tags = g.tags;
-  behind_tags = g.behind_tags ++ us;
-  runas = runas_grows ts s.runas g.behind_runas us g.runas;
-  dated = dates_grows g.behind_runas g.dates g.behind_dates us g.dated;
+  after_tags = g.after_tags ++ us;
+  runas = runas_grows ts s.runas g.after_runas us g.runas;
+  dated = dates_grows g.after_runas g.dates g.after_dates us g.dated;
   bounds = g.bounds;
-  tagged = tags_grows g.behind_dates g.tags g.behind_tags us g.tagged;
+  tagged = tags_grows g.after_dates g.tags g.after_tags us g.tagged;
   passwd = g.passwd;
-  cmnd = cmnd_grows g.behind_tags s.cmnd rest us g.cmnd;
+  cmnd = cmnd_grows g.after_tags s.cmnd rest us g.cmnd;
 }
 
 part_grows : Grows SpellsPart

@@ -1,16 +1,6 @@
 pub mod EntryLemmas
 pub mod TreeForms
 pub mod LineLemmas
-pub mod Leads
-pub mod FirstTokens
-pub mod ListLemmas
-pub mod DateLemmas
-pub mod TagLemmas
-pub mod ArgLemmas
-pub mod NameLemmas
-pub mod CmndLemmas
-pub mod SpecLemmas
-pub mod TreeLemmas
 mod Inheriting
 mod Deriving
 mod WorkedTexts

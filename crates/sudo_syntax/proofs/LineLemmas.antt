@@ -10,7 +10,7 @@ use Rattle.sudo_policy.specs.private.Cuts.{IsCut}
 use Rattle.sudo_policy.specs.Span.{Each}
 use Rattle.sudo_policy.specs.Lex.{is_text_byte}
 use Rattle.sudo_policy.specs.Lines.{lines_of, IsBody, IsContinued, Joined}
-use Rattle.sudo_syntax.specs.private.Pending.{JoinedBehind, SpellsBehind, Leads}
+use Rattle.sudo_syntax.specs.private.Pending.{JoinedAfter, SpellsAfter, Leads}
 use Rattle.sudo_policy.specs.Policy.{IsPolicy}
 use Rattle.sudo_policy.specs.Reading.{HasOtherByte, IsLineOf}
 use Rattle.sudo_syntax.specs.private.Pending.{SpellsBy}
@@ -21,18 +21,18 @@ use Rattle.sudo_policy.proofs.LineTexts.{body_one, front_one, body_or_front}
 -- ---- the first of the lines
 
 -- where there is a line, there is a joined one that begins with the front
-behind_first : (front line : List ℕ) (rest joined : List (List ℕ)) → JoinedBehind front (line ∷ rest) joined
+behind_first : (front line : List ℕ) (rest joined : List (List ℕ)) → JoinedAfter front (line ∷ rest) joined
     → (body : List ℕ) × (more : List (List ℕ)) × (joined ≡ (front ++ body) ∷ more) × Joined (line ∷ rest) (body ∷ more)
 behind_first front line rest joined (inl (none, inl (body, more, is, e, j))) = (body, more, rw none e, inl (body, more, is, refl, j))
 behind_first front line rest joined (inl (none, inr (part, body, more, is, e, j))) = (part ++ space ∷ body, more, rw none e, inr (part, body, more, is, refl, j))
 behind_first front line rest joined (inr (some, body, more, e, j)) = (body, more, e, j)
 
-first_behind : (front line : List ℕ) (rest : List (List ℕ)) (body : List ℕ) (more : List (List ℕ)) → Joined (line ∷ rest) (body ∷ more) → JoinedBehind front (line ∷ rest) ((front ++ body) ∷ more)
+first_behind : (front line : List ℕ) (rest : List (List ℕ)) (body : List ℕ) (more : List (List ℕ)) → Joined (line ∷ rest) (body ∷ more) → JoinedAfter front (line ∷ rest) ((front ++ body) ∷ more)
 first_behind [] line rest body more j = inl (refl, j)
 first_behind (b ∷ front) line rest body more j = inr (omega arith, body, more, refl, j)
 
 -- a line that is neither a body nor goes on stands in no text
-pub stands_nowhere : (front line : List ℕ) (rest : List (List ℕ)) → ((body : List ℕ) → IsBody line body → ⊥) → ((part : List ℕ) → IsContinued line part → ⊥) → (es : List Entry) → SpellsBehind front (line ∷ rest) es → ⊥
+pub stands_nowhere : (front line : List ℕ) (rest : List (List ℕ)) → ((body : List ℕ) → IsBody line body → ⊥) → ((part : List ℕ) → IsContinued line part → ⊥) → (es : List Entry) → SpellsAfter front (line ∷ rest) es → ⊥
 stands_nowhere front line rest no_body no_part es (joined, j, s) =
     elim (behind_first front line rest joined j).3 [
       | inl h ↦ no_body h.0 h.2
@@ -50,13 +50,13 @@ ends_first line body rest other more is (inl (b, m, is_b, e, j)) =
 ends_first line body rest other more is (inr (part, b, m, is_part, e, j)) = absurd (body_or_front line body part is is_part)
 
 -- without a front the lines are joined as they stand
-pub none_behind : (lines joined : List (List ℕ)) → JoinedBehind [] lines joined → Joined lines joined
+pub none_behind : (lines joined : List (List ℕ)) → JoinedAfter [] lines joined → Joined lines joined
 none_behind lines joined (inl (none, j)) = j
 none_behind lines joined (inr (some, body, more, e, j)) = absurd (omega (arith, some))
 
 -- the entries begin with those of the line
-ends_with_more : (front line body : List ℕ) (rest : List (List ℕ)) → IsBody line body → (es : List Entry) → SpellsBehind front (line ∷ rest) es
-    → (here more : List Entry) × SpellsLine (front ++ body) here × (es ≡ here ++ more) × SpellsBehind [] rest more
+ends_with_more : (front line body : List ℕ) (rest : List (List ℕ)) → IsBody line body → (es : List Entry) → SpellsAfter front (line ∷ rest) es
+    → (here more : List Entry) × SpellsLine (front ++ body) here × (es ≡ here ++ more) × SpellsAfter [] rest more
 ends_with_more front line body rest is es (joined, j, spelled) =
     let first = behind_first front line rest joined j in
     let ends = ends_first line body rest first.0 first.1 is first.3 in
@@ -74,7 +74,7 @@ leads_ends front line body rest here is s one = record {
 
 -- where a fault of a line that ends is memory's wherever the entries so far and those of the line are a policy, so it is for all that follow
 pub ends_stuck : (front line body : List ℕ) (rest : List (List ℕ)) (out : List Entry) (P : Type 0) → IsBody line body
-    → ((es : List Entry) → SpellsLine (front ++ body) es → IsPolicy (out ++ es) → P) → (es : List Entry) → SpellsBehind front (line ∷ rest) es → IsPolicy (out ++ es) → P
+    → ((es : List Entry) → SpellsLine (front ++ body) es → IsPolicy (out ++ es) → P) → (es : List Entry) → SpellsAfter front (line ∷ rest) es → IsPolicy (out ++ es) → P
 ends_stuck front line body rest out P is then es s policy =
     let first = ends_with_more front line body rest is es s in
     then first.0 first.2 (front_is out first.0 first.1 (out ++ es) (ap (λ (more : List Entry). out ++ more) (sym first.3)) policy)
@@ -96,16 +96,16 @@ some_front front part = omega (arith, length-append (front ++ part) (space ∷ [
 joined_front : (front part body : List ℕ) → front ++ (part ++ space ∷ body) ≡ ((front ++ part) ++ space ∷ []) ++ body
 joined_front front part body = sym (append_assoc (front ++ part) (space ∷ []) body ∙ append_assoc front part (space ∷ body))
 
-goes_on : (front line part : List ℕ) (rest joined : List (List ℕ)) → IsContinued line part → JoinedBehind front (line ∷ rest) joined → JoinedBehind ((front ++ part) ++ space ∷ []) rest joined
+goes_on : (front line part : List ℕ) (rest joined : List (List ℕ)) → IsContinued line part → JoinedAfter front (line ∷ rest) joined → JoinedAfter ((front ++ part) ++ space ∷ []) rest joined
 goes_on front line part rest joined is j =
     let first = behind_first front line rest joined j in
     let on = goes_on_first line part rest first.0 first.1 is first.3 in
     inr (some_front front part, on.0, first.1, first.2 ∙ ap (λ (line : List ℕ). line ∷ first.1) (ap (λ (b : List ℕ). front ++ b) on.1 ∙ joined_front front part on.0), on.2)
 
-came_from : (front line part : List ℕ) (rest joined : List (List ℕ)) → IsContinued line part → JoinedBehind ((front ++ part) ++ space ∷ []) rest joined → JoinedBehind front (line ∷ rest) joined
+came_from : (front line part : List ℕ) (rest joined : List (List ℕ)) → IsContinued line part → JoinedAfter ((front ++ part) ++ space ∷ []) rest joined → JoinedAfter front (line ∷ rest) joined
 came_from front line part rest joined is (inl (none, j)) = absurd (omega (arith, some_front front part, ap length none))
 came_from front line part rest joined is (inr (some, body, more, e, j)) =
-    subst (JoinedBehind front (line ∷ rest)) (ap (λ (line : List ℕ). line ∷ more) (joined_front front part body) ∙ sym e)
+    subst (JoinedAfter front (line ∷ rest)) (ap (λ (line : List ℕ). line ∷ more) (joined_front front part body) ∙ sym e)
     (first_behind front line rest (part ++ space ∷ body) more (inr (part, body, more, is, refl, j)))
 
 pub leads_on : (front line part : List ℕ) (rest : List (List ℕ)) → IsContinued line part → Leads front (line ∷ rest) [] ((front ++ part) ++ space ∷ []) rest
@@ -129,19 +129,19 @@ leads_more a lines out b rest here c last l m = record {
       (second.0, first.1 ∙ ap (λ (more : List Entry). out ++ more) second.1 ∙ sym (append_assoc out here second.0), second.2);
 }
 
-spells_all : (lines : List (List ℕ)) (es : List Entry) → SpellsBy lines es → SpellsBehind [] lines es
+spells_all : (lines : List (List ℕ)) (es : List Entry) → SpellsBy lines es → SpellsAfter [] lines es
 spells_all lines es (joined, j, s) = (joined, inl (refl, j), s)
 
-nothing_left : (es : List Entry) → SpellsBehind [] [] es → es ≡ []
+nothing_left : (es : List Entry) → SpellsAfter [] [] es → es ≡ []
 nothing_left es (joined, j, s) = subst (λ (lines : List (List ℕ)). SpellsLines lines es) (none_behind [] joined j) s
 
-nothing_behind : (front : List ℕ) (es : List Entry) → 0 < length front → SpellsBehind front [] es → ⊥
+nothing_behind : (front : List ℕ) (es : List Entry) → 0 < length front → SpellsAfter front [] es → ⊥
 nothing_behind front es some (joined, inl (none, j), s) = absurd (omega (arith, some, ap length none))
 nothing_behind front es some (joined, inr (more, body, others, e, j), s) = absurd cc
 
 pub leads_end : (lines : List (List ℕ)) (out : List Entry) → Leads [] lines out [] [] → SpellsBy lines out × ((es : List Entry) → SpellsBy lines es → out ≡ es)
 leads_end lines out l =
-    let none : SpellsBehind [] [] [] = ([], inl (refl, refl), refl) in
+    let none : SpellsAfter [] [] [] = ([], inl (refl, refl), refl) in
     let found = l.adds [] none in (
       subst (SpellsBy lines) (append-nil out) (found.0, none_behind lines found.0 found.1, found.2),
       λ es h.
@@ -155,7 +155,7 @@ leads_nowhere lines out front l some es h = let a = l.only es (spells_all lines 
 
 -- where a fault of the line is memory's wherever the entries so far and the line's and those of the rest are a policy, so it is for all lines
 pub leads_stuck : (lines : List (List ℕ)) (out : List Entry) (front : List ℕ) (rest : List (List ℕ)) (P : Type 0) → Leads [] lines out front rest
-    → ((es : List Entry) → SpellsBehind front rest es → IsPolicy (out ++ es) → P) → (es : List Entry) → SpellsBy lines es → IsPolicy es → P
+    → ((es : List Entry) → SpellsAfter front rest es → IsPolicy (out ++ es) → P) → (es : List Entry) → SpellsBy lines es → IsPolicy es → P
 leads_stuck lines out front rest P l then es h policy =
     let a = l.only es (spells_all lines es h) in then a.0 a.2 (subst IsPolicy a.1 policy)
 

@@ -135,11 +135,11 @@ body_back front next whole f is =
     body_of_cut front next _ _ whole cut.0 f (cut_is is_no_hash next) cut.1 cut.2
 
 goes_behind : (front next part : List ℕ) → Each is_no_hash front → IsContinued next part → IsContinued (front ++ space ∷ next) (front ++ space ∷ part)
-goes_behind front next [] f c = absurd (false≢true c.behind)
+goes_behind front next [] f c = absurd (false≢true c.ends)
 goes_behind front next (b ∷ bs) f c = record {
   whole = ap (λ (w : List ℕ). front ++ space ∷ w) c.whole ∙ sym (append_assoc front (space ∷ b ∷ bs) (backslash ∷ []));
   each = each_behind front (b ∷ bs) f c.each;
-  behind = ends_behind may_go_on front space (b ∷ bs) ∙ ends_behind may_go_on (space ∷ []) b bs ∙ c.behind;
+  ends = ends_behind may_go_on front space (b ∷ bs) ∙ ends_behind may_go_on (space ∷ []) b bs ∙ c.ends;
 }
 
 each_back : (p : ℕ → Bool) (xs ys : List ℕ) → Each p (xs ++ ys) → Each p ys
@@ -152,9 +152,9 @@ part_of front next [] whole e same some c = absurd (some e)
 part_of front next (b ∷ bs) whole e same some c = record {
   whole = e;
   each = (each_back is_no_hash front (space ∷ b ∷ bs) (subst (Each is_no_hash) (sym same) c.each)).1;
-  behind =
+  ends =
       sym (ends_behind may_go_on (space ∷ []) b bs) ∙ sym (ends_behind may_go_on front space (b ∷ bs))
-      ∙ ap (last_passes may_go_on) same ∙ c.behind;
+      ∙ ap (last_passes may_go_on) same ∙ c.ends;
 }
 
 goes_back : (front next whole : List ℕ) → (next ≡ backslash ∷ [] → ⊥) → IsContinued (front ++ space ∷ next) whole → (part : List ℕ) × (whole ≡ front ++ space ∷ part) × IsContinued next part

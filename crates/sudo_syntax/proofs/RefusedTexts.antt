@@ -135,9 +135,9 @@ no_tags c a tail (tag ∷ tags) behind h = let is = h.3 in absurd (cc)
 
 spec_cmnd : (c a : List ℕ) (tail : List Tok) (s : CmndSpec) (rest : List Tok) → SpellsCmndSpec (Path2 c a tail) s rest → SpellsCmnd (Path2 c a tail) s.cmnd rest
 spec_cmnd c a tail s rest h =
-    let runas = no_runas true 0 c (word true 0 a ∷ tail) s.runas h.behind_runas h.runas in
-    let dates = no_dates c a tail h.dates h.behind_dates (subst (λ (ts : List Tok). SpellsDates ts h.dates h.behind_dates) runas h.dated) in
-    let tags = no_tags c a tail h.tags h.behind_tags (subst (λ (ts : List Tok). SpellsTags ts h.tags h.behind_tags) dates h.tagged) in
+    let runas = no_runas true 0 c (word true 0 a ∷ tail) s.runas h.after_runas h.runas in
+    let dates = no_dates c a tail h.dates h.after_dates (subst (λ (ts : List Tok). SpellsDates ts h.dates h.after_dates) runas h.dated) in
+    let tags = no_tags c a tail h.tags h.after_tags (subst (λ (ts : List Tok). SpellsTags ts h.tags h.after_tags) dates h.tagged) in
     subst (λ (ts : List Tok). SpellsCmnd ts s.cmnd rest) tags h.cmnd
 
 -- what may stand behind the command

@@ -115,9 +115,9 @@ bounds_are before after (date ∷ dates) not_before not_after b a are (new_befor
 
 spec_is : (ts : List Tok) (s : CmndSpec) (rest : List Tok) → SpellsCmndSpec ts s rest → IsCmndSpec s
 spec_is ts s rest h =
-    let bounds = bounds_are None None h.dates s.not_before s.not_after tt tt (dates_are h.behind_runas h.dates h.behind_dates h.dated) h.bounds in
+    let bounds = bounds_are None None h.dates s.not_before s.not_after tt tt (dates_are h.after_runas h.dates h.after_dates h.dated) h.bounds in
     record {
-      runas = runas_are ts s.runas h.behind_runas h.runas;
+      runas = runas_are ts s.runas h.after_runas h.runas;
       not_before = bounds.0;
       not_after = bounds.1;
       cmnd = h.cmnd.item;

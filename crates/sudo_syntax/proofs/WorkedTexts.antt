@@ -132,7 +132,7 @@ pub continued_spell : SpellsAs (codes "ann db1 = \\\n/bin/ls") (codes "ann db1 =
 continued_spell = (
   entries_of ls_line,
   spelled (codes "ann db1 = \\\n/bin/ls") (continued ∷ []) (entries_of ls_line) refl
-      (inr (codes "ann db1 = ", codes "/bin/ls", [], record { whole = refl; each = each_of is_no_hash (codes "ann db1 = ") refl; behind = refl }, refl, plain (codes "/bin/ls") [] [] refl refl refl))
+      (inr (codes "ann db1 = ", codes "/bin/ls", [], record { whole = refl; each = each_of is_no_hash (codes "ann db1 = ") refl; ends = refl }, refl, plain (codes "/bin/ls") [] [] refl refl refl))
       (one_line continued (entries_of ls_line) (spells_line continued (word false 0 (codes "ann")) ls_toks ls_line continued_lexes ls_tree)) refl,
   refl,
 )
@@ -201,11 +201,11 @@ parts_tree = (
         specs = (
           _,
           record {
-            behind_runas = _;
+            after_runas = _;
             dates = [];
-            behind_dates = _;
+            after_dates = _;
             tags = [];
-            behind_tags = _;
+            after_tags = _;
             runas = (true, false, _, _, refl, (_, item tt, refl), refl);
             dated = refl;
             bounds = (refl, refl);
@@ -391,11 +391,11 @@ dates_tree = (
       specs = (
         _,
         record {
-          behind_runas = _;
+          after_runas = _;
           dates = record { word = codes "NOTAFTER"; moment = 1_767_610_800 } ∷ [];
-          behind_dates = _;
+          after_dates = _;
           tags = [];
-          behind_tags = _;
+          after_tags = _;
           runas = refl;
           dated = (true, codes "2026010511Z", _, eleven, refl, refl, refl);
           bounds = (None, Some 1_767_610_800, inr (refl, refl, refl, refl), (refl, refl));
@@ -409,11 +409,11 @@ dates_tree = (
           _,
           refl,
           record {
-            behind_runas = _;
+            after_runas = _;
             dates = record { word = codes "NOTBEFORE"; moment = 1_767_603_600 } ∷ [];
-            behind_dates = _;
+            after_dates = _;
             tags = [];
-            behind_tags = _;
+            after_tags = _;
             runas = refl;
             dated = (true, codes "2026010509Z", _, nine, refl, refl, refl);
             bounds = (Some 1_767_603_600, None, inl (refl, refl, refl, refl), (refl, refl));

@@ -25,7 +25,7 @@ pub record DifferIn (text other : Text) (these those : List Text) : Type 0 where
   pub text_is : lines_of text ≡ before ++ (these ++ after)
   pub other_is : lines_of other ≡ before ++ (those ++ after)
 
--- a line without `#`, behind which a comment with this note may stand
+-- a line without `#`, after which a comment with this note may stand
 pub record MayHaveNote (line note : Text) : Type 0 where
   pub each : Each is_no_hash line
   pub before : is_before_comment line ≡ true

@@ -12,7 +12,7 @@ use Rattle.sudo_policy.specs.Inheritance.{root, part_rules}
 abbrev pub NoneGiven : {X : Type 0} → List (Option X) → Type 0
 NoneGiven given = AllByRecursion (λ o. o ≡ None) given
 
--- the last one given, if any is: those behind it are not
+-- the last one given, if any is: those after it are not
 abbrev pub LastGiven : {X : Type 0} → List (Option X) → Option X → Type 0
 LastGiven given None = NoneGiven given
 LastGiven {X} given (Some x) = (before after : List (Option X)) × (given ≡ before ++ Some x ∷ after) × NoneGiven after
@@ -28,7 +28,7 @@ pub record Inherits (specs : List CmndSpec) (rule : Rule) : Type 0 where
   pub not_after : LastGiven (map (λ s. s.not_after) specs) rule.not_after
   pub nopasswd : LastGivenOr false (map (λ s. s.nopasswd) specs) rule.nopasswd
 
--- The command that stands behind these in a part has a rule at its own place among the part's entries: with the part's users and hosts and the command itself, and what it inherits from the commands up to and including it.
+-- The command that stands after these in a part has a rule at its own place among the part's entries: with the part's users and hosts and the command itself, and what it inherits from the commands up to and including it.
 pub record HasRule (users : Names) (part : Part) (before : List CmndSpec) (s : CmndSpec) : Type 0 where
   pub rules_before : List Entry
   pub rule : Rule

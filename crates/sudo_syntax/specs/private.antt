@@ -2,5 +2,3 @@
 -- lines as the reader goes over them
 pub mod Pieces
 pub mod Pending
-pub mod Fronts
-pub mod Low

@@ -45,7 +45,7 @@ fn first_settings(alloc: Global) -> Result<Settings, LineFault>
     })
 }
 
-/// What holds behind a command, and the command.
+/// What holds after a command, and the command.
 fn with_spec(held: Settings, spec: CmndSpec) -> (Settings, Signed<CmndItem>)
     ensures settings { result.0 ≡ inheritance.with_spec held spec }
     ensures cmnd { result.1 ≡ spec.cmnd }
@@ -114,7 +114,7 @@ fn targets_of(
     }
 }
 
-/// What holds behind the first command of a list, and the command. `root` is made only where the command gives no target.
+/// What holds after the first command of a list, and the command. `root` is made only where the command gives no target.
 fn first_spec(alloc: Global, spec: CmndSpec) -> Result<(Settings, Signed<CmndItem>), LineFault>
     ensures found { IfOk result (λ x. (x.0 ≡ inheritance.with_spec inheritance.first_settings spec) × (x.1 ≡ spec.cmnd)) }
     ensures only { IfErr result (λ e. e ≡ fault.NoMemory) }
@@ -152,7 +152,7 @@ fn add_only(
     draft.add(alloc, Entry::Rule(rule_with(users, hosts, settings, cmnd)))
 }
 
-/// Adds the rule of a command where these settings hold before it, and gives what holds behind it: the lists are copied.
+/// Adds the rule of a command where these settings hold before it, and gives what holds after it: the lists are copied.
 fn add_copy(
     alloc: Global,
     draft: &mut Draft,
@@ -164,7 +164,7 @@ fn add_copy(
     requires draft { IsDraft draft.old }
     requires entries { AllByRecursion IsEntry (inheritance.rules_of users.now hosts.now held (spec ∷ [])) }
     ensures found { OnOk result (Adds draft.old draft.new (inheritance.rules_of users.now hosts.now held (spec ∷ []))) }
-    ensures behind { IfOk result (λ x. x ≡ inheritance.with_spec held spec) }
+    ensures after { IfOk result (λ x. x ≡ inheritance.with_spec held spec) }
     ensures only { IsPolicy (draft.old.entries.items ++ inheritance.rules_of users.now hosts.now held (spec ∷ [])) → IfErr result (λ e. e ≡ fault.NoMemory) }
 {
     let (settings, cmnd) = with_spec(held, spec);
@@ -173,7 +173,7 @@ fn add_copy(
     Ok(settings)
 }
 
-/// Adds one rule for each command before the last, and gives what holds behind them. Each is added before the next is made, so that
+/// Adds one rule for each command before the last, and gives what holds after them. Each is added before the next is made, so that
 /// the limits of a policy bound what is copied.
 fn add_front(
     alloc: Global,
@@ -185,7 +185,7 @@ fn add_front(
     requires draft { IsDraft draft.old }
     requires entries { AllByRecursion IsEntry (inheritance.rules_of users.now hosts.now inheritance.first_settings front.items) }
     ensures found { OnOk result (Adds draft.old draft.new (inheritance.rules_of users.now hosts.now inheritance.first_settings front.items)) }
-    ensures behind { IfOk result (λ x. x ≡ fold inheritance.with_spec inheritance.first_settings front.items) }
+    ensures after { IfOk result (λ x. x ≡ fold inheritance.with_spec inheritance.first_settings front.items) }
     ensures only { IsPolicy (draft.old.entries.items ++ inheritance.rules_of users.now hosts.now inheritance.first_settings front.items) → IfErr result (λ e. e ≡ fault.NoMemory) }
 {
     let mut held = first_settings(alloc)?;

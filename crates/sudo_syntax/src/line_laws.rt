@@ -25,7 +25,7 @@ pub fn inheritance()
     ensures each { (users : Names) (part : Part) → length (part_rules users part) ≡ length part.specs }
 {}
 
-/// A comment may be left out: of two texts that have the same lines, but for a comment behind one of them, each spells what
+/// A comment may be left out: of two texts that have the same lines, but for a comment after one of them, each spells what
 /// the other spells.
 pub fn comments()
     ensures { (text other line note : List ℕ) → MayHaveNote line note →

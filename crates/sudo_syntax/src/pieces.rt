@@ -55,7 +55,7 @@ fn is_comment(text: &[u8]) -> bool
     !begins_with_digit(text) && !text.starts_with(b"include") && !ends_in_backslash(text)
 }
 
-/// Whether a comment may follow: it begins a line, or stands behind a blank.
+/// Whether a comment may follow: it begins a line, or stands after a blank.
 fn is_before_comment(body: &[u8]) -> bool
     ensures { result ≡ lines.is_before_comment body.now }
 {
@@ -65,7 +65,7 @@ fn is_before_comment(body: &[u8]) -> bool
     }
 }
 
-/// Whether a line may go on behind these bytes.
+/// Whether a line may go on after these bytes.
 fn may_go_on(front: &[u8]) -> bool
     ensures { result ≡ lines.last_passes lines.may_go_on front.now }
 {

@@ -6,7 +6,7 @@ ghost use Rattle.sudo_policy.specs.declared.entry.Entry.{Entry as Entered};
 ghost use Rattle.sudo_policy.specs.declared.fault.FaultKind.TheVariants.{TooLong, BadByte, TooLarge, NoMemory};
 ghost use Rattle.sudo_policy.specs.declared.fault.LineFault.TheVariants.{NoMemory as OutOfMemory};
 ghost use Rattle.sudo_policy.specs.Spelling.{Spells, SpellsLine};
-ghost use Rattle.sudo_syntax.specs.private.Pending.{Leads, SpellsBehind};
+ghost use Rattle.sudo_syntax.specs.private.Pending.{Leads, SpellsAfter};
 ghost use Rattle.sudo_policy.specs.Lex as lex;
 ghost use Rattle.sudo_policy.specs.Limits.{most_text_bytes};
 ghost use Rattle.sudo_policy.specs.Reading.{HasOtherByte, IsLineOf};
@@ -18,8 +18,8 @@ ghost use Rattle.sudo_policy.specs.Lines.{lines_of};
 
 use crate::line_entries::add_line;
 use crate::pieces::{Piece, piece_of};
-use crate::tree_reading::tree_of;
 use std::alloc::Global;
+use sudo_grammar::tree_of;
 use sudo_policy::{
     Draft, FaultKind, LineFault, MOST_TEXT_BYTES, Policy, ReadFault, cut_text, is_text, tokens,
 };
@@ -31,8 +31,8 @@ fn newlines(bytes: &[u8]) -> usize
     bytes.iter().filter(|b| **b == b'\n').count()
 }
 
-/// A fault behind these bytes of a text.
-fn fault_behind(front: &[u8], kind: FaultKind) -> ReadFault
+/// A fault after these bytes of a text.
+fn fault_after(front: &[u8], kind: FaultKind) -> ReadFault
     ensures kind { result.kind ≡ kind }
     ensures line { result.line ≡ 1 + count_by (λ b. b == newline) front.now }
 {
@@ -51,7 +51,7 @@ fn check_bytes(text: &[u8]) -> Result<(), ReadFault>
 {
     if text.len() > MOST_TEXT_BYTES {
         let (front, _) = text.split_at(MOST_TEXT_BYTES);
-        return Err(fault_behind(front, FaultKind::TooLong));
+        return Err(fault_after(front, FaultKind::TooLong));
     }
     if is_text(text) {
         return Ok(());
@@ -59,7 +59,7 @@ fn check_bytes(text: &[u8]) -> Result<(), ReadFault>
     let (front, rest) = cut_text(text);
     match rest {
         [] => Ok(()),
-        _ => Err(fault_behind(front, FaultKind::BadByte)),
+        _ => Err(fault_after(front, FaultKind::BadByte)),
     }
 }
 
@@ -105,7 +105,7 @@ fn add_piece(
 ) -> Result<(), LineFault>
     requires { IsDraft draft.old }
     ensures found { OnOk result ((here : List Entered) × Adds draft.old draft.new here × ((rest : List (List ℕ)) → Leads pending.old.items (line.now ∷ rest) here pending.new.items rest)) }
-    ensures only { IfErr result (λ e. (rest : List (List ℕ)) (es : List Entered) → SpellsBehind pending.old.items (line.now ∷ rest) es → IsPolicy (draft.old.entries.items ++ es) → e ≡ OutOfMemory) }
+    ensures only { IfErr result (λ e. (rest : List (List ℕ)) (es : List Entered) → SpellsAfter pending.old.items (line.now ∷ rest) es → IsPolicy (draft.old.entries.items ++ es) → e ≡ OutOfMemory) }
 {
     match piece_of(line)? {
         Piece::GoesOn(front) => {

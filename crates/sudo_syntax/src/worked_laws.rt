@@ -31,7 +31,7 @@ pub fn worked_commands()
 {}
 
 /// Worked texts that spell no policy: a line that goes on inside a word, an alias that is defined below its use, an argument
-/// whose `:` has no backslash, a directory with an argument, and a blank behind `!`.
+/// whose `:` has no backslash, a directory with an argument, and a blank after `!`.
 pub fn worked_refusals()
     ensures inside { SpellsNone (codes "ann db1\\\n= /bin/ls") }
     ensures below { SpellsNone (codes "B db1 = ALL\nUser_Alias B = ann") }

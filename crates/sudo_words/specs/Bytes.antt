@@ -23,7 +23,7 @@ equals = byte "="
 abbrev pub comma : ℕ
 comma = byte ","
 
--- between definitions or parts of a line, and behind a tag
+-- between definitions or parts of a line, and after a tag
 abbrev pub colon : ℕ
 colon = byte ":"
 

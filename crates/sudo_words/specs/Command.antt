@@ -27,9 +27,9 @@ matches All path args = true
 matches (Path file rule) path args = bytes_eq path file && allows rule args
 matches (Dir dir) path args = is_directly_in dir path
 
--- ---- texts: a path, and its arguments behind single spaces
+-- ---- texts: a path, and its arguments after single spaces
 
--- `,`, `:` and `=` stand in an argument's text behind a backslash
+-- `,`, `:` and `=` stand in an argument's text after a backslash
 abbrev pub is_escaped : ℕ → Bool
 is_escaped b = (b == comma) || (b == colon) || (b == equals)
 
@@ -42,7 +42,7 @@ arg_text arg = flat_map escaped_byte arg
 abbrev pub spaced_arg : List ℕ → List ℕ
 spaced_arg arg = space ∷ arg_text arg
 
--- what stands behind a path: nothing where any arguments are allowed, `""` where none is, else the arguments
+-- what stands after a path: nothing where any arguments are allowed, `""` where none is, else the arguments
 abbrev pub rule_text : ArgRule → List ℕ
 rule_text Any = []
 rule_text Empty = codes " \"\""

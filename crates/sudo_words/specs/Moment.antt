@@ -32,7 +32,7 @@ minute t = t % 3600 / 60
 abbrev pub second : ℕ → ℕ
 second t = t % 60
 
--- What may stand behind the date: `HHMMSSZ`; or `HHMMZ` where the seconds are 00; or `HHZ` where the minutes are 00 too.
+-- What may stand after the date: `HHMMSSZ`; or `HHMMZ` where the seconds are 00; or `HHZ` where the minutes are 00 too.
 abbrev pub IsClockText : List ℕ → ℕ → Type 0
 IsClockText text t =
     (text ≡ two (hour t) ++ two (minute t) ++ two (second t) ++ codes "Z")
@@ -61,14 +61,14 @@ pub record CalendarDate : Type 0 where
   pub month : ℕ
   pub day_of_month : ℕ
 
--- so many days after the first of a month, in that month or one of the `later` months behind it
+-- so many days after the first of a month, in that month or one of the `later` months after it
 unfoldable pub date_from_month : (later year month days : ℕ) → CalendarDate
 date_from_month zero year month days = record { year = year; month = month; day_of_month = days + 1 }
 date_from_month (suc later) year month days =
     if nat_lt days (days_in_month (pos year) month) then record { year = year; month = month; day_of_month = days + 1 }
     else date_from_month later year (month + 1) (days - days_in_month (pos year) month)
 
--- so many days after 1 January, in that year or one of the `later` years behind it
+-- so many days after 1 January, in that year or one of the `later` years after it
 unfoldable pub date_from_year : (later year days : ℕ) → CalendarDate
 date_from_year zero year days = date_from_month 11 year 1 days
 date_from_year (suc later) year days =

@@ -1,4 +1,4 @@
-//! Arguments as texts of sudoers have them: each `,`, `:` and `=` stands behind a backslash.
+//! Arguments as texts of sudoers have them: each `,`, `:` and `=` stands after a backslash.
 
 ghost use Rattle.std.specs.Prelude.{◌≡◌, ◌<◌, ◌++◌, ℕ, List, true, IfOk, IfSome, IsSome, MatchResult, OnOk, string_bytes};
 ghost use Rattle.std.specs.List.{list_all};
@@ -11,14 +11,14 @@ use crate::arg::{Arg, is_arg_byte};
 use crate::fault::WordFault;
 use std::alloc::{AllocError, Global};
 
-/// Whether the byte stands behind a backslash in an argument's text (sudoers(5), "Other special characters and reserved words").
+/// Whether the byte stands after a backslash in an argument's text (sudoers(5), "Other special characters and reserved words").
 pub fn is_escaped(byte: u8) -> bool
     ensures { result ≡ command.is_escaped byte }
 {
     byte == b',' || byte == b':' || byte == b'='
 }
 
-/// The byte of an argument that a text begins with, and what stands behind it.
+/// The byte of an argument that a text begins with, and what stands after it.
 fn next_byte(text: &[u8]) -> Option<(u8, &[u8])>
     ensures found { IfSome result (λ p. (may_stand p.0 ≡ true) × (text.now ≡ escaped_byte p.0 ++ p.1.now)) }
     ensures only { (b : ℕ) (rest : List ℕ) → may_stand b ≡ true → text.now ≡ escaped_byte b ++ rest → IsSome result }

@@ -53,7 +53,7 @@ fn is_no_args(words: &[&str]) -> bool
     }
 }
 
-/// The rule whose text has these words behind the path.
+/// The rule whose text has these words after the path.
 fn args_rule(alloc: Global, words: &[&str]) -> Result<ArgRule, WordFault>
     ensures found { IfOk result (λ r. map (λ w. w.now) words.now ≡ words_of r) }
     ensures only { (r : ArgumentRule) → IsArgRule r → map (λ w. w.now) words.now ≡ words_of r → MatchResult result (λ s. s ≡ r) (λ e. e ≡ WordNoMemory) }

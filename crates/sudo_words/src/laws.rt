@@ -10,7 +10,7 @@ pub fn one_command()
     ensures { (c d : Command) → IsLawful c → IsLawful d → cmnd_text c ≡ cmnd_text d → c ≡ d }
 {}
 
-/// What is directly in a directory has the directory's path and one component behind it, and whatever has that is in it.
+/// What is directly in a directory has the directory's path and one component after it, and whatever has that is in it.
 pub fn directory_and_component()
     ensures { (dir path : List ℕ) → (is_directly_in dir path ≡ true) ↔ ((component : List ℕ) × (path ≡ dir ++ component) × (is_component component ≡ true)) }
 {}

@@ -1,4 +1,4 @@
--- The lines of a grant, written behind a text. For private clauses.
+-- The lines of a grant, written after a text. For private clauses.
 use Rattle.std.specs.Prelude.{◌≡◌, ℕ, Bool, true, List, ◌++◌, Option, Some, None, ◌&&◌, nat_le, filter, length, map, codes}
 use Rattle.std.specs.List.{AllByRecursion, list_any}
 use Rattle.std.specs.Str.{bytes_eq}
@@ -59,12 +59,12 @@ rules_left after host q status = filter (stays after) (rules_for host q status)
 
 -- ---- written
 
--- so many rules, each as a line behind the text
+-- so many rules, each as a line after the text
 pub record AreAdded (rules : List Rule) (old new : List ℕ) (count : ℕ) : Type 0 where
   pub text_is : new ≡ old ++ lines_text rules
   pub count_is : count ≡ length rules
 
--- The rules that are left, of what the set's messages come to: each is a rule of a grant, and stands as a line behind the text.
+-- The rules that are left, of what the set's messages come to: each is a rule of a grant, and stands as a line after the text.
 pub record AreWritten (f : RosterFields Cmnd) (messages : List Message) (q : RequestFields) (host : List ℕ) (after : Option ℕ) (old new : List ℕ) (count : ℕ) : Type 0 where
   pub status : Status
   pub status_is : IsStatus f messages (name_of q) status

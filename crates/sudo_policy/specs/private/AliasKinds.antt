@@ -60,7 +60,7 @@ pub record IsWhole (es : List Entry) (s : AliasKinds) (weighs : ℕ) (text_len :
 abbrev pub IsDraft : Draft → Type 0
 IsDraft d = IsWhole d.entries.items d.scope d.weight d.text_len
 
--- the draft has these entries more, behind its own
+-- the draft has these entries more, after its own
 pub record Adds (old new : Draft) (es : List Entry) : Type 0 where
   pub draft : IsDraft new
   pub entries : new.entries.items ≡ old.entries.items ++ es

@@ -8,18 +8,18 @@ use Rattle.sudo_policy.specs.Lines.{Joined}
 use Rattle.sudo_policy.specs.Spelling.{SpellsLines}
 
 -- The lines are these when joined, where a front that is not empty stands before the first.
-abbrev pub JoinedBehind : Text → List Text → List Text → Type 0
-JoinedBehind front lines joined =
+abbrev pub JoinedAfter : Text → List Text → List Text → Type 0
+JoinedAfter front lines joined =
     ((front ≡ []) × Joined lines joined)
     ⊎ ((0 < length front) × (body : Text) × (more : List Text) × (joined ≡ (front ++ body) ∷ more) × Joined lines (body ∷ more))
 
-abbrev pub SpellsBehind : Text → List Text → List Entry → Type 0
-SpellsBehind front lines es = (joined : List Text) × JoinedBehind front lines joined × SpellsLines joined es
+abbrev pub SpellsAfter : Text → List Text → List Entry → Type 0
+SpellsAfter front lines es = (joined : List Text) × JoinedAfter front lines joined × SpellsLines joined es
 
--- The entries of the lines behind the front are those of the rest behind its own, with these before them.
+-- The entries of the lines after the front are those of the rest after its own, with these before them.
 pub record Leads (front : Text) (lines : List Text) (here : List Entry) (next : Text) (rest : List Text) : Type 0 where
-  pub adds : (es : List Entry) → SpellsBehind next rest es → SpellsBehind front lines (here ++ es)
-  pub only : (es : List Entry) → SpellsBehind front lines es → (more : List Entry) × (es ≡ here ++ more) × SpellsBehind next rest more
+  pub adds : (es : List Entry) → SpellsAfter next rest es → SpellsAfter front lines (here ++ es)
+  pub only : (es : List Entry) → SpellsAfter front lines es → (more : List Entry) × (es ≡ here ++ more) × SpellsAfter next rest more
 
 -- the lines, joined where they go on, spell these entries
 abbrev pub SpellsBy : List Text → List Entry → Type 0

@@ -20,9 +20,9 @@ loop-spec-preserved c =
     let added = c.in_ok-held-2.ensures in
     record {
       draft = added.found.draft;
-      whole = rw (added.found.entries, added.behind) (append_assoc l.draft.entries.items _ _ ∙ rw next at l.invariant.whole);
-      are = rw added.behind (rw next at l.invariant.are).1;
-      behind = rw added.behind (rw next at l.invariant.behind);
+      whole = rw (added.found.entries, added.after) (append_assoc l.draft.entries.items _ _ ∙ rw next at l.invariant.whole);
+      are = rw added.after (rw next at l.invariant.are).1;
+      behind = rw added.after (rw next at l.invariant.behind);
       rest =
           let was = l.invariant.rest in
           let gone = c.in-Some.ensures.steps.1 in

@@ -1,0 +1,10 @@
+pub mod Leads
+pub mod FirstTokens
+pub mod ListLemmas
+pub mod DateLemmas
+pub mod TagLemmas
+pub mod ArgLemmas
+pub mod NameLemmas
+pub mod CmndLemmas
+pub mod SpecLemmas
+pub mod TreeLemmas

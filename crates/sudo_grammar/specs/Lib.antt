@@ -1,0 +1,2 @@
+-- The grammar itself stands in `sudo_policy`.
+pub mod private
