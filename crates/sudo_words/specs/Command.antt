@@ -65,19 +65,31 @@ cmnd_text cmnd = head_text cmnd ++ rule_text (rule_of cmnd)
 
 -- ---- The commands that policies hold: `ALL`, a directory, or a file with a rule for its arguments.
 
+-- a path has at most so many bytes
+abbrev pub most_path_bytes : ℕ
+most_path_bytes = 255
+
+-- a rule lists at most so many arguments
+abbrev pub most_args : ℕ
+most_args = 16
+
+-- a command's text, with its backslashes, has at most so many bytes
+abbrev pub most_cmnd_bytes : ℕ
+most_cmnd_bytes = 1024
+
 abbrev pub IsHead : Cmnd → Type 0
 IsHead All = Unit {0}
-IsHead (Path file rule) = (is_file_path file ≡ true) × (length file ≤ 255)
-IsHead (Dir dir) = (is_dir_path dir ≡ true) × (length dir ≤ 255)
+IsHead (Path file rule) = (is_file_path file ≡ true) × (length file ≤ most_path_bytes)
+IsHead (Dir dir) = (is_dir_path dir ≡ true) × (length dir ≤ most_path_bytes)
 
--- from 1 to 16 arguments where they are listed
+-- at least one argument, and not too many, where they are listed
 abbrev pub IsArgRule : ArgRule → Type 0
 IsArgRule Any = Unit {0}
 IsArgRule Empty = Unit {0}
-IsArgRule (Exactly args) = AllByRecursion (λ arg. is_arg arg ≡ true) args × (1 ≤ length args) × (length args ≤ 16)
+IsArgRule (Exactly args) = AllByRecursion (λ arg. is_arg arg ≡ true) args × (1 ≤ length args) × (length args ≤ most_args)
 
--- The path has at most 255 bytes, and the text, with its backslashes, at most 1,024.
+-- The path, the arguments and the text keep their limits.
 pub record IsLawful (cmnd : Cmnd) : Type 0 where
   pub head : IsHead cmnd
   pub args : IsArgRule (rule_of cmnd)
-  pub short : length (cmnd_text cmnd) ≤ 1024
+  pub short : length (cmnd_text cmnd) ≤ most_cmnd_bytes

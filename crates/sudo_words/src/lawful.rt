@@ -4,20 +4,20 @@ ghost use Rattle.std.specs.Prelude.{◌≡◌, ◌↔◌, ◌≤◌, IsTrue, Mat
 ghost use Rattle.std.specs.List.{AllByRecursion, flat_map};
 ghost use Rattle.sudo_words.specs.Word.{is_arg};
 ghost use Rattle.sudo_words.specs.Command as command;
-ghost use Rattle.sudo_words.specs.Command.{IsArgRule, IsLawful, arg_text, cmnd_text, rule_text, spaced_arg};
+ghost use Rattle.sudo_words.specs.Command.{IsArgRule, IsLawful, arg_text, cmnd_text, most_args, rule_text, spaced_arg};
 
 use crate::arg::Arg;
 use crate::arg_text::is_escaped;
 use crate::cmnd::{ArgRule, Cmnd};
 
 /// The most bytes of a path.
-const LONGEST_PATH: usize = 255;
+const MOST_PATH_BYTES: usize = 255;
 
 /// The most arguments that a rule lists.
 pub const MOST_ARGS: usize = 16;
 
 /// The most bytes of a command's text.
-const LONGEST_TEXT: usize = 1024;
+const MOST_CMND_BYTES: usize = 1024;
 
 fn count_escaped(text: &[u8]) -> usize
     ensures { result ≡ count_by command.is_escaped text.now }
@@ -37,7 +37,7 @@ fn arg_length(arg: &Arg) -> usize
 
 /// The length of the arguments' texts, with a space before each.
 fn args_length(args: &[Arg]) -> usize
-    requires { length args.now ≤ 16 }
+    requires { length args.now ≤ most_args }
     ensures length { result ≡ length (flat_map spaced_arg args.now) }
     ensures short { result ≤ 2064 }
     ensures forms { AllByRecursion (λ arg. is_arg arg ≡ true) args.now }
@@ -78,10 +78,10 @@ pub fn is_lawful(cmnd: &Cmnd) -> bool
             let path = file.as_str().len();
             match rule_length(rule) {
                 None => false,
-                Some(args) => path <= LONGEST_PATH && path + args <= LONGEST_TEXT,
+                Some(args) => path <= MOST_PATH_BYTES && path + args <= MOST_CMND_BYTES,
             }
         }
-        Cmnd::Dir(dir) => dir.as_str().len() <= LONGEST_PATH,
+        Cmnd::Dir(dir) => dir.as_str().len() <= MOST_PATH_BYTES,
     }
 }
 
