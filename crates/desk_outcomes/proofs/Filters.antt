@@ -9,7 +9,7 @@ use Rattle.roster.specs.Fields.{RosterFields}
 use Rattle.grants.specs.Summaries.{Kept}
 use Rattle.grants.specs.declared.outcome.Status.{Status}
 use Rattle.desk_outcomes.specs.Gathered.{Give}
-use Rattle.desk_outcomes.specs.Order.{AllBehind, AreInOrder}
+use Rattle.desk_outcomes.specs.Order.{AllAfter, AreInOrder}
 use Rattle.desk_outcomes.proofs.Membership.{no_member, Contains-head, Contains-behind, Contains-cases}
 use Rattle.desk_outcomes.proofs.Orders.{behind_each, behind_from_each}
 
@@ -43,7 +43,7 @@ module _ {X : Type 0} (p : X → Bool) where
 
 -- ---- their order
 
-cond_ordered : {X : Type 0} (P : X → X → Type 0) (b : Bool) (x : X) (more : List X) → AllBehind P x more → AreInOrder P more → AreInOrder P (cond b (x ∷ more) more)
+cond_ordered : {X : Type 0} (P : X → X → Type 0) (b : Bool) (x : X) (more : List X) → AllAfter P x more → AreInOrder P more → AreInOrder P (cond b (x ∷ more) more)
 cond_ordered P true x more all o = (all, o)
 cond_ordered P false x more all o = o
 

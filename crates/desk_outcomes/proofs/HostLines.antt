@@ -20,7 +20,7 @@ use Rattle.grants.specs.declared.outcome.Window.{Window}
 use Rattle.desk_outcomes.specs.Gathered.{Give}
 use Rattle.desk_outcomes.specs.HostFile.{Line, IsLine, LinePrecedes, AreLines}
 use Rattle.desk_outcomes.specs.LinesLeft.{lines_left, rules_left, stays}
-use Rattle.desk_outcomes.specs.Order.{AllBehind, AreInOrder}
+use Rattle.desk_outcomes.specs.Order.{AllAfter, AreInOrder}
 use Rattle.desk_outcomes.proofs.Filters.{kept, left_in_order, left_of_given, left_of_map, passes, was_there}
 use Rattle.desk_outcomes.proofs.GivenLists.{IsRoll, KeptPrecedes, given_by, given_in_order, gives}
 use Rattle.desk_outcomes.proofs.Membership.{no_member, Contains-head, Contains-behind, Contains-cases, member_from_test, test_from_member}
@@ -151,7 +151,7 @@ own_name host q status line m = ap (λ (l : Line). l.name) (granted_line host q 
 
 -- ---- order
 
-lower_places : (host : List ℕ) (q : RequestFields) (first last : ℕ) (line : Line) (low : ℕ) (cs : List Cmnd) → line.name ≡ name_of q → line.place < low → AllBehind LinePrecedes line (cmnd_lines host q first last low cs)
+lower_places : (host : List ℕ) (q : RequestFields) (first last : ℕ) (line : Line) (low : ℕ) (cs : List Cmnd) → line.name ≡ name_of q → line.place < low → AllAfter LinePrecedes line (cmnd_lines host q first last low cs)
 lower_places host q first last line low [] named below = tt
 lower_places host q first last line low (c ∷ cs) named below =
     (inr (named, below), lower_places host q first last line (suc low) cs named (omega (arith, below)))

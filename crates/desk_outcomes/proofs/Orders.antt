@@ -8,23 +8,23 @@ use Rattle.std.specs.declared.cmp.Ordering.TheVariants.{Less, Equal, Greater}
 use Rattle.std.proofs.lemmas.Cmp.{nat_list_cmp_total}
 use Rattle.messages.specs.Names.{RequestName}
 use Rattle.desk_outcomes.specs.HostFile.{Line, LinePrecedes}
-use Rattle.desk_outcomes.specs.Order.{AllBehind, AreInOrder, NamePrecedes, TextPrecedes}
+use Rattle.desk_outcomes.specs.Order.{AllAfter, AreInOrder, NamePrecedes, TextPrecedes}
 use Rattle.desk_outcomes.specs.Outcomes.{LiveGrant, LivePrecedes}
 use Rattle.desk_outcomes.proofs.Membership.{no_member, Contains-head, Contains-behind, Contains-cases}
 
 -- ---- any order
 
 module _ {X : Type 0} (P : X → X → Type 0) where
-  pub behind_each : (a : X) (ys : List X) → AllBehind P a ys → (x : X) → Contains ys x → P a x
+  pub behind_each : (a : X) (ys : List X) → AllAfter P a ys → (x : X) → Contains ys x → P a x
   behind_each a [] all x m = absurd (no_member x m)
   behind_each a (b ∷ ys) all x m =
       elim (Contains-cases b ys x m) as (λ _. P a x) [ inl same ↦ subst (P a) same all.0 | inr later ↦ behind_each a ys all.1 x later ]
 
-  pub behind_from_each : (a : X) (xs : List X) → ((x : X) → Contains xs x → P a x) → AllBehind P a xs
+  pub behind_from_each : (a : X) (xs : List X) → ((x : X) → Contains xs x → P a x) → AllAfter P a xs
   behind_from_each a [] f = tt
   behind_from_each a (x ∷ xs) f = (f x (Contains-head x xs), behind_from_each a xs (λ y m. f y (Contains-behind x xs y m)))
 
-  behind_both : (a : X) (xs ys : List X) → AllBehind P a xs → AllBehind P a ys → AllBehind P a (xs ++ ys)
+  behind_both : (a : X) (xs ys : List X) → AllAfter P a xs → AllAfter P a ys → AllAfter P a (xs ++ ys)
   behind_both a [] ys f g = g
   behind_both a (x ∷ xs) ys f g = (f.0, behind_both a xs ys f.1 g)
 
@@ -33,7 +33,7 @@ module _ {X : Type 0} (P : X → X → Type 0) where
   ordered_both (x ∷ xs) ys f g before =
       (behind_both x xs ys f.0 (behind_from_each x ys (λ y m. before x y (Contains-head x xs) m)), ordered_both xs ys f.1 g (λ a b m n. before a b (Contains-behind x xs a m) n))
 
-  behind_front : (a : X) (xs ys : List X) → AllBehind P a (xs ++ ys) → AllBehind P a xs
+  behind_front : (a : X) (xs ys : List X) → AllAfter P a (xs ++ ys) → AllAfter P a xs
   behind_front a [] ys all = tt
   behind_front a (x ∷ xs) ys all = (all.0, behind_front a xs ys all.1)
 
@@ -44,13 +44,13 @@ module _ {X : Type 0} (P : X → X → Type 0) where
 -- ---- a strict one
 
 module _ {X : Type 0} (P : X → X → Type 0) (strict : (a b : X) → P a b → P b a → ⊥) where
-  same_head : (a b : X) (xs ys : List X) → AllBehind P a xs → AllBehind P b ys → (a ≡ b) ⊎ Contains xs b → (b ≡ a) ⊎ Contains ys a → a ≡ b
+  same_head : (a b : X) (xs ys : List X) → AllAfter P a xs → AllAfter P b ys → (a ≡ b) ⊎ Contains xs b → (b ≡ a) ⊎ Contains ys a → a ≡ b
   same_head a b xs ys o p (inl same) g = same
   same_head a b xs ys o p (inr f) (inl same) = sym same
   same_head a b xs ys o p (inr f) (inr g) = absurd (strict a b (behind_each P a xs o b f) (behind_each P b ys p a g))
 
   -- a member of the longer list is no head's double
-  same_tail : (a b : X) (xs ys : List X) → a ≡ b → AllBehind P a xs → (x : X) → Contains xs x → (b ≡ x) ⊎ Contains ys x → Contains ys x
+  same_tail : (a b : X) (xs ys : List X) → a ≡ b → AllAfter P a xs → (x : X) → Contains xs x → (b ≡ x) ⊎ Contains ys x → Contains ys x
   same_tail a b xs ys same o x m (inl double) =
       let before : P a a = subst (P a) (sym double ∙ sym same) (behind_each P a xs o x m) in
       absurd (strict a a before before)
@@ -68,7 +68,7 @@ module _ {X : Type 0} (P : X → X → Type 0) (strict : (a b : X) → P a b →
       cc
 
   -- the head of the one comes later in the other
-  past_head : (a b : X) (xs ys : List X) → P b a → AllBehind P a xs → (x : X) → Contains (a ∷ xs) x → (b ≡ x) ⊎ Contains ys x → Contains ys x
+  past_head : (a b : X) (xs ys : List X) → P b a → AllAfter P a xs → (x : X) → Contains (a ∷ xs) x → (b ≡ x) ⊎ Contains ys x → Contains ys x
   past_head a b xs ys before o x m (inl same) =
       absurd (elim (Contains-cases a xs x m) as (λ _. ⊥) [
         | inl here ↦ let self : P b b = subst (P b) (here ∙ sym same) before in strict b b self self

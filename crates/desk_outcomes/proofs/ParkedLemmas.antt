@@ -23,7 +23,7 @@ use Rattle.grants.specs.Summaries.{Kept}
 use Rattle.desk_outcomes.specs.declared.naming.NameKey.{NameKey}
 use Rattle.desk_outcomes.specs.Gathered.{Gathers, parked_for, parked_of}
 use Rattle.desk_outcomes.specs.Names.{at_name}
-use Rattle.desk_outcomes.specs.Order.{AllBehind, AreInOrder, TextPrecedes}
+use Rattle.desk_outcomes.specs.Order.{AllAfter, AreInOrder, TextPrecedes}
 use Rattle.desk_outcomes.specs.Outcomes.{NobodyAsks}
 use Rattle.desk_outcomes.specs.Parked.{AreParked, IsParked, name_meant}
 use Rattle.desk_outcomes.proofs.GatherLemmas.{IsAt}
@@ -108,7 +108,7 @@ from_texts (y ∷ ys) text m =
       | inr later ↦ let found = from_texts ys text later in (found.0, Contains-behind y ys found.0 found.1, found.2)
     ]
 
-texts_behind : (x : String Global) (xs : List (String Global)) → AllByRecursion (λ y. string_cmp x y ≡ Less) xs → AllBehind TextPrecedes (string_bytes x) (map string_bytes xs)
+texts_behind : (x : String Global) (xs : List (String Global)) → AllByRecursion (λ y. string_cmp x y ≡ Less) xs → AllAfter TextPrecedes (string_bytes x) (map string_bytes xs)
 texts_behind x [] all = tt
 texts_behind x (y ∷ ys) all = (ap is_lt all.0, texts_behind x ys all.1)
 

@@ -4,14 +4,14 @@ use Rattle.messages.specs.Names.{RequestName}
 use Rattle.messages.specs.Order.{is_before}
 
 -- the element precedes each of the list
-abbrev pub AllBehind : {X : Type 0} → (X → X → Type 0) → X → List X → Type 0
-AllBehind Precedes x [] = Unit {0}
-AllBehind Precedes x (y ∷ ys) = Precedes x y × AllBehind Precedes x ys
+abbrev pub AllAfter : {X : Type 0} → (X → X → Type 0) → X → List X → Type 0
+AllAfter Precedes x [] = Unit {0}
+AllAfter Precedes x (y ∷ ys) = Precedes x y × AllAfter Precedes x ys
 
 -- each element precedes all after it
 abbrev pub AreInOrder : {X : Type 0} → (X → X → Type 0) → List X → Type 0
 AreInOrder Precedes [] = Unit {0}
-AreInOrder Precedes (x ∷ more) = AllBehind Precedes x more × AreInOrder Precedes more
+AreInOrder Precedes (x ∷ more) = AllAfter Precedes x more × AreInOrder Precedes more
 
 -- texts in byte order
 abbrev pub TextPrecedes : (a b : List ℕ) → Type 0

@@ -13,7 +13,7 @@ use Rattle.messages.specs.Names.{RequestName, name_of}
 use Rattle.messages.specs.declared.message.Message.{Message}
 use Rattle.grants.specs.Summaries.{Kept, StandsFor}
 use Rattle.desk_store.specs.Sets.{Lists, SameSet}
-use Rattle.desk_outcomes.specs.Order.{AllBehind, AreInOrder, NamePrecedes, TextPrecedes}
+use Rattle.desk_outcomes.specs.Order.{AllAfter, AreInOrder, NamePrecedes, TextPrecedes}
 use Rattle.desk_outcomes.specs.Parked.{AreParked}
 use Rattle.desk_outcomes.specs.Summaries.{AreSummaries as AreLent, SummaryPrecedes}
 use Rattle.sudo_beyond.specs.Cases.{text_order}
@@ -42,7 +42,7 @@ name_below a b (inl before) = ap (λ o. ordering_then o (nat_cmp a.no b.no)) (te
 name_below a b (inr same) =
     ap (λ o. ordering_then o (nat_cmp a.no b.no)) (subst (λ by. text_order a.by by ≡ Equal) same.0 (text_itself a.by)) ∙ sym (nat_cmp_is a.no b.no Less same.1)
 
-texts_behind : (x : List ℕ) (xs : List (List ℕ)) → AllBehind TextPrecedes x xs → AllByRecursion (λ y. text_order x y ≡ Less) xs
+texts_behind : (x : List ℕ) (xs : List (List ℕ)) → AllAfter TextPrecedes x xs → AllByRecursion (λ y. text_order x y ≡ Less) xs
 texts_behind x [] all = tt
 texts_behind x (y ∷ ys) all = (text_below x y all.0, texts_behind x ys all.1)
 
@@ -54,7 +54,7 @@ texts_rise (x ∷ xs) rise = (texts_behind x xs rise.0, texts_rise xs rise.1)
 abbrev name_kept : Kept → RequestName
 name_kept k = name_of k.request
 
-names_behind : (x : Kept) (xs : List Kept) → AllBehind SummaryPrecedes x xs → AllByRecursion (λ y. name_order (name_kept x) y ≡ Less) (map name_kept xs)
+names_behind : (x : Kept) (xs : List Kept) → AllAfter SummaryPrecedes x xs → AllByRecursion (λ y. name_order (name_kept x) y ≡ Less) (map name_kept xs)
 names_behind x [] all = tt
 names_behind x (y ∷ ys) all = (name_below (name_kept x) (name_kept y) all.0, names_behind x ys all.1)
 

@@ -7,7 +7,7 @@ use Rattle.sudo_words.specs.Moment.{IsMoment}
 use Rattle.sudo_policy.specs.declared.entry.Rule.{Rule}
 use Rattle.sudo_decide.specs.Decision.{is_not_before, is_not_after, takes_part}
 use Rattle.sudo_beyond.specs.Alike.{AlikeMoments}
-use Rattle.sudo_beyond.specs.Cases.{behind, turns_of, turns}
+use Rattle.sudo_beyond.specs.Cases.{moment_after, turns_of, turns}
 use Rattle.sudo_beyond.proofs.OneCase.{IsMomentCase}
 use Rattle.sudo_beyond.proofs.AlikeLemmas.{all_weaker, all_front, all_back, all_each}
 
@@ -76,7 +76,7 @@ begun_alike : (first : Option ℕ) (t g : ℕ) → g ≤ t → AllByRecursion (�
 begun_alike None t g low keeps = refl
 begun_alike (Some p) t g low keeps = same_leb p t g low keeps.0
 
-lasts_alike : (last : Option ℕ) (t g : ℕ) → IsMoment t → g ≤ t → AllByRecursion (λ p. p ≤ t → p ≤ g) (behind last) → is_not_after last t ≡ is_not_after last g
+lasts_alike : (last : Option ℕ) (t g : ℕ) → IsMoment t → g ≤ t → AllByRecursion (λ p. p ≤ t → p ≤ g) (moment_after last) → is_not_after last t ≡ is_not_after last g
 lasts_alike None t g is low keeps = refl
 lasts_alike (Some l) t g is low keeps =
     elim (cases_Bool (leb l 4_102_444_798)) [
@@ -91,8 +91,8 @@ lasts_alike (Some l) t g is low keeps =
 rule_alike : (t g : ℕ) (r : Rule) → IsMoment t → g ≤ t → AllByRecursion (λ p. p ≤ t → p ≤ g) (turns_of r) → takes_part r t ≡ takes_part r g
 rule_alike t g r is low keeps =
     let P : ℕ → Type 0 = λ p. p ≤ t → p ≤ g in
-    let begun = begun_alike r.not_before t g low (all_front P (option_to_list r.not_before) (behind r.not_after) keeps) in
-    let lasts = lasts_alike r.not_after t g is low (all_back P (option_to_list r.not_before) (behind r.not_after) keeps) in
+    let begun = begun_alike r.not_before t g low (all_front P (option_to_list r.not_before) (moment_after r.not_after) keeps) in
+    let lasts = lasts_alike r.not_after t g is low (all_back P (option_to_list r.not_before) (moment_after r.not_after) keeps) in
     ap (λ (b : Bool). b && is_not_after r.not_after t) begun ∙ ap (λ (b : Bool). is_not_before r.not_before g && b) lasts
 
 pub record MomentStands (rules : List Rule) (t : ℕ) : Type 0 where

@@ -18,7 +18,7 @@ use Rattle.sudo_policy.specs.declared.entry.Entry.TheVariants as entries
 use Rattle.sudo_policy.specs.Policy.{IsEntry, IsItem, IsCmndItem}
 use Rattle.sudo_decide.specs.Reach.{rule_in, rules_in}
 use Rattle.sudo_beyond.specs.Standing.{name_in, names_in, cmnd_in, cmnds_in, users_of, hosts_of, runas_of, cmnds_of, users, hosts, runas, commands}
-use Rattle.sudo_beyond.specs.Cases.{dir_in, dirs, path_in, paths, behind, turns_of, turns}
+use Rattle.sudo_beyond.specs.Cases.{dir_in, dirs, path_in, paths, moment_after, turns_of, turns}
 use Rattle.sudo_beyond.specs.Gathering.{IsLawfulDir}
 use Rattle.sudo_beyond.proofs.AlikeLemmas.{all_weaker, all_append, all_flat}
 
@@ -117,7 +117,7 @@ begins : (first : Option ℕ) → IfSome first IsMoment → AllByRecursion IsMom
 begins None is = tt
 begins (Some t) is = (is, tt)
 
-ends : (last : Option ℕ) → AllByRecursion IsMoment (behind last)
+ends : (last : Option ℕ) → AllByRecursion IsMoment (moment_after last)
 ends None = tt
 ends (Some t) =
     elim (cases_Bool (leb t 4_102_444_798)) [
@@ -130,7 +130,7 @@ are_rules (entries.UserAlias name list) is = tt
 are_rules (entries.RunasAlias name list) is = tt
 are_rules (entries.HostAlias name list) is = tt
 are_rules (entries.CmndAlias name list) is = tt
-are_rules (entries.Rule r) is = (all_append IsMoment (option_to_list r.not_before) (behind r.not_after) (begins r.not_before is.not_before) (ends r.not_after), tt)
+are_rules (entries.Rule r) is = (all_append IsMoment (option_to_list r.not_before) (moment_after r.not_after) (begins r.not_before is.not_before) (ends r.not_after), tt)
 
 pub are_turns : (a b : List Entry) → AllByRecursion IsEntry a → AllByRecursion IsEntry b → AllByRecursion IsMoment (turns (rules_in a ++ rules_in b))
 are_turns a b is_a is_b =

@@ -145,12 +145,12 @@ pub record AreCommandCases (cmnds : List Cmnd) (runs : List Run) : Type 0 where
 abbrev pub last_but_one : ℕ
 last_but_one = 4_102_444_798
 
-abbrev pub behind : Option ℕ → List ℕ
-behind None = []
-behind (Some last) = if nat_le last last_but_one then (last + 1) ∷ [] else []
+abbrev pub moment_after : Option ℕ → List ℕ
+moment_after None = []
+moment_after (Some last) = if nat_le last last_but_one then (last + 1) ∷ [] else []
 
 abbrev pub turns_of : Rule → List ℕ
-turns_of r = option_to_list r.not_before ++ behind r.not_after
+turns_of r = option_to_list r.not_before ++ moment_after r.not_after
 
 abbrev pub turns : List Rule → List ℕ
 turns rules = flat_map turns_of rules

@@ -7,6 +7,7 @@ use Rattle.std.specs.Str.{bytes_eq}
 use Rattle.sudo_words.specs.declared.cmnd.Cmnd.{Cmnd}
 use Rattle.sudo_words.specs.declared.cmnd.Cmnd.TheVariants as cmnd_of
 use Rattle.sudo_words.specs.Word.{is_dir_path}
+use Rattle.sudo_words.specs.Command.{most_path_bytes}
 use Rattle.sudo_beyond.specs.declared.run.Run.{Run}
 use Rattle.sudo_beyond.specs.Cases.{other, text_order, args_order, IsEachOnce, IsFirstOther, has, has_args, listed_args, run_of}
 
@@ -20,7 +21,7 @@ IsExact {X} same = (x y : X) → same x y ≡ true → x ≡ y
 
 -- a directory of a policy
 abbrev pub IsLawfulDir : List ℕ → Type 0
-IsLawfulDir dir = (is_dir_path dir ≡ true) × (length dir ≤ 255)
+IsLawfulDir dir = (is_dir_path dir ≡ true) × (length dir ≤ most_path_bytes)
 
 -- the first other file of a directory that is none of these, and the first other argument that is none of these lists
 abbrev pub IsFreeFile : List (List ℕ) → List ℕ → List ℕ → Type 0

@@ -21,7 +21,7 @@ ghost use Rattle.sudo_beyond.specs.declared.cases.Cases.{Cases};
 ghost use Rattle.sudo_decide.specs.declared.scope.Scope.{Scope};
 ghost use Rattle.sudo_beyond.specs.Standing.{names_in, cmnds_in, users, hosts, runas, commands};
 ghost use Rattle.sudo_beyond.specs.Beyond.{Agrees, IsScope, IsInvocation, IsInScope, IsGap, LiesBeyond, SomethingBeyond};
-ghost use Rattle.sudo_beyond.specs.Cases.{AreCases, run_of, behind, product, invocations};
+ghost use Rattle.sudo_beyond.specs.Cases.{AreCases, run_of, moment_after, product, invocations};
 ghost use Rattle.sudo_beyond.specs.Worked.{all_but_bob, ann_alone, anything, runs_other};
 ghost use Rattle.sudo_beyond.specs.Alike.{AlikeNames, AlikeCmnds, AlikeMoments, Alike};
 
@@ -135,6 +135,6 @@ pub fn worked_beyond()
     ensures somebody { LiesBeyond anything all_but_bob ann_alone (runs_other (codes "other0")) }
     ensures bob { LiesBeyond anything all_but_bob ann_alone (runs_other (codes "bob")) → ⊥ }
     ensures standing { users all_but_bob ++ users ann_alone ≡ codes "bob" ∷ codes "ann" ∷ [] }
-    ensures next { behind (Some 1_767_610_800) ≡ 1_767_610_801 ∷ [] }
-    ensures last { behind (Some 4_102_444_799) ≡ [] }
+    ensures next { moment_after (Some 1_767_610_800) ≡ 1_767_610_801 ∷ [] }
+    ensures last { moment_after (Some 4_102_444_799) ≡ [] }
 {}

@@ -2,15 +2,15 @@
 
 ghost use Rattle.std.specs.Prelude.{◌≡◌, ◌++◌, IfOk, OnOk};
 ghost use Rattle.sudo_decide.specs.Reach.{rule_in, rules_in};
-ghost use Rattle.sudo_beyond.specs.Cases.{AreMomentCases, behind, turns_of, turns};
+ghost use Rattle.sudo_beyond.specs.Cases.{AreMomentCases, moment_after, turns_of, turns};
 
 use crate::order::in_order;
 use std::alloc::Global;
 use sudo_policy::{Entry, Policy, Rule};
 use sudo_words::{Items, Moment, NoMemory};
 
-fn push_behind(moments: &mut Vec<Moment>, last: Option<Moment>) -> Result<(), NoMemory>
-    ensures { OnOk result (moments.new.items ≡ moments.old.items ++ behind last) }
+fn push_moment_after(moments: &mut Vec<Moment>, last: Option<Moment>) -> Result<(), NoMemory>
+    ensures { OnOk result (moments.new.items ≡ moments.old.items ++ moment_after last) }
 {
     let Some(last) = last else {
         return Ok(());
@@ -27,7 +27,7 @@ fn push_turns_of(moments: &mut Vec<Moment>, rule: &Rule) -> Result<(), NoMemory>
     if let Some(first) = rule.not_before {
         moments.push(first)?;
     }
-    push_behind(moments, rule.not_after)
+    push_moment_after(moments, rule.not_after)
 }
 
 fn push_entry_turns(moments: &mut Vec<Moment>, entry: &Entry) -> Result<(), NoMemory>

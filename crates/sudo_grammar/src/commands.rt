@@ -3,7 +3,7 @@
 ghost use Rattle.std.specs.Prelude.{◌≡◌, ◌≤◌, ◌++◌, ◌∷◌, [], List, ℕ, length, IfErr, IfOk, MatchResult, OnOk, true};
 ghost use Rattle.std.specs.List.{AllByRecursion};
 ghost use Rattle.sudo_words.specs.Bytes.{comma};
-ghost use Rattle.sudo_words.specs.Command.{IsArgRule, IsLawful, arg_text, head_text, rule_of};
+ghost use Rattle.sudo_words.specs.Command.{IsArgRule, IsLawful, arg_text, head_text, most_args, rule_of};
 ghost use Rattle.sudo_words.specs.Word.{is_arg};
 ghost use Rattle.sudo_words.specs.declared.cmnd.ArgRule.{ArgRule as Ruled};
 ghost use Rattle.sudo_words.specs.declared.cmnd.Cmnd.{Cmnd as Command};
@@ -55,7 +55,7 @@ fn args_at<'a, 'b>(
 ) -> Result<(Items<Arg>, &'b [Token<'a>]), LineFault>
     ensures found { IfOk result (λ x. toks tokens.now ≡ arg_toks x.0 ++ toks x.1.now) }
     ensures shorter { IfOk result (λ x. length x.1.now ≤ length tokens.now) }
-    ensures only { (args : List (List ℕ)) (rest : List Tok) → AllByRecursion (λ arg. is_arg arg ≡ true) args → length args ≤ 16 → NoArg rest → toks tokens.now ≡ arg_toks args ++ rest
+    ensures only { (args : List (List ℕ)) (rest : List Tok) → AllByRecursion (λ arg. is_arg arg ≡ true) args → length args ≤ most_args → NoArg rest → toks tokens.now ≡ arg_toks args ++ rest
         → MatchResult result (λ x. (x.0 ≡ args) × (toks x.1.now ≡ rest)) (λ e. e ≡ NoMemory) }
 {
     let mut args = Vec::new(alloc);
@@ -77,7 +77,7 @@ fn listed_at<'a, 'b>(
 ) -> Result<(ArgRule, &'b [Token<'a>]), LineFault>
     ensures found { IfOk result (λ x. toks tokens.now ≡ rule_toks x.0 ++ toks x.1.now) }
     ensures shorter { IfOk result (λ x. length x.1.now ≤ length tokens.now) }
-    ensures only { (args : List (List ℕ)) (rest : List Tok) → AllByRecursion (λ arg. is_arg arg ≡ true) args → length args ≤ 16 → NoArg rest → toks tokens.now ≡ arg_toks args ++ rest
+    ensures only { (args : List (List ℕ)) (rest : List Tok) → AllByRecursion (λ arg. is_arg arg ≡ true) args → length args ≤ most_args → NoArg rest → toks tokens.now ≡ arg_toks args ++ rest
         → MatchResult result (λ x. (x.0 ≡ rule_from args) × (toks x.1.now ≡ rest)) (λ e. e ≡ NoMemory) }
 {
     let (args, rest) = args_at(alloc, tokens)?;

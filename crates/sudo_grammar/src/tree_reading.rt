@@ -55,8 +55,12 @@ pub(crate) fn user_spec_of(alloc: Global, tokens: &[Token<'_>]) -> Result<UserSp
     Ok(UserSpec { users, parts })
 }
 
-/// The line that the tokens spell.
-pub(crate) fn tree_of(alloc: Global, tokens: &[Token<'_>]) -> Result<Line, LineFault>
+/// The line that tokens spell: definitions of aliases of one kind, or a user specification (sudoers(5), "Aliases", "User
+/// specification").
+///
+/// Faults: `NoMemory` where memory runs out; else no line is spelled, and the fault is that of the first token which has no place in the
+/// grammar, or of its text.
+pub fn tree_of(alloc: Global, tokens: &[Token<'_>]) -> Result<Line, LineFault>
     ensures found { IfOk result (λ l. SpellsTree (toks tokens.now) l) }
     ensures only { (l : Tree) → SpellsTree (toks tokens.now) l → MatchResult result (λ x. x ≡ l) (λ e. e ≡ NoMemory) }
 {
