@@ -15,7 +15,7 @@ ghost use Rattle.sudo_policy.specs.Lex.{Tok};
 ghost use Rattle.sudo_policy.specs.private.Tokens.{toks};
 ghost use Rattle.sudo_policy.specs.Policy.{IsCmndItem};
 
-use crate::fronts::{arg_at, after_empty, word_at};
+use crate::fronts::{after_empty, arg_at, word_at};
 use crate::items::{Spelled, word_of};
 use crate::misplaced::{bad_cmnd, bad_word, misplaced};
 use std::alloc::Global;

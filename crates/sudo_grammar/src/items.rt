@@ -12,7 +12,7 @@ ghost use Rattle.sudo_policy.specs.declared.entry.Item.{Item as Said};
 ghost use Rattle.sudo_policy.specs.Policy.{IsItem};
 ghost use Rattle.sudo_policy.specs.Printing.{item_text};
 
-use crate::fronts::{begins_spaced, after_mark, word_at};
+use crate::fronts::{after_mark, begins_spaced, word_at};
 use crate::misplaced::{bad_word, misplaced};
 use std::alloc::Global;
 use sudo_policy::{Item, LineFault, Mark, Signed, Token};

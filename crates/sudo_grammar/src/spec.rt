@@ -10,7 +10,7 @@ ghost use Rattle.sudo_policy.specs.Lex.{Tok, word, mark};
 ghost use Rattle.sudo_policy.specs.private.Tokens.{toks};
 ghost use Rattle.sudo_policy.specs.Text.{Names};
 
-use crate::fronts::{begins_spaced, after_mark, date_at, head_at, word_at};
+use crate::fronts::{after_mark, begins_spaced, date_at, head_at, word_at};
 use crate::items::{Spelled, list_at};
 use crate::misplaced::{bad_option, unclosed};
 use std::alloc::Global;
