@@ -1,6 +1,6 @@
 //! Messages read from bytes.
 
-ghost use Rattle.std.specs.Prelude.{◌≡◌, ◌⊎◌, ◌<◌, ◌≤◌, length, IfOk, IfErr, IsErrOf, IsOkAnd, MatchResult};
+ghost use Rattle.std.specs.Prelude.{◌≡◌, ◌⊎◌, ◌<◌, ◌≤◌, false, true, length, IfOk, IfErr, IsErrOf, IsOkAnd, MatchResult};
 ghost use Rattle.serde_json.specs.View.{view};
 ghost use Rattle.messages.specs.Canonical.{IsCanonicalText};
 ghost use Rattle.messages.specs.Fields.{RequestFields, VerdictFields, IsRequest, IsVerdict};
@@ -31,16 +31,23 @@ fn request_of(alloc: Global, value: &Value) -> Result<Request, MessageFault>
         → MatchResult result (λ q. q ≡ r) (λ e. e ≡ NoMemory) }
     ensures err { IfErr result (λ e. (e ≡ BadField) ⊎ (e ≡ NoMemory)) }
 {
+    // What is copied or lent comes first: where it is missing there is nothing to drop.
+    let at = moment_member(value, "at")?;
+    let from = moment_member(value, "from")?;
+    let until = moment_member(value, "until")?;
+    let no = number_member(value)?;
+    let cmnds = list_member(value, "cmnds")?;
+    let hosts = list_member(value, "hosts")?;
     Ok(Request {
-        at: moment_member(value, "at")?,
+        at,
         by: word_member(alloc, value, "by")?,
         ceiling: word_member(alloc, value, "ceiling")?,
-        cmnds: cmnds_of(alloc, list_member(value, "cmnds")?)?,
-        from: moment_member(value, "from")?,
-        hosts: hosts_of(alloc, list_member(value, "hosts")?)?,
-        no: number_member(value)?,
+        cmnds: cmnds_of(alloc, cmnds)?,
+        from,
+        hosts: hosts_of(alloc, hosts)?,
+        no,
         runas: word_member(alloc, value, "runas")?,
-        until: moment_member(value, "until")?,
+        until,
     })
 }
 
@@ -67,11 +74,13 @@ fn verdict_of(alloc: Global, value: &Value, kind: VerdictKind) -> Result<Verdict
         → MatchResult result (λ w. w ≡ v) (λ e. e ≡ NoMemory) }
     ensures err { IfErr result (λ e. (e ≡ BadField) ⊎ (e ≡ NoMemory)) }
 {
+    let at = moment_member(value, "at")?;
+    let no = number_member(value)?;
     Ok(Verdict {
-        at: moment_member(value, "at")?,
+        at,
         by: word_member(alloc, value, "by")?,
         kind,
-        no: number_member(value)?,
+        no,
         of: word_member(alloc, value, "of")?,
     })
 }
@@ -89,6 +98,26 @@ fn message_of(alloc: Global, value: &Value) -> Result<Message, MessageFault>
     }
     let kind = kind_named(name)?;
     Ok(Message::Verdict(verdict_of(alloc, value, kind)?))
+}
+
+/// The message that has the members of a canonical text of JSON. Further members are not looked at.
+fn members_of(alloc: Global, body: &[u8]) -> Result<Message, MessageFault>
+    ensures found { IfOk result (λ m. IsMessage m × IsCanonicalText body.now) }
+    ensures only { (m : AnyMessage) → IsMessage m → body.now ≡ wire m → MatchResult result (λ n. n ≡ m) (λ e. e ≡ NoMemory) }
+    ensures err { IfErr result (λ e. ((e ≡ NotCanonical) × ¬ IsCanonicalText body.now) ⊎ ((e ≡ BadField) × IsCanonicalText body.now) ⊎ (e ≡ NoMemory)) }
+{
+    let value = canonical(alloc, body)?;
+    message_of(alloc, &value)
+}
+
+/// Whether the message has another text than these bytes.
+fn has_other_text(alloc: Global, message: &Message, body: &[u8]) -> Result<bool, MessageFault>
+    ensures same { IfOk result (λ other. other ≡ false → body.now ≡ wire message.now) }
+    ensures other { IfOk result (λ other. other ≡ true → body.now ≡ wire message.now → ⊥) }
+    ensures err { IfErr result (λ e. e ≡ NoMemory) }
+{
+    let written = text(alloc, message)?;
+    Ok(written.as_bytes() != body)
 }
 
 /// The message that the bytes are the text of.
@@ -109,11 +138,9 @@ pub fn read_message(alloc: Global, body: &[u8]) -> Result<Message, MessageFault>
     if body.len() > MOST_BYTES {
         return Err(MessageFault::TooLong);
     }
-    let value = canonical(alloc, body)?;
-    let message = message_of(alloc, &value)?;
+    let message = members_of(alloc, body)?;
     // The message has every member that was read: where the text has others, it is not the message's.
-    let written = text(alloc, &message)?;
-    if written.as_bytes() != body {
+    if has_other_text(alloc, &message, body)? {
         return Err(MessageFault::BadField);
     }
     Ok(message)

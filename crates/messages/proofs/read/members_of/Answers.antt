@@ -1,0 +1,18 @@
+use Rattle.std.proofs.Common.{inl, inr}
+use Rattle.std.proofs.lemmas.Result.{err_from_is_err_and}
+use Rattle.serde_json.specs.View.{view}
+use Rattle.messages.specs.Members.{value_of}
+use Rattle.messages.proofs.Readings.{text_of_message, value_read}
+use Rattle.messages.proofs.read.members_of.Goals as goal
+
+pub returns-in_err-value-clause-only : goal.returns-in_err-value-clause-only
+returns-in_err-value-clause-only c = λ m h same.
+    let p = err_from_is_err_and c.from_residual.result c.from_residual.ensures.1 in
+    rw (p.1, p.2) (elim c.in_err-value.ensures.err [
+      | inl memory ↦ memory
+      | inr other ↦ absurd (other.1 (rw same (value_of m, text_of_message m h)))
+    ])
+
+pub returns-clause-only : goal.returns-clause-only
+returns-clause-only c = λ m h same.
+    c.message_of.ensures.only m h (value_read m c.args.body.now (view c.in_ok-value.value) h same c.in_ok-value.ensures.ok)
