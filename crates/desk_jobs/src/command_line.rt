@@ -28,10 +28,10 @@ fn invocation(alloc: Global, matches: &ArgMatches<'_>) -> Result<Invocation, Job
     ensures word { IfErr result (λ e. e ≡ BadWord → HasBadValue (rows_of (found_of matches.now))) }
     ensures usage { IfErr result (λ e. IsUsage e → ⊥) }
 {
+    let at = moment(matches, "AT")?;
     let user = word(alloc, matches, "USER")?;
     let host = word(alloc, matches, "HOST")?;
     let runas = word(alloc, matches, "RUNAS")?;
-    let at = moment(matches, "AT")?;
     let path = word(alloc, matches, "PATH")?;
     let args = args(alloc, matches, "ARGS")?;
     Ok(Invocation {
@@ -125,9 +125,9 @@ fn print(alloc: Global, matches: &ArgMatches<'_>) -> Result<Job, JobFault>
     ensures word { IfErr result (λ e. e ≡ BadWord → SaysBadly (Some (codes "print", rows_of (found_of matches.now)))) }
     ensures usage { IfErr result (λ e. IsUsage e → ⊥) }
 {
+    let after = moment_if_given(matches, "AFTER")?;
     let places = places(alloc, matches)?;
     let host = word(alloc, matches, "HOST")?;
-    let after = moment_if_given(matches, "AFTER")?;
     Ok(Job::Print {
         places,
         host,
@@ -142,8 +142,8 @@ fn review(alloc: Global, matches: &ArgMatches<'_>) -> Result<Job, JobFault>
     ensures word { IfErr result (λ e. e ≡ BadWord → SaysBadly (Some (codes "review", rows_of (found_of matches.now)))) }
     ensures usage { IfErr result (λ e. IsUsage e → ⊥) }
 {
-    let places = places(alloc, matches)?;
     let at = moment(matches, "AT")?;
+    let places = places(alloc, matches)?;
     Ok(Job::Review { places, at })
 }
 
@@ -154,9 +154,9 @@ fn serve(alloc: Global, matches: &ArgMatches<'_>) -> Result<Job, JobFault>
     ensures word { IfErr result (λ e. e ≡ BadWord → SaysBadly (Some (codes "serve", rows_of (found_of matches.now)))) }
     ensures usage { IfErr result (λ e. IsUsage e → ⊥) }
 {
+    let requests = count_if_given(matches, "REQUESTS")?;
     let places = places(alloc, matches)?;
     let addr = text(alloc, matches, "ADDR")?;
-    let requests = count_if_given(matches, "REQUESTS")?;
     Ok(Job::Serve {
         places,
         addr,

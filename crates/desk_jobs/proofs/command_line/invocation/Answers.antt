@@ -5,17 +5,17 @@ use Rattle.desk_jobs.proofs.command_line.invocation.Goals as goal
 
 pub returns-in_err-user-clause-only : goal.returns-in_err-user-clause-only
 returns-in_err-user-clause-only c = λ run h.
-    let p = err_from_is_err_and c.from_residual.result c.from_residual.ensures.1 in
+    let p = err_from_is_err_and c.from_residual-in_err-user.result c.from_residual-in_err-user.ensures.1 in
     rw (p.1, p.2) (c.in_err-user.ensures.only run.user h.user)
 
 pub returns-in_err-user-clause-word : goal.returns-in_err-user-clause-word
 returns-in_err-user-clause-word c =
-    let p = err_from_is_err_and c.from_residual.result c.from_residual.ensures.1 in
+    let p = err_from_is_err_and c.from_residual-in_err-user.result c.from_residual-in_err-user.ensures.1 in
     rw (p.1, p.2) (λ e. HasBadValue.bad_user (c.in_err-user.ensures.word e))
 
 pub returns-in_err-user-clause-usage : goal.returns-in_err-user-clause-usage
 returns-in_err-user-clause-usage c =
-    let p = err_from_is_err_and c.from_residual.result c.from_residual.ensures.1 in
+    let p = err_from_is_err_and c.from_residual-in_err-user.result c.from_residual-in_err-user.ensures.1 in
     rw (p.1, p.2) c.in_err-user.ensures.usage
 
 pub returns-in_err-host-clause-only : goal.returns-in_err-host-clause-only
@@ -53,12 +53,12 @@ returns-in_err-at-clause-only c = λ run h. absurd (c.in_err-at.ensures.only run
 
 pub returns-in_err-at-clause-word : goal.returns-in_err-at-clause-word
 returns-in_err-at-clause-word c =
-    let p = err_from_is_err_and c.from_residual-in_err-at.result c.from_residual-in_err-at.ensures.1 in
+    let p = err_from_is_err_and c.from_residual.result c.from_residual.ensures.1 in
     rw (p.1, p.2) (λ e. HasBadValue.bad_at (c.in_err-at.ensures.word.1))
 
 pub returns-in_err-at-clause-usage : goal.returns-in_err-at-clause-usage
 returns-in_err-at-clause-usage c =
-    let p = err_from_is_err_and c.from_residual-in_err-at.result c.from_residual-in_err-at.ensures.1 in
+    let p = err_from_is_err_and c.from_residual.result c.from_residual.ensures.1 in
     rw (p.1, p.2) (rw c.in_err-at.ensures.word.0 (λ usage. usage))
 
 pub returns-in_err-path-clause-only : goal.returns-in_err-path-clause-only
