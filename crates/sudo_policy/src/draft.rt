@@ -1,6 +1,6 @@
 //! Policies as they grow, entry by entry.
 
-ghost use Rattle.std.specs.Prelude.{◌≡◌, ◌++◌, ◌∷◌, [], IfErr, OnOk};
+ghost use Rattle.std.specs.Prelude.{◌≡◌, ◌++◌, ◌∷◌, [], IfErr, IsOk, OnOk};
 ghost use Rattle.sudo_policy.specs.declared.fault.LineFault.TheVariants as fault;
 ghost use Rattle.sudo_policy.specs.Policy.{IsEntry, IsPolicy};
 ghost use Rattle.sudo_policy.specs.private.AliasKinds.{Adds, IsDraft, IsWhole};
@@ -15,11 +15,16 @@ use std::alloc::Global;
 /// The most entries that a policy has.
 const MOST_ENTRIES: usize = 16_384;
 
-/// Adds one more to a list.
-fn push<T: Drop>(items: &mut Vec<T>, item: T) -> Result<(), LineFault>
-    ensures found { OnOk result (items.new.items ≡ items.old.items ++ item ∷ []) }
-    ensures only { IfErr result (λ e. e ≡ fault.NoMemory) }
+/// Adds one more to a list, where nothing was wrong with it, and gives what was wrong with it where something was.
+fn push<T: Drop>(
+    items: &mut Vec<T>,
+    item: T,
+    entered: Result<(), LineFault>,
+) -> Result<(), LineFault>
+    ensures found { OnOk result (IsOk entered × (items.new.items ≡ items.old.items ++ item ∷ [])) }
+    ensures only { IfErr entered (λ e. e ≡ fault.NoMemory) → IfErr result (λ e. e ≡ fault.NoMemory) }
 {
+    entered?;
     items.push(item)?;
     Ok(())
 }
@@ -61,8 +66,8 @@ impl Draft {
         ensures found { OnOk result (Adds self.old self.new (entry ∷ [])) }
         ensures only { IsPolicy (self.old.entries.items ++ entry ∷ []) → IfErr result (λ e. e ≡ fault.NoMemory) }
     {
-        self.enter(alloc, &entry)?;
-        push(&mut self.entries, entry)
+        let entered = self.enter(alloc, &entry);
+        push(&mut self.entries, entry, entered)
     }
 
     /// Enters what an entry defines, weighs and is long, and leaves the entries as they are. Its faults are those of `add`.
