@@ -15,4 +15,4 @@ returns-in_err-here g c =
     let m = c.args.self.now in
     let Known : Signed g.row.T.Denot → Type 0 = λ s. IsItemKnown (has m) (g.T.Aliased.alias_of s.item) in
     rw c.from_residual.ensures (λ all. c.in_err-here.ensures
-      (subst Known (sym c.signed-item.is) (each_at Known c.args.list.now c.loop-signed.signed-index c.signed-item.result all c.loop-signed-test.true)))
+    (subst Known (sym c.signed-item.is) (each_at Known c.args.list.now c.loop-signed.signed-index c.signed-item.result all c.loop-signed-test.true)))
