@@ -1,7 +1,7 @@
-use Rattle.std.proofs.Common.{◌++◌, ◌∙◌, List, ℕ, ap, append_assoc}
+use Rattle.std.proofs.Common.{◌++◌, ◌∙◌, List, ℕ, ap}
 use Rattle.std.specs.Prelude.{codes, string_bytes}
 use Rattle.std.proofs.lemmas.Result.{on_ok_weaker}
-use Rattle.sudo_policy.specs.Printing.{alias_text, cmnds_text}
+use Rattle.sudo_policy.specs.Printing.{cmnds_text}
 use Rattle.sudo_policy.proofs.Printed.{head_and_list}
 use Rattle.sudo_policy.proofs.printing.push_cmnd_alias.Goals as goal
 
