@@ -15,8 +15,17 @@ use std::alloc::Global;
 /// The most entries that a policy has.
 const MOST_ENTRIES: usize = 16_384;
 
+/// Adds one more to a list.
+fn push<T: Drop>(items: &mut Vec<T>, item: T) -> Result<(), LineFault>
+    ensures found { OnOk result (items.new.items ≡ items.old.items ++ item ∷ []) }
+    ensures only { IfErr result (λ e. e ≡ fault.NoMemory) }
+{
+    items.push(item)?;
+    Ok(())
+}
+
 /// Adds one more to a list, where nothing was wrong with it, and gives what was wrong with it where something was.
-fn push<T: Drop>(
+fn push_entered<T: Drop>(
     items: &mut Vec<T>,
     item: T,
     entered: Result<(), LineFault>,
@@ -25,8 +34,7 @@ fn push<T: Drop>(
     ensures only { IfErr entered (λ e. e ≡ fault.NoMemory) → IfErr result (λ e. e ≡ fault.NoMemory) }
 {
     entered?;
-    items.push(item)?;
-    Ok(())
+    push(items, item)
 }
 
 /// Entries that are a policy, what is kept of their aliases, their weight, and the length of their canonical text.
@@ -67,7 +75,7 @@ impl Draft {
         ensures only { IsPolicy (self.old.entries.items ++ entry ∷ []) → IfErr result (λ e. e ≡ fault.NoMemory) }
     {
         let entered = self.enter(alloc, &entry);
-        push(&mut self.entries, entry, entered)
+        push_entered(&mut self.entries, entry, entered)
     }
 
     /// Enters what an entry defines, weighs and is long, and leaves the entries as they are. Its faults are those of `add`.

@@ -11,5 +11,5 @@ both_known P Q R first (Err e) p q k = tt
 
 pub returns-clause-found : goal.returns-clause-found
 returns-clause-found c =
-    both_known _ _ _ c.enter-entered.result c.push.result c.enter-entered.ensures.found c.push.ensures.found
+    both_known _ _ _ c.enter-entered.result c.push_entered.result c.enter-entered.ensures.found c.push_entered.ensures.found
     (λ whole pushed. let entries = rw c.enter-entered.ensures.entries at pushed in record { draft = rw entries whole; entries = entries })
