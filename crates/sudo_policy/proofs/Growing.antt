@@ -1,15 +1,18 @@
 -- A policy with one more entry.
-use Rattle.std.proofs.Common.{◌≡◌, ℕ, ◌+◌, ◌-◌, ◌<◌, ◌≤◌, Bool, true, false, ◌||◌, List, [], ◌∷◌, ◌++◌, length, reverse, Option, None, refl, sym, ap, ◌∙◌, arith}
-use Rattle.std.specs.List.{flat_map, list_any}
-use Rattle.std.specs.Option.{is_some}
+use Rattle.std.proofs.Common.{◌≡◌, ℕ, ◌+◌, ◌-◌, ◌<◌, ◌≤◌, Bool, true, false, ◌||◌, List, [], ◌∷◌, ◌++◌, length, get_or, map, reverse, Option, Some, None, refl, sym, ap, subst, ◌∙◌, arith}
+use Rattle.std.specs.Prelude.{IfSome, unwrap_or}
+use Rattle.std.specs.List.{flat_map, list_any, slice_get}
+use Rattle.std.specs.Option.{is_some, option_map}
 use Rattle.std.proofs.lemmas.List.{append-nil, length-append, reverse-append}
 use Rattle.std.proofs.lemmas.List.Concat.{flat_map-append, flat_map-cons}
+use Rattle.std.proofs.lemmas.Option.{slice_get_read}
+use Rattle.sudo_policy.specs.declared.entry.Signed.{Signed}
 use Rattle.sudo_policy.specs.declared.entry.Entry.{Entry}
 use Rattle.sudo_policy.specs.declared.tree.Definition.{Definition}
 use Rattle.sudo_policy.specs.declared.aliases.Alias.{Alias}
 use Rattle.sudo_policy.specs.declared.aliases.Aliases.{Aliases}
 use Rattle.sudo_policy.specs.declared.alias_kinds.AliasKinds.{AliasKinds}
-use Rattle.sudo_policy.specs.Alias.{is_defined}
+use Rattle.sudo_policy.specs.Alias.{DefinedAt, is_defined}
 use Rattle.sudo_policy.specs.private.Measures.{alias_at}
 use Rattle.sudo_policy.specs.Policy.{IsEntry, IsPolicy, weight}
 use Rattle.sudo_policy.specs.Printing.{line_text, canon}
@@ -79,3 +82,18 @@ pub lacks : {X : Type 0} (alias_of : X → Option (List ℕ)) (def : Entry → L
     → IsKind def alias_of es m → alias_at m name ≡ None → is_defined (flat_map def es) name ≡ false
 lacks alias_of def es m name k none =
     sym (defined_reversed def name es) ∙ sym (k.table.has_those name) ∙ ap (λ (o : Option Alias). is_some o) none
+
+-- ---- what stands at the place that the table keeps is the definition
+
+pub defined_there : {X : Type 0} (alias_of : X → Option (List ℕ)) (def : Entry → List (Definition X)) (es : List Entry) (m : Aliases) (name : List ℕ) (a : Alias) (entry : Entry) (named : List ℕ)
+    (list : List (Signed X)) → IsKind def alias_of es m → alias_at m name ≡ Some a → a.place < length es → entry ≡ get_or es a.place entry
+    → def entry ≡ record { name = named; list = list } ∷ [] → DefinedAt def es a.place name list
+defined_there {X} alias_of def es m name a entry named list k known within is def_is =
+    let Placed : Option Alias → Type 0 = λ o. IfSome o (λ x. (l : List (Signed X)) × DefinedAt def es x.place name l) in
+    let at : (l : List (Signed X)) × DefinedAt def es a.place name l = subst Placed known (k.places name) in
+    let there : slice_get es a.place ≡ Some entry = slice_get_read es (length es) a.place entry refl within is in
+    let both : Some (def entry) ≡ Some (record { name = name; list = at.0 } ∷ []) = ap (option_map def) (sym there) ∙ at.1 in
+    let lists : list ∷ [] ≡ at.0 ∷ [] =
+    ap (λ (ds : List (Definition X)). map (λ d. d.list) ds) (sym def_is) ∙ ap (λ (o : Option (List (Definition X))). map (λ d. d.list) (unwrap_or o [])) both in
+    let same : at.0 ≡ list = cc in
+    subst (λ (l : List (Signed X)). DefinedAt def es a.place name l) same at.1

@@ -252,5 +252,8 @@ leads_more line out bytes t rest l f = record {
   only = λ ts h. let a = l.only ts h in let b = f.only a.0 a.2 in (b.0, a.1 ∙ ap (λ (more : List Tok). out ++ more) b.1 ∙ sym (append_assoc out (t ∷ []) b.0), b.2);
 }
 
+pub leads_only : (line : List ℕ) (out : List Tok) (rest : List ℕ) → Leads line out rest → IsLast rest → (ts : List Tok) → Lexes line ts → out ≡ ts
+leads_only line out rest l e ts h = let a = l.only ts h in sym (a.1 ∙ ap (λ (more : List Tok). out ++ more) (e.only a.0 a.2) ∙ append-nil out)
+
 pub leads_end : (line : List ℕ) (out : List Tok) (rest : List ℕ) → Leads line out rest → IsLast rest → Lexes line out
 leads_end line out rest l e = subst (Lexes line) (append-nil out) (l.adds [] e.empty)

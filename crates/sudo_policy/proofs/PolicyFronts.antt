@@ -1,7 +1,7 @@
 -- Entries behind entries: a front of a policy is a policy.
-use Rattle.std.proofs.Common.{◌≡◌, ℕ, ◌+◌, List, [], ◌∷◌, ◌++◌, length, take, drop, reverse, map, sym, ap, subst, ◌∙◌, append_assoc, add_assoc, zero-add, arith}
+use Rattle.std.proofs.Common.{◌≡◌, ℕ, ◌+◌, ◌<◌, List, [], ◌∷◌, ◌++◌, length, get_or, take, drop, reverse, map, sym, ap, subst, ◌∙◌, append_assoc, add_assoc, zero-add, arith}
 use Rattle.std.specs.List.{AllByRecursion}
-use Rattle.std.proofs.lemmas.List.{append-nil, length-append, reverse-append, take-append-drop}
+use Rattle.std.proofs.lemmas.List.{append-nil, length-append, reverse-append, take-append-drop, take_more}
 use Rattle.std.proofs.lemmas.List.Concat.{flat_map-append}
 use Rattle.sudo_policy.specs.declared.entry.Rule.{Rule}
 use Rattle.sudo_policy.specs.declared.entry.Entry.{Entry}
@@ -68,6 +68,12 @@ canon_both es fs = flat_map-append line_text es fs
 -- entries in two halves, printed one behind the other
 pub canon_halves : (es : List Entry) (half : ℕ) → canon (take half es) ++ canon (drop half es) ≡ canon es
 canon_halves es half = sym (canon_both (take half es) (drop half es)) ∙ ap canon (take-append-drop half es)
+
+-- entries printed so far, and one more
+pub canon_more : (es : List Entry) (i : ℕ) (d : Entry) → i < length es → canon (take i es) ++ line_text (get_or es i d) ≡ canon (take (i + 1) es)
+canon_more es i d h =
+    let one : canon (get_or es i d ∷ []) ≡ line_text (get_or es i d) = append-nil (line_text (get_or es i d)) in
+    sym (ap canon (take_more es i d h) ∙ canon_both (take i es) (get_or es i d ∷ []) ∙ ap (λ (t : List ℕ). canon (take i es) ++ t) one)
 
 pub each_front : (es : List Entry) (half : ℕ) → AllByRecursion IsEntry es → AllByRecursion IsEntry (take half es)
 each_front es half h = all_front IsEntry (take half es) (drop half es) (subst (AllByRecursion IsEntry) (sym (take-append-drop half es)) h)

@@ -4,7 +4,13 @@ ghost use Rattle.std.specs.Prelude.{◌≡◌, IfOk};
 
 use crate::entry::{CmndItem, Entry, Item, Rule, Signed};
 use std::alloc::AllocError;
-use sudo_words::{HostName, Items, Name};
+use sudo_words::{AliasName, HostName, Items, Name};
+
+fn copy_name(name: &AliasName) -> Result<AliasName, AllocError>
+    ensures { IfOk result (λ x. x ≡ name.now) }
+{
+    name.clone()
+}
 
 /// A list of users or of targets, copied.
 pub fn copy_names(list: &Items<Signed<Item<Name>>>) -> Result<Items<Signed<Item<Name>>>, AllocError>
@@ -73,13 +79,22 @@ impl Clone for Entry {
 
     fn clone(&self) -> Result<Entry, AllocError> {
         match self {
-            Entry::UserAlias(name, list) => Ok(Entry::UserAlias(name.clone()?, copy_names(list)?)),
-            Entry::RunasAlias(name, list) => Ok(Entry::RunasAlias(
-                name.clone()?,
+            Entry::UserAlias(name, list) => Ok(Entry::UserAlias(
+                copy_name(name)?,
                 copy_names(list)?,
             )),
-            Entry::HostAlias(name, list) => Ok(Entry::HostAlias(name.clone()?, copy_hosts(list)?)),
-            Entry::CmndAlias(name, list) => Ok(Entry::CmndAlias(name.clone()?, copy_cmnds(list)?)),
+            Entry::RunasAlias(name, list) => Ok(Entry::RunasAlias(
+                copy_name(name)?,
+                copy_names(list)?,
+            )),
+            Entry::HostAlias(name, list) => Ok(Entry::HostAlias(
+                copy_name(name)?,
+                copy_hosts(list)?,
+            )),
+            Entry::CmndAlias(name, list) => Ok(Entry::CmndAlias(
+                copy_name(name)?,
+                copy_cmnds(list)?,
+            )),
             Entry::Rule(rule) => Ok(Entry::Rule(rule.clone()?)),
         }
     }

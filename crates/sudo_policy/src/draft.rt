@@ -1,6 +1,6 @@
 //! Policies as they grow, entry by entry.
 
-ghost use Rattle.std.specs.Prelude.{◌≡◌, ◌++◌, ◌∷◌, [], IfErr, OnOk};
+ghost use Rattle.std.specs.Prelude.{◌≡◌, ◌++◌, ◌∷◌, [], IfErr, IsOk, OnOk};
 ghost use Rattle.sudo_policy.specs.declared.fault.LineFault.TheVariants as fault;
 ghost use Rattle.sudo_policy.specs.Policy.{IsEntry, IsPolicy};
 ghost use Rattle.sudo_policy.specs.private.AliasKinds.{Adds, IsDraft, IsWhole};
@@ -22,6 +22,19 @@ fn push<T: Drop>(items: &mut Vec<T>, item: T) -> Result<(), LineFault>
 {
     items.push(item)?;
     Ok(())
+}
+
+/// Adds one more to a list, where nothing was wrong with it, and gives what was wrong with it where something was.
+fn push_entered<T: Drop>(
+    items: &mut Vec<T>,
+    item: T,
+    entered: Result<(), LineFault>,
+) -> Result<(), LineFault>
+    ensures found { OnOk result (IsOk entered × (items.new.items ≡ items.old.items ++ item ∷ [])) }
+    ensures only { IfErr entered (λ e. e ≡ fault.NoMemory) → IfErr result (λ e. e ≡ fault.NoMemory) }
+{
+    entered?;
+    push(items, item)
 }
 
 /// Entries that are a policy, what is kept of their aliases, their weight, and the length of their canonical text.
@@ -61,8 +74,8 @@ impl Draft {
         ensures found { OnOk result (Adds self.old self.new (entry ∷ [])) }
         ensures only { IsPolicy (self.old.entries.items ++ entry ∷ []) → IfErr result (λ e. e ≡ fault.NoMemory) }
     {
-        self.enter(alloc, &entry)?;
-        push(&mut self.entries, entry)
+        let entered = self.enter(alloc, &entry);
+        push_entered(&mut self.entries, entry, entered)
     }
 
     /// Enters what an entry defines, weighs and is long, and leaves the entries as they are. Its faults are those of `add`.

@@ -1,4 +1,5 @@
 use Rattle.std.proofs.Common.{◌≡◌, List, [], ◌∷◌, ◌++◌, map, ap, sym, subst, ◌∙◌, append_assoc}
+use Rattle.std.specs.List.{AllByRecursion}
 use Rattle.std.specs.Iterator.{Yields}
 use Rattle.std.specs.Vec.Iter.{into_iter_items, into_iter_steps}
 use Rattle.std.specs.declared.vec.IntoIter.{IntoIter}
@@ -8,9 +9,9 @@ use Rattle.sudo_policy.specs.declared.entry.Rule.{Rule}
 use Rattle.sudo_policy.specs.declared.entry.Entry.{Entry}
 use Rattle.sudo_policy.specs.declared.entry.Entry.TheVariants as entries
 use Rattle.sudo_policy.specs.declared.fault.LineFault.TheVariants as fault
-use Rattle.sudo_policy.specs.Policy.{IsPolicy}
+use Rattle.sudo_policy.specs.Policy.{IsPolicy, IsRule}
 use Rattle.sudo_policy.specs.Reading as reading
-use Rattle.sudo_policy.proofs.PolicyFronts.{policy_front}
+use Rattle.sudo_policy.proofs.PolicyFronts.{all_rest, policy_front}
 use Rattle.sudo_policy.proofs.extending.add_rules.Goals as goal
 
 -- what a loop over a vector has taken, and what is left
@@ -41,3 +42,26 @@ returns-in_err-add-clause-only c = λ whole.
     let p = err_from_is_err_and c.from_residual.result c.from_residual.ensures.1 in
     let memory : c.in_err-add.field-0.0 ≡ fault.NoMemory = c.in_err-add.ensures.only here in
     rw (p.1, p.2) memory
+
+pub add-requires-clause-entry : goal.add-requires-clause-entry
+add-requires-clause-entry c =
+    let rest = c.in-Some.rule ∷ into_iter_items c.next.new.self in
+    let all : c.args.rules.items ≡ c.loop-rule.yielded ++ rest =
+    sym c.into_iter-rule-iterator.ensures.into_iter_gives.0 ∙ taken c.into_iter-rule-iterator.result c.loop-rule.yielded c.loop-rule.rule-iterator c.loop-rule.yielded_by
+    ∙ ap (λ (rs : List Rule). c.loop-rule.yielded ++ rs) c.in-Some.ensures.steps.0 in
+    (all_rest IsRule c.loop-rule.yielded rest (subst (AllByRecursion IsRule) all c.requires.rules)).0
+
+pub loop-rule-preserved : goal.loop-rule-preserved
+loop-rule-preserved c =
+    let added = c.in_ok-add.ensures.found in
+    let base = c.args.draft.now.entries.items in
+    let seen = c.loop-rule.yielded in
+    let one = entries.Rule c.in-Some.rule ∷ [] in
+    record {
+      draft = added.draft;
+      entries =
+          added.entries
+          ∙ ap (λ (xs : List Entry). xs ++ one) c.loop-rule.invariant.entries
+          ∙ append_assoc base (map entries.Rule seen) one
+          ∙ ap (λ (xs : List Entry). base ++ xs) (sym (map-append entries.Rule seen (c.in-Some.rule ∷ [])));
+    }
