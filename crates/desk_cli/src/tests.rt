@@ -123,7 +123,7 @@ fn members_of_verdict(rt: HostRuntime) -> Result<(), Fail> {
 }
 
 #[test]
-fn newline_behind_message(rt: HostRuntime) -> Result<(), Fail> {
+fn newline_after_message(rt: HostRuntime) -> Result<(), Fail> {
     let body = format!(in rt.alloc(); "{REQUEST}\n")?;
     let fault = read_message(rt.alloc(), body.as_bytes()).err();
     assert_eq!(rt; fault, Some(MessageFault::NotCanonical));

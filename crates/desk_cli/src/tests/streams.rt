@@ -55,10 +55,10 @@ impl Write for Output {
 enum Wrong {
     Nothing,
     NoFile,
-    InputBehind(usize),
-    OutputBehind(usize),
+    InputAfter(usize),
+    OutputAfter(usize),
     OutputsFlush,
-    ErrorBehind(usize),
+    ErrorAfter(usize),
     ErrorsFlush,
 }
 
@@ -72,7 +72,7 @@ const GIVEN: &str = "{}\n{\"at\"";
 
 fn input_of(wrong: Wrong) -> Input<'static> {
     match wrong {
-        Wrong::InputBehind(room) => Input {
+        Wrong::InputAfter(room) => Input {
             bytes: &GIVEN.as_bytes()[..room.min(GIVEN.len())],
             fails: true,
         },
@@ -87,7 +87,7 @@ fn output_of(alloc: Global, wrong: Wrong) -> Output {
     Output {
         bytes: Vec::new(alloc),
         room: match wrong {
-            Wrong::OutputBehind(room) => room,
+            Wrong::OutputAfter(room) => room,
             _ => usize::MAX,
         },
         flushes: !matches!(wrong, Wrong::OutputsFlush),
@@ -98,7 +98,7 @@ fn error_of(alloc: Global, wrong: Wrong) -> Output {
     Output {
         bytes: Vec::new(alloc),
         room: match wrong {
-            Wrong::ErrorBehind(room) => room,
+            Wrong::ErrorAfter(room) => room,
             _ => usize::MAX,
         },
         flushes: !matches!(wrong, Wrong::ErrorsFlush),
@@ -139,8 +139,16 @@ fn ended(alloc: Global, job: &Job, texts: &[&str], wrong: Wrong) -> Result<Strin
         &mut err,
     );
     let status = code(finish(status, &mut out, &mut err));
-    let written = str::from_utf8(out.get_ref().bytes.as_slice())?;
-    let said = str::from_utf8(err.bytes.as_slice())?;
+    let shown = shown(alloc, status, &out.get_ref().bytes, &err.bytes);
+    drop(files);
+    drop(out);
+    drop(err);
+    shown
+}
+
+/// A status and two texts, with marks between.
+fn shown(alloc: Global, status: u8, out: &[u8], err: &[u8]) -> Result<String, Fail> {
+    let (written, said) = (str::from_utf8(out)?, str::from_utf8(err)?);
     Ok(format!(in alloc; "{status}|{written}|{said}.")?)
 }
 
@@ -161,13 +169,14 @@ fn checks_that_fail(rt: HostRuntime) -> Result<(), Fail> {
     let wrongs = [
         Wrong::Nothing,
         Wrong::NoFile,
-        Wrong::OutputBehind(0),
-        Wrong::OutputBehind(3),
+        Wrong::OutputAfter(0),
+        Wrong::OutputAfter(3),
         Wrong::OutputsFlush,
     ];
-    let said = all_ended(rt.alloc(), &check, &[BASE], &wrongs)?;
+    let said = all_ended(rt.alloc(), &check, &[BASE], &wrongs);
+    drop(check);
     assert_eq!(rt;
-        said.as_str(),
+        said?.as_str(),
         "0|bob db1 = (root) ALL\n|.2||F1 FileFailed\n.2||F1 FileFailed\n.2|bob|F1 FileFailed\n.2|bob db1 = (root) ALL\n|F1 FileFailed\n."
     );
     Ok(())
@@ -183,14 +192,15 @@ fn prints_that_fail(rt: HostRuntime) -> Result<(), Fail> {
     // the input after its line, and in the middle of the next
     let wrongs = [
         Wrong::NoFile,
-        Wrong::InputBehind(3),
-        Wrong::InputBehind(8),
-        Wrong::ErrorBehind(3),
+        Wrong::InputAfter(3),
+        Wrong::InputAfter(8),
+        Wrong::ErrorAfter(3),
         Wrong::ErrorsFlush,
     ];
-    let said = all_ended(rt.alloc(), &print, &[ROSTER, BASE], &wrongs)?;
+    let said = all_ended(rt.alloc(), &print, &[ROSTER, BASE], &wrongs);
+    drop(print);
     assert_eq!(rt;
-        said.as_str(),
+        said?.as_str(),
         "2||F1 FileFailed\n.2||F1 FileFailed\n.2||F1 FileFailed\n.2||lin.2||line 1: M3 BadField\nline 2: M2 NotCanonical\nF1 FileFailed\n."
     );
     Ok(())
@@ -205,13 +215,14 @@ fn deliveries_that_fail(rt: HostRuntime) -> Result<(), Fail> {
     let wrongs = [
         Wrong::Nothing,
         Wrong::NoFile,
-        Wrong::InputBehind(3),
-        Wrong::OutputBehind(5),
+        Wrong::InputAfter(3),
+        Wrong::OutputAfter(5),
         Wrong::OutputsFlush,
     ];
-    let said = all_ended(rt.alloc(), &deliver, &[ROSTER, BASE], &wrongs)?;
+    let said = all_ended(rt.alloc(), &deliver, &[ROSTER, BASE], &wrongs);
+    drop(deliver);
     assert_eq!(rt;
-        said.as_str(),
+        said?.as_str(),
         "2|M3 BadField\nM2 NotCanonical\n|.2||F1 FileFailed\n.2||F1 FileFailed\n.2|M3 Ba|F1 FileFailed\n.2|M3 BadField\nM2 NotCanonical\n|F1 FileFailed\n."
     );
     Ok(())
