@@ -169,8 +169,8 @@ fn each_ceiling(alloc: Global, table: &Table) -> Result<Items<(Text, DraftCeilin
 {
     let mut ceilings = Vec::new(alloc);
     for (key, value) in table.iter() {
-        let ceiling = ceiling(alloc, value)?;
         let name = Text::of(alloc, key.as_str())?;
+        let ceiling = ceiling(alloc, value)?;
         ceilings.push((name, ceiling))?;
     }
     Ok(Items::new(ceilings))
