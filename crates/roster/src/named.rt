@@ -155,8 +155,8 @@ pub(crate) fn said_of(alloc: Global, draft: &Draft) -> Result<Said, RosterFault>
     let relays = words(alloc, draft.relays.as_slice())?;
     let hosts = words(alloc, draft.hosts.as_slice())?;
     let duties = words(alloc, draft.duties.as_slice())?;
-    let conflicts = conflicts(alloc, draft.conflicts.as_slice())?;
     let people = people(alloc, draft.people.as_slice())?;
+    let conflicts = conflicts(alloc, draft.conflicts.as_slice())?;
     let ceilings = ceilings(alloc, draft.ceilings.as_slice())?;
     Ok(Said {
         relays,
