@@ -10,7 +10,7 @@ use std::marker::Model;
 use sudo_words::{Items, Label};
 
 /// The pairs as they are listed, which contracts see, and once more in the order in which they are looked up.
-#[derive(Debug, Drop)]
+#[derive(Drop)]
 pub(crate) struct Conflicts {
     listed: Items<(Label, Label)>,
     ordered: Items<(Label, Label)>,

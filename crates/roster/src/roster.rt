@@ -15,6 +15,7 @@ use crate::read::said_by;
 use crate::relations::{duties_of, entry_of, first_of, is_among};
 use crate::said::Said;
 use std::alloc::Global;
+use std::fmt;
 use std::marker::Model;
 use sudo_words::{HostName, Items, Label, Name};
 
@@ -22,7 +23,7 @@ use sudo_words::{HostName, Items, Label, Name};
 ///
 /// It is what a text of TOML says, and keeps that text. Its look-ups take no memory, and are answered of any names: a
 /// person whom it does not list holds no duty.
-#[derive(Debug, Drop)]
+#[derive(Drop)]
 pub struct Roster {
     text: String,
     said: Said,
@@ -39,6 +40,12 @@ impl Model for Roster {
     ghost view = { λ r. record { text = string_bytes r.text; says = r.said } };
 
     ghost invariant = { λ r. IsRosterText (string_bytes r.text) r.said × IsOrdered r.said };
+}
+
+impl fmt::Debug for Roster {
+    fn fmt<W: fmt::Write>(&self, f: &mut fmt::Formatter<W>) -> fmt::Result {
+        fmt::Debug::fmt(&self.text, f)
+    }
 }
 
 impl Roster {

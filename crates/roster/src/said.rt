@@ -5,7 +5,7 @@ use crate::conflicts::Conflicts;
 use std::marker::Model;
 use sudo_words::{HostName, Items, Label, Name};
 
-#[derive(Debug, Drop)]
+#[derive(Drop)]
 pub(crate) struct Said {
     pub(crate) relays: Items<Label>,
     pub(crate) hosts: Items<HostName>,
