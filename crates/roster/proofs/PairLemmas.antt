@@ -9,7 +9,6 @@ use Rattle.std.proofs.lemmas.Bool.{cases_lt}
 use Rattle.std.proofs.lemmas.List.Folds.{list_any_at}
 use Rattle.std.proofs.lemmas.List.Sorted.{list_any-IsPermutation, searchable_from_sorted}
 use Rattle.roster.specs.Relations.{is_pair, joins, pair_order, AreInOrder, IsInOrder}
-use Rattle.roster.proofs.DutyLemmas.{any_same}
 use Rattle.roster.proofs.Listed.{absent}
 use Rattle.roster.proofs.Rising.{same_place}
 
@@ -82,8 +81,3 @@ either_way_round ps first second = any_or (is_pair first second) (is_pair second
 
 pub any_in_order : (pairs ordered : List Pair) → IsInOrder pair_order pairs ordered → (test : Pair → Bool) → list_any test ordered ≡ list_any test pairs
 any_in_order pairs ordered o test = sym (list_any-IsPermutation test pairs ordered o.same)
-
-pub one_paired_in_order : (pairs ordered : List Pair) → IsInOrder pair_order pairs ordered → (duties : List (List ℕ)) (duty : List ℕ)
-    → list_any (λ d. list_any (joins d duty) ordered) duties ≡ list_any (λ d. list_any (joins d duty) pairs) duties
-one_paired_in_order pairs ordered o duties duty =
-    any_same (λ d. list_any (joins d duty) ordered) (λ d. list_any (joins d duty) pairs) (λ d. any_in_order pairs ordered o (joins d duty)) duties

@@ -3,6 +3,7 @@
 
 mod ceiling;
 mod commands;
+mod conflicts;
 mod draft;
 mod fault;
 mod keys;

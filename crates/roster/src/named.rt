@@ -11,6 +11,7 @@ ghost use Rattle.roster.specs.declared.fault.RosterFault.TheVariants.{BadName};
 
 use crate::ceiling::Ceiling;
 use crate::commands::in_order;
+use crate::conflicts::Conflicts;
 use crate::draft::{Draft, DraftCeiling};
 use crate::fault::RosterFault;
 use crate::said::Said;
@@ -56,6 +57,12 @@ fn pairs(alloc: Global, texts: &[(Text, Text)]) -> Result<Items<(Label, Label)>,
         pairs.push(pair)?;
     }
     Ok(Items::new(pairs))
+}
+
+fn conflicts(alloc: Global, texts: &[(Text, Text)]) -> Result<Conflicts, RosterFault>
+    ensures { Checks BadName (list_all is_named_pair texts.now) texts.now result }
+{
+    Ok(Conflicts::of(pairs(alloc, texts)?)?)
 }
 
 fn person(alloc: Global, person: &(Text, Items<Text>)) -> Result<(Name, Items<Label>), RosterFault>
@@ -148,8 +155,8 @@ pub(crate) fn said_of(alloc: Global, draft: &Draft) -> Result<Said, RosterFault>
     let relays = words(alloc, draft.relays.as_slice())?;
     let hosts = words(alloc, draft.hosts.as_slice())?;
     let duties = words(alloc, draft.duties.as_slice())?;
-    let conflicts = pairs(alloc, draft.conflicts.as_slice())?;
     let people = people(alloc, draft.people.as_slice())?;
+    let conflicts = conflicts(alloc, draft.conflicts.as_slice())?;
     let ceilings = ceilings(alloc, draft.ceilings.as_slice())?;
     Ok(Said {
         relays,

@@ -50,11 +50,3 @@ pub(crate) fn are_paired(ordered: &[(Label, Label)], first: &Label, second: &Lab
 {
     has_pair(ordered, first, second) || has_pair(ordered, second, first)
 }
-
-/// Whether one of the duties is paired with this one.
-pub(crate) fn is_one_paired(ordered: &[(Label, Label)], duties: &[Label], duty: &Label) -> bool
-    requires { relations.AreInOrder ordered.now }
-    ensures { result ≡ list_any (λ d. list_any (relations.joins d duty.now) ordered.now) duties.now }
-{
-    duties.iter().any(|d| are_paired(ordered, d, duty))
-}

@@ -65,8 +65,7 @@ fn said_by_draft(alloc: Global, text: &str, draft: &Draft) -> Result<Said, Roste
     ensures least { IfErr result (λ e. e ≢ NoMemory → IsLeastFault text.now e) }
 {
     let said = said_of(alloc, draft)?;
-    tested(text, draft, &said)?;
-    Ok(said)
+    tested(text, draft, &said).and(Ok(said))
 }
 
 /// What the document of a text says that is a roster's, or the least of the text's faults.

@@ -11,11 +11,11 @@ ghost use Rattle.roster.specs.declared.fault.RosterFault.TheVariants.{NoMemory};
 
 use crate::ceiling::Ceiling;
 use crate::fault::RosterFault;
-use crate::pairs::{are_paired, in_order, is_one_paired};
 use crate::read::said_by;
 use crate::relations::{duties_of, entry_of, first_of, is_among};
 use crate::said::Said;
 use std::alloc::Global;
+use std::fmt;
 use std::marker::Model;
 use sudo_words::{HostName, Items, Label, Name};
 
@@ -23,25 +23,29 @@ use sudo_words::{HostName, Items, Label, Name};
 ///
 /// It is what a text of TOML says, and keeps that text. Its look-ups take no memory, and are answered of any names: a
 /// person whom it does not list holds no duty.
-#[derive(Debug, Drop)]
+#[derive(Drop)]
 pub struct Roster {
     text: String,
     said: Said,
-    /// The conflicts once more, in the order in which they are looked up.
-    pairs: Items<(Label, Label)>,
 }
 
 impl Model for Roster {
     ghost use Rattle.std.specs.Prelude.{string_bytes};
     ghost use Rattle.roster.specs.Fields.{Reading};
     ghost use Rattle.roster.specs.Faults.{IsRosterText};
-    ghost use Rattle.roster.specs.Relations.{pair_order, IsInOrder, IsOrdered};
+    ghost use Rattle.roster.specs.Relations.{IsOrdered};
 
     ghost Value = { Reading };
 
     ghost view = { λ r. record { text = string_bytes r.text; says = r.said } };
 
-    ghost invariant = { λ r. IsRosterText (string_bytes r.text) r.said × IsOrdered r.said × IsInOrder pair_order r.said.conflicts r.pairs };
+    ghost invariant = { λ r. IsRosterText (string_bytes r.text) r.said × IsOrdered r.said };
+}
+
+impl fmt::Debug for Roster {
+    fn fmt<W: fmt::Write>(&self, f: &mut fmt::Formatter<W>) -> fmt::Result {
+        fmt::Debug::fmt(&self.text, f)
+    }
 }
 
 impl Roster {
@@ -55,10 +59,9 @@ impl Roster {
         // Any other fault is one that the text has, and the text has none of a lower number.
         ensures least { IfErr result (λ e. e ≢ NoMemory → IsLeastFault text.now e) }
     {
+        let kept = String::from_str(alloc, text)?;
         let said = said_by(alloc, text)?;
-        let pairs = in_order(&said.conflicts)?;
-        let text = String::from_str(alloc, text)?;
-        Ok(Roster { text, said, pairs })
+        Ok(Roster { text: kept, said })
     }
 
     /// The text that was read.
@@ -142,7 +145,7 @@ impl Roster {
     pub fn conflicting(&self, first: &Label, second: &Label) -> bool
         ensures { result ≡ relations.conflicting self.now.says first.now second.now }
     {
-        are_paired(self.pairs.as_slice(), first, second)
+        self.said.conflicts.joins(first, second)
     }
 
     /// Whether the person may approve or refuse what the asker asked for under the ceiling: the person is someone else,
@@ -169,6 +172,6 @@ impl Roster {
     fn is_one_against(&self, duties: &[Label], duty: &Label) -> bool
         ensures { result ≡ list_any (λ d. relations.conflicting self.now.says d duty.now) duties.now }
     {
-        is_one_paired(self.pairs.as_slice(), duties, duty)
+        self.said.conflicts.join_one(duties, duty)
     }
 }

@@ -1,15 +1,16 @@
 //! What a roster says, by names and commands.
 
 use crate::ceiling::Ceiling;
+use crate::conflicts::Conflicts;
 use std::marker::Model;
 use sudo_words::{HostName, Items, Label, Name};
 
-#[derive(Debug, Drop)]
+#[derive(Drop)]
 pub(crate) struct Said {
     pub(crate) relays: Items<Label>,
     pub(crate) hosts: Items<HostName>,
     pub(crate) duties: Items<Label>,
-    pub(crate) conflicts: Items<(Label, Label)>,
+    pub(crate) conflicts: Conflicts,
     pub(crate) people: Items<(Name, Items<Label>)>,
     pub(crate) ceilings: Items<(Label, Ceiling)>,
 }

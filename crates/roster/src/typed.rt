@@ -135,13 +135,13 @@ fn number_at(table: &Table, key: &str) -> Result<u64, RosterFault>
 fn ceiling_in(alloc: Global, table: &Table) -> Result<DraftCeiling, RosterFault>
     ensures { Reads WrongType (ceiling_of (data_table (table_view table.now))) result }
 {
+    let needs = number_at(table, "needs")?;
+    let longest = number_at(table, "longest")?;
     let ask = text_at(alloc, table, "ask")?;
     let approve = text_at(alloc, table, "approve")?;
-    let needs = number_at(table, "needs")?;
     let hosts = texts_at(alloc, table, "hosts")?;
     let runas = texts_at(alloc, table, "runas")?;
     let commands = texts_at(alloc, table, "commands")?;
-    let longest = number_at(table, "longest")?;
     Ok(DraftCeiling {
         ask,
         approve,
@@ -169,8 +169,8 @@ fn each_ceiling(alloc: Global, table: &Table) -> Result<Items<(Text, DraftCeilin
 {
     let mut ceilings = Vec::new(alloc);
     for (key, value) in table.iter() {
-        let ceiling = ceiling(alloc, value)?;
         let name = Text::of(alloc, key.as_str())?;
+        let ceiling = ceiling(alloc, value)?;
         ceilings.push((name, ceiling))?;
     }
     Ok(Items::new(ceilings))

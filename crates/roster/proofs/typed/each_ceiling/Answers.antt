@@ -7,7 +7,7 @@ use Rattle.roster.proofs.typed.each_ceiling.Goals as goal
 
 pub returns-in_err-ceiling-clause-reads : goal.returns-in_err-ceiling-clause-reads
 returns-in_err-ceiling-clause-reads c =
-    let p = err_from_is_err_and c.from_residual.result c.from_residual.ensures.1 in
+    let p = err_from_is_err_and c.from_residual-in_err-ceiling.result c.from_residual-in_err-ceiling.ensures.1 in
     rw (p.1, p.2) (λ n.
     let h = c.in_err-ceiling.ensures n in
     (h.0, members_wrong ceiling_of c.loop-key.key-iterator c.next.new.self (c.in-Some.key.now, c.in-Some.value.now) c.loop-key.ceilings.items _ c.in-Some.ensures.steps h.1 c.loop-key.invariant))

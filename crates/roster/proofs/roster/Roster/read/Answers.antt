@@ -5,7 +5,7 @@ use Rattle.roster.proofs.roster.Roster.read.Goals as goal
 
 pub returns-in_err-said-clause-only : goal.returns-in_err-said-clause-only
 returns-in_err-said-clause-only c =
-    let p = err_from_is_err_and c.from_residual.result c.from_residual.ensures.1 in
+    let p = err_from_is_err_and c.from_residual-in_err-said.result c.from_residual-in_err-said.ensures.1 in
     rw (p.1, p.2) (λ f r. only_memory c.args.text.now f _ r c.in_err-said.ensures.least)
 
 pub returns-clause-only : goal.returns-clause-only
