@@ -1,7 +1,7 @@
 use Rattle.std.proofs.Common.{inl, inr, le_refl}
 use Rattle.sqlite.specs.Held.{state}
 use Rattle.desk_store.proofs.LeftLemmas.{as_kept}
-use Rattle.desk_store.proofs.OutcomeLemmas.{of_err}
+use Rattle.desk_store.proofs.OutcomeLemmas.{no_memory, not_ok, of_err}
 use Rattle.desk_store.proofs.ReadingLemmas.{loads}
 use Rattle.desk_store.proofs.sqlite_keeper.SqliteKeeperKeeper.load.Goals as goal
 
@@ -74,3 +74,9 @@ returns-in-Err-clause-loaded g c up = tt
 
 pub returns-in-Err-clause-cause : goal.returns-in-Err-clause-cause
 returns-in-Err-clause-cause g c is = c.told.ensures.failed
+
+pub returns-in_err-read-clause-loaded : goal.returns-in_err-read-clause-loaded
+returns-in_err-read-clause-loaded g c up = not_ok c.from_residual.result _ c.from_residual.ensures.0
+
+pub returns-in_err-read-clause-cause : goal.returns-in_err-read-clause-cause
+returns-in_err-read-clause-cause g c is = no_memory c.from_residual.result c.in_err-read.field-0.0 _ c.from_residual.ensures.1 c.in_err-read.ensures.err is

@@ -1,5 +1,6 @@
 use Rattle.std.proofs.Common.{rules, ◌≡◌, ◌∙◌, ℕ, List, Some, inl, inr, le_refl, subst}
 use Rattle.std.specs.Prelude.{IsUtf8, string_bytes}
+use Rattle.std.proofs.lemmas.Result.{IfOk-from_err}
 use Rattle.sqlite.specs.Effect.{Database}
 use Rattle.sqlite.specs.Held.{state}
 use Rattle.messages.specs.declared.message.Message.{Message}
@@ -8,6 +9,7 @@ use Rattle.desk_store.specs.private.Statements.{ShowsBodies, ShowsMark, shown_ma
 use Rattle.desk_store.specs.private.Reading.{AreBodies, HasForeign}
 use Rattle.desk_store.proofs.LeftLemmas.{as_kept, up_left}
 use Rattle.desk_store.proofs.LookLemmas.{tells_desk, tells_empty, tells_foreign, tells_no_desk, tells_no_roster}
+use Rattle.desk_store.proofs.OutcomeLemmas.{no_memory, not_ok, ok_no_err}
 use Rattle.desk_store.proofs.SurvivalLemmas.{survives_both}
 use Rattle.desk_store.proofs.sqlite_keeper.SqliteKeeperKeeper.look.Goals as goal
 
@@ -241,3 +243,30 @@ returns-then-not-branch-clause-counts g c = le_refl _
 
 pub returns-clause-counts : goal.returns-clause-counts
 returns-clause-counts g c = le_refl _
+
+pub returns-in_err-roster-clause-found : goal.returns-in_err-roster-clause-found
+returns-in_err-roster-clause-found g c up = IfOk-from_err c.from_residual.result _ c.from_residual.ensures.0
+
+pub returns-in_err-roster-clause-up : goal.returns-in_err-roster-clause-up
+returns-in_err-roster-clause-up g c up clean = not_ok c.from_residual.result _ c.from_residual.ensures.0
+
+pub returns-in_err-roster-clause-cause : goal.returns-in_err-roster-clause-cause
+returns-in_err-roster-clause-cause g c is = no_memory c.from_residual.result c.in_err-roster.field-0.0 _ c.from_residual.ensures.1 c.in_err-roster.ensures.err is
+
+pub returns-in_err-are_messages-clause-found : goal.returns-in_err-are_messages-clause-found
+returns-in_err-are_messages-clause-found g c up = IfOk-from_err c.from_residual-in_err-are_messages.result _ c.from_residual-in_err-are_messages.ensures.0
+
+pub returns-in_err-are_messages-clause-up : goal.returns-in_err-are_messages-clause-up
+returns-in_err-are_messages-clause-up g c up clean = not_ok c.from_residual-in_err-are_messages.result _ c.from_residual-in_err-are_messages.ensures.0
+
+pub returns-in_err-are_messages-clause-cause : goal.returns-in_err-are_messages-clause-cause
+returns-in_err-are_messages-clause-cause g c is = no_memory c.from_residual-in_err-are_messages.result c.in_err-are_messages.field-0.0 _ c.from_residual-in_err-are_messages.ensures.1 c.in_err-are_messages.ensures.err is
+
+pub returns-in_default-clause-cause : goal.returns-in_default-clause-cause
+returns-in_default-clause-cause g c is = ok_no_err _ _ is
+
+pub returns-then-not-branch-clause-cause : goal.returns-then-not-branch-clause-cause
+returns-then-not-branch-clause-cause g c is = ok_no_err _ _ is
+
+pub returns-clause-cause : goal.returns-clause-cause
+returns-clause-cause g c is = ok_no_err _ _ is

@@ -2,6 +2,7 @@ use Rattle.std.proofs.Common.{inl, inr, le_refl, refl}
 use Rattle.sqlite.specs.Held.{state}
 use Rattle.desk_store.proofs.LeftLemmas.{made_lasts, nothing_or_made, up_left}
 use Rattle.desk_store.proofs.MadeLemmas.{holds_nothing}
+use Rattle.desk_store.proofs.OutcomeLemmas.{ok_no_err}
 use Rattle.desk_store.proofs.sqlite_keeper.SqliteKeeperKeeper.make.Goals as goal
 
 pub returns-then-not-is_autocommit-clause-shuts : goal.returns-then-not-is_autocommit-clause-shuts
@@ -109,3 +110,6 @@ returns-in-Err-clause-cause g c is = c.told.ensures.failed
 
 pub returns-in-Err-clause-lasting : goal.returns-in-Err-clause-lasting
 returns-in-Err-clause-lasting g c up clean = tt
+
+pub returns-in-Ok-clause-cause : goal.returns-in-Ok-clause-cause
+returns-in-Ok-clause-cause g c is = ok_no_err _ _ is
