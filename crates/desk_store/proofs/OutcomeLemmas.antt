@@ -1,6 +1,8 @@
 -- What came of one call, behind which another tells what came of both.
-use Rattle.std.proofs.Common.{◌≡◌, ◌⊎◌, inl, inr, ℕ, ◌≤◌, Result, Ok, Err, arith}
-use Rattle.std.specs.Prelude.{OnOk, OnErr, IsOk, IsErr}
+use Rattle.std.proofs.Common.{◌≡◌, ◌∙◌, ◌⊎◌, inl, inr, ℕ, ◌≤◌, Result, Ok, Err, arith}
+use Rattle.std.specs.Prelude.{OnOk, OnErr, IsOk, IsErr, IsErrAnd}
+use Rattle.desk_store.specs.declared.error.KeeperError.{KeeperError}
+use Rattle.desk_store.specs.declared.error.KeeperError.TheVariants.{NoMemory, Storage}
 use Rattle.desk_store.specs.Keeping.{HasFailed}
 
 module _ {T U E F : Type 0} (r : Result T E) (s : Result U F) where
@@ -43,6 +45,26 @@ module _ {T U E F : Type 0} (r : Result T E) (s : Result U F) where
 pub of_err : {T E : Type 0} (r : Result T E) (e : E) (P : Type 0) → OnErr r P → r ≡ Err e → P
 of_err (Ok a) e P p is = absurd cc
 of_err (Err x) e P p is = p
+
+-- what is an Err says nothing of an Ok, and what holds holds of an Err
+pub not_ok : {T E : Type 0} (r : Result T E) (P : Type 0) → IsErr r → OnOk r P
+not_ok (Ok a) P is = absurd cc
+not_ok (Err e) P is = tt
+
+pub where_err : {T E : Type 0} (r : Result T E) (P : Type 0) → P → OnErr r P
+where_err (Ok a) P p = tt
+where_err (Err e) P p = p
+
+pub ok_no_err : {T E P : Type 0} (x : T) (e : E) → ◌≡◌ {A = Result T E} (Ok x) (Err e) → P
+ok_no_err x e is = absurd cc
+
+-- an Err that says that memory ran out says nothing of the storage
+other_cause : {T : Type 0} (x : KeeperError) → x ≡ NoMemory → ◌≡◌ {A = Result T KeeperError} (Err x) (Err Storage) → ⊥
+other_cause x is says = cc
+
+pub no_memory : {T : Type 0} (r : Result T KeeperError) (e : KeeperError) (P : Type 0) → IsErrAnd r (λ x. x ≡ e) → e ≡ NoMemory → r ≡ Err Storage → P
+no_memory (Ok a) e P handed is says = absurd cc
+no_memory (Err x) e P handed is says = absurd (other_cause x (handed ∙ is) says)
 
 -- where an Err has the property, it has what follows
 pub on_err : {T E : Type 0} (r : Result T E) (P Q : Type 0) → (P → Q) → OnErr r P → OnErr r Q

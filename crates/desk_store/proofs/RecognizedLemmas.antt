@@ -1,5 +1,6 @@
 -- A table that is found by name is the desk's, where the schema has a desk's.
 use Rattle.std.proofs.Common.{inl, inr, ◌≡◌, ◌==◌, ◌^◌, nat_le, ℕ, List, length, false, find, slice_get, option_copied, Option, Some, None, codes, refl, sym, ap, subst, ◌∙◌, IsTrue}
+use Rattle.std.proofs.lemmas.Bool.{eqb-true}
 use Rattle.std.proofs.lemmas.Bool.Decides.{eqb_tells}
 use Rattle.std.proofs.lemmas.Option.{slice_get_read}
 use Rattle.std.specs.Slice.{IsItemAt}
@@ -37,6 +38,16 @@ module _ (name : List ℕ) (made : ℕ → Table) (tree_is : (n : ℕ) → (made
   the_first s ts at tree there got t first same it named item is found =
       let all = the_table s at t.now tree there it named (lent_at ts s.tables at got t same item is) in
       (found ∙ ap (find (λ (u : Table). u.tree == t.now.tree)) same ∙ all.0, all.1)
+
+  -- and a table that is found by its name, and is the first of its tree, is found by both
+  pub found_by_both : (s : Schema) (ts : List Table) (at : ℕ) (got : Option (Bor Table)) (t : Bor Table) (first : Option (Bor Table)) (f : Bor Table) → ts ≡ s.tables → table_named s name ≡ Some at → IsItemAt ts at got → got ≡ Some t
+      → t.now ≡ made t.now.tree → nat_le (2 ^ 31) t.now.tree ≡ false → option_copied first ≡ find (λ (u : Table). u.tree == t.now.tree) ts → first ≡ Some f → f.now ≡ made f.now.tree → IsTrue (f.now.tree == t.now.tree)
+      → (at : ℕ) × (tree : ℕ) × Finds s name at (made tree)
+  found_by_both s ts at got t first f same named item is made_is stored found first_is first_made trees =
+      let one : f.now ≡ t.now = first_made ∙ ap made (eqb-true f.now.tree t.now.tree trees) ∙ sym made_is in
+      let by_tree : find (λ (u : Table). u.tree == t.now.tree) s.tables ≡ Some t.now = ap (find (λ (u : Table). u.tree == t.now.tree)) (sym same) ∙ sym found ∙ ap option_copied first_is ∙ ap (λ (x : Table). Some x) one in
+      let P : Table → Type 0 = λ x. Finds s name at x in
+      (at, t.now.tree, subst P made_is (record { named = named; has = lent_at ts s.tables at got t same item is; stored = stored; by_tree = by_tree }))
 
 pub first_desk : (s : Schema) (ts : List Table) (at : ℕ) (got : Option (Bor Table)) (t : Bor Table) (first : Option (Bor Table)) → ts ≡ s.tables → FindsDesk s → table_named s (codes "desk") ≡ Some at
     → IsItemAt ts at got → got ≡ Some t → option_copied first ≡ find (λ (u : Table). u.tree == t.now.tree) ts → (option_copied first ≡ Some t.now) × (t.now ≡ desk_at t.now.tree)

@@ -1,8 +1,8 @@
-use Rattle.std.proofs.Common.{rules, ◌≡◌, option_copied, Some, codes, sym, ap, subst, ◌∙◌}
+use Rattle.std.proofs.Common.{rules, ◌≡◌, ◌^◌, nat_le, false, option_copied, Some, codes, refl, sym, ap, subst, ◌∙◌}
 use Rattle.sqlite.specs.Table.{Table}
 use Rattle.sqlite_schema.specs.Names.{table_named}
 use Rattle.desk_store.specs.DeskTables.{desk_at}
-use Rattle.desk_store.proofs.RecognizedLemmas.{first_desk, same_number, one_table, no_table}
+use Rattle.desk_store.proofs.RecognizedLemmas.{found_by_both, first_desk, same_number, one_table, no_table}
 use Rattle.desk_store.proofs.recognize.has_desk_table.Goals as goal
 
 pub returns-then-is_desk_table-clause-only : goal.returns-then-is_desk_table-clause-only
@@ -25,3 +25,14 @@ returns-in-None-clause-only c finds =
     let named : table_named c.args.schema.now (codes "desk") ≡ Some c.in-Some.at = search rules in
     let is = first_desk c.args.schema.now c.as_slice-tables.result.now c.in-Some.at c.get.result c.in-Some-get.table c.first_at.result c.as_slice-tables.ensures finds named c.get.ensures.lookup c.in-Some-get.is c.first_at.ensures in
     no_table (option_copied c.first_at.result) c.in-Some-get.table.now (ap option_copied c.in-None.is) is.0
+
+pub returns-then-is_desk_table-clause-found : goal.returns-then-is_desk_table-clause-found
+returns-then-is_desk_table-clause-found c trees =
+    let table = c.in-Some-get.table in
+    let first = c.in-Some-first_at.first in
+    let named : table_named c.args.schema.now (codes "desk") ≡ Some c.in-Some.at = search rules in
+    let is : table.now ≡ desk_at table.now.tree = search rules in
+    let stored : nat_le (2 ^ 31) table.now.tree ≡ false = search rules in
+    let first_is : first.now ≡ desk_at first.now.tree = search rules in
+    found_by_both (codes "desk") desk_at (λ n. refl) c.args.schema.now c.as_slice-tables.result.now c.in-Some.at c.get.result table c.first_at.result first c.as_slice-tables.ensures named c.get.ensures.lookup c.in-Some-get.is
+    is stored c.first_at.ensures c.in-Some-first_at.is first_is trees

@@ -1,4 +1,4 @@
-use Rattle.std.proofs.Common.{◌≡◌, ◌∙◌, ap, subst, inl, arith}
+use Rattle.std.proofs.Common.{◌≡◌, ◌∙◌, ap, subst, inl, refl, arith}
 use Rattle.sqlite.specs.Held.{state}
 use Rattle.sqlite.specs.State.{Survives}
 use Rattle.messages.specs.Wire.{wire}
@@ -57,3 +57,33 @@ returns-clause-durable g c up left may = (up_left (state g.S.Store c.insert-inse
 
 pub returns-in_err-body-clause-crash : goal.returns-in_err-body-clause-crash
 returns-in_err-body-clause-crash g c up clean left may = inl ((up_left (state g.S.Store c.args.self.now.conn) c.settles.ensures up left may).desk (c.requires.desk up))
+
+pub returns-clause-desk : goal.returns-clause-desk
+returns-clause-desk g c up = c.insert-inserted.ensures.desk up
+
+pub returns-clause-was_up : goal.returns-clause-was_up
+returns-clause-was_up g c up = c.insert-inserted.ensures.was_up up
+
+pub returns-clause-was_clean : goal.returns-clause-was_clean
+returns-clause-was_clean g c clean = c.insert-inserted.ensures.was_clean clean
+
+pub returns-in_err-body-clause-desk : goal.returns-in_err-body-clause-desk
+returns-in_err-body-clause-desk g c up = c.requires.desk up
+
+pub returns-in_err-body-clause-roster : goal.returns-in_err-body-clause-roster
+returns-in_err-body-clause-roster g c up = refl
+
+pub returns-in_err-body-clause-was_up : goal.returns-in_err-body-clause-was_up
+returns-in_err-body-clause-was_up g c up = up
+
+pub returns-in_err-body-clause-was_clean : goal.returns-in_err-body-clause-was_clean
+returns-in_err-body-clause-was_clean g c clean = clean
+
+pub returns-in_err-body-clause-shuts : goal.returns-in_err-body-clause-shuts
+returns-in_err-body-clause-shuts g c up clean = inl up
+
+pub returns-in_err-body-clause-counts : goal.returns-in_err-body-clause-counts
+returns-in_err-body-clause-counts g c = c.written.ensures.counts
+
+pub returns-in_err-body-clause-durable : goal.returns-in_err-body-clause-durable
+returns-in_err-body-clause-durable g c up left may = (up_left (state g.S.Store c.args.self.now.conn) c.settles.ensures up left may).desk (c.requires.desk up)

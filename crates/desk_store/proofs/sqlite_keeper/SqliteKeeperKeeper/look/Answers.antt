@@ -1,5 +1,6 @@
-use Rattle.std.proofs.Common.{rules, ◌≡◌, ◌∙◌, ℕ, List, Some, inl, inr, subst}
+use Rattle.std.proofs.Common.{rules, ◌≡◌, ◌∙◌, ℕ, List, Some, inl, inr, le_refl, subst}
 use Rattle.std.specs.Prelude.{IsUtf8, string_bytes}
+use Rattle.std.proofs.lemmas.Result.{IfOk-from_err}
 use Rattle.sqlite.specs.Effect.{Database}
 use Rattle.sqlite.specs.Held.{state}
 use Rattle.messages.specs.declared.message.Message.{Message}
@@ -8,6 +9,7 @@ use Rattle.desk_store.specs.private.Statements.{ShowsBodies, ShowsMark, shown_ma
 use Rattle.desk_store.specs.private.Reading.{AreBodies, HasForeign}
 use Rattle.desk_store.proofs.LeftLemmas.{as_kept, up_left}
 use Rattle.desk_store.proofs.LookLemmas.{tells_desk, tells_empty, tells_foreign, tells_no_desk, tells_no_roster}
+use Rattle.desk_store.proofs.OutcomeLemmas.{no_memory, not_ok, ok_no_err}
 use Rattle.desk_store.proofs.SurvivalLemmas.{survives_both}
 use Rattle.desk_store.proofs.sqlite_keeper.SqliteKeeperKeeper.look.Goals as goal
 
@@ -193,3 +195,78 @@ returns-clause-crash g c up clean left may =
     let new = state g.S.Store c.select_bodies.new.conn in
     let still = c.in-Ok.ensures.up up (c.select_bodies.ensures.was_clean clean) in
     as_kept old new c.settles.ensures up clean left may (survives_both old between new (c.select_desk.ensures.survives up) (c.select_bodies.ensures.survives still))
+
+pub returns-in-Err-clause-found : goal.returns-in-Err-clause-found
+returns-in-Err-clause-found g c up = tt
+
+pub returns-in-Err-clause-was_clean : goal.returns-in-Err-clause-was_clean
+returns-in-Err-clause-was_clean g c clean = c.select_desk.ensures.was_clean clean
+
+pub returns-in-Err-clause-counts : goal.returns-in-Err-clause-counts
+returns-in-Err-clause-counts g c = c.told.ensures.counts
+
+pub returns-in-Err-clause-cause : goal.returns-in-Err-clause-cause
+returns-in-Err-clause-cause g c is = c.told.ensures.failed
+
+pub returns-in-Err-clause-up : goal.returns-in-Err-clause-up
+returns-in-Err-clause-up g c up clean = tt
+
+pub returns-in_err-roster-clause-was_clean : goal.returns-in_err-roster-clause-was_clean
+returns-in_err-roster-clause-was_clean g c clean = c.select_desk.ensures.was_clean clean
+
+pub returns-in_err-roster-clause-counts : goal.returns-in_err-roster-clause-counts
+returns-in_err-roster-clause-counts g c = le_refl _
+
+pub returns-in_default-clause-was_clean : goal.returns-in_default-clause-was_clean
+returns-in_default-clause-was_clean g c clean = c.select_desk.ensures.was_clean clean
+
+pub returns-in_default-clause-counts : goal.returns-in_default-clause-counts
+returns-in_default-clause-counts g c = le_refl _
+
+pub returns-in-Err-select_bodies-clause-found : goal.returns-in-Err-select_bodies-clause-found
+returns-in-Err-select_bodies-clause-found g c up = tt
+
+pub returns-in-Err-select_bodies-clause-counts : goal.returns-in-Err-select_bodies-clause-counts
+returns-in-Err-select_bodies-clause-counts g c = c.told-in-Err-select_bodies.ensures.counts
+
+pub returns-in-Err-select_bodies-clause-cause : goal.returns-in-Err-select_bodies-clause-cause
+returns-in-Err-select_bodies-clause-cause g c is = c.told-in-Err-select_bodies.ensures.failed
+
+pub returns-in-Err-select_bodies-clause-up : goal.returns-in-Err-select_bodies-clause-up
+returns-in-Err-select_bodies-clause-up g c up clean = tt
+
+pub returns-in_err-are_messages-clause-counts : goal.returns-in_err-are_messages-clause-counts
+returns-in_err-are_messages-clause-counts g c = le_refl _
+
+pub returns-then-not-branch-clause-counts : goal.returns-then-not-branch-clause-counts
+returns-then-not-branch-clause-counts g c = le_refl _
+
+pub returns-clause-counts : goal.returns-clause-counts
+returns-clause-counts g c = le_refl _
+
+pub returns-in_err-roster-clause-found : goal.returns-in_err-roster-clause-found
+returns-in_err-roster-clause-found g c up = IfOk-from_err c.from_residual.result _ c.from_residual.ensures.0
+
+pub returns-in_err-roster-clause-up : goal.returns-in_err-roster-clause-up
+returns-in_err-roster-clause-up g c up clean = not_ok c.from_residual.result _ c.from_residual.ensures.0
+
+pub returns-in_err-roster-clause-cause : goal.returns-in_err-roster-clause-cause
+returns-in_err-roster-clause-cause g c is = no_memory c.from_residual.result c.in_err-roster.field-0.0 _ c.from_residual.ensures.1 c.in_err-roster.ensures.err is
+
+pub returns-in_err-are_messages-clause-found : goal.returns-in_err-are_messages-clause-found
+returns-in_err-are_messages-clause-found g c up = IfOk-from_err c.from_residual-in_err-are_messages.result _ c.from_residual-in_err-are_messages.ensures.0
+
+pub returns-in_err-are_messages-clause-up : goal.returns-in_err-are_messages-clause-up
+returns-in_err-are_messages-clause-up g c up clean = not_ok c.from_residual-in_err-are_messages.result _ c.from_residual-in_err-are_messages.ensures.0
+
+pub returns-in_err-are_messages-clause-cause : goal.returns-in_err-are_messages-clause-cause
+returns-in_err-are_messages-clause-cause g c is = no_memory c.from_residual-in_err-are_messages.result c.in_err-are_messages.field-0.0 _ c.from_residual-in_err-are_messages.ensures.1 c.in_err-are_messages.ensures.err is
+
+pub returns-in_default-clause-cause : goal.returns-in_default-clause-cause
+returns-in_default-clause-cause g c is = ok_no_err _ _ is
+
+pub returns-then-not-branch-clause-cause : goal.returns-then-not-branch-clause-cause
+returns-then-not-branch-clause-cause g c is = ok_no_err _ _ is
+
+pub returns-clause-cause : goal.returns-clause-cause
+returns-clause-cause g c is = ok_no_err _ _ is

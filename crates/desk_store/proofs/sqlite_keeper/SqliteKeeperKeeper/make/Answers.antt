@@ -1,7 +1,8 @@
-use Rattle.std.proofs.Common.{inl, inr}
+use Rattle.std.proofs.Common.{inl, inr, le_refl, refl}
 use Rattle.sqlite.specs.Held.{state}
 use Rattle.desk_store.proofs.LeftLemmas.{made_lasts, nothing_or_made, up_left}
 use Rattle.desk_store.proofs.MadeLemmas.{holds_nothing}
+use Rattle.desk_store.proofs.OutcomeLemmas.{ok_no_err}
 use Rattle.desk_store.proofs.sqlite_keeper.SqliteKeeperKeeper.make.Goals as goal
 
 pub returns-then-not-is_autocommit-clause-shuts : goal.returns-then-not-is_autocommit-clause-shuts
@@ -52,3 +53,63 @@ returns-in-Err-clause-unmade g c up = c.in-Err.ensures.unmade up
 
 pub returns-in-Err-clause-shuts : goal.returns-in-Err-clause-shuts
 returns-in-Err-clause-shuts g c up clean = inr c.told.ensures.failed
+
+pub returns-then-not-is_autocommit-clause-made : goal.returns-then-not-is_autocommit-clause-made
+returns-then-not-is_autocommit-clause-made g c up = tt
+
+pub returns-then-not-is_autocommit-clause-recorded : goal.returns-then-not-is_autocommit-clause-recorded
+returns-then-not-is_autocommit-clause-recorded g c up = tt
+
+pub returns-then-not-is_autocommit-clause-nothing : goal.returns-then-not-is_autocommit-clause-nothing
+returns-then-not-is_autocommit-clause-nothing g c up = tt
+
+pub returns-then-not-is_autocommit-clause-unmade : goal.returns-then-not-is_autocommit-clause-unmade
+returns-then-not-is_autocommit-clause-unmade g c up = refl
+
+pub returns-then-not-is_autocommit-clause-was_up : goal.returns-then-not-is_autocommit-clause-was_up
+returns-then-not-is_autocommit-clause-was_up g c up = up
+
+pub returns-then-not-is_autocommit-clause-was_clean : goal.returns-then-not-is_autocommit-clause-was_clean
+returns-then-not-is_autocommit-clause-was_clean g c clean = clean
+
+pub returns-then-not-is_autocommit-clause-counts : goal.returns-then-not-is_autocommit-clause-counts
+returns-then-not-is_autocommit-clause-counts g c = c.storage.ensures.counts
+
+pub returns-then-not-is_autocommit-clause-cause : goal.returns-then-not-is_autocommit-clause-cause
+returns-then-not-is_autocommit-clause-cause g c is = c.storage.ensures.failed
+
+pub returns-then-not-is_autocommit-clause-lasting : goal.returns-then-not-is_autocommit-clause-lasting
+returns-then-not-is_autocommit-clause-lasting g c up clean = tt
+
+pub returns-in-Ok-clause-unmade : goal.returns-in-Ok-clause-unmade
+returns-in-Ok-clause-unmade g c up = tt
+
+pub returns-in-Ok-clause-was_clean : goal.returns-in-Ok-clause-was_clean
+returns-in-Ok-clause-was_clean g c clean = c.create-made.ensures.was_clean clean
+
+pub returns-in-Ok-clause-counts : goal.returns-in-Ok-clause-counts
+returns-in-Ok-clause-counts g c = le_refl _
+
+pub returns-in-Err-clause-made : goal.returns-in-Err-clause-made
+returns-in-Err-clause-made g c up = tt
+
+pub returns-in-Err-clause-recorded : goal.returns-in-Err-clause-recorded
+returns-in-Err-clause-recorded g c up = tt
+
+pub returns-in-Err-clause-nothing : goal.returns-in-Err-clause-nothing
+returns-in-Err-clause-nothing g c up = tt
+
+pub returns-in-Err-clause-was_clean : goal.returns-in-Err-clause-was_clean
+returns-in-Err-clause-was_clean g c clean = c.create-made.ensures.was_clean clean
+
+pub returns-in-Err-clause-counts : goal.returns-in-Err-clause-counts
+returns-in-Err-clause-counts g c = c.told.ensures.counts
+
+pub returns-in-Err-clause-cause : goal.returns-in-Err-clause-cause
+returns-in-Err-clause-cause g c is = c.told.ensures.failed
+
+pub returns-in-Err-clause-lasting : goal.returns-in-Err-clause-lasting
+returns-in-Err-clause-lasting g c up clean = tt
+
+pub returns-in-Ok-clause-cause : goal.returns-in-Ok-clause-cause
+returns-in-Ok-clause-cause g c is = ok_no_err _ _ is
