@@ -7,3 +7,4 @@ pub mod AnswerLemmas
 pub mod CrashLemmas
 pub mod RestartLemmas
 pub mod KnownLemmas
+pub mod RefusalLemmas

@@ -12,3 +12,7 @@ told_desk Empty Kept roster tells text is told = let P : Found → Type 0 = Tell
 -- and of one with nothing of a desk's
 pub told_empty : (Empty Kept : Type 0) (roster : List ℕ) (tells : Found) → tells ≡ found.Empty → Tells Empty Kept roster tells → Empty × (¬ Kept)
 told_empty Empty Kept roster tells is told = let P : Found → Type 0 = Tells Empty Kept roster in subst P is told
+
+-- and of one with something of a desk's that is no desk
+pub told_no_desk : (Empty Kept : Type 0) (roster : List ℕ) (tells : Found) → tells ≡ found.NotADesk → Tells Empty Kept roster tells → (¬ Empty) × (¬ Kept)
+told_no_desk Empty Kept roster tells is told = let P : Found → Type 0 = Tells Empty Kept roster in subst P is told

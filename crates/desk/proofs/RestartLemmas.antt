@@ -1,6 +1,6 @@
 -- What holds the same set of messages answers alike.
 use Rattle.std.proofs.Common.{◌≡◌, inl, inr, ℕ, List, Result, Ok, Err, subst}
-use Rattle.std.specs.Prelude.{IfOk, MatchResult}
+use Rattle.std.specs.Prelude.{IfOk, IfErr, MatchResult}
 use Rattle.sudo_words.specs.declared.cmnd.Cmnd.{Cmnd}
 use Rattle.messages.specs.Names.{SameMessages}
 use Rattle.messages.specs.declared.message.Message.{Message}
@@ -28,6 +28,11 @@ pub held_again : (Empty Desk : Type 0) (recorded text : List ℕ) (S T U : Messa
 held_again Empty Desk recorded text S T U desk same (inl none) = absurd (none.1 desk)
 held_again Empty Desk recorded text S T U desk same (inr found) = λ m. (λ h. (found.3 m).0 ((same m).0 h), λ h. (same m).1 ((found.3 m).1 h))
 
+-- and has the roster's text that was recorded
+pub recorded_text : (Empty Desk : Type 0) (recorded text : List ℕ) (S T : Message → Type 0) → Desk → Opens Empty Desk recorded text S T → recorded ≡ text
+recorded_text Empty Desk recorded text S T desk (inl none) = absurd (none.1 desk)
+recorded_text Empty Desk recorded text S T desk (inr found) = found.2
+
 -- what is said of one thing and of a thing that is the same
 pub set_of_same : {A : Type 0} (a b : A) → a ≡ b → (H : A → Message → Type 0) (T : Message → Type 0) → SameSet (H a) T → SameSet (H b) T
 set_of_same a b same H T set = subst (λ x. SameSet (H x) T) same set
@@ -40,3 +45,12 @@ of_opened (Err e) P Q R F each p q = tt
 pub of_ok : {A E : Type 0} (r : Result A E) (P R : A → Type 0) → ((a : A) → P a → R a) → IfOk r P → IfOk r R
 of_ok (Ok a) P R each p = each a p
 of_ok (Err e) P R each p = tt
+
+-- and from what it promises behind a refusal
+pub of_refused : {A E : Type 0} (r : Result A E) (P Q R : E → Type 0) (F : A → Type 0) → ((e : E) → P e → Q e → R e) → IfErr r P → MatchResult r F Q → IfErr r R
+of_refused (Ok a) P Q R F each p q = tt
+of_refused (Err e) P Q R F each p q = each e p q
+
+pub of_err : {A E : Type 0} (r : Result A E) (P R : E → Type 0) → ((e : E) → P e → R e) → IfErr r P → IfErr r R
+of_err (Ok a) P R each p = tt
+of_err (Err e) P R each p = each e p

@@ -28,3 +28,7 @@ served_once_more u c v d w e before mid after s up clean shuts counts = record {
   ];
   counts = omega (arith, s.counts, counts);
 }
+
+pub up_or_failed_later : (up : Type 0) (a b c : ℕ) → a ≤ b → up ⊎ HasFailed b c → up ⊎ HasFailed a c
+up_or_failed_later up a b c below (inl still) = inl still
+up_or_failed_later up a b c below (inr failed) = inr (failed_later a b c below failed)

@@ -90,7 +90,10 @@ impl<K: Keeper> Desk<K> {
             → LeavesOnly (K.may_leave r.1) (IsLeftByOpening (K.is_empty keeper) (K.is_desk keeper) (K.roster keeper) roster.text (K.holds keeper))) }
         ensures durable { IfOk result (λ d. K.is_up d.keeper → LeavesOnly (K.may_leave d.keeper) (IsDeskOf roster.text (K.holds d.keeper))) }
     {
+        // Calls drop what a refusal does not hand back: where an exit drops it in line, each of its fields is proved again there.
         if !fits_base(&base) {
+            drop(base);
+            drop(roster);
             return Err((Refusal::BaseTooLarge, keeper));
         }
         let mut keeper = keeper;
@@ -102,7 +105,11 @@ impl<K: Keeper> Desk<K> {
                 keeper,
                 known: known_at_first(alloc, origin),
             }),
-            Err(refusal) => Err((refusal, keeper)),
+            Err(refusal) => {
+                drop(base);
+                drop(roster);
+                Err((refusal, keeper))
+            }
         }
     }
 
@@ -230,11 +237,14 @@ impl<K: Keeper> Desk<K> {
     {
         let Desk {
             alloc: _,
-            roster: _,
-            base: _,
+            roster,
+            base,
             keeper,
-            known: _,
+            known,
         } = self;
+        drop(known);
+        drop(base);
+        drop(roster);
         keeper
     }
 }

@@ -1,7 +1,119 @@
-use Rattle.std.proofs.Common.{◌≡◌, ◌∙◌, sym, inr, rules}
+use Rattle.std.proofs.Common.{◌≡◌, ◌∙◌, sym, inl, inr, rules}
 use Rattle.std.specs.Prelude.{string_bytes}
-use Rattle.desk.proofs.OpeningLemmas.{told_desk}
+use Rattle.desk.proofs.CrashLemmas.{kept_by_opening, leaves_same, made_by_opening}
+use Rattle.desk.proofs.OpeningLemmas.{told_desk, told_empty, told_no_desk}
+use Rattle.desk.proofs.RefusalLemmas.{told_no_base, told_storage, told_want}
+use Rattle.desk.proofs.ServingLemmas.{failed_later, up_or_failed_later}
 use Rattle.desk.proofs.opening.find_or_make.Goals as goal
+
+-- ---- a look that failed
+
+pub returns-in_err-look-clause-crash : goal.returns-in_err-look-clause-crash
+returns-in_err-look-clause-crash g c up clean left may =
+    let K = g.K.Keeper in
+    let k = c.args.keeper.now in
+    kept_by_opening (K.is_empty k) (K.is_desk k) (K.roster k) c.args.text.now (K.holds k) left (c.look.ensures.crash up clean left may)
+
+pub returns-in_err-look-clause-refused : goal.returns-in_err-look-clause-refused
+returns-in_err-look-clause-refused g c up = told_want c.in_err-look.field-0.0 c.from_residual.result _ c.from_residual.ensures.1
+
+pub returns-in_err-look-clause-fits : goal.returns-in_err-look-clause-fits
+returns-in_err-look-clause-fits g c = told_no_base c.in_err-look.field-0.0 c.from_residual.result c.from_residual.ensures.1
+
+pub returns-in_err-look-clause-cause : goal.returns-in_err-look-clause-cause
+returns-in_err-look-clause-cause g c is = c.look.ensures.cause (told_storage c.in_err-look.field-0.0 c.look.result c.from_residual.result c.in_err-look.was c.from_residual.ensures.1 is)
+
+-- ---- nothing of a desk's
+
+pub returns-in_ok-make-in-Empty-clause-opens : goal.returns-in_ok-make-in-Empty-clause-opens
+returns-in_ok-make-in-Empty-clause-opens g c up =
+    let K = g.K.Keeper in
+    let k = c.args.keeper.now in
+    let told = told_empty (K.is_empty k) (K.is_desk k) (K.roster k) c.in_ok-look.field-0 c.in-Empty.is (c.in_ok-look.ensures.found (c.make.ensures.was_up up)) in
+    inl (told.0, told.1, c.in_ok-make-in-Empty.ensures.nothing up)
+
+pub returns-in_ok-make-in-Empty-clause-crash : goal.returns-in_ok-make-in-Empty-clause-crash
+returns-in_ok-make-in-Empty-clause-crash g c up clean left may =
+    let K = g.K.Keeper in
+    let k = c.args.keeper.now in
+    let between = c.in_ok-look.ensures.up up (c.make.ensures.was_clean clean) in
+    let told = told_empty (K.is_empty k) (K.is_desk k) (K.roster k) c.in_ok-look.field-0 c.in-Empty.is (c.in_ok-look.ensures.found between) in
+    made_by_opening (K.is_empty k) (K.is_desk k) (K.roster k) c.args.text.now (K.holds k) left told.1 (c.make.ensures.crash between clean left may)
+
+pub returns-in_ok-make-in-Empty-clause-shuts : goal.returns-in_ok-make-in-Empty-clause-shuts
+returns-in_ok-make-in-Empty-clause-shuts g c up clean =
+    let K = g.K.Keeper in
+    up_or_failed_later (K.is_up c.make.new.self) (K.failures c.args.keeper.now) (K.failures c.look.new.self) (K.failures c.make.new.self) c.look.ensures.counts
+    (c.make.ensures.shuts (c.in_ok-look.ensures.up up (c.make.ensures.was_clean clean)) clean)
+
+pub returns-in_err-make-in-Empty-clause-crash : goal.returns-in_err-make-in-Empty-clause-crash
+returns-in_err-make-in-Empty-clause-crash g c up clean left may =
+    let K = g.K.Keeper in
+    let k = c.args.keeper.now in
+    let between = c.in_ok-look.ensures.up up (c.make.ensures.was_clean clean) in
+    let told = told_empty (K.is_empty k) (K.is_desk k) (K.roster k) c.in_ok-look.field-0 c.in-Empty.is (c.in_ok-look.ensures.found between) in
+    made_by_opening (K.is_empty k) (K.is_desk k) (K.roster k) c.args.text.now (K.holds k) left told.1 (c.make.ensures.crash between clean left may)
+
+pub returns-in_err-make-in-Empty-clause-shuts : goal.returns-in_err-make-in-Empty-clause-shuts
+returns-in_err-make-in-Empty-clause-shuts g c up clean =
+    let K = g.K.Keeper in
+    up_or_failed_later (K.is_up c.make.new.self) (K.failures c.args.keeper.now) (K.failures c.look.new.self) (K.failures c.make.new.self) c.look.ensures.counts
+    (c.make.ensures.shuts (c.in_ok-look.ensures.up up (c.make.ensures.was_clean clean)) clean)
+
+pub returns-in_err-make-in-Empty-clause-refused : goal.returns-in_err-make-in-Empty-clause-refused
+returns-in_err-make-in-Empty-clause-refused g c up = told_want c.in_err-make-in-Empty.field-0.0 c.from_residual-in_err-make-in-Empty.result _ c.from_residual-in_err-make-in-Empty.ensures.1
+
+pub returns-in_err-make-in-Empty-clause-fits : goal.returns-in_err-make-in-Empty-clause-fits
+returns-in_err-make-in-Empty-clause-fits g c = told_no_base c.in_err-make-in-Empty.field-0.0 c.from_residual-in_err-make-in-Empty.result c.from_residual-in_err-make-in-Empty.ensures.1
+
+pub returns-in_err-make-in-Empty-clause-cause : goal.returns-in_err-make-in-Empty-clause-cause
+returns-in_err-make-in-Empty-clause-cause g c is =
+    let K = g.K.Keeper in
+    let err = c.in_err-make-in-Empty in
+    let told = c.from_residual-in_err-make-in-Empty in
+    failed_later (K.failures c.args.keeper.now) (K.failures c.look.new.self) (K.failures c.make.new.self) c.look.ensures.counts
+    (c.make.ensures.cause (told_storage err.field-0.0 c.make.result told.result err.was told.ensures.1 is))
+
+-- ---- something of a desk's
+
+pub returns-in-NotADesk-clause-refused : goal.returns-in-NotADesk-clause-refused
+returns-in-NotADesk-clause-refused g c up =
+    let K = g.K.Keeper in
+    let k = c.args.keeper.now in
+    let told = told_no_desk (K.is_empty k) (K.is_desk k) (K.roster k) c.in_ok-look.field-0 c.in-NotADesk.is (c.in_ok-look.ensures.found up) in
+    inr (tt, told.0, told.1)
+
+pub returns-in-NotADesk-clause-crash : goal.returns-in-NotADesk-clause-crash
+returns-in-NotADesk-clause-crash g c up clean left may =
+    let K = g.K.Keeper in
+    let k = c.args.keeper.now in
+    kept_by_opening (K.is_empty k) (K.is_desk k) (K.roster k) c.args.text.now (K.holds k) left (c.look.ensures.crash up clean left may)
+
+-- ---- a desk
+
+pub returns-in-Desk-clause-crash : goal.returns-in-Desk-clause-crash
+returns-in-Desk-clause-crash g c up clean left may =
+    let K = g.K.Keeper in
+    let k = c.args.keeper.now in
+    kept_by_opening (K.is_empty k) (K.is_desk k) (K.roster k) c.args.text.now (K.holds k) left (c.look.ensures.crash up clean left may)
+
+pub returns-in-Desk-2-clause-crash : goal.returns-in-Desk-2-clause-crash
+returns-in-Desk-2-clause-crash g c up clean left may =
+    let K = g.K.Keeper in
+    let k = c.args.keeper.now in
+    kept_by_opening (K.is_empty k) (K.is_desk k) (K.roster k) c.args.text.now (K.holds k) left (c.look.ensures.crash up clean left may)
+
+pub returns-in-Desk-clause-durable : goal.returns-in-Desk-clause-durable
+returns-in-Desk-clause-durable g c up =
+    let K = g.K.Keeper in
+    let laws = g.met.K.Keeper in
+    let old = c.args.keeper.now in
+    let new = c.look.new.self in
+    let same = c.look.ensures.same up in
+    let told = told_desk (K.is_empty old) (K.is_desk old) (K.roster old) c.in_ok-look.field-0 c.in-Desk.recorded c.in-Desk.is (c.in_ok-look.ensures.found up) in
+    leaves_same (K.may_leave new) (K.roster new) (K.roster old) (K.holds new) (K.holds old) (sym (laws.stays_roster old new same told.0))
+    (laws.stays_set new old (laws.same_back old new same) (laws.stays_desk old new same told.0))
+    (λ left may. (c.look.ensures.crash (c.look.ensures.was_up up) (laws.up_is_clean new up) left may).desk told.0)
 
 pub returns-in-Desk-clause-roster : goal.returns-in-Desk-clause-roster
 returns-in-Desk-clause-roster g c = λ up.

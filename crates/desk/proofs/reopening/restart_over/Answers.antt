@@ -1,10 +1,11 @@
+use Rattle.std.proofs.Common.{◌≡◌, ◌∙◌, ap, sym}
 use Rattle.sqlite.specs.Held.{state}
 use Rattle.desk_store.specs.Sets.{SameSet}
 use Rattle.desk_store.specs.SqliteStates.{IsUp}
 use Rattle.desk_store.specs.Stored.{HoldsText, IsDeskDatabase, IsFree, content_of}
 use Rattle.desk.specs.Opening.{Opens}
 use Rattle.desk.specs.Same.{AnswerAlike}
-use Rattle.desk.proofs.RestartLemmas.{held_again, of_ok, of_opened, same_answers, set_of_same}
+use Rattle.desk.proofs.RestartLemmas.{held_again, of_err, of_ok, of_opened, recorded_text, same_answers, set_of_same}
 use Rattle.desk.proofs.reopening.restart_over.Goals as goal
 
 pub returns-clause-held : goal.returns-clause-held
@@ -37,3 +38,32 @@ returns-clause-alike g c =
     (λ d. IsUp (state S d.keeper.conn) → AnswerAlike f (HoldsText old) (HoldsText (state S d.keeper.conn).now))
     (λ d held up. same_answers f (HoldsText old) (HoldsText (state S d.keeper.conn).now) (held up))
     (returns-clause-held g c)
+
+pub returns-clause-roster : goal.returns-clause-roster
+returns-clause-roster g c =
+    let S = g.S.Store in
+    let k = state S c.renewed.result.conn in
+    of_opened c.open.result
+    (λ d. IsUp (state S d.keeper.conn)
+    → Opens (IsFree k.now.schema) (IsDeskDatabase k.now) (content_of k.now).roster c.args.roster.text (HoldsText k.now) (HoldsText (state S d.keeper.conn).now))
+    (λ d. IsUp (state S d.keeper.conn) → IsUp k)
+    (λ d. IsUp (state S d.keeper.conn) → c.args.desk.roster.text ≡ c.args.roster.text)
+    (λ r. IsUp (state S r.1.conn) → IsUp k)
+    (λ d opens was up.
+    let given = c.renewed.ensures.up.0 (was up) in
+    let desk = c.renewed.ensures.desk.1 (c.into_keeper-keeper.ensures.desk given) in
+    sym (c.into_keeper-keeper.ensures.roster given) ∙ sym c.renewed.ensures.roster
+    ∙ recorded_text (IsFree k.now.schema) (IsDeskDatabase k.now) (content_of k.now).roster c.args.roster.text (HoldsText k.now) (HoldsText (state S d.keeper.conn).now) desk (opens up))
+    c.open.ensures.opens
+    c.open.ensures.was_up
+
+pub returns-clause-unchanged : goal.returns-clause-unchanged
+returns-clause-unchanged g c =
+    let S = g.S.Store in
+    let old = c.args.desk.keeper in
+    let k = state S c.renewed.result.conn in
+    of_err c.open.result
+    (λ r. IsUp (state S r.1.conn) → (state S r.1.conn).now ≡ k.now)
+    (λ r. IsUp (state S r.1.conn) → (state S r.1.conn).now ≡ (state S old.conn).now)
+    (λ r same up. same up ∙ c.renewed.ensures.database ∙ ap (λ x. (state S x.conn).now) c.into_keeper-keeper.ensures.same)
+    c.open.ensures.unchanged
