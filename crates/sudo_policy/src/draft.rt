@@ -74,6 +74,7 @@ impl Draft {
         ensures found { OnOk result (Adds self.old self.new (entry ∷ [])) }
         ensures only { IsPolicy (self.old.entries.items ++ entry ∷ []) → IfErr result (λ e. e ≡ fault.NoMemory) }
     {
+        // One call gives the entry up, whether it was entered or not.
         let entered = self.enter(alloc, &entry);
         push_entered(&mut self.entries, entry, entered)
     }
