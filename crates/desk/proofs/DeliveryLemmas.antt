@@ -1,7 +1,7 @@
 -- One answer to a delivery, and what is held once one more delivery is answered.
 use Rattle.std.proofs.Common.{◌≡◌, ℕ, ◌<◌, ◌⊎◌, List, [], ◌∷◌, ◌++◌, length, Result, Ok, Err, true, false, refl, sym, ap, ◌∙◌, subst, inl, inr, arith}
 use Rattle.messages.specs.Canonical.{IsCanonicalText}
-use Rattle.messages.specs.Members.{value_of}
+use Rattle.messages.specs.private.Members.{value_of}
 use Rattle.messages.specs.Wire.{wire, IsMessage}
 use Rattle.messages.specs.declared.message.Message.{Message}
 use Rattle.messages.proofs.Readings.{text_of_message}

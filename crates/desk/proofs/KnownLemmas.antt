@@ -10,7 +10,7 @@ use Rattle.desk_outcomes.specs.Gathered.{AreGathered}
 use Rattle.desk_outcomes.proofs.Membership.{no_member}
 use Rattle.desk.specs.declared.opening.Origin.{Origin}
 use Rattle.desk.specs.declared.opening.Origin.TheVariants.{Made}
-use Rattle.desk.specs.Known.{IsKnown, IsKnownAtFirst}
+use Rattle.desk.specs.private.Known.{IsKnown, IsKnownAtFirst}
 
 pub with_lists : (S T : Message → Type 0) (m : Message) (list : List Message) → IsWith S m T → Lists S list → Lists T (list ++ m ∷ [])
 with_lists S T m list grown lists = λ n. (there n, back n)

@@ -1,7 +1,7 @@
 -- One call of a keeper after others.
 use Rattle.std.proofs.Common.{◌⊎◌, ℕ, ◌≤◌, inl, inr, arith}
 use Rattle.desk_store.specs.Keeping.{HasFailed}
-use Rattle.desk.specs.Serving.{IsServed}
+use Rattle.desk.specs.private.Serving.{IsServed}
 
 pub failed_sooner : (a b c : ℕ) → HasFailed a b → b ≤ c → HasFailed a c
 failed_sooner a b c (inl rose) below = inl (omega (arith, rose, below))

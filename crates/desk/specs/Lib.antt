@@ -7,6 +7,4 @@ pub mod Crash
 -- laws: runs, and sets that answer alike
 pub mod Runs
 pub mod Same
--- for private clauses
-pub mod Known
-pub mod Serving
+pub mod private

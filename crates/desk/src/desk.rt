@@ -39,7 +39,7 @@ impl<K: Keeper> Model for Desk<K> {
     ghost use Rattle.std.specs.Prelude.{◌≡◌};
     ghost use Rattle.grants.specs.Bases.{FitsBase};
     ghost use Rattle.desk_store.specs.Left.{IsDeskOf, LeavesOnly};
-    ghost use Rattle.desk.specs.Known.{IsKnown};
+    ghost use Rattle.desk.specs.private.Known.{IsKnown};
     ghost use Rattle.desk.specs.State.{DeskState};
 
     ghost Value = { DeskState K };

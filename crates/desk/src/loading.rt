@@ -3,7 +3,7 @@
 ghost use Rattle.std.specs.Prelude.{◌≡◌, ◌⊎◌, ◌≤◌, List, [], ◌∷◌, ◌++◌, IfErr, IfOk, IfSome, OnOk, Err, None, Some};
 ghost use Rattle.messages.specs.declared.message.Message.{Message as AnyMessage};
 ghost use Rattle.desk_outcomes.specs.Gathered.{AreGathered};
-ghost use Rattle.desk.specs.Known.{IsKnown};
+ghost use Rattle.desk.specs.private.Known.{IsKnown};
 ghost use Rattle.desk.specs.Refusals.{IsWant};
 ghost use Rattle.desk.specs.declared.refusal.Refusal.TheVariants as refusal;
 ghost use Rattle.desk_store.specs.Keeping.{HasFailed};

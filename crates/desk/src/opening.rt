@@ -5,7 +5,7 @@ ghost use Rattle.desk_store.specs.Keeping.{HasFailed};
 ghost use Rattle.desk_store.specs.Left.{IsDeskOf, LeavesOnly};
 ghost use Rattle.desk_store.specs.Sets.{IsNothing};
 ghost use Rattle.desk.specs.Crash.{IsLeftByOpening};
-ghost use Rattle.desk.specs.Known.{IsKnownAtFirst};
+ghost use Rattle.desk.specs.private.Known.{IsKnownAtFirst};
 ghost use Rattle.desk.specs.Opening.{Opens, Refuses};
 ghost use Rattle.desk.specs.Refusals.{IsWant};
 ghost use Rattle.desk.specs.declared.opening.Origin.TheVariants as origins;

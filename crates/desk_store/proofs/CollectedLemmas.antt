@@ -12,7 +12,7 @@ use Rattle.std.proofs.lemmas.List.Quantifiers.{all_pairs_push}
 use Rattle.messages.specs.Wire.{wire, IsMessage}
 use Rattle.messages.specs.declared.message.Message.{Message}
 use Rattle.messages.proofs.Uniqueness.{one_message}
-use Rattle.desk_store.specs.Collected.{IsKept, has_text}
+use Rattle.desk_store.specs.private.Collected.{IsKept, has_text}
 use Rattle.desk_store.specs.private.Learning.{Learns, Knows}
 
 abbrev Text : Type 0

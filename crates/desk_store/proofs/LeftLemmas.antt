@@ -7,7 +7,7 @@ use Rattle.sqlite.specs.State.{State, HasCleanDisk, Survives}
 use Rattle.messages.specs.Wire.{wire, IsMessage}
 use Rattle.messages.specs.declared.message.Message.{Message}
 use Rattle.desk_store.specs.Sets.{SameSet, With}
-use Rattle.desk_store.specs.Collected.{IsPut}
+use Rattle.desk_store.specs.private.Collected.{IsPut}
 use Rattle.desk_store.specs.Memory.{MemoryContent, Holds}
 use Rattle.desk_store.specs.Stored.{Content, HoldsText, IsDeskDatabase, IsFree, content_of, with_text}
 use Rattle.desk_store.specs.SqliteStates.{IsUp}

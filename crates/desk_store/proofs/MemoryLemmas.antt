@@ -4,7 +4,7 @@ use Rattle.std.specs.Prelude.{Option, Contains, OnOk}
 use Rattle.std.proofs.lemmas.List.Elements.{Contains-append_left, Contains-push, Contains-push_cases}
 use Rattle.messages.specs.Wire.{IsMessage}
 use Rattle.messages.specs.declared.message.Message.{Message}
-use Rattle.desk_store.specs.Collected.{IsPut}
+use Rattle.desk_store.specs.private.Collected.{IsPut}
 use Rattle.desk_store.specs.Memory.{Holds}
 use Rattle.desk_store.specs.Sets.{IsWith}
 

@@ -4,7 +4,6 @@ pub mod Faults
 -- a keeper in memory
 pub mod Memory
 pub mod MemoryLaws
-pub mod Collected
 -- a keeper over a database
 pub mod DeskTables
 pub mod Stored

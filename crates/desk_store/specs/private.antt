@@ -6,3 +6,4 @@ pub mod Making
 pub mod SqliteLaws
 pub mod Survival
 pub mod Learning
+pub mod Collected

@@ -6,7 +6,7 @@ ghost use Rattle.std.specs.Bool.{OnFalse};
 ghost use Rattle.std.specs.String.{string_cmp};
 ghost use Rattle.messages.specs.Wire.{IsMessage};
 ghost use Rattle.messages.specs.declared.message.Message.{Message as AnyMessage};
-ghost use Rattle.desk_store.specs.Collected.{IsPut, has_text};
+ghost use Rattle.desk_store.specs.private.Collected.{IsPut, has_text};
 ghost use Rattle.desk_store.specs.private.Learning.{Learns, Knows};
 ghost use Rattle.desk_store.specs.declared.error.KeeperError.TheVariants as error;
 
@@ -28,7 +28,7 @@ pub(crate) struct Collected {
 impl Model for Collected {
     ghost use Rattle.std.specs.Prelude.{List};
     ghost use Rattle.messages.specs.declared.message.Message.{Message};
-    ghost use Rattle.desk_store.specs.Collected.{IsKept};
+    ghost use Rattle.desk_store.specs.private.Collected.{IsKept};
 
     ghost Value = { List Message };
 

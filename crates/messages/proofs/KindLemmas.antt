@@ -5,7 +5,7 @@ use Rattle.std.proofs.lemmas.Slice.Eq.{bytes_eq-Decides}
 use Rattle.serde_json.specs.Data.{Data, string}
 use Rattle.serde_json.specs.Find.{get}
 use Rattle.messages.specs.Fields.{RequestFields, VerdictFields, IsRequest, IsVerdict}
-use Rattle.messages.specs.Members.{request_value, verdict_value, value_of}
+use Rattle.messages.specs.private.Members.{request_value, verdict_value, value_of}
 use Rattle.messages.specs.Wire.{kind_text, IsMessage}
 use Rattle.messages.specs.declared.kind.VerdictKind.{VerdictKind}
 use Rattle.messages.specs.declared.kind.VerdictKind.TheVariants.{Approve, Refuse, Revoke}

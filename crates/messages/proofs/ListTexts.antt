@@ -7,7 +7,7 @@ use Rattle.serde_json.specs.View.{view, items_view}
 use Rattle.serde_json.specs.declared.value.Value.{Value}
 use Rattle.sudo_words.specs.Command.{cmnd_text}
 use Rattle.sudo_words.specs.declared.cmnd.Cmnd.{Cmnd}
-use Rattle.messages.specs.Members.{strings}
+use Rattle.messages.specs.private.Members.{strings}
 use Rattle.messages.specs.Order.{is_before, rises_from}
 
 -- as many values as texts

@@ -21,7 +21,7 @@ use Rattle.serde_json.proofs.Texts.{print-outline}
 use Rattle.sudo_words.specs.Command.{cmnd_text}
 use Rattle.messages.specs.Canonical.{IsTextOf}
 use Rattle.messages.specs.Fields.{RequestFields, VerdictFields, IsNumbered, IsRequest, IsVerdict}
-use Rattle.messages.specs.Members.{strings, request_value, verdict_value, value_of}
+use Rattle.messages.specs.private.Members.{strings, request_value, verdict_value, value_of}
 use Rattle.messages.specs.Wire.{escaped, quoted, moment_text, rest_text, list_text, kind_text, request_text, verdict_text, wire, IsMessage}
 use Rattle.messages.specs.declared.message.Message.{Message}
 use Rattle.messages.specs.declared.message.Message.TheVariants.{Request, Verdict}

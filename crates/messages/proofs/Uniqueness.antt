@@ -11,7 +11,7 @@ use Rattle.sudo_words.specs.declared.cmnd.Cmnd.{Cmnd}
 use Rattle.sudo_words.proofs.CommandLemmas.{one_command}
 use Rattle.sudo_words.proofs.MomentTexts.{one_spelled}
 use Rattle.messages.specs.Fields.{RequestFields, VerdictFields, IsRequest, IsVerdict}
-use Rattle.messages.specs.Members.{strings, request_value, verdict_value, value_of}
+use Rattle.messages.specs.private.Members.{strings, request_value, verdict_value, value_of}
 use Rattle.messages.specs.Wire.{kind_text, moment_text, wire, IsMessage}
 use Rattle.messages.specs.declared.message.Message.{Message}
 use Rattle.messages.specs.declared.message.Message.TheVariants.{Request, Verdict}

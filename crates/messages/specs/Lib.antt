@@ -4,5 +4,5 @@ pub mod Names
 pub mod Shown
 pub mod Wire
 pub mod Canonical
-pub mod Members
 pub mod Faults
+pub mod private

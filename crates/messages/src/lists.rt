@@ -7,7 +7,7 @@ ghost use Rattle.sudo_words.specs.Command.{IsLawful, cmnd_text};
 ghost use Rattle.sudo_words.specs.Word.{is_host_name};
 ghost use Rattle.sudo_words.specs.declared.cmnd.Cmnd.{Cmnd as Command};
 ghost use Rattle.messages.specs.Fields.{AreCmnds, AreHosts};
-ghost use Rattle.messages.specs.Members.{strings};
+ghost use Rattle.messages.specs.private.Members.{strings};
 ghost use Rattle.messages.specs.declared.fault.MessageFault.TheVariants.{BadField, NoMemory};
 
 use crate::fault::MessageFault;

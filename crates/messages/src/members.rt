@@ -7,7 +7,7 @@ ghost use Rattle.serde_json.specs.View.{view, items_view};
 ghost use Rattle.sudo_words.specs.Moment.{IsMoment};
 ghost use Rattle.messages.specs.Wire.{moment_text};
 ghost use Rattle.messages.specs.Fields.{IsNumbered};
-ghost use Rattle.messages.specs.Members.{strings};
+ghost use Rattle.messages.specs.private.Members.{strings};
 ghost use Rattle.messages.specs.declared.fault.MessageFault.TheVariants.{BadField, NoMemory};
 
 use crate::fault::MessageFault;

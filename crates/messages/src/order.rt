@@ -2,7 +2,7 @@
 
 ghost use Rattle.std.specs.Prelude.{◌≡◌, List, ℕ};
 ghost use Rattle.serde_json.specs.View.{items_view};
-ghost use Rattle.messages.specs.Members.{strings};
+ghost use Rattle.messages.specs.private.Members.{strings};
 ghost use Rattle.messages.specs.Order as order;
 
 use serde_json::Value;

@@ -4,7 +4,7 @@ ghost use Rattle.std.specs.Prelude.{◌≡◌, ◌⊎◌, ◌<◌, ◌≤◌, fa
 ghost use Rattle.serde_json.specs.View.{view};
 ghost use Rattle.messages.specs.Canonical.{IsCanonicalText};
 ghost use Rattle.messages.specs.Fields.{RequestFields, VerdictFields, IsRequest, IsVerdict};
-ghost use Rattle.messages.specs.Members.{request_value, verdict_value, value_of};
+ghost use Rattle.messages.specs.private.Members.{request_value, verdict_value, value_of};
 ghost use Rattle.messages.specs.Wire.{kind_text, wire, IsMessage};
 ghost use Rattle.messages.specs.declared.kind.VerdictKind.{VerdictKind as AnyKind};
 ghost use Rattle.messages.specs.declared.message.Message.{Message as AnyMessage};

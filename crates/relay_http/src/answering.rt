@@ -4,7 +4,7 @@ ghost use Rattle.std.specs.Prelude.{◌≡◌, ◌⊎◌, List, MatchResult, str
 ghost use Rattle.messages.specs.declared.message.Message.{Message as AnyMessage};
 ghost use Rattle.desk_store.specs.Keeping.{HasFailed};
 ghost use Rattle.desk_store.specs.Sets.{Lists};
-ghost use Rattle.desk.specs.Serving.{IsServed};
+ghost use Rattle.desk.specs.private.Serving.{IsServed};
 ghost use Rattle.relay_http.specs.Asked.{asked_of, deliver, grants, host_file, parked, report};
 ghost use Rattle.relay_http.specs.Exchange.{IsAnswered};
 ghost use Rattle.relay_http.specs.Prepared.{reply_of, to_question};

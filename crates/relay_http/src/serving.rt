@@ -2,7 +2,7 @@
 
 ghost use Rattle.std.specs.Prelude.{◌≡◌, ◌≢◌, ◌⊎◌, ◌≤◌, ℕ, List, Err, IfSome, MatchResult, codes};
 ghost use Rattle.httparse.specs.Grammar.{RequestHead};
-ghost use Rattle.desk.specs.Serving.{IsServed};
+ghost use Rattle.desk.specs.private.Serving.{IsServed};
 ghost use Rattle.desk_store.specs.Keeping.{HasFailed};
 ghost use Rattle.relay_http.specs.Asked.{Request};
 ghost use Rattle.relay_http.specs.Counting.{one_failure};

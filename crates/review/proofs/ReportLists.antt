@@ -6,7 +6,7 @@ use Rattle.std.proofs.lemmas.Grind.{flat_map-append}
 use Rattle.std.proofs.lemmas.List.{append-nil, map-append, take_all}
 use Rattle.sudo_beyond.specs.Cases.{AreParts}
 use Rattle.review.specs.Columns.{lines_text}
-use Rattle.review.specs.Reporting.{AddsLines}
+use Rattle.review.specs.private.Reporting.{AddsLines}
 use Rattle.sudo_beyond.proofs.Lists.{parts_more, take_next}
 
 pub lines_both : (xs ys : List (List ℕ)) → lines_text (xs ++ ys) ≡ lines_text xs ++ lines_text ys

@@ -16,7 +16,7 @@ use Rattle.grants.specs.declared.outcome.Window.{Window}
 use Rattle.grants.proofs.StatusLaws.{one_status}
 use Rattle.review.specs.Columns.{lines_text}
 use Rattle.review.specs.Report.{AreBarred, AreBarredUnder, AreInForce, BarredLines, IsOnlyRequest, LinesInForce, is_open, window_at}
-use Rattle.review.specs.Reporting.{AddsLines}
+use Rattle.review.specs.private.Reporting.{AddsLines}
 
 module _ (f : RosterFields Cmnd) (set : List Message) (name : RequestName) (old new : List ℕ) where
   pub none_in_force : (at : ℕ) (Of : RequestFields → Window → List (List ℕ) → Type 0) (status : Status) → IsStatus f set name status → window_at at status ≡ None → AddsLines (AreInForce f set at Of name) old old

@@ -3,4 +3,4 @@ pub mod Columns
 pub mod Barred
 pub mod Report
 pub mod WorkedReport
-pub mod Reporting
+pub mod private

@@ -8,7 +8,7 @@ ghost use Rattle.review.specs.Barred.{HasApproved, barred_lines};
 ghost use Rattle.sudo_beyond.specs.Cases.{AreParts, text_order};
 ghost use Rattle.review.specs.Columns.{lines_text};
 ghost use Rattle.review.specs.Report as report;
-ghost use Rattle.review.specs.Reporting.{AddsLines, IsOpenOf, kept_name};
+ghost use Rattle.review.specs.private.Reporting.{AddsLines, IsOpenOf, kept_name};
 
 use crate::columns::{push_left, push_name};
 use crate::reason::why_barred;

@@ -8,7 +8,7 @@ ghost use Rattle.grants.specs.Summaries.{StandsFor};
 ghost use Rattle.sudo_beyond.specs.Cases.{AreParts};
 ghost use Rattle.review.specs.Columns.{lines_text, name_columns};
 ghost use Rattle.review.specs.Report as report;
-ghost use Rattle.review.specs.Reporting.{AddsLines, kept_name};
+ghost use Rattle.review.specs.private.Reporting.{AddsLines, kept_name};
 
 use crate::columns::push_name;
 use crate::live::in_force;

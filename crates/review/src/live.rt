@@ -7,7 +7,7 @@ ghost use Rattle.grants.specs.Summaries.{StandsFor};
 ghost use Rattle.sudo_beyond.specs.Cases.{AreParts};
 ghost use Rattle.review.specs.Columns.{lines_text};
 ghost use Rattle.review.specs.Report as report;
-ghost use Rattle.review.specs.Reporting.{AddsLines, IsInForceOf, IsSpan, IsWindowAt, kept_name};
+ghost use Rattle.review.specs.private.Reporting.{AddsLines, IsInForceOf, IsSpan, IsWindowAt, kept_name};
 
 use crate::columns::{push_left, push_name};
 use crate::need::{Need, need_of, no_policy};

@@ -4,7 +4,7 @@ ghost use Rattle.std.specs.Prelude.{◌≡◌, [], All, IfOk, true};
 ghost use Rattle.sudo_words.specs.Word.{is_host_name};
 ghost use Rattle.messages.specs.Fields.{IsRequest};
 ghost use Rattle.review.specs.Needs as needs;
-ghost use Rattle.review.specs.Reporting.{IsSpan, over_both};
+ghost use Rattle.review.specs.private.Reporting.{IsSpan, over_both};
 
 use grants::{Window, grant_rules, host_policy};
 use messages::Request;

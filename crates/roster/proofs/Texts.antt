@@ -11,7 +11,7 @@ use Rattle.sudo_words.specs.declared.cmnd.Cmnd.{Cmnd}
 use Rattle.roster.specs.Faults.{IsRosterText}
 use Rattle.roster.specs.Fields.{CeilingFields, RosterFields, entry_in_texts, in_texts}
 use Rattle.roster.specs.Rules.{IsCmndText, IsNamedCeiling, GoodNames, good_names, are_known, has_self_conflict, in_range, is_ranged, is_within, is_known_ceiling, is_known_pair, is_among, has_counts, has_ceiling_counts}
-use Rattle.roster.specs.Stages.{IsDraftOf, KeepsRules}
+use Rattle.roster.specs.private.Stages.{IsDraftOf, KeepsRules}
 
 commands_in_texts : (cs : List Cmnd) → All IsLawful cs → All IsCmndText (map cmnd_text cs)
 commands_in_texts cs a = All-map IsCmndText cmnd_text cs (All-weaker IsLawful (λ c. IsCmndText (cmnd_text c)) (λ c l. (c, l, refl)) cs a)

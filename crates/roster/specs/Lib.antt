@@ -5,4 +5,4 @@ pub mod Faults
 pub mod Relations
 pub mod Commands
 pub mod Worked
-pub mod Stages
+pub mod private

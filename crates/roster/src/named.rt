@@ -6,7 +6,7 @@ ghost use Rattle.sudo_words.specs.Command.{IsLawful, cmnd_text};
 ghost use Rattle.sudo_words.specs.Word.{is_label, is_name};
 ghost use Rattle.roster.specs.Fields.{entry_in_texts, in_texts};
 ghost use Rattle.roster.specs.Rules.{GoodNames, IsCmndText, IsNamedCeiling, is_named_pair, is_named_person};
-ghost use Rattle.roster.specs.Stages.{Checks, Meets};
+ghost use Rattle.roster.specs.private.Stages.{Checks, Meets};
 ghost use Rattle.roster.specs.declared.fault.RosterFault.TheVariants.{BadName};
 
 use crate::ceiling::Ceiling;

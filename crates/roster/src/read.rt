@@ -7,7 +7,7 @@ ghost use Rattle.roster.specs.Faults.{IsLeastFault, IsRosterText};
 ghost use Rattle.roster.specs.Fields.{in_texts};
 ghost use Rattle.roster.specs.Relations.{IsOrdered};
 ghost use Rattle.roster.specs.Rules.{GoodNames, IsCmndText};
-ghost use Rattle.roster.specs.Stages.{IsDraftOf, KeepsRules};
+ghost use Rattle.roster.specs.private.Stages.{IsDraftOf, KeepsRules};
 ghost use Rattle.roster.specs.declared.fault.RosterFault.TheVariants.{NoMemory, NotToml};
 
 use crate::draft::Draft;

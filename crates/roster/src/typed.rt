@@ -6,7 +6,7 @@ ghost use Rattle.toml.specs.View.{view, items_view, members_view, table_view};
 ghost use Rattle.roster.specs.Document as document;
 ghost use Rattle.roster.specs.Document.{each_item, each_member, as_pair, texts_of, pair_of, pairs_of, people_of, number_of, ceiling_of, ceilings_of, member_of, fields_of};
 ghost use Rattle.roster.specs.Relations.{AreRising, IsOrdered};
-ghost use Rattle.roster.specs.Stages.{Reads};
+ghost use Rattle.roster.specs.private.Stages.{Reads};
 ghost use Rattle.roster.specs.declared.fault.RosterFault.TheVariants.{WrongType};
 
 use crate::draft::{Draft, DraftCeiling};

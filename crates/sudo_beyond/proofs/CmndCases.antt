@@ -20,7 +20,7 @@ use Rattle.sudo_words.specs.declared.cmnd.ArgRule.TheVariants.{Any, Empty, Exact
 use Rattle.sudo_words.proofs.PathLemmas.{slash_end, dir_parts}
 use Rattle.sudo_beyond.specs.Alike.{AlikeCmnds}
 use Rattle.sudo_beyond.specs.Cases.{other, has, path_in, paths, dir_in, dirs, listed_args, args_in, args_with, has_args}
-use Rattle.sudo_beyond.specs.Gathering.{IsLawfulDir}
+use Rattle.sudo_beyond.specs.private.Gathering.{IsLawfulDir}
 use Rattle.sudo_beyond.proofs.OneCase.{IsCmndCase}
 use Rattle.sudo_beyond.proofs.AlikeLemmas.{all_weaker, all_back, all_each}
 use Rattle.sudo_beyond.proofs.Fresh.{other_length, found_other}

@@ -20,7 +20,7 @@ use Rattle.sudo_policy.specs.declared.entry.Rule.{Rule}
 use Rattle.sudo_beyond.specs.declared.run.Run.{Run}
 use Rattle.sudo_beyond.specs.Beyond.{Agrees}
 use Rattle.sudo_beyond.specs.Cases.{text_order, other, IsFirstOther, has, AreNameCases, run_of, paths, dirs, args_with, args_in, listed_args, has_args, IsEachOnce, ArePathCases, IsFreshFile, AreParts, AreCommandCases, AreMomentCases, turns}
-use Rattle.sudo_beyond.specs.Gathering.{IsFormOfOthers, IsLawfulDir}
+use Rattle.sudo_beyond.specs.private.Gathering.{IsFormOfOthers, IsLawfulDir}
 use Rattle.sudo_beyond.proofs.AlikeLemmas.{all_weaker, all_append, all_flat}
 use Rattle.sudo_beyond.proofs.CmndCases.{args_decides, args_few, paths_few, files_in_dir, files_in_root}
 use Rattle.sudo_beyond.proofs.Lists.{any_contains, contains_map, contains_head}

@@ -16,7 +16,7 @@ use Rattle.std.proofs.lemmas.List.Folds.{list_any_at}
 use Rattle.std.proofs.lemmas.List.Kept.{Contains-dedup, Contains-from_dedup, IsStrictlySortedBy-dedup}
 use Rattle.std.proofs.lemmas.List.Sorted.{Contains-permutation, IsPermutation-sym}
 use Rattle.sudo_beyond.specs.Cases.{IsEachOnce, AreParts}
-use Rattle.sudo_beyond.specs.Gathering.{IsExact, Adds}
+use Rattle.sudo_beyond.specs.private.Gathering.{IsExact, Adds}
 
 -- ---- results
 

@@ -10,7 +10,7 @@ use Rattle.sudo_words.specs.Word.{is_name, is_host_name, is_name_byte, is_host_b
 use Rattle.sudo_beyond.specs.Alike.{AlikeNames}
 use Rattle.sudo_beyond.specs.Beyond.{Agrees}
 use Rattle.sudo_beyond.specs.Cases.{other, has}
-use Rattle.sudo_beyond.specs.Gathering.{IsFormOfOthers}
+use Rattle.sudo_beyond.specs.private.Gathering.{IsFormOfOthers}
 use Rattle.sudo_beyond.proofs.OneCase.{IsNameCase}
 use Rattle.sudo_beyond.proofs.AlikeLemmas.{all_weaker}
 use Rattle.sudo_beyond.proofs.Fresh.{other_all, other_length, found_other}

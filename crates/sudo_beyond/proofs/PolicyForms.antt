@@ -19,7 +19,7 @@ use Rattle.sudo_policy.specs.Policy.{IsEntry, IsItem, IsCmndItem}
 use Rattle.sudo_decide.specs.Reach.{rule_in, rules_in}
 use Rattle.sudo_beyond.specs.Standing.{name_in, names_in, cmnd_in, cmnds_in, users_of, hosts_of, runas_of, cmnds_of, users, hosts, runas, commands}
 use Rattle.sudo_beyond.specs.Cases.{dir_in, dirs, path_in, paths, moment_after, turns_of, turns}
-use Rattle.sudo_beyond.specs.Gathering.{IsLawfulDir}
+use Rattle.sudo_beyond.specs.private.Gathering.{IsLawfulDir}
 use Rattle.sudo_beyond.proofs.AlikeLemmas.{all_weaker, all_append, all_flat}
 
 -- ---- names

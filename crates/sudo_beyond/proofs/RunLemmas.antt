@@ -10,7 +10,7 @@ use Rattle.std.proofs.lemmas.Slice.Eq.{bytes_eq-Decides}
 use Rattle.sudo_words.specs.declared.cmnd.Cmnd.{Cmnd}
 use Rattle.sudo_beyond.specs.declared.run.Run.{Run}
 use Rattle.sudo_beyond.specs.Cases.{text_order, args_order, IsEachOnce, IsFirstOther, has, run_of, paths, dirs, args_with, has_args, ArePathCases, IsFreshFile, AreParts, AreCommandCases}
-use Rattle.sudo_beyond.specs.Gathering.{IsFreeFile, IsFreeArgs, Adds}
+use Rattle.sudo_beyond.specs.private.Gathering.{IsFreeFile, IsFreeArgs, Adds}
 use Rattle.sudo_beyond.proofs.CmndCases.{args_decides}
 use Rattle.sudo_beyond.proofs.Lists.{any_once, parts_weaker}
 

@@ -5,5 +5,4 @@ pub mod Answer
 pub mod Alike
 pub mod Worked
 pub mod Faults
--- what private clauses cite of lists that are searched
-pub mod Gathering
+pub mod private

@@ -2,7 +2,7 @@
 
 ghost use Rattle.std.specs.Prelude.{◌≡◌, ◌∷◌, [], IfOk, IfSome, true};
 ghost use Rattle.sudo_beyond.specs.Cases.{AreNameCases, AreNamesAndOther};
-ghost use Rattle.sudo_beyond.specs.Gathering.{IsFormOfOthers};
+ghost use Rattle.sudo_beyond.specs.private.Gathering.{IsFormOfOthers};
 
 use crate::order::in_order;
 use crate::other::first_other;

@@ -3,7 +3,7 @@
 ghost use Rattle.std.specs.Prelude.{◌≡◌, ℕ, ◌<◌, ◌^◌, true, IfOk};
 ghost use Rattle.std.specs.List.Sorted.{IsStrictlySortedBy};
 ghost use Rattle.sudo_beyond.specs.Cases.{other as word_of, IsFirstOther, has, text_order};
-ghost use Rattle.sudo_beyond.specs.Gathering.{IsFormOfOthers};
+ghost use Rattle.sudo_beyond.specs.private.Gathering.{IsFormOfOthers};
 
 use crate::order::is_among;
 use std::alloc::Global;

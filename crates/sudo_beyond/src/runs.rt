@@ -6,7 +6,7 @@ ghost use Rattle.std.specs.List.Sorted.{IsStrictlySortedBy};
 ghost use Rattle.sudo_words.specs.Word.{is_file_path};
 ghost use Rattle.sudo_words.specs.declared.cmnd.Cmnd.{Cmnd as AnyCmnd};
 ghost use Rattle.sudo_beyond.specs.Cases.{other as word_of, text_order, args_order, run_of, dirs as dirs_of, IsEachOnce, ArePathCases, IsFreshFile, AreParts, AreCommandCases};
-ghost use Rattle.sudo_beyond.specs.Gathering.{IsLawfulDir, IsFreeFile, IsFreeArgs, Adds, run_order, listing_in, listings as listings_of, args_at, AreListings};
+ghost use Rattle.sudo_beyond.specs.private.Gathering.{IsLawfulDir, IsFreeFile, IsFreeArgs, Adds, run_order, listing_in, listings as listings_of, args_at, AreListings};
 
 use crate::commands::{dirs, paths};
 use crate::order::{in_order, is_among};

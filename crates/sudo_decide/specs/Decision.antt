@@ -93,11 +93,8 @@ says defined r i = if takes_part r i.at && is_about defined r i then cmnd_says d
 
 -- only rules speak
 abbrev pub entry_says : List Entry → Entry → Invocation → Option Bool
-entry_says defined (entries.UserAlias name list) i = None
-entry_says defined (entries.RunasAlias name list) i = None
-entry_says defined (entries.HostAlias name list) i = None
-entry_says defined (entries.CmndAlias name list) i = None
 entry_says defined (entries.Rule rule) i = says defined rule i
+entry_says defined alias i = None
 
 -- ---- policies: the last rule that speaks decides, and silence denies
 

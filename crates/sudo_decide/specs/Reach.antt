@@ -10,11 +10,8 @@ use Rattle.sudo_decide.specs.Decision.{names_say, cmnd_says, takes_part}
 
 -- the rules among entries, in order
 abbrev pub rule_in : Entry → List Rule
-rule_in (entries.UserAlias name list) = []
-rule_in (entries.RunasAlias name list) = []
-rule_in (entries.HostAlias name list) = []
-rule_in (entries.CmndAlias name list) = []
 rule_in (entries.Rule rule) = rule ∷ []
+rule_in alias = []
 
 abbrev pub rules_in : List Entry → List Rule
 rules_in es = flat_map rule_in es

@@ -5,7 +5,7 @@ use Rattle.std.specs.List.{slice_split}
 use Rattle.std.proofs.lemmas.Bool.{false≢true}
 use Rattle.sudo_words.specs.Word.{is_dir_path, is_file_path}
 use Rattle.sudo_words.specs.Command.{IsHead, IsLawful, cmnd_text, head_text, rule_of}
-use Rattle.sudo_words.specs.Pieces.{words_of}
+use Rattle.sudo_words.specs.private.Pieces.{words_of}
 use Rattle.sudo_words.specs.declared.cmnd.Cmnd.{Cmnd}
 use Rattle.sudo_words.specs.declared.cmnd.Cmnd.TheVariants.{All, Path, Dir}
 use Rattle.sudo_words.specs.declared.cmnd.ArgRule.{ArgRule}

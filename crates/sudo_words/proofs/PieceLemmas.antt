@@ -8,7 +8,7 @@ use Rattle.std.proofs.lemmas.List.Elements.{All-from_recursion}
 use Rattle.std.proofs.lemmas.List.Splits.{slice_split_none, slice_split_at, join_with_byte-slice_split}
 use Rattle.sudo_words.specs.Word.{is_arg, is_arg_byte, is_path_byte}
 use Rattle.sudo_words.specs.Command.{IsArgRule, IsHead, arg_text, head_text, rule_text, spaced_arg}
-use Rattle.sudo_words.specs.Pieces.{words_of}
+use Rattle.sudo_words.specs.private.Pieces.{words_of}
 use Rattle.sudo_words.specs.declared.cmnd.Cmnd.{Cmnd}
 use Rattle.sudo_words.specs.declared.cmnd.Cmnd.TheVariants.{All, Path, Dir}
 use Rattle.sudo_words.specs.declared.cmnd.ArgRule.{ArgRule}

@@ -8,7 +8,7 @@ use Rattle.std.proofs.lemmas.List.{append-nil, nil_from_length}
 use Rattle.std.proofs.lemmas.Result.{IfOk-weaker}
 use Rattle.sudo_words.specs.Word.{is_arg, is_arg_byte, is_dir_path, is_file_path}
 use Rattle.sudo_words.specs.Command.{IsHead, IsLawful, arg_text, cmnd_text, escaped_byte, head_text, rule_of}
-use Rattle.sudo_words.specs.Pieces.{words_of}
+use Rattle.sudo_words.specs.private.Pieces.{words_of}
 use Rattle.sudo_words.specs.declared.cmnd.Cmnd.{Cmnd}
 use Rattle.sudo_words.specs.declared.cmnd.Cmnd.TheVariants.{All, Path, Dir}
 use Rattle.sudo_words.specs.declared.cmnd.ArgRule.{ArgRule}

@@ -6,7 +6,7 @@ ghost use Rattle.std.specs.Str.{bytes_eq};
 ghost use Rattle.sudo_words.specs.Bytes.{space};
 ghost use Rattle.sudo_words.specs.Word.{is_arg};
 ghost use Rattle.sudo_words.specs.Command.{IsArgRule, IsHead, IsLawful, arg_text, cmnd_text, head_text, rule_of, rule_text, spaced_arg};
-ghost use Rattle.sudo_words.specs.Pieces.{words_of};
+ghost use Rattle.sudo_words.specs.private.Pieces.{words_of};
 ghost use Rattle.sudo_words.specs.declared.cmnd.ArgRule.TheVariants.{Any as AnyArguments};
 ghost use Rattle.sudo_words.specs.declared.cmnd.ArgRule.{ArgRule as ArgumentRule};
 ghost use Rattle.sudo_words.specs.declared.cmnd.Cmnd.{Cmnd as Command};

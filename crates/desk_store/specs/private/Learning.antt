@@ -5,7 +5,7 @@ use Rattle.std.specs.String.{string_cmp}
 use Rattle.std.specs.declared.alloc.Global.{Global}
 use Rattle.messages.specs.Wire.{wire}
 use Rattle.messages.specs.declared.message.Message.{Message}
-use Rattle.desk_store.specs.Collected.{has_text}
+use Rattle.desk_store.specs.private.Collected.{has_text}
 
 -- the message's text was missing, and stands there now
 pub record Learns (m : Message) (old new : List (String Global)) : Type 0 where

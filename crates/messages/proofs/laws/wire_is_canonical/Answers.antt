@@ -1,4 +1,4 @@
-use Rattle.messages.specs.Members.{value_of}
+use Rattle.messages.specs.private.Members.{value_of}
 use Rattle.messages.proofs.Readings.{text_of_message}
 use Rattle.messages.proofs.laws.wire_is_canonical.Goals as goal
 

@@ -3,7 +3,7 @@ use Rattle.std.specs.Prelude.{All}
 use Rattle.serde_json.specs.View.{items_view}
 use Rattle.sudo_words.specs.Command.{IsLawful, cmnd_text}
 use Rattle.sudo_words.specs.declared.cmnd.Cmnd.{Cmnd}
-use Rattle.messages.specs.Members.{strings}
+use Rattle.messages.specs.private.Members.{strings}
 use Rattle.messages.proofs.lists.read_cmnds.Given as goal
 
 -- what was read are lawful commands, of the first texts of the list, and where the whole list is the texts of lawful commands, its first ones

@@ -2,7 +2,7 @@ use Rattle.std.proofs.Common.{◌≡◌, ℕ, List, true, take}
 use Rattle.std.specs.Prelude.{All}
 use Rattle.serde_json.specs.View.{items_view}
 use Rattle.sudo_words.specs.Word.{is_host_name}
-use Rattle.messages.specs.Members.{strings}
+use Rattle.messages.specs.private.Members.{strings}
 use Rattle.messages.proofs.lists.read_hosts.Given as goal
 
 -- what was read are hosts, the first texts of the list, and where the whole list is the texts of hosts, its first ones

@@ -1,7 +1,7 @@
 use Rattle.std.proofs.Common.{inl, inr}
 use Rattle.std.proofs.lemmas.Result.{err_from_is_err_and}
 use Rattle.serde_json.specs.View.{view}
-use Rattle.messages.specs.Members.{value_of}
+use Rattle.messages.specs.private.Members.{value_of}
 use Rattle.messages.proofs.Readings.{text_of_message, value_read}
 use Rattle.messages.proofs.read.members_of.Goals as goal
 

@@ -1,6 +1,6 @@
 use Rattle.std.proofs.Common.{◌≡◌, ℕ, List, None, sym, ap, ◌∙◌, subst}
 use Rattle.roster.specs.Relations.{ceiling_at}
-use Rattle.review.specs.Reporting.{kept_name}
+use Rattle.review.specs.private.Reporting.{kept_name}
 use Rattle.review.proofs.ReportParts.{open_ceiling, own_request}
 use Rattle.review.proofs.barred.open_request.Goals as goal
 

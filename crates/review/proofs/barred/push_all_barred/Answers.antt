@@ -2,7 +2,7 @@ use Rattle.std.proofs.Common.{List, string_bytes}
 use Rattle.grants.specs.Summaries.{Kept, StandsFor}
 use Rattle.sudo_beyond.specs.Cases.{AreParts}
 use Rattle.review.specs.Report.{AreBarred}
-use Rattle.review.specs.Reporting.{AddsLines, kept_name}
+use Rattle.review.specs.private.Reporting.{AddsLines, kept_name}
 use Rattle.review.proofs.ReportLists.{at_place, more_lines, whole_list}
 use Rattle.review.proofs.barred.push_all_barred.Goals as goal
 

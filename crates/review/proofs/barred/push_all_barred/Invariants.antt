@@ -4,7 +4,7 @@ use Rattle.messages.specs.declared.message.Message.{Message}
 use Rattle.grants.specs.Summaries.{StandsFor}
 use Rattle.sudo_beyond.specs.Cases.{AreParts}
 use Rattle.review.specs.Report.{AreBarred}
-use Rattle.review.specs.Reporting.{AddsLines, kept_name}
+use Rattle.review.specs.private.Reporting.{AddsLines, kept_name}
 use Rattle.review.proofs.barred.push_all_barred.Given as goal
 
 abbrev pub invariant-loop-summary : goal.invariant-loop-summary

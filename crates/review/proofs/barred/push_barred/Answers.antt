@@ -5,7 +5,7 @@ use Rattle.review.specs.Barred.{HasApproved, barred_lines}
 use Rattle.sudo_beyond.specs.Cases.{text_order}
 use Rattle.review.specs.Columns.{lines_text}
 use Rattle.review.specs.Report.{AreAll, AreBarred}
-use Rattle.review.specs.Reporting.{AddsLines, kept_name}
+use Rattle.review.specs.private.Reporting.{AddsLines, kept_name}
 use Rattle.sudo_beyond.proofs.Lists.{on_ok}
 use Rattle.review.proofs.ReportParts.{none_barred, some_barred}
 use Rattle.review.proofs.barred.push_barred.Goals as goal

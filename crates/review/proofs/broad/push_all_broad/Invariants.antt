@@ -4,7 +4,7 @@ use Rattle.messages.specs.declared.message.Message.{Message}
 use Rattle.grants.specs.Summaries.{StandsFor}
 use Rattle.sudo_beyond.specs.Cases.{AreParts}
 use Rattle.review.specs.Report.{AreInForce, AreBroadLines}
-use Rattle.review.specs.Reporting.{AddsLines, kept_name}
+use Rattle.review.specs.private.Reporting.{AddsLines, kept_name}
 use Rattle.review.proofs.broad.push_all_broad.Given as goal
 
 abbrev pub invariant-loop-summary : goal.invariant-loop-summary

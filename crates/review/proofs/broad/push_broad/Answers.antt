@@ -1,7 +1,7 @@
 use Rattle.std.proofs.Common.{string_bytes, refl}
 use Rattle.std.specs.List.{flat_map}
 use Rattle.review.specs.Report.{AreBroadLines, AreInForce, broad_for}
-use Rattle.review.specs.Reporting.{AddsLines, kept_name}
+use Rattle.review.specs.private.Reporting.{AddsLines, kept_name}
 use Rattle.sudo_beyond.proofs.Lists.{on_ok}
 use Rattle.review.proofs.ReportParts.{none_in_force, one_in_force}
 use Rattle.review.proofs.broad.push_broad.Goals as goal

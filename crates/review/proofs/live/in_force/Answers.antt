@@ -1,6 +1,6 @@
 use Rattle.std.proofs.Common.{Option, sym, subst}
 use Rattle.review.specs.declared.live.InForce.{InForce}
-use Rattle.review.specs.Reporting.{IsInForceOf}
+use Rattle.review.specs.private.Reporting.{IsInForceOf}
 use Rattle.review.proofs.ReportParts.{own_request}
 use Rattle.review.proofs.live.in_force.Goals as goal
 

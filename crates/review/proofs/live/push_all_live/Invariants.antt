@@ -4,7 +4,7 @@ use Rattle.messages.specs.declared.message.Message.{Message}
 use Rattle.grants.specs.Summaries.{StandsFor}
 use Rattle.sudo_beyond.specs.Cases.{AreParts}
 use Rattle.review.specs.Report.{AreInForce, IsLiveLine}
-use Rattle.review.specs.Reporting.{AddsLines, kept_name}
+use Rattle.review.specs.private.Reporting.{AddsLines, kept_name}
 use Rattle.review.proofs.live.push_all_live.Given as goal
 
 abbrev pub invariant-loop-summary : goal.invariant-loop-summary

@@ -1,7 +1,7 @@
 use Rattle.std.proofs.Common.{◌≡◌, ◌++◌, string_bytes, refl, [], ◌∷◌}
 use Rattle.std.specs.Prelude.{codes}
 use Rattle.review.specs.Report.{AreInForce, IsLiveLine, live_line}
-use Rattle.review.specs.Reporting.{AddsLines, kept_name}
+use Rattle.review.specs.private.Reporting.{AddsLines, kept_name}
 use Rattle.sudo_beyond.proofs.Lists.{on_ok}
 use Rattle.review.proofs.ReportLists.{one_line}
 use Rattle.review.proofs.ReportParts.{none_in_force, one_in_force}

@@ -3,7 +3,7 @@ use Rattle.std.specs.Prelude.{codes}
 use Rattle.std.specs.List.{flat_map}
 use Rattle.sudo_words.specs.Moment.{stamp}
 use Rattle.review.specs.Report.{AreBarred, AreBroadLines, AreInForce, IsLiveLine, conflicts_of}
-use Rattle.review.specs.Reporting.{kept_name}
+use Rattle.review.specs.private.Reporting.{kept_name}
 use Rattle.review.proofs.ReportLists.{first_section, next_section, parts_mapped}
 use Rattle.review.proofs.reporting.report_of.Goals as goal
 

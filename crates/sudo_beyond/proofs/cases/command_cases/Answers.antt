@@ -3,7 +3,7 @@ use Rattle.std.specs.List.{All}
 use Rattle.std.proofs.lemmas.List.Elements.{All-from_recursion}
 use Rattle.sudo_words.specs.declared.cmnd.Cmnd.{Cmnd}
 use Rattle.sudo_beyond.specs.Cases.{dirs, AreCommandCases}
-use Rattle.sudo_beyond.specs.Gathering.{IsLawfulDir}
+use Rattle.sudo_beyond.specs.private.Gathering.{IsLawfulDir}
 use Rattle.sudo_beyond.specs.Standing.{commands}
 use Rattle.sudo_beyond.proofs.PolicyForms.{are_lawful, lawful_dirs}
 use Rattle.sudo_beyond.proofs.cases.command_cases.Goals as goal

@@ -3,7 +3,7 @@ use Rattle.std.specs.Cmp.Lexicographic.{pointwise}
 use Rattle.std.specs.Str.{bytes_eq}
 use Rattle.std.proofs.lemmas.Bool.{cases_order}
 use Rattle.sudo_beyond.specs.Cases.{other, has_args}
-use Rattle.sudo_beyond.specs.Gathering.{IsFreeArgs}
+use Rattle.sudo_beyond.specs.private.Gathering.{IsFreeArgs}
 use Rattle.sudo_beyond.proofs.CmndCases.{args_decides}
 use Rattle.sudo_beyond.proofs.Lists.{ok_weaker}
 use Rattle.sudo_beyond.proofs.Others.{last_free}

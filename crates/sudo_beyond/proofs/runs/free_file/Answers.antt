@@ -3,7 +3,7 @@ use Rattle.std.specs.Str.{bytes_eq}
 use Rattle.std.proofs.lemmas.List.{append_cancel_left}
 use Rattle.std.proofs.lemmas.Slice.Eq.{bytes_eq-Decides}
 use Rattle.sudo_beyond.specs.Cases.{other}
-use Rattle.sudo_beyond.specs.Gathering.{IsFreeFile}
+use Rattle.sudo_beyond.specs.private.Gathering.{IsFreeFile}
 use Rattle.sudo_beyond.proofs.Lists.{ok_weaker}
 use Rattle.sudo_beyond.proofs.Others.{last_free}
 use Rattle.sudo_beyond.proofs.runs.free_file.Goals as goal

@@ -1,5 +1,5 @@
 use Rattle.std.proofs.Common.{◌≡◌, take}
-use Rattle.sudo_beyond.specs.Gathering.{listings}
+use Rattle.sudo_beyond.specs.private.Gathering.{listings}
 use Rattle.sudo_beyond.proofs.runs.listings.Given as goal
 
 abbrev pub invariant-loop-cmnd : goal.invariant-loop-cmnd

@@ -1,5 +1,5 @@
 use Rattle.std.proofs.Common.{◌≡◌, map, take}
-use Rattle.sudo_beyond.specs.Gathering.{args_at}
+use Rattle.sudo_beyond.specs.private.Gathering.{args_at}
 use Rattle.sudo_beyond.proofs.runs.lists_with.Given as goal
 
 abbrev pub invariant-loop-run : goal.invariant-loop-run

@@ -1,6 +1,6 @@
 use Rattle.std.proofs.Common.{take}
 use Rattle.sudo_beyond.specs.Cases.{IsFreshFile, AreParts}
-use Rattle.sudo_beyond.specs.Gathering.{Adds}
+use Rattle.sudo_beyond.specs.private.Gathering.{Adds}
 use Rattle.sudo_beyond.proofs.runs.push_directories.Given as goal
 
 abbrev pub invariant-loop-dir : goal.invariant-loop-dir

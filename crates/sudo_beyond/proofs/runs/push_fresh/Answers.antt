@@ -1,6 +1,6 @@
 use Rattle.std.proofs.Common.{◌≡◌, [], ◌∷◌, ◌++◌, ◌∙◌}
 use Rattle.sudo_beyond.specs.Cases.{run_of, IsFreshFile}
-use Rattle.sudo_beyond.specs.Gathering.{Adds}
+use Rattle.sudo_beyond.specs.private.Gathering.{Adds}
 use Rattle.sudo_beyond.proofs.Lists.{on_ok}
 use Rattle.sudo_beyond.proofs.RunLemmas.{fresh_file}
 use Rattle.sudo_beyond.proofs.runs.push_fresh.Goals as goal

@@ -2,7 +2,7 @@ use Rattle.std.proofs.Common.{◌≡◌, List, ℕ, [], ◌∷◌, ◌++◌, ap,
 use Rattle.std.specs.List.Sorted.{IsStrictlySortedBy}
 use Rattle.sudo_beyond.specs.declared.run.Run.{Run}
 use Rattle.sudo_beyond.specs.Cases.{args_order, run_of, IsEachOnce, ArePathCases}
-use Rattle.sudo_beyond.specs.Gathering.{IsFreeArgs, Adds}
+use Rattle.sudo_beyond.specs.private.Gathering.{IsFreeArgs, Adds}
 use Rattle.sudo_beyond.proofs.CmndCases.{args_decides}
 use Rattle.sudo_beyond.proofs.Lists.{on_ok}
 use Rattle.sudo_beyond.proofs.Listings.{listed_once}

@@ -1,7 +1,7 @@
 use Rattle.std.proofs.Common.{List, ℕ, subst, arith}
 use Rattle.std.proofs.lemmas.List.{take_all}
 use Rattle.sudo_beyond.specs.Cases.{ArePathCases, AreParts}
-use Rattle.sudo_beyond.specs.Gathering.{Adds}
+use Rattle.sudo_beyond.specs.private.Gathering.{Adds}
 use Rattle.sudo_beyond.proofs.Lists.{adds_more}
 use Rattle.sudo_beyond.proofs.runs.push_paths.Goals as goal
 

@@ -2,7 +2,7 @@ use Rattle.std.proofs.Common.{◌≡◌, ◌∙◌, Ok, true, rules, subst, sym}
 use Rattle.std.proofs.lemmas.Result.{err_from_is_err_and}
 use Rattle.roster.specs.Rules.{is_among}
 use Rattle.desk.specs.Delivery.{Delivery, IsDeliveryAnswer}
-use Rattle.desk.specs.Known.{IsKnown}
+use Rattle.desk.specs.private.Known.{IsKnown}
 use Rattle.desk.proofs.DeliveryLemmas.{acknowledged, held_at_ok, refused}
 use Rattle.desk.proofs.KnownLemmas.{known_more}
 use Rattle.desk.proofs.desk.Desk.deliver.Goals as goal

@@ -2,7 +2,7 @@ use Rattle.std.proofs.Common.{◌≡◌, ◌≤◌, length, map, take, vec_len, 
 use Rattle.std.specs.List.{Contains}
 use Rattle.desk_store.specs.Keeping.{HasFailed}
 use Rattle.desk.specs.Delivery.{AreAnswers, HeldAfterAll, delivery_of}
-use Rattle.desk.specs.Serving.{IsServed}
+use Rattle.desk.specs.private.Serving.{IsServed}
 use Rattle.desk.specs.declared.refusal.Refusal.TheVariants.{Storage}
 use Rattle.desk.proofs.desk.Desk.deliver_each.Given as goal
 

@@ -1,6 +1,6 @@
 use Rattle.std.proofs.Common.{◌++◌, ◌∷◌, [], List, ap, inl, inr, subst, sym, ◌∙◌}
 use Rattle.messages.specs.declared.message.Message.{Message}
-use Rattle.desk_store.specs.Collected.{IsKept, IsPut}
+use Rattle.desk_store.specs.private.Collected.{IsKept, IsPut}
 use Rattle.desk_store.proofs.CollectedLemmas.{is_absent, is_there, learned_kept}
 use Rattle.desk_store.proofs.collected.Collected.put.Goals as goal
 

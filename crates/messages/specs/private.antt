@@ -1,0 +1,3 @@
+-- What only private clauses and proofs cite: no public contract speaks of it.
+-- messages as values of JSON, and their members
+pub mod Members

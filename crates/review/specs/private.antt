@@ -1,0 +1,3 @@
+-- What only private clauses and proofs cite: no public contract speaks of it.
+-- the parts of the report
+pub mod Reporting

@@ -1,0 +1,3 @@
+-- What only private clauses and proofs cite: no public contract speaks of it.
+-- what each stage of reading a roster keeps and promises
+pub mod Stages

@@ -1,0 +1,3 @@
+-- What only private clauses and proofs cite: no public contract speaks of it.
+-- lists that are searched and gathered
+pub mod Gathering
