@@ -21,7 +21,7 @@ impl Model for Text {
 
 impl Text {
     /// A copy of the text. It fails only for want of memory.
-    pub fn copied(alloc: Global, text: &str) -> Result<Text, AllocError>
+    pub fn copy(alloc: Global, text: &str) -> Result<Text, AllocError>
         ensures { IfOk result (λ t. t ≡ text.now) }
     {
         Ok(Text {

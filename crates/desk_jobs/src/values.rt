@@ -47,7 +47,7 @@ pub fn text(alloc: Global, matches: &ArgMatches<'_>, id: &str) -> Result<Text, A
     requires { HasSome id.now (rows_of (found_of matches.now)) }
     ensures { IfOk result (λ t. HasValue id.now (rows_of (found_of matches.now)) t) }
 {
-    Text::copied(alloc, value(matches, id))
+    Text::copy(alloc, value(matches, id))
 }
 
 /// The value of an argument that has one, a word of the form.
@@ -132,7 +132,7 @@ pub fn store(alloc: Global, matches: &ArgMatches<'_>, id: &str) -> Result<Store,
     if text == "-" {
         Ok(Store::Memory)
     } else {
-        Ok(Store::File(Text::copied(alloc, text)?))
+        Ok(Store::File(Text::copy(alloc, text)?))
     }
 }
 

@@ -112,7 +112,7 @@ fn compare(one: &Place<'_>, other: &Place<'_>) -> Ordering
     }
 }
 
-fn copied(cmnds: &Items<Cmnd>) -> Result<Items<Cmnd>, AllocError>
+fn copy_cmnds(cmnds: &Items<Cmnd>) -> Result<Items<Cmnd>, AllocError>
     ensures { IfOk result (λ copy. copy ≡ cmnds.now) }
 {
     cmnds.clone()
@@ -122,7 +122,7 @@ fn copied(cmnds: &Items<Cmnd>) -> Result<Items<Cmnd>, AllocError>
 pub(crate) fn in_order(cmnds: &Items<Cmnd>) -> Result<Items<Cmnd>, AllocError>
     ensures { IfOk result (IsInOrder commands.cmnd_order cmnds.now) }
 {
-    let mut ordered = copied(cmnds)?.into_vec();
+    let mut ordered = copy_cmnds(cmnds)?.into_vec();
     ordered.sort_unstable_by(|c, d| compare(&place_of(c), &place_of(d)));
     Ok(Items::new(ordered))
 }

@@ -118,8 +118,8 @@ fn files_of(alloc: Global, texts: &[&str], wrong: Wrong) -> Result<Vec<Vec<u8>>,
 
 fn places(alloc: Global) -> Result<Places, Fail> {
     Ok(Places {
-        roster: Text::copied(alloc, "roster.toml")?,
-        base: Text::copied(alloc, "base.sudo")?,
+        roster: Text::copy(alloc, "roster.toml")?,
+        base: Text::copy(alloc, "base.sudo")?,
         store: Store::Memory,
     })
 }
@@ -164,7 +164,7 @@ fn all_ended(alloc: Global, job: &Job, texts: &[&str], wrongs: &[Wrong]) -> Resu
 #[test]
 fn checks_that_fail(rt: HostRuntime) -> Result<(), Fail> {
     let check = Job::Check {
-        file: Text::copied(rt.alloc(), "base.sudo")?,
+        file: Text::copy(rt.alloc(), "base.sudo")?,
     };
     let wrongs = [
         Wrong::Nothing,
@@ -210,7 +210,7 @@ fn prints_that_fail(rt: HostRuntime) -> Result<(), Fail> {
 fn deliveries_that_fail(rt: HostRuntime) -> Result<(), Fail> {
     let deliver = Job::Deliver {
         places: places(rt.alloc())?,
-        relay: Text::copied(rt.alloc(), "web")?,
+        relay: Text::copy(rt.alloc(), "web")?,
     };
     let wrongs = [
         Wrong::Nothing,
