@@ -49,7 +49,7 @@ fn add_text(texts: &mut BTreeSet<String>, key: String) -> Result<bool, KeeperErr
     Ok(is_new)
 }
 
-/// Puts the message's text to the texts, and tells whether it was missing there. After the messages there is room for one more then.
+/// Puts the message's text to the texts, and tells whether it was missing there. Where it ends well, the list has room for one more.
 ///
 /// The message is lent, so no exit of this drops it.
 fn learn(

@@ -15,8 +15,8 @@ use Rattle.std.proofs.lemmas.List.Filters.{dedup_is}
 use Rattle.std.proofs.lemmas.List.Folds.{list_any_at}
 use Rattle.std.proofs.lemmas.List.Kept.{Contains-dedup, Contains-from_dedup, IsStrictlySortedBy-dedup}
 use Rattle.std.proofs.lemmas.List.Sorted.{Contains-permutation, IsPermutation-sym}
-use Rattle.sudo_beyond.specs.Cases.{IsEachOnce, AreParts}
-use Rattle.sudo_beyond.specs.private.Gathering.{IsExact, Adds}
+use Rattle.sudo_beyond.specs.Cases.{IsEachOnce, IsExact, AreParts}
+use Rattle.sudo_beyond.specs.private.Gathering.{Adds}
 
 -- ---- results
 

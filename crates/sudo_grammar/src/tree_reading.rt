@@ -58,8 +58,7 @@ pub(crate) fn user_spec_of(alloc: Global, tokens: &[Token<'_>]) -> Result<UserSp
 /// The line that tokens spell: definitions of aliases of one kind, or a user specification (sudoers(5), "Aliases", "User
 /// specification").
 ///
-/// Faults: `NoMemory` where memory runs out; else no line is spelled, and the fault is that of the first token which has no place in the
-/// grammar, or of its text.
+/// Faults: `NoMemory` where memory runs out; any other only where the tokens spell no line.
 pub fn tree_of(alloc: Global, tokens: &[Token<'_>]) -> Result<Line, LineFault>
     ensures found { IfOk result (λ l. SpellsTree (toks tokens.now) l) }
     ensures only { (l : Tree) → SpellsTree (toks tokens.now) l → MatchResult result (λ x. x ≡ l) (λ e. e ≡ NoMemory) }

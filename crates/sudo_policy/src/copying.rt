@@ -6,6 +6,7 @@ use crate::entry::{CmndItem, Entry, Item, Rule, Signed};
 use std::alloc::AllocError;
 use sudo_words::{AliasName, HostName, Items, Name};
 
+/// An alias's name, copied.
 fn copy_name(name: &AliasName) -> Result<AliasName, AllocError>
     ensures { IfOk result (λ x. x ≡ name.now) }
 {
@@ -19,6 +20,7 @@ pub fn copy_names(list: &Items<Signed<Item<Name>>>) -> Result<Items<Signed<Item<
     list.clone()
 }
 
+/// A list of hosts, copied.
 fn copy_hosts(
     list: &Items<Signed<Item<HostName>>>,
 ) -> Result<Items<Signed<Item<HostName>>>, AllocError>
@@ -45,12 +47,14 @@ pub fn copy_lists(
     Ok((copy_names(users)?, copy_hosts(hosts)?, copy_names(runas)?))
 }
 
+/// A list of commands, copied.
 fn copy_cmnds(list: &Items<Signed<CmndItem>>) -> Result<Items<Signed<CmndItem>>, AllocError>
     ensures { IfOk result (λ x. x ≡ list.now) }
 {
     list.clone()
 }
 
+/// A command with its sign, copied.
 fn copy_cmnd(signed: &Signed<CmndItem>) -> Result<Signed<CmndItem>, AllocError>
     ensures { IfOk result (λ x. x ≡ signed.now) }
 {

@@ -8,7 +8,7 @@ use Rattle.std.specs.declared.alloc.Global.{Global}
 use Rattle.messages.specs.Wire.{wire, IsMessage}
 use Rattle.messages.specs.declared.message.Message.{Message}
 
--- A message that is in the list changes nothing; any other one stands after them afterwards.
+-- A message that is in the list changes nothing; any other one is put after those of the list.
 abbrev pub IsPut : (old : List Message) → Message → (new : List Message) → Type 0
 IsPut old m new = (Contains old m × (new ≡ old)) ⊎ ((¬ Contains old m) × (new ≡ old ++ m ∷ []))
 

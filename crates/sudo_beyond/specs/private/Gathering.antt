@@ -15,10 +15,6 @@ use Rattle.sudo_beyond.specs.Cases.{other, text_order, args_order, IsEachOnce, I
 abbrev pub IsFormOfOthers : (List ℕ → Bool) → Type 0
 IsFormOfOthers form = (k : ℕ) → k < 2 ^ 64 → form (other k) ≡ true
 
--- a test of two that holds of equal ones alone
-abbrev pub IsExact : {X : Type 0} → (X → X → Bool) → Type 0
-IsExact {X} same = (x y : X) → same x y ≡ true → x ≡ y
-
 -- a directory of a policy
 abbrev pub IsLawfulDir : List ℕ → Type 0
 IsLawfulDir dir = (is_dir_path dir ≡ true) × (length dir ≤ most_path_bytes)
