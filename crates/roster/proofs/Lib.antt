@@ -10,3 +10,4 @@ pub mod PairLemmas
 pub mod CommandLemmas
 pub mod Ranges
 pub mod KeyLemmas
+pub mod Names

@@ -4,7 +4,9 @@ ghost use Rattle.std.specs.Prelude.{◌≡◌, All, map};
 ghost use Rattle.std.specs.List.{list_all};
 ghost use Rattle.sudo_words.specs.Command.{IsLawful, cmnd_text};
 ghost use Rattle.sudo_words.specs.Word.{is_label, is_name};
+ghost use Rattle.roster.specs.Commands.{cmnd_order};
 ghost use Rattle.roster.specs.Fields.{entry_in_texts, in_texts};
+ghost use Rattle.roster.specs.Relations.{IsInOrder};
 ghost use Rattle.roster.specs.Rules.{GoodNames, IsCmndText, IsNamedCeiling, is_named_pair, is_named_person};
 ghost use Rattle.roster.specs.private.Stages.{Checks, Meets};
 ghost use Rattle.roster.specs.declared.fault.RosterFault.TheVariants.{BadName};
@@ -40,11 +42,11 @@ fn words<F: Form>(alloc: Global, texts: &[Text]) -> Result<Items<Word<F>>, Roste
     Ok(Items::new(words))
 }
 
-fn pair(alloc: Global, pair: &(Text, Text)) -> Result<(Label, Label), RosterFault>
-    ensures { Checks BadName (is_named_pair pair.now) pair.now result }
+fn pair(alloc: Global, first: &Text, second: &Text) -> Result<(Label, Label), RosterFault>
+    ensures { Checks BadName (is_named_pair (first.now, second.now)) (first.now, second.now) result }
 {
-    let first = word(alloc, &pair.0)?;
-    let second = word(alloc, &pair.1)?;
+    let first = word(alloc, first)?;
+    let second = word(alloc, second)?;
     Ok((first, second))
 }
 
@@ -53,7 +55,7 @@ fn pairs(alloc: Global, texts: &[(Text, Text)]) -> Result<Items<(Label, Label)>,
 {
     let mut pairs = Vec::new(alloc);
     for text in texts {
-        let pair = pair(alloc, text)?;
+        let pair = pair(alloc, &text.0, &text.1)?;
         pairs.push(pair)?;
     }
     Ok(Items::new(pairs))
@@ -97,27 +99,28 @@ fn command(alloc: Global, text: &Text) -> Result<Cmnd, RosterFault>
     }
 }
 
-fn commands(alloc: Global, texts: &[Text]) -> Result<Items<Cmnd>, RosterFault>
-    ensures { Meets BadName (All IsCmndText texts.now) (λ cs. All IsLawful cs × (map cmnd_text cs ≡ texts.now)) result }
+/// The commands as they are listed, and once more in the order in which they are looked up.
+fn commands(alloc: Global, texts: &[Text]) -> Result<(Items<Cmnd>, Items<Cmnd>), RosterFault>
+    ensures { Meets BadName (All IsCmndText texts.now) (λ cs. All IsLawful cs.0 × (map cmnd_text cs.0 ≡ texts.now) × IsInOrder cmnd_order cs.0 cs.1) result }
 {
     let mut commands = Vec::new(alloc);
     for text in texts {
         let command = command(alloc, text)?;
         commands.push(command)?;
     }
-    Ok(Items::new(commands))
+    let commands = Items::new(commands);
+    let ordered = in_order(&commands)?;
+    Ok((commands, ordered))
 }
 
 fn ceiling(alloc: Global, draft: &(Text, DraftCeiling)) -> Result<(Label, Ceiling), RosterFault>
     ensures { Meets BadName (IsNamedCeiling IsCmndText draft.now) (λ c. IsNamedCeiling IsLawful c × (entry_in_texts c ≡ draft.now)) result }
 {
     let label = word(alloc, &draft.0)?;
-    let ask = word(alloc, &draft.1.ask)?;
-    let approve = word(alloc, &draft.1.approve)?;
     let hosts = words(alloc, draft.1.hosts.as_slice())?;
     let runas = words(alloc, draft.1.runas.as_slice())?;
-    let commands = commands(alloc, draft.1.commands.as_slice())?;
-    let ordered = in_order(&commands)?;
+    let (ask, approve) = pair(alloc, &draft.1.ask, &draft.1.approve)?;
+    let (commands, ordered) = commands(alloc, draft.1.commands.as_slice())?;
     Ok((
         label,
         Ceiling {

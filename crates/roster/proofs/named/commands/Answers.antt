@@ -4,6 +4,8 @@ use Rattle.std.proofs.lemmas.List.{take_more, map_push}
 use Rattle.std.proofs.lemmas.List.Elements.{All-get_or, All-same, All-push}
 use Rattle.std.proofs.lemmas.Result.{err_from_is_err_and}
 use Rattle.sudo_words.specs.Command.{IsLawful, cmnd_text}
+use Rattle.roster.specs.Commands.{cmnd_order}
+use Rattle.roster.specs.Relations.{IsInOrder}
 use Rattle.roster.specs.Rules.{IsCmndText}
 use Rattle.roster.proofs.named.commands.Goals as goal
 
@@ -33,4 +35,7 @@ loop-text-preserved c =
 pub returns : goal.returns
 returns c =
     let all : take c.loop-text.text-index c.args.texts.now ≡ c.args.texts.now = take_all c.loop-text.text-index c.args.texts.now (omega arith) in
-    rw c.new.ensures (subst (All IsCmndText) all c.loop-text.invariant.named, (c.loop-text.invariant.lawful, c.loop-text.invariant.same ∙ all))
+    let ordered : IsInOrder cmnd_order c.new-commands-2.result c.in_ok-ordered.ordered = c.in_ok-ordered.ensures in (
+      subst (All IsCmndText) all c.loop-text.invariant.named,
+      (rw c.new-commands-2.ensures c.loop-text.invariant.lawful, rw c.new-commands-2.ensures (c.loop-text.invariant.same ∙ all), ordered),
+    )

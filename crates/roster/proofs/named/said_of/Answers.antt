@@ -1,81 +1,48 @@
-use Rattle.std.proofs.Common.{◌∙◌, ℕ, List, ap, sym, subst, rules}
+use Rattle.std.proofs.Common.{◌∙◌, ℕ, List, ap, sym, subst}
 use Rattle.std.specs.Prelude.{All}
 use Rattle.std.specs.List.{list_all}
-use Rattle.std.proofs.lemmas.Bool.{and_parts, true≢false}
+use Rattle.std.proofs.lemmas.Bool.{true≢false}
 use Rattle.std.proofs.lemmas.Result.{err_from_is_err_and}
 use Rattle.sudo_words.specs.Word.{is_host_name, is_label}
 use Rattle.roster.specs.Fields.{RosterFields}
-use Rattle.roster.specs.Rules.{IsCmndText, IsNamedCeiling, good_names, is_named_pair, is_named_person}
+use Rattle.roster.specs.Rules.{GoodNames, IsCmndText, IsNamedCeiling, is_named_pair, is_named_person}
+use Rattle.roster.proofs.Names.{by_place, in_all_places}
 use Rattle.roster.proofs.named.said_of.Goals as goal
 
 pub returns-in_err-relays : goal.returns-in_err-relays
-unfolding good_names
 returns-in_err-relays c =
     let p = err_from_is_err_and c.from_residual.result c.from_residual.ensures.1 in
     rw (p.1, p.2) (λ n.
-    let h = c.in_err-relays.ensures n in (
-      h.0,
-      λ w.
-          let five = and_parts _ _ w.names in
-          let four = and_parts _ _ five.0 in
-          let three = and_parts _ _ four.0 in
-          let two = and_parts _ _ three.0 in
-          true≢false (sym two.0 ∙ sym (ap (λ (f : RosterFields (List ℕ)). list_all is_label f.relays) c.draft.view_is) ∙ sym (ap (list_all is_label) c.as_slice.ensures) ∙ h.1),
-    ))
+    let h = c.in_err-relays.ensures n in
+    (h.0, λ w. true≢false (sym (by_place c.args.draft.now w.names).relays ∙ sym (ap (λ (f : RosterFields (List ℕ)). list_all is_label f.relays) c.draft.view_is) ∙ sym (ap (list_all is_label) c.as_slice.ensures) ∙ h.1)))
 
 pub returns-in_err-hosts : goal.returns-in_err-hosts
-unfolding good_names
 returns-in_err-hosts c =
     let p = err_from_is_err_and c.from_residual-in_err-hosts.result c.from_residual-in_err-hosts.ensures.1 in
     rw (p.1, p.2) (λ n.
-    let h = c.in_err-hosts.ensures n in (
-      h.0,
-      λ w.
-          let five = and_parts _ _ w.names in
-          let four = and_parts _ _ five.0 in
-          let three = and_parts _ _ four.0 in
-          let two = and_parts _ _ three.0 in
-          true≢false (sym two.1 ∙ sym (ap (λ (f : RosterFields (List ℕ)). list_all is_host_name f.hosts) c.draft.view_is) ∙ sym (ap (list_all is_host_name) c.as_slice-2.ensures) ∙ h.1),
-    ))
+    let h = c.in_err-hosts.ensures n in
+    (h.0, λ w. true≢false (sym (by_place c.args.draft.now w.names).hosts ∙ sym (ap (λ (f : RosterFields (List ℕ)). list_all is_host_name f.hosts) c.draft.view_is) ∙ sym (ap (list_all is_host_name) c.as_slice-2.ensures) ∙ h.1)))
 
 pub returns-in_err-duties : goal.returns-in_err-duties
-unfolding good_names
 returns-in_err-duties c =
     let p = err_from_is_err_and c.from_residual-in_err-duties.result c.from_residual-in_err-duties.ensures.1 in
     rw (p.1, p.2) (λ n.
-    let h = c.in_err-duties.ensures n in (
-      h.0,
-      λ w.
-          let five = and_parts _ _ w.names in
-          let four = and_parts _ _ five.0 in
-          let three = and_parts _ _ four.0 in
-          true≢false (sym three.1 ∙ sym (ap (λ (f : RosterFields (List ℕ)). list_all is_label f.duties) c.draft.view_is) ∙ sym (ap (list_all is_label) c.as_slice-3.ensures) ∙ h.1),
-    ))
+    let h = c.in_err-duties.ensures n in
+    (h.0, λ w. true≢false (sym (by_place c.args.draft.now w.names).duties ∙ sym (ap (λ (f : RosterFields (List ℕ)). list_all is_label f.duties) c.draft.view_is) ∙ sym (ap (list_all is_label) c.as_slice-3.ensures) ∙ h.1)))
 
 pub returns-in_err-people : goal.returns-in_err-people
-unfolding good_names
 returns-in_err-people c =
     let p = err_from_is_err_and c.from_residual-in_err-people.result c.from_residual-in_err-people.ensures.1 in
     rw (p.1, p.2) (λ n.
-    let h = c.in_err-people.ensures n in (
-      h.0,
-      λ w.
-          let five = and_parts _ _ w.names in
-          true≢false (sym five.1 ∙ sym (ap (λ (f : RosterFields (List ℕ)). list_all is_named_person f.people) c.draft.view_is) ∙ sym (ap (list_all is_named_person) c.as_slice-4.ensures) ∙ h.1),
-    ))
+    let h = c.in_err-people.ensures n in
+    (h.0, λ w. true≢false (sym (by_place c.args.draft.now w.names).people ∙ sym (ap (λ (f : RosterFields (List ℕ)). list_all is_named_person f.people) c.draft.view_is) ∙ sym (ap (list_all is_named_person) c.as_slice-4.ensures) ∙ h.1)))
 
 pub returns-in_err-conflicts : goal.returns-in_err-conflicts
-unfolding good_names
 returns-in_err-conflicts c =
     let p = err_from_is_err_and c.from_residual-in_err-conflicts.result c.from_residual-in_err-conflicts.ensures.1 in
     rw (p.1, p.2) (λ n.
-    let h = c.in_err-conflicts.ensures n in (
-      h.0,
-      λ w.
-          let five = and_parts _ _ w.names in
-          let four = and_parts _ _ five.0 in
-          true≢false (sym four.1 ∙ sym (ap (λ (f : RosterFields (List ℕ)). list_all is_named_pair f.conflicts) c.draft.view_is) ∙ sym (ap (list_all is_named_pair) c.as_slice-5.ensures) ∙ h.1),
-    ))
+    let h = c.in_err-conflicts.ensures n in
+    (h.0, λ w. true≢false (sym (by_place c.args.draft.now w.names).conflicts ∙ sym (ap (λ (f : RosterFields (List ℕ)). list_all is_named_pair f.conflicts) c.draft.view_is) ∙ sym (ap (list_all is_named_pair) c.as_slice-5.ensures) ∙ h.1)))
 
 pub returns-in_err-ceilings : goal.returns-in_err-ceilings
 returns-in_err-ceilings c =
@@ -85,17 +52,41 @@ returns-in_err-ceilings c =
     (h.0, λ w. h.1 (rw c.as_slice-6.ensures (subst (λ (f : RosterFields (List ℕ)). All (IsNamedCeiling IsCmndText) f.ceilings) (sym c.draft.view_is) w.ceilings))))
 
 pub returns : goal.returns
-unfolding good_names
-returns c = (
-  record {
-    names = search rules;
-    ceilings = subst (λ (f : RosterFields (List ℕ)). All (IsNamedCeiling IsCmndText) f.ceilings) c.draft.view_is (rw c.as_slice-6.ensures at c.in_ok-ceilings.ensures.0);
-  },
-  (
-    record {
-      names = search rules;
-      ceilings = c.in_ok-ceilings.ensures.1.0;
-    },
-    search rules,
-  ),
-)
+returns c =
+    let relays = c.in_ok-relays.ensures in
+    let hosts = c.in_ok-hosts.ensures in
+    let duties = c.in_ok-duties.ensures in
+    let people = c.in_ok-people.ensures in
+    let conflicts = c.in_ok-conflicts.ensures in
+    let ceilings = c.in_ok-ceilings.ensures in (
+      subst (GoodNames IsCmndText) c.draft.view_is (record {
+        names = in_all_places _ (record {
+          relays = rw c.as_slice.ensures at relays.0;
+          hosts = rw c.as_slice-2.ensures at hosts.0;
+          duties = rw c.as_slice-3.ensures at duties.0;
+          conflicts = rw c.as_slice-5.ensures at conflicts.0;
+          people = rw c.as_slice-4.ensures at people.0;
+        });
+        ceilings = rw c.as_slice-6.ensures at ceilings.0;
+      }),
+      (
+        record {
+          names = in_all_places _ (record {
+            relays = ap (list_all is_label) relays.1 ∙ relays.0;
+            hosts = ap (list_all is_host_name) hosts.1 ∙ hosts.0;
+            duties = ap (list_all is_label) duties.1 ∙ duties.0;
+            conflicts = ap (list_all is_named_pair) conflicts.1 ∙ conflicts.0;
+            people = ap (list_all is_named_person) people.1 ∙ people.0;
+          });
+          ceilings = ceilings.1.0;
+        },
+        (λ i. record {
+          relays = (relays.1 ∙ c.as_slice.ensures) i;
+          hosts = (hosts.1 ∙ c.as_slice-2.ensures) i;
+          duties = (duties.1 ∙ c.as_slice-3.ensures) i;
+          conflicts = (conflicts.1 ∙ c.as_slice-5.ensures) i;
+          people = (people.1 ∙ c.as_slice-4.ensures) i;
+          ceilings = (ceilings.1.1 ∙ c.as_slice-6.ensures) i;
+        }) ∙ c.draft.view_is,
+      ),
+    )
