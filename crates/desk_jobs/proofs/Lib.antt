@@ -12,3 +12,4 @@ pub mod ReviewWords
 pub mod Placed
 pub mod ArgsPlaced
 pub mod ByPlace
+pub mod Readings

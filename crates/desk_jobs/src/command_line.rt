@@ -7,6 +7,7 @@ ghost use Rattle.sudo_decide.specs.declared.scope.Scope.{Scope as Fixed};
 ghost use Rattle.desk_jobs.specs.CommandLine as line;
 ghost use Rattle.desk_jobs.specs.CommandLine.{ArePlaces, HasBadScope, HasBadValue, HaveSome, IsBadLine, IsCommandLine, HasAllValues, IsInvocation, IsScopeOf, Says, SaysBadly, desk};
 ghost use Rattle.desk_jobs.specs.Faults.{IsUsage};
+ghost use Rattle.desk_jobs.specs.private.Readings.{IsReading};
 ghost use Rattle.desk_jobs.specs.declared.fault.JobFault.TheVariants.{BadWord, NoMemory};
 ghost use Rattle.desk_jobs.specs.declared.task.Job.{Job as Task};
 ghost use Rattle.desk_jobs.specs.declared.task.Places.{Places as Parts};
@@ -44,10 +45,12 @@ fn invocation(alloc: Global, matches: &ArgMatches<'_>) -> Result<Invocation, Job
     })
 }
 
-fn check(alloc: Global, matches: &ArgMatches<'_>) -> Result<Job, AllocError>
+fn check(alloc: Global, matches: &ArgMatches<'_>) -> Result<Job, JobFault>
     requires { HaveSome line.check_args (rows_of (found_of matches.now)) }
     ensures found { IfOk result (λ j. Says (Some (codes "check", rows_of (found_of matches.now))) j) }
-    ensures only { (j : Task) → Says (Some (codes "check", rows_of (found_of matches.now))) j → IfOk result (λ k. k ≡ j) }
+    ensures only { (j : Task) → Says (Some (codes "check", rows_of (found_of matches.now))) j → MatchResult result (λ k. k ≡ j) (λ e. e ≡ NoMemory) }
+    ensures word { IfErr result (λ e. e ≡ BadWord → SaysBadly (Some (codes "check", rows_of (found_of matches.now)))) }
+    ensures usage { IfErr result (λ e. IsUsage e → ⊥) }
 {
     Ok(Job::Check {
         file: text(alloc, matches, "FILE")?,
@@ -108,10 +111,12 @@ fn places(alloc: Global, matches: &ArgMatches<'_>) -> Result<Places, AllocError>
     })
 }
 
-fn deliver(alloc: Global, matches: &ArgMatches<'_>) -> Result<Job, AllocError>
+fn deliver(alloc: Global, matches: &ArgMatches<'_>) -> Result<Job, JobFault>
     requires { HaveSome (line.desk_args (codes "RELAY")) (rows_of (found_of matches.now)) }
     ensures found { IfOk result (λ j. Says (Some (codes "deliver", rows_of (found_of matches.now))) j) }
-    ensures only { (j : Task) → Says (Some (codes "deliver", rows_of (found_of matches.now))) j → IfOk result (λ k. k ≡ j) }
+    ensures only { (j : Task) → Says (Some (codes "deliver", rows_of (found_of matches.now))) j → MatchResult result (λ k. k ≡ j) (λ e. e ≡ NoMemory) }
+    ensures word { IfErr result (λ e. e ≡ BadWord → SaysBadly (Some (codes "deliver", rows_of (found_of matches.now)))) }
+    ensures usage { IfErr result (λ e. IsUsage e → ⊥) }
 {
     let places = places(alloc, matches)?;
     let relay = text(alloc, matches, "RELAY")?;
@@ -166,19 +171,16 @@ fn serve(alloc: Global, matches: &ArgMatches<'_>) -> Result<Job, JobFault>
 
 fn by_name(alloc: Global, name: &str, matches: &ArgMatches<'_>) -> Result<Job, JobFault>
     requires { HasAllValues (Some (name.now, rows_of (found_of matches.now))) }
-    ensures found { IfOk result (λ j. Says (Some (name.now, rows_of (found_of matches.now))) j) }
-    ensures only { (j : Task) → Says (Some (name.now, rows_of (found_of matches.now))) j → MatchResult result (λ k. k ≡ j) (λ e. e ≡ NoMemory) }
-    ensures word { IfErr result (λ e. e ≡ BadWord → SaysBadly (Some (name.now, rows_of (found_of matches.now)))) }
-    ensures usage { IfErr result (λ e. IsUsage e → ⊥) }
+    ensures { IsReading (Some (name.now, rows_of (found_of matches.now))) result }
 {
     if name == "check" {
-        Ok(check(alloc, matches)?)
+        check(alloc, matches)
     } else if name == "decide" {
         decide(alloc, matches)
     } else if name == "beyond" {
         beyond(alloc, matches)
     } else if name == "deliver" {
-        Ok(deliver(alloc, matches)?)
+        deliver(alloc, matches)
     } else if name == "print" {
         print(alloc, matches)
     } else if name == "review" {
@@ -190,10 +192,7 @@ fn by_name(alloc: Global, name: &str, matches: &ArgMatches<'_>) -> Result<Job, J
 
 fn named(alloc: Global, matches: &ArgMatches<'_>) -> Result<Job, JobFault>
     requires { HasAllValues (subcommand_rows_of matches.now) }
-    ensures found { IfOk result (λ j. Says (subcommand_rows_of matches.now) j) }
-    ensures only { (j : Task) → Says (subcommand_rows_of matches.now) j → MatchResult result (λ k. k ≡ j) (λ e. e ≡ NoMemory) }
-    ensures word { IfErr result (λ e. e ≡ BadWord → SaysBadly (subcommand_rows_of matches.now)) }
-    ensures usage { IfErr result (λ e. IsUsage e → ⊥) }
+    ensures { IsReading (subcommand_rows_of matches.now) result }
 {
     match matches.subcommand() {
         Some((name, inner)) => by_name(alloc, name, inner),
