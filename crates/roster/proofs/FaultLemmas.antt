@@ -1,5 +1,5 @@
 -- A roster's text has no fault, and any other text at most one least fault.
-use Rattle.std.proofs.Common.{◌≡◌, ◌≢◌, ◌<◌, ℕ, ◌∙◌, ◌==◌, cond, List, Some, refl, sym, ap, subst, arith}
+use Rattle.std.proofs.Common.{◌≡◌, ◌≢◌, ◌<◌, ℕ, ◌∙◌, ◌==◌, cond, List, Some, None, true, refl, sym, ap, subst, arith}
 use Rattle.std.proofs.lemmas.Bool.{true≢false}
 use Rattle.std.proofs.lemmas.Option.{same_Some, none-some}
 use Rattle.sudo_words.specs.declared.cmnd.Cmnd.{Cmnd}
@@ -72,3 +72,18 @@ one_fault text d e a b =
     let not_above : ¬ (number e < number d) = λ l. a.1 e l b.0 in
     let same : number d ≡ number e = omega (arith, not_below, not_above) in
     sym (at_its_number d) ∙ ap fault_at same ∙ at_its_number e
+
+only_from_three : (text : List ℕ) (d : Members) → parse_document text ≡ Some d → has_known_keys d ≡ true → (lower : RosterFault) → number lower < 3 → ¬ Has text lower
+only_from_three text d toml keys NotToml l h = none-some d (sym h ∙ toml)
+only_from_three text d toml keys UnknownKey l h =
+    true≢false (sym keys ∙ ap has_known_keys (one_document text d h.0 toml h.1) ∙ h.2)
+only_from_three text d toml keys WrongType l h = omega arith
+only_from_three text d toml keys BadName l h = omega arith
+only_from_three text d toml keys UnknownName l h = omega arith
+only_from_three text d toml keys SelfConflict l h = omega arith
+only_from_three text d toml keys OutOfRange l h = omega arith
+only_from_three text d toml keys NoMemory l h = h
+
+-- a text with a roster's keys alone, of which a value is missing or has not its type, has that fault and no lower one
+pub of_wrong_type : (text : List ℕ) (d : Members) → parse_document text ≡ Some d → has_known_keys d ≡ true → fields_of d ≡ None → IsLeastFault text WrongType
+of_wrong_type text d toml keys wrong = ((d, toml, wrong), only_from_three text d toml keys)

@@ -1,8 +1,7 @@
-use Rattle.std.proofs.Common.{◌≡◌, ℕ, ◌<◌, ◌∙◌, List, Some, None, true, pos, refl, sym, ap, arith}
+use Rattle.std.proofs.Common.{◌≡◌, ℕ, ◌<◌, ◌∙◌, List, Some, None, true, pos, refl, sym, arith}
 use Rattle.std.specs.Prelude.{codes}
 use Rattle.std.proofs.lemmas.List.Elements.{All-nil}
-use Rattle.std.proofs.lemmas.Bool.{true≢false}
-use Rattle.std.proofs.lemmas.Option.{none-some, same_Some}
+use Rattle.std.proofs.lemmas.Option.{none-some}
 use Rattle.sudo_words.specs.Command.{IsLawful}
 use Rattle.toml.proofs.OnLiterals.{toml_on_literals}
 use Rattle.toml.specs.Data.{Members, no_members, member, integer, array, table, string, no_items, item}
@@ -13,6 +12,7 @@ use Rattle.roster.specs.Rules.{IsNamedCeiling, good_names, are_known, has_self_c
 use Rattle.roster.specs.declared.fault.RosterFault.{RosterFault}
 use Rattle.roster.specs.declared.fault.RosterFault.TheVariants.{NotToml, UnknownKey, WrongType, BadName, UnknownName, SelfConflict, OutOfRange, NoMemory}
 use Rattle.roster.specs.Worked.{smallest_text}
+use Rattle.roster.proofs.FaultLemmas.{of_wrong_type}
 use Rattle.roster.proofs.laws.worked_texts.Goals as goal
 
 -- a text with a document is TOML, and has only greater faults than that
@@ -67,20 +67,8 @@ typed_wrong : fields_of relays_one ≡ None
 unfolding fields_of
 typed_wrong = refl
 
--- nor has it an unknown key
-known_at_all : (lower : RosterFault) → number lower < 3 → ¬ Has (codes "relays = 1") lower
-known_at_all NotToml l h = none-some relays_one (sym h ∙ relays_is_one)
-known_at_all UnknownKey l h =
-    true≢false (sym known ∙ ap has_known_keys (same_Some _ _ (sym relays_is_one ∙ h.1)) ∙ h.2)
-known_at_all WrongType l h = omega arith
-known_at_all BadName l h = omega arith
-known_at_all UnknownName l h = omega arith
-known_at_all SelfConflict l h = omega arith
-known_at_all OutOfRange l h = omega arith
-known_at_all NoMemory l h = h
-
 pub returns-clause-wrong_type : goal.returns-clause-wrong_type
-returns-clause-wrong_type c = ((relays_one, relays_is_one, typed_wrong), known_at_all)
+returns-clause-wrong_type c = of_wrong_type (codes "relays = 1") relays_one relays_is_one known typed_wrong
 
 abbrev document : Members
 document =

@@ -55,3 +55,6 @@ returns-in_err-ceilings-clause-reads c =
 pub returns-clause-reads : goal.returns-clause-reads
 unfolding fields_of
 returns-clause-reads c = then_read _ _ _ _ c.in_ok-relays.ensures (then_read _ _ _ _ c.in_ok-hosts.ensures (then_read _ _ _ _ c.in_ok-duties.ensures (then_read _ _ _ _ c.in_ok-conflicts.ensures (then_read _ _ _ _ c.in_ok-people.ensures.reads (then_read _ _ _ _ c.in_ok-ceilings.ensures.reads refl)))))
+
+pub returns-clause-ordered : goal.returns-clause-ordered
+returns-clause-ordered c = record { people = c.in_ok-people.ensures.rising; ceilings = c.in_ok-ceilings.ensures.rising }
