@@ -28,6 +28,27 @@ const BEYOND_ARGS: [(&str, &str); 2] = [
     ("B", "The policy that it is compared with"),
 ];
 
+/// What the options of `beyond` are: their names, how they are written, and their helps.
+const BEYOND_OPTIONS: [(&str, &str, &str); 3] = [
+    ("USER", "user", "Look at this user alone"),
+    ("HOST", "host", "Look at this host alone"),
+    ("RUNAS", "runas", "Look at this target alone"),
+];
+
+/// What the option of `print` is.
+const PRINT_OPTIONS: [(&str, &str, &str); 1] = [(
+    "AFTER",
+    "after",
+    "Leave out the lines that end before this moment",
+)];
+
+/// What the option of `serve` is.
+const SERVE_OPTIONS: [(&str, &str, &str); 1] = [(
+    "REQUESTS",
+    "requests",
+    "End after so many connections",
+)];
+
 /// What the place of STORE takes.
 const STORE_HELP: &str = "The database that keeps the messages, or `-`: kept in memory alone";
 
@@ -86,37 +107,19 @@ fn push_several<'a>(
     Ok(args.push(several(alloc, id, help))?)
 }
 
-/// Adds an option.
-fn push_option<'a>(
+/// Adds options, by their names, how they are written, and helps.
+fn push_options<'a>(
     alloc: Global,
     args: &mut Vec<Arg<'a>>,
-    id: &'a str,
-    long: &'a str,
-    help: &'a str,
+    options: &[(&'a str, &'a str, &'a str)],
 ) -> Result<(), AllocError>
     ensures { (rules : List Rule) → HasRules args.old.items rules
-        → OnOk result (HasRules args.new.items (rules ++ line.optional id.entry.now long.entry.now ∷ [])) }
+        → OnOk result (HasRules args.new.items (rules ++ map (λ o. line.optional o.0.now o.1.now) options.now)) }
 {
-    Ok(args.push(optional(alloc, id, long, help))?)
-}
-
-/// Adds the arguments of a command on a desk: its roster, its base policy and its store, and then its own.
-fn push_on_desk<'a>(
-    alloc: Global,
-    args: &mut Vec<Arg<'a>>,
-    id: &'a str,
-    help: &'a str,
-) -> Result<(), AllocError>
-    ensures { (rules : List Rule) → HasRules args.old.items rules
-        → OnOk result (HasRules args.new.items (rules ++ map line.wanted (line.desk_args id.entry.now))) }
-{
-    let names = [
-        ("ROSTER", "The roster"),
-        ("BASE", "The base policy"),
-        ("STORE", STORE_HELP),
-        (id, help),
-    ];
-    push_wanted(alloc, args, &names)
+    for (id, long, help) in options {
+        args.push(optional(alloc, id, long, help))?;
+    }
+    Ok(())
 }
 
 /// The command of this name with these arguments.
@@ -131,13 +134,49 @@ fn command_of<'a>(
     Command::new(alloc, name).about(about).args(args)
 }
 
+/// The command of this name, which wants arguments and takes options, by their names and helps.
+fn command_with<'a>(
+    alloc: Global,
+    name: &'a str,
+    about: &'a str,
+    names: &[(&'a str, &'a str)],
+    options: &[(&'a str, &'a str, &'a str)],
+) -> Result<Command<'a>, AllocError>
+    ensures { IfOk result (IsCommand (with_rules (new_app name.entry.now)
+        (map (λ n. line.wanted n.0.now) names.now ++ map (λ o. line.optional o.0.now o.1.now) options.now))) }
+{
+    let mut args: Vec<Arg<'a>> = Vec::new(alloc);
+    push_wanted(alloc, &mut args, names)?;
+    push_options(alloc, &mut args, options)?;
+    command_of(alloc, name, about, args)
+}
+
+/// A command on a desk, which wants its roster, its base policy and its store, and then an argument of its own.
+fn on_desk<'a>(
+    alloc: Global,
+    name: &'a str,
+    about: &'a str,
+    id: &'a str,
+    help: &'a str,
+    options: &[(&'a str, &'a str, &'a str)],
+) -> Result<Command<'a>, AllocError>
+    ensures { IfOk result (IsCommand (with_rules (new_app name.entry.now)
+        (map line.wanted (line.desk_args id.entry.now) ++ map (λ o. line.optional o.0.now o.1.now) options.now))) }
+{
+    let names = [
+        ("ROSTER", "The roster"),
+        ("BASE", "The base policy"),
+        ("STORE", STORE_HELP),
+        (id, help),
+    ];
+    command_with(alloc, name, about, &names, options)
+}
+
 fn check<'a>(alloc: Global) -> Result<Command<'a>, AllocError>
     ensures { IfOk result (IsCommand line.check) }
 {
     let about = "Print the canonical text of a policy";
-    let mut args: Vec<Arg<'a>> = Vec::new(alloc);
-    push_wanted(alloc, &mut args, &[("FILE", "The policy")])?;
-    command_of(alloc, "check", about, args)
+    command_with(alloc, "check", about, &[("FILE", "The policy")], &[])
 }
 
 fn decide<'a>(alloc: Global) -> Result<Command<'a>, AllocError>
@@ -155,58 +194,38 @@ fn beyond<'a>(alloc: Global) -> Result<Command<'a>, AllocError>
     ensures { IfOk result (IsCommand line.beyond) }
 {
     let about = "Find what one policy allows and another refuses";
-    let mut args: Vec<Arg<'a>> = Vec::new(alloc);
-    push_wanted(alloc, &mut args, &BEYOND_ARGS)?;
-    let help = "Look at this user alone";
-    push_option(alloc, &mut args, "USER", "user", help)?;
-    let help = "Look at this host alone";
-    push_option(alloc, &mut args, "HOST", "host", help)?;
-    let help = "Look at this target alone";
-    push_option(alloc, &mut args, "RUNAS", "runas", help)?;
-    command_of(alloc, "beyond", about, args)
+    command_with(alloc, "beyond", about, &BEYOND_ARGS, &BEYOND_OPTIONS)
 }
 
 fn deliver<'a>(alloc: Global) -> Result<Command<'a>, AllocError>
     ensures { IfOk result (IsCommand line.deliver) }
 {
     let about = "Deliver the messages on standard input, and print the answer to each";
-    let mut args: Vec<Arg<'a>> = Vec::new(alloc);
     let help = "The relay that the messages come from";
-    push_on_desk(alloc, &mut args, "RELAY", help)?;
-    command_of(alloc, "deliver", about, args)
+    on_desk(alloc, "deliver", about, "RELAY", help, &[])
 }
 
 fn print<'a>(alloc: Global) -> Result<Command<'a>, AllocError>
     ensures { IfOk result (IsCommand line.print) }
 {
     let about = "Print a host's sudoers file, from a base policy and a desk's messages";
-    let mut args: Vec<Arg<'a>> = Vec::new(alloc);
-    push_on_desk(alloc, &mut args, "HOST", "The host")?;
-    let help = "Leave out the lines that end before this moment";
-    push_option(alloc, &mut args, "AFTER", "after", help)?;
-    command_of(alloc, "print", about, args)
+    on_desk(alloc, "print", about, "HOST", "The host", &PRINT_OPTIONS)
 }
 
 fn review<'a>(alloc: Global) -> Result<Command<'a>, AllocError>
     ensures { IfOk result (IsCommand line.review) }
 {
     let about = "Print who holds what at a moment, and which approvals do not count";
-    let mut args: Vec<Arg<'a>> = Vec::new(alloc);
     let help = "The moment, as 20260105093000Z";
-    push_on_desk(alloc, &mut args, "AT", help)?;
-    command_of(alloc, "review", about, args)
+    on_desk(alloc, "review", about, "AT", help, &[])
 }
 
 fn serve<'a>(alloc: Global) -> Result<Command<'a>, AllocError>
     ensures { IfOk result (IsCommand line.serve) }
 {
     let about = "Serve a desk over HTTP";
-    let mut args: Vec<Arg<'a>> = Vec::new(alloc);
     let help = "The address and port to listen at";
-    push_on_desk(alloc, &mut args, "ADDR", help)?;
-    let help = "End after so many connections";
-    push_option(alloc, &mut args, "REQUESTS", "requests", help)?;
-    command_of(alloc, "serve", about, args)
+    on_desk(alloc, "serve", about, "ADDR", help, &SERVE_OPTIONS)
 }
 
 /// Adds a command, where it could be made.

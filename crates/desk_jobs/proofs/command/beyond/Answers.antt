@@ -1,7 +1,4 @@
-use Rattle.std.proofs.Common.{[], rules}
 use Rattle.desk_jobs.proofs.command.beyond.Goals as goal
 
 pub returns : goal.returns
-returns c =
-    c.command_of.ensures _
-    (c.in_ok-push_option-3.ensures _ (c.in_ok-push_option-2.ensures _ (c.in_ok-push_option.ensures _ (c.in_ok-push_wanted.ensures [] (search rules)))))
+returns c = c.command_with.ensures
