@@ -118,8 +118,8 @@ fn deliver(alloc: Global, matches: &ArgMatches<'_>) -> Result<Job, JobFault>
     ensures word { IfErr result (λ e. e ≡ BadWord → SaysBadly (Some (codes "deliver", rows_of (found_of matches.now)))) }
     ensures usage { IfErr result (λ e. IsUsage e → ⊥) }
 {
-    let places = places(alloc, matches)?;
     let relay = text(alloc, matches, "RELAY")?;
+    let places = places(alloc, matches)?;
     Ok(Job::Deliver { places, relay })
 }
 
@@ -131,8 +131,8 @@ fn print(alloc: Global, matches: &ArgMatches<'_>) -> Result<Job, JobFault>
     ensures usage { IfErr result (λ e. IsUsage e → ⊥) }
 {
     let after = moment_if_given(matches, "AFTER")?;
-    let places = places(alloc, matches)?;
     let host = word(alloc, matches, "HOST")?;
+    let places = places(alloc, matches)?;
     Ok(Job::Print {
         places,
         host,
@@ -160,8 +160,8 @@ fn serve(alloc: Global, matches: &ArgMatches<'_>) -> Result<Job, JobFault>
     ensures usage { IfErr result (λ e. IsUsage e → ⊥) }
 {
     let requests = count_if_given(matches, "REQUESTS")?;
-    let places = places(alloc, matches)?;
     let addr = text(alloc, matches, "ADDR")?;
+    let places = places(alloc, matches)?;
     Ok(Job::Serve {
         places,
         addr,
