@@ -9,11 +9,6 @@ check-requires c =
     let same = named (codes "check") c.args.name.now (sym c.eq.ensures ∙ c.if-eq.true) in
     wanted_at (codes "check") c.args.name.now (rows_of (found_of c.args.matches.now)) same c.requires
 
-pub returns-then-eq : goal.returns-then-eq
-returns-then-eq c =
-    let same = named (codes "check") c.args.name.now (sym c.eq.ensures ∙ c.if-eq.true) in
-    read_by_name (codes "check") c.args.name.now (rows_of (found_of c.args.matches.now)) c.check.result same c.check.ensures.found c.check.ensures.only c.check.ensures.word c.check.ensures.usage
-
 pub decide-requires : goal.decide-requires
 decide-requires c =
     let same = named (codes "decide") c.args.name.now (sym c.eq-else-eq.ensures ∙ c.if-eq-2.true) in
