@@ -18,7 +18,7 @@ cases: desk
 	python3 scripts/cases.py
 	python3 scripts/random_reports.py
 
-# The whole gate (docs/GATE.md): `rt ci`, for the lowest crate and then for all, which proves everything from nothing, tries the edits that must be refused and runs the tests; then,
+# The whole gate (docs/GATE.md): `rt ci`, which proves everything from nothing, tries the edits that must be refused and runs the tests; then,
 # over the program that it left at build/desk, the demo, the cases, peers and faults. What it needs of Debian is installed where this is root; with
 # WHOLE=1 nothing may be left out. Its last line is 'N passed, 0 failed'.
 test:
@@ -28,7 +28,7 @@ test:
 quick:
 	python3 scripts/quick.py
 
-# `rt ci` alone, for the lowest crate and then for all, and what it cost each crate: the table of docs/GATE.md.
+# `rt ci` alone, and what it cost each crate: the table of docs/GATE.md.
 gate-times:
 	python3 scripts/gate_times.py
 

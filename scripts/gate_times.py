@@ -1,5 +1,5 @@
 #!/usr/bin/env python3
-"""Runs `rt ci`, first for the lowest crate and then for all, passes on what it prints, and then prints what it cost: a table of docs/GATE.md.
+"""Runs `rt ci`, passes on what it prints, and then prints what it cost: a table of docs/GATE.md.
 
 The processor time of a crate's proof, of its tests' proof and of its edits is read twice a second from /proc, of each run of the prover
 that this script started: so a figure lacks at most half a second a run. The status is that of `rt ci`.
@@ -74,15 +74,11 @@ class Meter(threading.Thread):
         return sums
 
 
-def crates():
-    """The crates of crates.txt, lowest first."""
-    with open("crates.txt") as file:
-        return [line.partition(":")[0] for line in file if ":" in line and not line.startswith("#")]
-
-
 def show(meter, wall):
     """Prints the table, in the order of crates.txt."""
-    minutes, names = meter.minutes(), crates()
+    minutes = meter.minutes()
+    with open("crates.txt") as file:
+        names = [line.partition(":")[0] for line in file if ":" in line and not line.startswith("#")]
     print("\n| crate | proof | proof of its tests | edits | all | done at minute |")
     print("|---|---|---|---|---|---|")
     for name in names:
@@ -90,41 +86,26 @@ def show(meter, wall):
         ends = max(meter.ends[name, kind] for kind in KINDS) / 60
         cells = [f"{it:.1f}" if it else "" for it in (*each, sum(each))]
         print(f"| `{name}` | {' | '.join(cells)} | {ends:.0f} |")
-    jobs, processors = lanes(), len(os.sched_getaffinity(0))
+    jobs, processors = os.environ["RT_JOBS"], len(os.sched_getaffinity(0))
     slowest = max(names, key=lambda name: minutes[name, "proof"])
     print(f"\nProcessor minutes. `rt ci` took {wall / 60:.1f} minutes in {jobs} lanes on {processors} processors, {sum(minutes.values()):.0f} processor minutes in all.")
     print(f"The slowest proof is that of `{slowest}`: {minutes[slowest, 'proof']:.1f} processor minutes.\n", flush=True)
 
 
 def lanes():
-    """How many checks go side by side, each with one job, unless RT_JOBS says it. Left to itself `rt ci` sets aside twice or three times the memory that a check takes, and
+    """How many checks go side by side, each with one job. Left to itself `rt ci` sets aside twice or three times the memory that a check takes, and
     so lets the proofs of the longest chain wait for the edits of other crates."""
-    if os.environ.get("RT_JOBS"):
-        return int(os.environ["RT_JOBS"])
     with open("/proc/meminfo") as file:
         memory = int(re.search(r"MemTotal:\s+(\d+)", file.read())[1]) << 10
     return max(1, min(len(os.sched_getaffinity(0)), memory // MEMORY))
-
-
-def prove(meter_mark):
-    """Proves all and tries the edits; the status.
-
-    Every crate stands on the lowest. With one job for each check the other lanes would be empty while it is proved: so it has a run of its own, in which
-    checks get the processors that are free. What passed there is kept, and the second run, which is the gate, does not do it again.
-    """
-    env = dict(os.environ, **{MARK: meter_mark})
-    alone = {name: text for name, text in env.items() if name != "RT_JOBS"}
-    return (
-        subprocess.run(["rt", "ci", crates()[0]], env=alone, check=False).returncode
-        or subprocess.run(["rt", "ci"], env=dict(env, RT_JOBS=str(lanes())), check=False).returncode
-    )
 
 
 def main():
     os.chdir(os.path.dirname(os.path.dirname(os.path.abspath(__file__))))
     meter = Meter()
     meter.start()
-    status = prove(str(os.getpid()))
+    os.environ.setdefault("RT_JOBS", str(lanes()))
+    status = subprocess.run(["rt", "ci"], env=dict(os.environ, **{MARK: str(os.getpid())}), check=False).returncode
     wall = time.monotonic() - meter.begins
     meter.done.set()
     meter.join()
