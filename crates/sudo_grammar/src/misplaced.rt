@@ -1,7 +1,7 @@
 //! The fault that fits words and marks which the grammar has not.
 
 use sudo_policy::{LineFault, Mark, Token, TokenKind};
-use sudo_words::{AliasForm, Form};
+use sudo_words::{AliasForm, Form, is_keyword, is_sudoedit};
 
 /// Whether the word begins a line that sudoers has and the desk leaves out.
 fn begins_left_out(text: &str) -> bool {
@@ -45,7 +45,7 @@ pub(crate) fn bad_word(text: &str) -> LineFault {
     let bytes = text.as_bytes();
     if is_reserved(bytes) {
         LineFault::Reserved
-    } else if begins_left_out(text) || is_left_out(bytes) {
+    } else if begins_left_out(text) || is_left_out(bytes) || is_keyword(bytes) {
         LineFault::LeftOut
     } else {
         LineFault::BadWord
@@ -55,14 +55,17 @@ pub(crate) fn bad_word(text: &str) -> LineFault {
 /// The options and tags that the desk has.
 const KNOWN: [&str; 4] = ["NOTBEFORE", "NOTAFTER", "PASSWD", "NOPASSWD"];
 
-/// Words that name no path in the place of a command: sudo's own commands, and digests.
-const NO_PATHS: [&str; 6] = ["sudoedit", "list", "sha224", "sha256", "sha384", "sha512"];
+/// Whether the word is no command that the desk has: it begins a digest, or names one of sudo's own commands, alone or as a path does.
+fn is_no_file(text: &str) -> bool {
+    let bytes = text.as_bytes();
+    is_keyword(bytes) || is_sudoedit(bytes) || text == "list"
+}
 
 /// What is wrong with a word that begins no command.
 pub(crate) fn bad_cmnd(text: &str) -> LineFault {
     if KNOWN.contains(&text) {
         LineFault::Unexpected
-    } else if NO_PATHS.contains(&text) || (is_reserved(text.as_bytes()) && text != "ALL") {
+    } else if is_no_file(text) || (is_reserved(text.as_bytes()) && text != "ALL") {
         LineFault::LeftOut
     } else {
         LineFault::BadWord

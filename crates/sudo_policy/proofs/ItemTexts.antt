@@ -12,6 +12,7 @@ use Rattle.sudo_words.specs.declared.cmnd.Cmnd.TheVariants as commands
 use Rattle.sudo_words.specs.declared.cmnd.ArgRule.{ArgRule}
 use Rattle.sudo_words.specs.declared.cmnd.ArgRule.TheVariants.{Any, Empty, Exactly}
 use Rattle.sudo_words.proofs.ArgLemmas.{same_arg}
+use Rattle.sudo_words.proofs.NameLemmas.{name_shape, host_shape}
 use Rattle.sudo_words.proofs.PathLemmas.{dir_parts}
 use Rattle.sudo_words.proofs.CommandLemmas.{same_command}
 use Rattle.sudo_policy.specs.declared.entry.Signed.{Signed}
@@ -56,13 +57,13 @@ pub record IsForm (form : List ℕ → Bool) : Type 0 where
 name_no_alias : (w : List ℕ) → is_name w ≡ true → is_alias_shape w ≡ true → ⊥
 name_no_alias [] h k = absurd cc
 name_no_alias (b ∷ bs) h k =
-    let all = and_parts ((is_lower b || eqb b 95) && list_all is_name_byte bs) (leb (length (b ∷ bs)) 32) h in
+    let all = and_parts ((is_lower b || eqb b 95) && list_all is_name_byte bs) (leb (length (b ∷ bs)) 32) (name_shape (b ∷ bs) h) in
     start_differs b (and_parts (is_lower b || eqb b 95) (list_all is_name_byte bs) all.0).0 (alias_start b bs k)
 
 host_no_alias : (w : List ℕ) → is_host_name w ≡ true → is_alias_shape w ≡ true → ⊥
 host_no_alias [] h k = absurd cc
 host_no_alias (b ∷ bs) h k =
-    let all = and_parts (is_lower b && list_all is_host_byte bs) (leb (length (b ∷ bs)) 32) h in
+    let all = and_parts (is_lower b && list_all is_host_byte bs) (leb (length (b ∷ bs)) 32) (host_shape (b ∷ bs) h) in
     lower_differs b (and_parts (is_lower b) (list_all is_host_byte bs) all.0).0 (alias_start b bs k)
 
 pub user_form : IsForm is_name

@@ -11,6 +11,7 @@ use Rattle.sudo_words.specs.Command.{IsHead, is_escaped, escaped_byte, arg_text,
 use Rattle.sudo_words.specs.declared.cmnd.Cmnd.{Cmnd}
 use Rattle.sudo_words.specs.declared.cmnd.Cmnd.TheVariants as commands
 use Rattle.sudo_words.proofs.ArgLemmas.{arg_parts, arg_text_some}
+use Rattle.sudo_words.proofs.NameLemmas.{name_shape, host_shape}
 use Rattle.sudo_words.proofs.PathLemmas.{file_each, dir_each}
 use Rattle.sudo_words.proofs.MomentLemmas.{stamp_length, stamp_bytes}
 use Rattle.sudo_policy.specs.declared.entry.Item.{Item}
@@ -88,14 +89,14 @@ stamp_byte_word b h = grind (arith, nat_tests)
 pub name_word : (w : List ℕ) → is_name w ≡ true → IsWord w
 name_word [] h = absurd cc
 name_word (b ∷ bs) h =
-    let all = and_parts ((is_lower b || eqb b 95) && list_all is_name_byte bs) (leb (length (b ∷ bs)) 32) h in
+    let all = and_parts ((is_lower b || eqb b 95) && list_all is_name_byte bs) (leb (length (b ∷ bs)) 32) (name_shape (b ∷ bs) h) in
     let both = and_parts (is_lower b || eqb b 95) (list_all is_name_byte bs) all.0 in
     word_of_bytes (b ∷ bs) (omega arith) (name_start_word b both.0, each_all is_word_byte is_name_byte name_byte_word bs both.1)
 
 pub host_word : (w : List ℕ) → is_host_name w ≡ true → IsWord w
 host_word [] h = absurd cc
 host_word (b ∷ bs) h =
-    let all = and_parts (is_lower b && list_all is_host_byte bs) (leb (length (b ∷ bs)) 32) h in
+    let all = and_parts (is_lower b && list_all is_host_byte bs) (leb (length (b ∷ bs)) 32) (host_shape (b ∷ bs) h) in
     let both = and_parts (is_lower b) (list_all is_host_byte bs) all.0 in
     word_of_bytes (b ∷ bs) (omega arith) (lower_word b both.0, each_all is_word_byte is_host_byte host_byte_word bs both.1)
 

@@ -3,6 +3,7 @@ pub mod CommandLemmas
 pub mod Days
 pub mod MomentLemmas
 pub mod MomentTexts
+pub mod NameLemmas
 pub mod PathLemmas
 pub mod PieceLemmas
 pub mod ReadingLemmas

@@ -1,11 +1,11 @@
 -- Commands of a sudoers text: which invocations they match, which of them are lawful, and how each is written
 -- (sudoers(5), "Cmnd_List" and "Command arguments").
-use Rattle.std.specs.Prelude.{◌≡◌, ℕ, ◌≤◌, Bool, true, ◌&&◌, ◌||◌, ◌==◌, if◌then◌else◌, List, [], ◌∷◌, ◌++◌, length, take, drop, codes}
+use Rattle.std.specs.Prelude.{◌≡◌, ℕ, ◌≤◌, Bool, true, false, ◌&&◌, ◌||◌, ◌==◌, if◌then◌else◌, List, [], ◌∷◌, ◌++◌, length, take, drop, codes}
 use Rattle.std.specs.List.{AllByRecursion, flat_map}
 use Rattle.std.specs.Str.{bytes_eq}
 use Rattle.std.specs.Cmp.Lexicographic.{pointwise}
 use Rattle.sudo_words.specs.Bytes.{space, equals, comma, colon, backslash}
-use Rattle.sudo_words.specs.Word.{is_component, is_file_path, is_dir_path, is_arg}
+use Rattle.sudo_words.specs.Word.{is_component, is_file_path, is_dir_path, is_sudoedit, is_arg}
 use Rattle.sudo_words.specs.declared.cmnd.Cmnd.{Cmnd}
 use Rattle.sudo_words.specs.declared.cmnd.Cmnd.TheVariants.{All, Path, Dir}
 use Rattle.sudo_words.specs.declared.cmnd.ArgRule.{ArgRule}
@@ -77,9 +77,10 @@ most_args = 16
 abbrev pub most_cmnd_bytes : ℕ
 most_cmnd_bytes = 1024
 
+-- a path keeps its limit, and names no file that sudo takes for its own command `sudoedit`
 abbrev pub IsHead : Cmnd → Type 0
 IsHead All = Unit {0}
-IsHead (Path file rule) = (is_file_path file ≡ true) × (length file ≤ most_path_bytes)
+IsHead (Path file rule) = (is_file_path file ≡ true) × (length file ≤ most_path_bytes) × (is_sudoedit file ≡ false)
 IsHead (Dir dir) = (is_dir_path dir ≡ true) × (length dir ≤ most_path_bytes)
 
 -- at least one argument, and not too many, where they are listed
@@ -88,7 +89,7 @@ IsArgRule Any = Unit {0}
 IsArgRule Empty = Unit {0}
 IsArgRule (Exactly args) = AllByRecursion (λ arg. is_arg arg ≡ true) args × (1 ≤ length args) × (length args ≤ most_args)
 
--- The path, the arguments and the text keep their limits.
+-- The path, the arguments and the text keep their limits, and no file is `sudoedit`.
 pub record IsLawful (cmnd : Cmnd) : Type 0 where
   pub head : IsHead cmnd
   pub args : IsArgRule (rule_of cmnd)

@@ -1,7 +1,7 @@
 -- The words of a sudoers text: the names of users, hosts and aliases, paths, and arguments (sudoers(5), "SUDOERS FILE FORMAT").
 -- All are ASCII, and two are equal where their bytes are.
 use Rattle.std.specs.Prelude.{ℕ, ◌-◌, Bool, false, not, ◌&&◌, ◌||◌, ◌==◌, nat_le, List, [], ◌∷◌, length, take, drop, codes}
-use Rattle.std.specs.List.{list_all, list_any, slice_split}
+use Rattle.std.specs.List.{ends_with, list_all, list_any, slice_split}
 use Rattle.std.specs.Str.{bytes_eq}
 
 abbrev pub is_lower : ℕ → Bool
@@ -16,28 +16,40 @@ is_digit b = nat_le 48 b && nat_le b 57
 abbrev pub is_letter_or_digit : ℕ → Bool
 is_letter_or_digit b = is_lower b || is_upper b || is_digit b
 
--- ---- users and targets: `[a-z_][a-z0-9._-]*`, up to 32 bytes
+-- ---- keywords: `sudoedit` begins an Edit_Spec, and the others a Digest_Spec (sudoers(5), "Aliases"). sudo reads such a word so in the place of
+-- a name too, and then refuses the whole file: no user, target or host has one as its name.
+
+abbrev pub keywords : List (List ℕ)
+keywords = codes "sudoedit" ∷ codes "sha224" ∷ codes "sha256" ∷ codes "sha384" ∷ codes "sha512" ∷ []
+
+unfoldable pub is_keyword : List ℕ → Bool
+is_keyword w = list_any (λ k. bytes_eq k w) keywords
+
+-- ---- users and targets: `[a-z_][a-z0-9._-]*`, up to 32 bytes, and no keyword
 
 abbrev pub is_name_byte : ℕ → Bool
 is_name_byte b = is_lower b || is_digit b || (b == 46) || (b == 95) || (b == 45)
 
-abbrev pub is_name : List ℕ → Bool
-is_name [] = false
-is_name (b ∷ bs) = (is_lower b || (b == 95)) && list_all is_name_byte bs && nat_le (length (b ∷ bs)) 32
+abbrev pub is_name_shape : List ℕ → Bool
+is_name_shape [] = false
+is_name_shape (b ∷ bs) = (is_lower b || (b == 95)) && list_all is_name_byte bs && nat_le (length (b ∷ bs)) 32
 
--- ---- hosts: `[a-z][a-z0-9-]*`, up to 32 bytes
+abbrev pub is_name : List ℕ → Bool
+is_name w = is_name_shape w && not (is_keyword w)
+
+-- ---- labels of the desk (duties, ceilings, relays), which no sudoers text has: `[a-z][a-z0-9-]*`, up to 32 bytes
 
 abbrev pub is_host_byte : ℕ → Bool
 is_host_byte b = is_lower b || is_digit b || (b == 45)
 
-abbrev pub is_host_name : List ℕ → Bool
-is_host_name [] = false
-is_host_name (b ∷ bs) = is_lower b && list_all is_host_byte bs && nat_le (length (b ∷ bs)) 32
-
--- ---- labels of the desk (duties, ceilings, relays): the same form
-
 abbrev pub is_label : List ℕ → Bool
-is_label w = is_host_name w
+is_label [] = false
+is_label (b ∷ bs) = is_lower b && list_all is_host_byte bs && nat_le (length (b ∷ bs)) 32
+
+-- ---- hosts: the same form, and no keyword
+
+abbrev pub is_host_name : List ℕ → Bool
+is_host_name w = is_label w && not (is_keyword w)
 
 -- ---- aliases: `[A-Z][A-Z0-9_]*`, up to 32 bytes, and none of the words that sudoers keeps for itself
 
@@ -88,6 +100,11 @@ is_file_path w = is_absolute w && nat_le (length w) 4096
 abbrev pub is_dir_path : List ℕ → Bool
 is_dir_path w =
     bytes_eq (drop (length w - 1) w) (codes "/") && is_absolute (take (length w - 1) w) && nat_le (length w) 4096
+
+-- The path's last component is `sudoedit`. Whatever the path before it, sudo takes such a command for its own command `sudoedit`, which edits
+-- files, and not for that file: "the path name will be silently converted" (sudoers(5), "Aliases").
+abbrev pub is_sudoedit : List ℕ → Bool
+is_sudoedit path = ends_with (λ a b. a == b) path (codes "/sudoedit")
 
 -- ---- arguments: 1 to 64 bytes
 

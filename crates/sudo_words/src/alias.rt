@@ -1,10 +1,10 @@
 //! Names of aliases.
 
 ghost use Rattle.std.specs.Prelude.{◌≡◌};
-ghost use Rattle.std.specs.List.{list_all, list_any};
-ghost use Rattle.std.specs.Str.{bytes_eq};
+ghost use Rattle.std.specs.List.{list_all};
 ghost use Rattle.sudo_words.specs.Word as word;
 
+use crate::keyword::is_among;
 use crate::word::{Form, Word};
 
 /// The words that sudoers keeps for itself: `ALL`, the options and the tags.
@@ -48,13 +48,6 @@ fn all_alias_bytes(text: &[u8]) -> bool
     ensures { result ≡ list_all word.is_alias_byte text.now }
 {
     text.iter().all(|b| is_alias_byte(*b))
-}
-
-/// Whether the text is one of the words.
-fn is_among(words: &[&str], text: &[u8]) -> bool
-    ensures { result ≡ list_any (λ w. bytes_eq w.now text.now) words.now }
-{
-    words.iter().any(|word| word.as_bytes() == text)
 }
 
 /// Whether the word is one that sudoers keeps for itself.

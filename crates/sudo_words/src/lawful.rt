@@ -9,6 +9,7 @@ ghost use Rattle.sudo_words.specs.Command.{IsArgRule, IsLawful, arg_text, cmnd_t
 use crate::arg::Arg;
 use crate::arg_text::is_escaped;
 use crate::cmnd::{ArgRule, Cmnd};
+use crate::keyword::is_sudoedit;
 
 /// The most bytes of a path.
 const MOST_PATH_BYTES: usize = 255;
@@ -67,7 +68,8 @@ fn rule_length(rule: &ArgRule) -> Option<usize>
 }
 
 /// Whether policies hold the command: `ALL`, a directory, or a file with any arguments, with none, or
-/// with 1 to 16 that are listed; its path has at most 255 bytes, and its text at most 1,024.
+/// with 1 to 16 that are listed; its path has at most 255 bytes, and its text at most 1,024. No file is
+/// `sudoedit`.
 /// It takes no memory.
 pub fn is_lawful(cmnd: &Cmnd) -> bool
     ensures { IsTrue result ↔ IsLawful cmnd.now }
@@ -78,7 +80,11 @@ pub fn is_lawful(cmnd: &Cmnd) -> bool
             let path = file.as_str().len();
             match rule_length(rule) {
                 None => false,
-                Some(args) => path <= MOST_PATH_BYTES && path + args <= MOST_CMND_BYTES,
+                Some(args) => {
+                    path <= MOST_PATH_BYTES
+                        && path + args <= MOST_CMND_BYTES
+                        && !is_sudoedit(file.as_str().as_bytes())
+                }
             }
         }
         Cmnd::Dir(dir) => dir.as_str().len() <= MOST_PATH_BYTES,

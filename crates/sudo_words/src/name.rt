@@ -4,6 +4,7 @@ ghost use Rattle.std.specs.Prelude.{◌≡◌};
 ghost use Rattle.std.specs.List.{list_all};
 ghost use Rattle.sudo_words.specs.Word as word;
 
+use crate::keyword::is_keyword;
 use crate::word::{Form, Word};
 
 fn is_name_byte(b: u8) -> bool
@@ -30,7 +31,20 @@ fn all_host_bytes(text: &[u8]) -> bool
     text.iter().all(|b| is_host_byte(*b))
 }
 
-/// The form of a user's or a target's name: `[a-z_][a-z0-9._-]*`, up to 32 bytes.
+fn is_name_shape(text: &[u8]) -> bool
+    ensures { result ≡ word.is_name_shape text.now }
+{
+    match text {
+        [] => false,
+        [first, rest @ ..] => {
+            (first.is_ascii_lowercase() || *first == b'_')
+                && all_name_bytes(rest)
+                && text.len() <= 32
+        }
+    }
+}
+
+/// The form of a user's or a target's name: `[a-z_][a-z0-9._-]*`, up to 32 bytes, and no keyword.
 #[derive(Clone, Copy, Debug)]
 pub struct UserForm;
 
@@ -38,26 +52,19 @@ impl Form for UserForm {
     ghost has = { word.is_name };
 
     fn test(text: &[u8]) -> bool {
-        match text {
-            [] => false,
-            [first, rest @ ..] => {
-                (first.is_ascii_lowercase() || *first == b'_')
-                    && all_name_bytes(rest)
-                    && text.len() <= 32
-            }
-        }
+        is_name_shape(text) && !is_keyword(text)
     }
 }
 
 /// The name of a user, or of the target that a command runs as.
 pub type Name = Word<UserForm>;
 
-/// The form of a host's name: `[a-z][a-z0-9-]*`, up to 32 bytes.
+/// The form of a label, as of a ceiling: `[a-z][a-z0-9-]*`, up to 32 bytes.
 #[derive(Clone, Copy, Debug)]
-pub struct HostForm;
+pub struct LabelForm;
 
-impl Form for HostForm {
-    ghost has = { word.is_host_name };
+impl Form for LabelForm {
+    ghost has = { word.is_label };
 
     fn test(text: &[u8]) -> bool {
         match text {
@@ -69,20 +76,20 @@ impl Form for HostForm {
     }
 }
 
-/// The name of a host.
-pub type HostName = Word<HostForm>;
+/// A label of the desk, as the name of a ceiling.
+pub type Label = Word<LabelForm>;
 
-/// The form of a label, as of a ceiling: `[a-z][a-z0-9-]*`, up to 32 bytes.
+/// The form of a host's name: a label's, and no keyword.
 #[derive(Clone, Copy, Debug)]
-pub struct LabelForm;
+pub struct HostForm;
 
-impl Form for LabelForm {
-    ghost has = { word.is_label };
+impl Form for HostForm {
+    ghost has = { word.is_host_name };
 
     fn test(text: &[u8]) -> bool {
-        HostForm::test(text)
+        LabelForm::test(text) && !is_keyword(text)
     }
 }
 
-/// A label of the desk, as the name of a ceiling.
-pub type Label = Word<LabelForm>;
+/// The name of a host.
+pub type HostName = Word<HostForm>;
