@@ -9,6 +9,7 @@ use Rattle.sudo_words.specs.Word.{is_arg, is_arg_byte, is_host_byte, is_host_nam
 use Rattle.sudo_words.proofs.ArgLemmas.{arg_parts}
 use Rattle.sudo_words.proofs.MomentLemmas.{stamp_bytes, stamp_is, stamp_spells}
 use Rattle.sudo_words.proofs.MomentTexts.{one_spelled}
+use Rattle.sudo_words.proofs.NameLemmas.{name_shape, host_shape}
 use Rattle.sudo_words.proofs.PathLemmas.{file_each}
 use Rattle.sudo_words.proofs.PieceLemmas.{HasNoSpace, cut_words}
 use Rattle.sudo_policy.specs.Spelling.{Spells}
@@ -58,14 +59,14 @@ host_start b h = ne_eqb b 32 (λ e. false≢true (subst (λ (n : ℕ). is_lower 
 in_name : (w : List ℕ) → is_name w ≡ true → HasNoSpace w
 in_name [] h = absurd cc
 in_name (b ∷ bs) h =
-    let all = and_parts ((is_lower b || eqb b 95) && list_all is_name_byte bs) (leb (length (b ∷ bs)) 32) h in
+    let all = and_parts ((is_lower b || eqb b 95) && list_all is_name_byte bs) (leb (length (b ∷ bs)) 32) (name_shape (b ∷ bs) h) in
     let both = and_parts (is_lower b || eqb b 95) (list_all is_name_byte bs) all.0 in
     (name_start b both.0, all_bytes is_name_byte name_byte bs both.1)
 
 in_host : (w : List ℕ) → is_host_name w ≡ true → HasNoSpace w
 in_host [] h = absurd cc
 in_host (b ∷ bs) h =
-    let all = and_parts (is_lower b && list_all is_host_byte bs) (leb (length (b ∷ bs)) 32) h in
+    let all = and_parts (is_lower b && list_all is_host_byte bs) (leb (length (b ∷ bs)) 32) (host_shape (b ∷ bs) h) in
     let both = and_parts (is_lower b) (list_all is_host_byte bs) all.0 in
     (host_start b both.0, all_bytes is_host_byte host_byte bs both.1)
 

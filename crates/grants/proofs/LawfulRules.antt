@@ -4,6 +4,7 @@ use Rattle.std.specs.Prelude.{codes}
 use Rattle.std.specs.List.{AllByRecursion, list_all}
 use Rattle.std.proofs.lemmas.Bool.{and_parts, leb-true}
 use Rattle.std.proofs.lemmas.List.{length-append, length-map}
+use Rattle.sudo_words.proofs.NameLemmas.{name_shape, host_shape}
 use Rattle.sudo_words.specs.Word.{is_lower, is_name, is_name_byte, is_host_byte, is_host_name}
 use Rattle.sudo_words.specs.Command.{cmnd_text}
 use Rattle.sudo_policy.specs.declared.entry.Rule.{Rule}
@@ -53,11 +54,11 @@ canon_short (e ∷ es) n each = omega (arith, each.0, canon_short es n each.1, l
 name_short : (w : List ℕ) → is_name w ≡ true → length w ≤ 32
 name_short [] h = omega arith
 name_short (b ∷ bs) h =
-    leb-true (length (b ∷ bs)) 32 (and_parts ((is_lower b || eqb b 95) && list_all is_name_byte bs) (leb (length (b ∷ bs)) 32) h).1
+    leb-true (length (b ∷ bs)) 32 (and_parts ((is_lower b || eqb b 95) && list_all is_name_byte bs) (leb (length (b ∷ bs)) 32) (name_shape (b ∷ bs) h)).1
 
 host_short : (w : List ℕ) → is_host_name w ≡ true → length w ≤ 32
 host_short [] h = omega arith
-host_short (b ∷ bs) h = leb-true (length (b ∷ bs)) 32 (and_parts (is_lower b && list_all is_host_byte bs) (leb (length (b ∷ bs)) 32) h).1
+host_short (b ∷ bs) h = leb-true (length (b ∷ bs)) 32 (and_parts (is_lower b && list_all is_host_byte bs) (leb (length (b ∷ bs)) 32) (host_shape (b ∷ bs) h)).1
 
 -- texts of so many bytes at most
 within : (v w : List ℕ) (m n : ℕ) → length v ≤ m → length w ≤ n → length (v ++ w) ≤ m + n

@@ -17,7 +17,7 @@ use Rattle.grants.proofs.AdmissionLemmas.{command_outside}
 -- the site's ceiling has lawful commands
 lawful_ones : All IsLawful db_root.commands
 lawful_ones =
-    All-cons IsLawful (file (codes "/bin/ls")) (Dir (codes "/usr/bin/") ∷ []) (record { head = (refl, lit≤ tt); args = tt; short = lit≤ tt })
+    All-cons IsLawful (file (codes "/bin/ls")) (Dir (codes "/usr/bin/") ∷ []) (record { head = (refl, lit≤ tt, refl); args = tt; short = lit≤ tt })
     (All-cons IsLawful (Dir (codes "/usr/bin/")) [] (record { head = (refl, lit≤ tt); args = tt; short = lit≤ tt }) (All-nil IsLawful))
 
 -- a command that none of them holds

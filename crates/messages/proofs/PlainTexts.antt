@@ -13,7 +13,7 @@ use Rattle.serde_json.specs.View.{view}
 use Rattle.serde_json.specs.Written.{compact_text}
 use Rattle.serde_json.specs.declared.value.Value.{the_lemmas}
 use Rattle.serde_json.specs.declared.value.Value.TheVariants as values
-use Rattle.sudo_words.specs.Word.{is_lower, is_name, is_name_byte, is_host_name, is_host_byte, is_path_byte, is_arg, is_arg_byte}
+use Rattle.sudo_words.specs.Word.{is_lower, is_name, is_name_byte, is_host_name, is_host_byte, is_label, is_path_byte, is_arg, is_arg_byte}
 use Rattle.sudo_words.specs.Moment.{IsMoment, Spells, is_stamp_byte, stamp}
 use Rattle.sudo_words.specs.Command.{IsLawful, IsHead, IsArgRule, cmnd_text, head_text, rule_of, rule_text, spaced_arg}
 use Rattle.sudo_words.specs.declared.cmnd.Cmnd.{Cmnd}
@@ -21,6 +21,7 @@ use Rattle.sudo_words.specs.declared.cmnd.Cmnd.TheVariants as commands
 use Rattle.sudo_words.specs.declared.cmnd.ArgRule.{ArgRule}
 use Rattle.sudo_words.specs.declared.cmnd.ArgRule.TheVariants.{Any, Empty, Exactly}
 use Rattle.sudo_words.proofs.ArgLemmas.{arg_parts, arg_text_each}
+use Rattle.sudo_words.proofs.NameLemmas.{name_shape, host_shape}
 use Rattle.sudo_words.proofs.PathLemmas.{file_each, dir_each}
 use Rattle.sudo_words.proofs.MomentLemmas.{stamp_bytes, stamp_is, stamp_spells}
 use Rattle.messages.specs.Wire.{escaped, moment_text, quoted, list_text, kind_text, request_text}
@@ -141,16 +142,19 @@ stamp_byte_plain b h = grind (arith, nat_tests)
 pub name_plain : (w : List ℕ) → is_name w ≡ true → IsPlain w
 name_plain [] h = absurd cc
 name_plain (b ∷ bs) h =
-    let all = and_parts ((is_lower b || eqb b 95) && list_all is_name_byte bs) (leb (length (b ∷ bs)) 32) h in
+    let all = and_parts ((is_lower b || eqb b 95) && list_all is_name_byte bs) (leb (length (b ∷ bs)) 32) (name_shape (b ∷ bs) h) in
     let both = and_parts (is_lower b || eqb b 95) (list_all is_name_byte bs) all.0 in
     (name_start_plain b both.0, each_plain is_name_byte name_byte_plain bs both.1)
 
-pub host_plain : (w : List ℕ) → is_host_name w ≡ true → IsPlain w
-host_plain [] h = absurd cc
-host_plain (b ∷ bs) h =
+pub label_plain : (w : List ℕ) → is_label w ≡ true → IsPlain w
+label_plain [] h = absurd cc
+label_plain (b ∷ bs) h =
     let all = and_parts (is_lower b && list_all is_host_byte bs) (leb (length (b ∷ bs)) 32) h in
     let both = and_parts (is_lower b) (list_all is_host_byte bs) all.0 in
     (lower_plain b both.0, each_plain is_host_byte host_byte_plain bs both.1)
+
+pub host_plain : (w : List ℕ) → is_host_name w ≡ true → IsPlain w
+host_plain w h = label_plain w (host_shape w h)
 
 -- ---- commands: paths, and arguments behind spaces
 
@@ -191,6 +195,9 @@ escaped_name w h = escaped_plain w (name_plain w h)
 
 pub escaped_host : (w : List ℕ) → is_host_name w ≡ true → escaped w ≡ w
 escaped_host w h = escaped_plain w (host_plain w h)
+
+pub escaped_label : (w : List ℕ) → is_label w ≡ true → escaped w ≡ w
+escaped_label w h = escaped_plain w (label_plain w h)
 
 pub view_string : (s : String Global) → view (values.String s) ≡ string (string_bytes s)
 view_string s = search (rules, the_lemmas)

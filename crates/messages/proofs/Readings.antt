@@ -25,7 +25,7 @@ use Rattle.messages.specs.private.Members.{strings, request_value, verdict_value
 use Rattle.messages.specs.Wire.{escaped, quoted, moment_text, rest_text, list_text, kind_text, request_text, verdict_text, wire, IsMessage}
 use Rattle.messages.specs.declared.message.Message.{Message}
 use Rattle.messages.specs.declared.message.Message.TheVariants.{Request, Verdict}
-use Rattle.messages.proofs.PlainTexts.{IsPlain, IsPrinted, printed_plain, escape_printed, ascii_escaped, ascii_literal, name_plain, host_plain, moment_plain, request_plain, kind_plain, hosts_printed, cmnds_printed}
+use Rattle.messages.proofs.PlainTexts.{IsPlain, IsPrinted, printed_plain, escape_printed, ascii_escaped, ascii_literal, name_plain, label_plain, moment_plain, request_plain, kind_plain, hosts_printed, cmnds_printed}
 
 -- ---- a value whose text is known, and reads as the value
 
@@ -220,7 +220,7 @@ fits n h = omega arith
 pub said_asked : (r : RequestFields) → IsRequest r → IsSaid 2 (request_value r) (request_text r)
 said_asked r h =
     said_request _ _ _ _ _ _ _ _ _ _ _ _ _ _ _ _ _ _ _ _
-    (said_plain (moment_text r.at) (moment_plain r.at h.at)) (said_plain r.by (name_plain r.by h.by)) (said_plain r.ceiling (host_plain r.ceiling h.ceiling))
+    (said_plain (moment_text r.at) (moment_plain r.at h.at)) (said_plain r.by (name_plain r.by h.by)) (said_plain r.ceiling (label_plain r.ceiling h.ceiling))
     (said_list (map cmnd_text r.cmnds) (cmnds_printed r.cmnds h.cmnds.1)) (said_plain (moment_text r.from) (moment_plain r.from h.from))
     (said_list r.hosts (hosts_printed r.hosts h.hosts.1)) (said_plain (codes "request") request_plain) (said_number r.no (fits r.no h.no))
     (said_plain r.runas (name_plain r.runas h.runas)) (said_plain (moment_text r.until) (moment_plain r.until h.until))

@@ -130,7 +130,7 @@ fn push_cmnds(out: &mut String, alloc: Global, cmnds: &[Cmnd]) -> Result<(), NoM
 }
 
 /// Appends the members that say who asks for what, but for the commands.
-#[tactic(auto, using(crate::proofs::PlainTexts::escaped_name, crate::proofs::PlainTexts::escaped_host))]
+#[tactic(auto, using(crate::proofs::PlainTexts::escaped_name, crate::proofs::PlainTexts::escaped_label))]
 fn push_asked(out: &mut String, r: &Request) -> Result<(), AllocError>
     ensures { OnOk result (string_bytes out.new ≡ string_bytes out.old
         ++ codes "{\"at\":" ++ wires.quoted (wires.moment_text r.now.at)

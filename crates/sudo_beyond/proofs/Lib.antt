@@ -7,6 +7,7 @@ pub mod CmndCases
 pub mod Counting
 pub mod Everywhere
 pub mod PolicyForms
+pub mod KeywordLemmas
 pub mod Lists
 pub mod Others
 pub mod DecisionLemmas

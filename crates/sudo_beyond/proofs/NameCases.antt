@@ -1,12 +1,12 @@
 -- A name's case: itself where it is fixed or stands, else the first other.
-use Rattle.std.proofs.Common.{◌≡◌, ℕ, ◌+◌, ◌^◌, ◌<◌, Bool, true, false, leb, ◌&&◌, Option, Some, None, List, [], ◌∷◌, ◌++◌, length, refl, sym, ap, ◌∙◌, inl, inr, arith}
+use Rattle.std.proofs.Common.{◌≡◌, ℕ, ◌+◌, ◌^◌, ◌<◌, Bool, true, false, not, leb, ◌&&◌, Option, Some, None, List, [], ◌∷◌, ◌++◌, length, refl, sym, ap, ◌∙◌, inl, inr, arith}
 use Rattle.std.specs.Prelude.{codes}
 use Rattle.std.specs.List.{AllByRecursion, list_any, list_all}
 use Rattle.std.specs.Str.{bytes_eq}
 use Rattle.std.specs.Fmt.{decimal}
 use Rattle.std.proofs.lemmas.Bool.{cases_Bool, agree_below_at, or_parts, and_from, le-leb}
 use Rattle.std.proofs.lemmas.Slice.Eq.{bytes_eq-Decides}
-use Rattle.sudo_words.specs.Word.{is_name, is_host_name, is_name_byte, is_host_byte, is_path_byte, is_arg_byte, is_component, is_arg}
+use Rattle.sudo_words.specs.Word.{is_name, is_name_shape, is_host_name, is_label, is_keyword, is_name_byte, is_host_byte, is_path_byte, is_arg_byte, is_component, is_arg}
 use Rattle.sudo_beyond.specs.Alike.{AlikeNames}
 use Rattle.sudo_beyond.specs.Beyond.{Agrees}
 use Rattle.sudo_beyond.specs.Cases.{other, has}
@@ -30,17 +30,26 @@ path_digit b small = agree_below_at (λ d. is_path_byte (48 + d)) (λ d. true) 1
 arg_digit : (b : ℕ) → b < 10 → is_arg_byte (48 + b) ≡ true
 arg_digit b small = agree_below_at (λ d. is_arg_byte (48 + d)) (λ d. true) 10 b refl small
 
+-- no keyword begins as they do
+other_no_keyword : (k : ℕ) → not (is_keyword (other k)) ≡ true
+unfolding is_keyword
+other_no_keyword k = refl
+
 pub other_name : IsFormOfOthers is_name
 other_name k small =
-    and_from (list_all is_name_byte (codes "ther" ++ decimal k)) (leb (length (other k)) 32)
+    and_from (is_name_shape (other k)) (not (is_keyword (other k)))
+    (and_from (list_all is_name_byte (codes "ther" ++ decimal k)) (leb (length (other k)) 32)
     (other_all is_name_byte refl name_digit k small)
-    (le-leb (length (other k)) 32 (omega (arith, other_length k small)))
+    (le-leb (length (other k)) 32 (omega (arith, other_length k small))))
+    (other_no_keyword k)
 
 pub other_host : IsFormOfOthers is_host_name
 other_host k small =
-    and_from (list_all is_host_byte (codes "ther" ++ decimal k)) (leb (length (other k)) 32)
+    and_from (is_label (other k)) (not (is_keyword (other k)))
+    (and_from (list_all is_host_byte (codes "ther" ++ decimal k)) (leb (length (other k)) 32)
     (other_all is_host_byte refl host_digit k small)
-    (le-leb (length (other k)) 32 (omega (arith, other_length k small)))
+    (le-leb (length (other k)) 32 (omega (arith, other_length k small))))
+    (other_no_keyword k)
 
 pub other_component : IsFormOfOthers is_component
 other_component k small =

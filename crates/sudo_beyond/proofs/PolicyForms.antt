@@ -35,21 +35,21 @@ names_of form list is =
     all_flat (λ name. form name ≡ true) (λ s. name_in s.item) list
     (all_weaker (λ s. IsItem form s.item) (λ s. AllByRecursion (λ name. form name ≡ true) (name_in s.item)) list (λ s. name_of form s.item) is)
 
-entry_users : (e : Entry) → IsEntry e → AllByRecursion (λ name. is_name name ≡ true) (names_in (users_of e))
+pub entry_users : (e : Entry) → IsEntry e → AllByRecursion (λ name. is_name name ≡ true) (names_in (users_of e))
 entry_users (entries.UserAlias name list) is = names_of is_name list is.1.1
 entry_users (entries.RunasAlias name list) is = tt
 entry_users (entries.HostAlias name list) is = tt
 entry_users (entries.CmndAlias name list) is = tt
 entry_users (entries.Rule rule) is = names_of is_name rule.users is.users.1
 
-entry_runas : (e : Entry) → IsEntry e → AllByRecursion (λ name. is_name name ≡ true) (names_in (runas_of e))
+pub entry_runas : (e : Entry) → IsEntry e → AllByRecursion (λ name. is_name name ≡ true) (names_in (runas_of e))
 entry_runas (entries.UserAlias name list) is = tt
 entry_runas (entries.RunasAlias name list) is = names_of is_name list is.1.1
 entry_runas (entries.HostAlias name list) is = tt
 entry_runas (entries.CmndAlias name list) is = tt
 entry_runas (entries.Rule rule) is = names_of is_name rule.runas is.runas.1
 
-entry_hosts : (e : Entry) → IsEntry e → AllByRecursion (λ name. is_host_name name ≡ true) (names_in (hosts_of e))
+pub entry_hosts : (e : Entry) → IsEntry e → AllByRecursion (λ name. is_host_name name ≡ true) (names_in (hosts_of e))
 entry_hosts (entries.UserAlias name list) is = tt
 entry_hosts (entries.RunasAlias name list) is = tt
 entry_hosts (entries.HostAlias name list) is = names_of is_host_name list is.1.1
@@ -84,7 +84,7 @@ lawful_list list is =
     all_flat IsLawful (λ s. cmnd_in s.item) list
     (all_weaker (λ s. IsCmndItem s.item) (λ s. AllByRecursion IsLawful (cmnd_in s.item)) list (λ s. lawful_in s.item) is)
 
-lawful_entry : (e : Entry) → IsEntry e → AllByRecursion IsLawful (cmnds_in (cmnds_of e))
+pub lawful_entry : (e : Entry) → IsEntry e → AllByRecursion IsLawful (cmnds_in (cmnds_of e))
 lawful_entry (entries.UserAlias name list) is = tt
 lawful_entry (entries.RunasAlias name list) is = tt
 lawful_entry (entries.HostAlias name list) is = tt

@@ -1,16 +1,19 @@
 //! Laws of what lies beyond a policy, each the contract of a function that does nothing.
 
-ghost use Rattle.std.specs.Prelude.{◌≡◌, ℕ, ◌≤◌, ◌++◌, true, List, [], ◌∷◌, length, Some, codes};
+ghost use Rattle.std.specs.Prelude.{◌≡◌, ℕ, ◌≤◌, ◌++◌, true, false, List, [], ◌∷◌, length, Some, codes};
 ghost use Rattle.std.specs.List.{AllByRecursion, Contains, flat_map};
 ghost use Rattle.sudo_words.specs.Moment.{IsMoment};
-ghost use Rattle.sudo_words.specs.Word.{is_name, is_host_name, is_file_path, is_arg};
+ghost use Rattle.sudo_words.specs.Word.{is_name, is_host_name, is_keyword, is_file_path, is_arg};
+ghost use Rattle.sudo_words.specs.declared.cmnd.ArgRule.{ArgRule as Ruled};
+ghost use Rattle.sudo_words.specs.declared.cmnd.Cmnd.TheVariants.{Path as File};
 ghost use Rattle.sudo_policy.specs.declared.entry.Entry.{Entry};
 ghost use Rattle.sudo_policy.specs.declared.entry.Signed.{Signed};
 ghost use Rattle.sudo_policy.specs.declared.entry.Item.{Item};
 ghost use Rattle.sudo_policy.specs.declared.entry.CmndItem.{CmndItem};
 ghost use Rattle.sudo_policy.specs.declared.tree.Definition.{Definition};
 ghost use Rattle.sudo_policy.specs.Policy.{IsPolicy};
-ghost use Rattle.sudo_policy.specs.Text.{Names};
+ghost use Rattle.sudo_policy.specs.Spelling.{Spells};
+ghost use Rattle.sudo_policy.specs.Text.{Names, Text};
 ghost use Rattle.sudo_decide.specs.declared.decision.Decision.{Decision};
 ghost use Rattle.sudo_decide.specs.declared.decision.Decision.TheVariants.{Deny};
 ghost use Rattle.sudo_decide.specs.declared.invocation.Invocation.{Invocation};
@@ -105,6 +108,16 @@ pub fn cases_suffice()
 {}
 
 // ---- policies
+
+/// A text that spells a policy has no command whose file sudo takes for its own command `sudoedit`, in rules and in aliases, used or
+/// not; and nobody and no host in it is named by a word with which sudo begins a command.
+pub fn nothing_of_sudos_own()
+    ensures commands { (text : Text) (es : List Entry) → Spells text es →
+        AllByRecursion (λ c. (front : List ℕ) (rule : Ruled) → c ≡ File (front ++ codes "/sudoedit") rule → ⊥) (commands es) }
+    ensures users { (text : Text) (es : List Entry) → Spells text es → AllByRecursion (λ w. is_keyword w ≡ false) (users es) }
+    ensures hosts { (text : Text) (es : List Entry) → Spells text es → AllByRecursion (λ w. is_keyword w ≡ false) (hosts es) }
+    ensures targets { (text : Text) (es : List Entry) → Spells text es → AllByRecursion (λ w. is_keyword w ≡ false) (runas es) }
+{}
 
 /// Nothing lies beyond a policy itself.
 pub fn nothing_beyond_itself()

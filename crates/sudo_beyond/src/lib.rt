@@ -22,6 +22,6 @@ pub use laws::{
     alike_commands, alike_decide, alike_names, beyond_is_decided, cases_are_invocations,
     cases_suffice, each_command_has_a_case, each_host_has_a_case, each_moment_has_a_case,
     each_target_has_a_case, each_user_has_a_case, nothing_beyond_a_third, nothing_beyond_itself,
-    one_list_of_each, wider_scope, worked_beyond,
+    nothing_of_sudos_own, one_list_of_each, wider_scope, worked_beyond,
 };
 pub use order::in_order;

@@ -3,9 +3,9 @@ use Rattle.std.proofs.Common.{◌≡◌, ℕ, Bool, true, false, not, ◌&&◌, 
 use Rattle.std.specs.Prelude.{nat_le, nat_lt, if◌then◌else◌, IfSome}
 use Rattle.std.specs.List.{AllByRecursion, list_all}
 use Rattle.std.specs.Option.{option_map_or}
-use Rattle.std.proofs.lemmas.Bool.{and_parts, leb-true, ltb-true}
+use Rattle.std.proofs.lemmas.Bool.{and_parts, leb-true, ltb-true, not-true}
 use Rattle.sudo_words.specs.Bytes.{space}
-use Rattle.sudo_words.specs.Word.{is_name, is_host_name, is_alias_name, is_file_path, is_dir_path, is_arg}
+use Rattle.sudo_words.specs.Word.{is_name, is_host_name, is_alias_name, is_file_path, is_dir_path, is_sudoedit, is_arg}
 use Rattle.sudo_words.specs.Moment.{IsMoment}
 use Rattle.sudo_words.specs.Command.{IsHead, IsArgRule, cmnd_text, rule_of}
 use Rattle.sudo_words.specs.declared.cmnd.Cmnd.{Cmnd}
@@ -135,12 +135,15 @@ item_is form (items.Alias name) h = h
 
 abbrev head_ok : Cmnd → Bool
 head_ok commands.All = true
-head_ok (commands.Path file rule) = is_file_path file && nat_le (length file) 255
+head_ok (commands.Path file rule) = is_file_path file && nat_le (length file) 255 && not (is_sudoedit file)
 head_ok (commands.Dir dir) = is_dir_path dir && nat_le (length dir) 255
 
 head_is : (c : Cmnd) → head_ok c ≡ true → IsHead c
 head_is commands.All h = tt
-head_is (commands.Path file rule) h = let parts = and_parts (is_file_path file) (nat_le (length file) 255) h in (parts.0, leb-true (length file) 255 parts.1)
+head_is (commands.Path file rule) h =
+    let parts = and_parts (is_file_path file && nat_le (length file) 255) (not (is_sudoedit file)) h in
+    let more = and_parts (is_file_path file) (nat_le (length file) 255) parts.0 in
+    (more.0, leb-true (length file) 255 more.1, not-true (is_sudoedit file) parts.1)
 head_is (commands.Dir dir) h = let parts = and_parts (is_dir_path dir) (nat_le (length dir) 255) h in (parts.0, leb-true (length dir) 255 parts.1)
 
 all_is : {X : Type 0} (p : X → Bool) (P : X → Type 0) → ((x : X) → p x ≡ true → P x) → (xs : List X) → list_all p xs ≡ true → AllByRecursion P xs

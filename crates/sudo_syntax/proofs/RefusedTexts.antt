@@ -4,7 +4,7 @@ use Rattle.std.specs.Prelude.{codes}
 use Rattle.std.specs.List.{list_all}
 use Rattle.std.proofs.lemmas.Bool.{false≢true}
 use Rattle.sudo_words.specs.Bytes.{equals, comma, colon, bang}
-use Rattle.sudo_words.specs.Word.{is_name, is_host_name, is_file_path, is_reserved}
+use Rattle.sudo_words.specs.Word.{is_name, is_host_name, is_file_path, is_keyword, is_reserved}
 use Rattle.sudo_words.specs.declared.cmnd.Cmnd.TheVariants as commands
 use Rattle.sudo_words.specs.declared.cmnd.ArgRule.TheVariants as rules
 use Rattle.sudo_policy.specs.declared.entry.Signed.{Signed}
@@ -35,6 +35,7 @@ use Rattle.sudo_syntax.proofs.WorkedTexts.{plain, one_line, spells_line, yes, pa
 
 line_spelled : (text line : List ℕ) (es : List Entry) → lines_of text ≡ line ∷ [] → list_all is_no_hash line ≡ true → ends_in_backslash line ≡ false
     → Spells text es → (here : List Entry) × SpellsLine line here
+unfolding is_keyword
 line_spelled text line es one none last s =
     let joined : Joined (line ∷ []) s.joined = subst (λ (ls : List (List ℕ)). Joined ls s.joined) one s.lines in
     let same : s.joined ≡ line ∷ [] = joined_one (line ∷ []) s.joined (line ∷ []) joined (plain line [] [] none last refl) in
@@ -52,6 +53,7 @@ blank_lexes =
     (record { whole = refl; each = (refl, tt); stops = refl }) refl
 
 pub blank_none : SpellsNone blank_text
+unfolding is_keyword
 blank_none es s = let line = line_spelled blank_text blank_text es refl refl refl s in blank_lexes line.1.0 line.1.1
 
 -- ---- a line that goes on inside a word
@@ -72,7 +74,7 @@ abbrev use_line : Line
 use_line = user_spec (yes (items.Alias (codes "B"))) (part (codes "db1") (only (yes all)) ∷ [])
 
 use_tree : SpellsTree (word false 0 (codes "B") ∷ all_toks) use_line
-unfolding is_reserved
+unfolding is_reserved is_keyword
 use_tree = (_, (_, item refl, refl), refl, (_, record { spaced = true; next = _; hosts = (_, item refl, refl); specs = (_, only_spelled (cmnd (cmnd_is all refl)), refl) }, refl))
 
 abbrev below_entries : List Entry
@@ -228,6 +230,7 @@ abbrev dir_text : List ℕ
 dir_text = codes "ann db1 = /usr/bin/ -l"
 
 pub dir_none : SpellsNone dir_text
+unfolding is_keyword
 dir_none es s =
     let line = line_spelled dir_text dir_text es refl refl refl s in
     let has = line_args dir_text (codes "ann") (codes "db1") (codes "/usr/bin/") (codes "-l") [] line.0 refl (lexed (Begun (codes "ann") (codes "db1") (codes "/usr/bin/") (codes "-l") []) [] refl) line.1 in
@@ -265,6 +268,7 @@ abbrev colon_tail : List Tok
 colon_tail = mark false colon ∷ word false 0 (codes "b") ∷ []
 
 pub colon_none : SpellsNone colon_text
+unfolding is_keyword
 colon_none es s =
     let line = line_spelled colon_text colon_text es refl refl refl s in
     let has = line_args colon_text (codes "ann") (codes "db1") (codes "/bin/echo") (codes "a") colon_tail line.0 refl (lexed (Begun (codes "ann") (codes "db1") (codes "/bin/echo") (codes "a") colon_tail) [] refl) line.1 in

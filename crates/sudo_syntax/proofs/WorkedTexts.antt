@@ -3,7 +3,7 @@ use Rattle.std.proofs.Common.{◌≡◌, ℕ, true, false, List, [], ◌∷◌, 
 use Rattle.std.specs.List.{list_all}
 use Rattle.std.proofs.lemmas.List.{append-nil}
 use Rattle.sudo_words.specs.Bytes.{equals, comma, colon, opening, closing}
-use Rattle.sudo_words.specs.Word.{is_reserved}
+use Rattle.sudo_words.specs.Word.{is_keyword, is_reserved}
 use Rattle.sudo_words.specs.Moment as moments
 use Rattle.sudo_words.specs.Moment.{IsClockText, date_of, date_from_year, date_from_month}
 use Rattle.sudo_words.proofs.MomentLemmas.{date_text_is, spells_from}
@@ -76,9 +76,11 @@ abbrev signs_line : Line
 signs_line = user_spec (user (codes "ann")) (part (codes "db1") (only (no su)) ∷ [])
 
 signs_tree : SpellsTree (word false 2 (codes "ann") ∷ signs_toks) signs_line
+unfolding is_keyword
 signs_tree = (_, (_, item refl, refl), refl, (_, record { spaced = true; next = _; hosts = (_, item refl, refl); specs = (_, only_spelled (cmnd (cmnd_is su refl)), refl) }, refl))
 
 pub signs_spell : SpellsAs signs_text (codes "ann db1 = (root) !/bin/su\n")
+unfolding is_keyword
 signs_spell = (
   entries_of signs_line,
   spelled signs_text (signs_text ∷ []) (entries_of signs_line) refl (plain signs_text [] [] refl refl refl)
@@ -98,9 +100,11 @@ abbrev all_line : Line
 all_line = user_spec (user (codes "ann")) (part (codes "db1") (only (yes all)) ∷ [])
 
 all_tree : SpellsTree (word false 0 (codes "ann") ∷ all_toks) all_line
+unfolding is_keyword
 all_tree = (_, (_, item refl, refl), refl, (_, record { spaced = true; next = _; hosts = (_, item refl, refl); specs = (_, only_spelled (cmnd (cmnd_is all refl)), refl) }, refl))
 
 pub note_spell : SpellsAs (codes "ann db1 = ALL # see #12") (codes "ann db1 = (root) ALL\n")
+unfolding is_keyword
 note_spell = (
   entries_of all_line,
   spelled (codes "ann db1 = ALL # see #12") (note_body ∷ []) (entries_of all_line) refl
@@ -121,6 +125,7 @@ abbrev ls_line : Line
 ls_line = user_spec (user (codes "ann")) (part (codes "db1") (only (yes ls)) ∷ [])
 
 ls_tree : SpellsTree (word false 0 (codes "ann") ∷ ls_toks) ls_line
+unfolding is_keyword
 ls_tree = (_, (_, item refl, refl), refl, (_, record { spaced = true; next = _; hosts = (_, item refl, refl); specs = (_, only_spelled (cmnd (cmnd_is ls refl)), refl) }, refl))
 
 continued_lexes : Lexes continued (word false 0 (codes "ann") ∷ ls_toks)
@@ -129,6 +134,7 @@ continued_lexes =
     (codes "  ", [], (refl, (refl, tt)), refl, (lit< tt, refl, refl), refl, tt)
 
 pub continued_spell : SpellsAs (codes "ann db1 = \\\n/bin/ls") (codes "ann db1 = (root) /bin/ls\n")
+unfolding is_keyword
 continued_spell = (
   entries_of ls_line,
   spelled (codes "ann db1 = \\\n/bin/ls") (continued ∷ []) (entries_of ls_line) refl
@@ -153,7 +159,7 @@ users_line =
     ∷ record { name = codes "B"; list = yes (items.Alias (codes "A")) ∷ no (items.Name (codes "bob")) ∷ [] } ∷ [])
 
 users_tree : SpellsTree (word false 0 (codes "User_Alias") ∷ users_toks) users_line
-unfolding is_reserved
+unfolding is_reserved is_keyword
 users_tree = (
   false,
   _,
@@ -181,7 +187,7 @@ abbrev parts_line : Line
 parts_line = user_spec (yes (items.Alias (codes "B"))) (part (codes "db1") (only (yes ls)) ∷ part (codes "db2") as_anyone ∷ [])
 
 parts_tree : SpellsTree (word false 0 (codes "B") ∷ parts_toks) parts_line
-unfolding is_reserved
+unfolding is_reserved is_keyword
 parts_tree = (
   _,
   (_, item refl, refl),
@@ -228,7 +234,7 @@ abbrev aliases_entries : List Entry
 aliases_entries = entries_of users_line ++ entries_of parts_line
 
 pub aliases_spell : SpellsAs aliases_text (codes "User_Alias A = ann, bob\nUser_Alias B = A, !bob\nB db1 = (root) /bin/ls\nB db2 = (ALL) ALL\n")
-unfolding is_reserved
+unfolding is_reserved is_keyword
 aliases_spell = (
   aliases_entries,
   spelled aliases_text (users_text ∷ parts_text ∷ []) aliases_entries refl (plain users_text (parts_text ∷ []) (parts_text ∷ []) refl refl (plain parts_text [] [] refl refl refl)) (
@@ -250,7 +256,7 @@ abbrev host_line : Line
 host_line = lines.Hosts (record { name = codes "B"; list = user (codes "db1") ∷ [] } ∷ [])
 
 host_tree : SpellsTree (word false 0 (codes "Host_Alias") ∷ host_toks) host_line
-unfolding is_reserved
+unfolding is_reserved is_keyword
 host_tree = (false, _, refl, refl, (_, record { name_spaced = true; spaced = true; next = _; toks = refl; name = refl; list = (_, item refl, refl) }, refl))
 
 abbrev pub user_toks : List Tok
@@ -260,7 +266,7 @@ abbrev pub user_line : Line
 user_line = lines.Users (record { name = codes "B"; list = user (codes "ann") ∷ [] } ∷ [])
 
 pub user_tree : SpellsTree (word false 0 (codes "User_Alias") ∷ user_toks) user_line
-unfolding is_reserved
+unfolding is_reserved is_keyword
 user_tree = (false, _, refl, refl, (_, record { name_spaced = true; spaced = true; next = _; toks = refl; name = refl; list = (_, item refl, refl) }, refl))
 
 abbrev both_toks : List Tok
@@ -270,7 +276,7 @@ abbrev both_line : Line
 both_line = user_spec (yes (items.Alias (codes "B"))) (record { hosts = yes (items.Alias (codes "B")) ∷ []; specs = only (yes all) ∷ [] } ∷ [])
 
 both_tree : SpellsTree (word false 0 (codes "B") ∷ both_toks) both_line
-unfolding is_reserved
+unfolding is_reserved is_keyword
 both_tree = (_, (_, item refl, refl), refl, (_, record { spaced = true; next = _; hosts = (_, item refl, refl); specs = (_, only_spelled (cmnd (cmnd_is all refl)), refl) }, refl))
 
 abbrev kinds_text : List ℕ
@@ -280,7 +286,7 @@ abbrev kinds_entries : List Entry
 kinds_entries = entries_of host_line ++ entries_of user_line ++ entries_of both_line
 
 pub kinds_spell : SpellsAs kinds_text (codes "Host_Alias B = db1\nUser_Alias B = ann\nB B = (root) ALL\n")
-unfolding is_reserved
+unfolding is_reserved is_keyword
 kinds_spell =
     let a = codes "Host_Alias B = db1" in
     let b = codes "User_Alias B = ann" in
@@ -317,9 +323,11 @@ abbrev echo_line : Line
 echo_line = user_spec (user (codes "ann")) (part (codes "db1") (only (yes echo)) ∷ [])
 
 echo_tree : SpellsTree (word false 0 (codes "ann") ∷ echo_toks) echo_line
+unfolding is_keyword
 echo_tree = (_, (_, item refl, refl), refl, (_, record { spaced = true; next = _; hosts = (_, item refl, refl); specs = (_, only_spelled (cmnd (cmnd_is echo refl)), refl) }, refl))
 
 pub echo_spell : Spells echo_text (may_run (commands.Path (codes "/bin/echo") (rules.Exactly (codes "a:b" ∷ []))))
+unfolding is_keyword
 echo_spell =
     spelled echo_text (echo_text ∷ []) (entries_of echo_line) refl (plain echo_text [] [] refl refl refl)
     (one_line echo_text (entries_of echo_line) (spells_line echo_text (word false 0 (codes "ann")) echo_toks echo_line (lexed (word false 0 (codes "ann") ∷ echo_toks) [] refl) echo_tree)) refl
@@ -337,9 +345,11 @@ abbrev bin_line : Line
 bin_line = user_spec (user (codes "ann")) (part (codes "db1") (only (yes bin)) ∷ [])
 
 bin_tree : SpellsTree (word false 0 (codes "ann") ∷ bin_toks) bin_line
+unfolding is_keyword
 bin_tree = (_, (_, item refl, refl), refl, (_, record { spaced = true; next = _; hosts = (_, item refl, refl); specs = (_, only_spelled (cmnd (cmnd_is bin refl)), refl) }, refl))
 
 pub bin_spell : Spells bin_text (may_run (commands.Dir (codes "/usr/bin/")))
+unfolding is_keyword
 bin_spell =
     spelled bin_text (bin_text ∷ []) (entries_of bin_line) refl (plain bin_text [] [] refl refl refl)
     (one_line bin_text (entries_of bin_line) (spells_line bin_text (word false 0 (codes "ann")) bin_toks bin_line (lexed (word false 0 (codes "ann") ∷ bin_toks) [] refl) bin_tree)) refl
@@ -378,6 +388,7 @@ abbrev dates_line : Line
 dates_line = user_spec (user (codes "ann")) (record { hosts = user (codes "db1") ∷ []; specs = until ∷ since ∷ [] } ∷ part (codes "db2") (only (yes ls)) ∷ [])
 
 dates_tree : SpellsTree (word false 0 (codes "ann") ∷ dates_toks) dates_line
+unfolding is_keyword
 dates_tree = (
   _,
   (_, item refl, refl),

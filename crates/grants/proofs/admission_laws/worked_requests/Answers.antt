@@ -32,10 +32,10 @@ pub returns-clause-target : goal.returns-clause-target
 returns-clause-target c = target_outside site (asked_as (codes "op")) db_root (record { listed = refl; ceiling_is = refl; may_ask = refl }) refl refl
 
 pub returns-clause-command : goal.returns-clause-command
-returns-clause-command c = no_command (file (codes "/bin/cat")) (record { head = (refl, lit≤ tt); args = tt; short = lit≤ tt }) refl
+returns-clause-command c = no_command (file (codes "/bin/cat")) (record { head = (refl, lit≤ tt, refl); args = tt; short = lit≤ tt }) refl
 
 pub returns-clause-below_directory : goal.returns-clause-below_directory
-returns-clause-below_directory c = no_command (file (codes "/usr/bin/x/y")) (record { head = (refl, lit≤ tt); args = tt; short = lit≤ tt }) refl
+returns-clause-below_directory c = no_command (file (codes "/usr/bin/x/y")) (record { head = (refl, lit≤ tt, refl); args = tt; short = lit≤ tt }) refl
 
 pub returns-clause-parent : goal.returns-clause-parent
 returns-clause-parent c = no_command (Dir (codes "/usr/")) (record { head = (refl, lit≤ tt); args = tt; short = lit≤ tt }) refl

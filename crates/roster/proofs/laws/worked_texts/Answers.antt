@@ -3,6 +3,7 @@ use Rattle.std.specs.Prelude.{codes}
 use Rattle.std.proofs.lemmas.List.Elements.{All-nil}
 use Rattle.std.proofs.lemmas.Option.{none-some}
 use Rattle.sudo_words.specs.Command.{IsLawful}
+use Rattle.sudo_words.specs.Word.{is_keyword}
 use Rattle.toml.proofs.OnLiterals.{toml_on_literals}
 use Rattle.toml.specs.Data.{Members, no_members, member, integer, array, table, string, no_items, item}
 use Rattle.toml.specs.Parse.{parse_document}
@@ -81,7 +82,7 @@ unfolding toml_on_literals
 its_document = refl
 
 pub returns-clause-smallest_roster : goal.returns-clause-smallest_roster
-unfolding has_known_keys fields_of good_names are_known has_self_conflict in_range
+unfolding has_known_keys fields_of good_names are_known has_self_conflict in_range is_keyword
 returns-clause-smallest_roster c = record {
   document = document;
   toml = its_document;

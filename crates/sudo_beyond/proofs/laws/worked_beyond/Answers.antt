@@ -1,5 +1,6 @@
 use Rattle.std.proofs.Common.{true, [], refl, inl, inr, arith}
 use Rattle.std.specs.Prelude.{codes}
+use Rattle.sudo_words.specs.Word.{is_keyword}
 use Rattle.sudo_decide.specs.declared.decision.Decision.TheVariants.{Deny}
 use Rattle.sudo_decide.specs.Decision.{Decides}
 use Rattle.sudo_beyond.specs.Worked.{all_but_bob, runs_other}
@@ -7,6 +8,7 @@ use Rattle.sudo_beyond.proofs.DecisionLemmas.{not_both}
 use Rattle.sudo_beyond.proofs.laws.worked_beyond.Goals as goal
 
 pub returns-clause-somebody : goal.returns-clause-somebody
+unfolding is_keyword
 returns-clause-somebody c = record {
   form = record { user = refl; host = refl; runas = refl; path = refl; args = tt; few_args = omega arith; at = omega arith };
   scope = record { user = tt; host = tt; runas = tt };
