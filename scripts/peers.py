@@ -2,13 +2,15 @@
 """Asks sudo itself what the desk decides.
 
 Each policy under examples/ that the desk accepts and its canonical text, and each text of cases/checked.toml and its canonical text
-there, must pass `visudo -cf`; each invocation of examples/peers/invocations must be answered by `sudo -l` as `desk decide` answers it. sudo compares files by inode, so
+there, must pass `visudo -cf`, and so must the canonical text of each random text of odd words that the desk accepts; each invocation of
+examples/peers/invocations must be answered by `sudo -l` as `desk decide` answers it. sudo compares files by inode, so
 the commands are small files of this script's own under /srv, and its clock stands still at the moment that is asked about
 (`faketime -f`). All runs in a mount namespace of its own, with its own /etc/sudoers and /etc/passwd bound over the machine's, so
 nothing of the machine changes. `sudo -l` says nothing of NOPASSWD: only allow and deny are compared.
 """
 
 import os
+import random
 import shutil
 import subprocess
 import sys
@@ -24,6 +26,13 @@ USERS = ("ann", "bob", "eve", "op", "dba")
 # where sudo really differs, by choice of the desk (docs/DECISIONS.md, "Beside sudo"): it refuses these, and the desk reads them
 DIFFERS = ("ann db1 = ALL \\\n",)
 COMMANDS = ("bin/ls", "bin/kill", "bin/echo", "lib/tool", "lib/danger", "lib/deep/tool")
+# words that mean something to sudo, in whatever place, and some that do not
+ODD_WORDS = (
+    "sudoedit sha224 sha256 sha384 sha512 list all include includedir defaults regex root sudo visudo sudoers localhost any none yes no "
+    "notbefore notafter timeout cwd chroot role type privs limitprivs apparmor_profile passwd nopasswd exec noexec setenv nosetenv log_input "
+    "log_output mail nomail follow nofollow intercept nointercept user_alias host_alias runas_alias cmnd_alias cmd_alias ann db1 _ e e1 sha sha1 md5"
+).split()
+ODD_TEXTS = 1500
 
 
 def tool(name):
@@ -125,6 +134,81 @@ def check_policies(visudo, folder):
     return texts, wrong
 
 
+def odd_word(rng, letters, upper=False):
+    """A word that means something to sudo, as it stands or with a letter more or less."""
+    word = rng.choice(ODD_WORDS)
+    if upper and rng.random() < 0.3:
+        word = word.upper()
+    change = rng.randrange(8)
+    if change == 0:
+        word += rng.choice(letters)
+    elif change == 1:
+        word = rng.choice(letters) + word
+    elif change == 2:
+        place = rng.randrange(len(word) + 1)
+        word = word[:place] + rng.choice(letters) + word[place:]
+    elif change == 3 and len(word) > 1:
+        place = rng.randrange(len(word))
+        word = word[:place] + word[place + 1 :]
+    return word
+
+
+def odd_list(rng, item):
+    """One to three items, some of them negated."""
+    return ", ".join(rng.choice(("", "", "", "!")) + item() for _ in range(rng.choice((1, 1, 1, 2, 3))))
+
+
+def odd_names(rng, letters):
+    return odd_list(rng, lambda: "ALL" if rng.random() < 0.05 else odd_word(rng, letters))
+
+
+def odd_command(rng):
+    """A file or a directory, and arguments."""
+    path = "".join("/" + odd_word(rng, "az09AZ._+-", upper=True) for _ in range(rng.choice((1, 2, 2, 3))))
+    kind = rng.randrange(6)
+    if kind == 0:
+        return path + "/"
+    if kind == 1:
+        return path + ' ""'
+    if kind == 2:
+        return path + "".join(" " + odd_argument(rng) for _ in range(rng.choice((1, 2, 3))))
+    return path
+
+
+def odd_argument(rng):
+    front = rng.choice(("", "", "-", "--", "/", "@", "%", "+", "\\:", "\\=", "\\,"))
+    return front + odd_word(rng, ("a", "9", "Z", ".", "_", "/", "+", "-", "@", "%", "\\,", "\\:", "\\="), upper=True)
+
+
+def odd_text(rng):
+    """A line of odd words: an alias or a user specification."""
+    user, host = "az09._-", "az09-"
+    kind = rng.randrange(10)
+    if kind < 4:
+        names = {0: user, 1: user, 2: host}
+        items = odd_list(rng, lambda: odd_command(rng)) if kind == 3 else odd_names(rng, names[kind])
+        return f"{('User_Alias', 'Runas_Alias', 'Host_Alias', 'Cmnd_Alias')[kind]} X = {items}\n"
+    commands = odd_list(rng, lambda: odd_command(rng))
+    tags = rng.choice(("", "", "NOPASSWD: ", "PASSWD: "))
+    return f"{odd_names(rng, user)} {odd_names(rng, host)} = ({odd_names(rng, user)}) {tags}{commands}\n"
+
+
+def check_odd_texts(visudo, folder):
+    """What the desk accepts of random texts of odd words, sudo has to accept: a file that it refuses would leave a host at its old one."""
+    rng, path = random.Random(1), os.path.join(folder, "odd")
+    read, wrong = 0, 0
+    for _ in range(ODD_TEXTS):
+        text = odd_text(rng)
+        with open(path, "w") as file:
+            file.write(text)
+        canonical = run([DESK, "check", path])
+        if canonical.returncode != 0:
+            continue
+        read += 1
+        wrong += not check_text(visudo, f"the odd text {text!r}", canonical.stdout, folder)
+    return read, wrong
+
+
 def sudo_allows(programs, words):
     """What sudo itself answers, at the moment that is asked about."""
     user, host, runas, moment, path, *args = words
@@ -180,11 +264,13 @@ def inside():
         sudoers = furnish(folder)
         texts, refused = check_policies(programs["visudo"], folder)
         print(f"visudo accepts {texts - refused} of {texts} texts")
+        odd, odd_refused = check_odd_texts(programs["visudo"], folder)
+        print(f"of {ODD_TEXTS} random texts of odd words the desk reads {odd}, and visudo accepts {odd - odd_refused} of them")
         asked, allowed, policies, wrong = compare(programs, sudoers)
         print(f"sudo was asked {asked} times over {policies} policies: {allowed} allowed, {asked - allowed} denied, {wrong} otherwise than the desk")
         for place in ("/etc/sudoers", "/etc/passwd", "/srv"):
             subprocess.run(["umount", place], check=True)
-    sys.exit(1 if refused or wrong else 0)
+    sys.exit(1 if refused or odd_refused or wrong else 0)
 
 
 if sys.argv[1:] == ["--inside"]:
