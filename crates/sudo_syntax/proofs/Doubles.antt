@@ -7,7 +7,7 @@ use Rattle.std.specs.Str.{bytes_eq}
 use Rattle.std.proofs.lemmas.Bool.{leb-true}
 use Rattle.std.proofs.lemmas.List.{reverse-append}
 use Rattle.std.proofs.lemmas.Slice.Eq.{bytes_eq-Decides}
-use Rattle.sudo_words.specs.Word.{is_reserved}
+use Rattle.sudo_words.specs.Word.{is_keyword, is_reserved}
 use Rattle.sudo_policy.specs.declared.entry.Item.{Item}
 use Rattle.sudo_policy.specs.declared.entry.Entry.{Entry}
 use Rattle.sudo_policy.specs.declared.entry.Entry.TheVariants as entries
@@ -135,11 +135,11 @@ all_placed_16 =
     (record { users = knows_one 16; hosts = (tt, tt); runas = (tt, tt); cmnd = (tt, tt) })
 
 entries_16 : AllByRecursion IsEntry (doubled 16)
-unfolding doubled double_aliases digits is_reserved
+unfolding doubled double_aliases digits is_reserved is_keyword
 entries_16 = entries_are (doubled 16) refl
 
 entries_17 : AllByRecursion IsEntry (doubled 17)
-unfolding doubled double_aliases digits is_reserved
+unfolding doubled double_aliases digits is_reserved is_keyword
 entries_17 = entries_are (doubled 17) refl
 
 count_16 : length (doubled 16) ≤ 16_384

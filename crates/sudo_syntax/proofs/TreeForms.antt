@@ -5,7 +5,7 @@ use Rattle.std.specs.Option.{option_or}
 use Rattle.std.specs.List.{AllByRecursion, flat_map}
 use Rattle.std.proofs.lemmas.List.Concat.{flat_map-cons}
 use Rattle.sudo_words.specs.Bytes.{comma, colon}
-use Rattle.sudo_words.specs.Word.{is_name, is_host_name, is_alias_name}
+use Rattle.sudo_words.specs.Word.{is_name, is_host_name, is_keyword, is_alias_name}
 use Rattle.sudo_words.specs.Moment.{IsMoment}
 use Rattle.sudo_policy.specs.declared.entry.Signed.{Signed}
 use Rattle.sudo_policy.specs.declared.entry.Item.{Item}
@@ -77,6 +77,7 @@ record IsCmndSpec (s : CmndSpec) : Type 0 where
   cmnd : IsCmndItem s.cmnd.item
 
 first_are : AreSettings first_settings
+unfolding is_keyword
 first_are = record { runas = (omega arith, (refl, tt)); not_before = tt; not_after = tt }
 
 given_or : {X : Type 0} (P : X → Type 0) (o : Option X) (x : X) → IfSome o P → P x → P (unwrap_or o x)

@@ -441,7 +441,7 @@ dates_tree = (
 )
 
 pub dates_spell : SpellsAs dates_text (codes "ann db1 = (root) NOTAFTER=20260105110000Z /bin/ls\nann db1 = (root) NOTBEFORE=20260105090000Z NOTAFTER=20260105110000Z /bin/cat\nann db2 = (root) /bin/ls\n")
-unfolding date_of date_from_year date_from_month
+unfolding date_of date_from_year date_from_month is_keyword
 dates_spell = (
   entries_of dates_line,
   spelled dates_text (dates_text ∷ []) (entries_of dates_line) refl (plain dates_text [] [] refl refl refl)
