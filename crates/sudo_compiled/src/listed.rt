@@ -1,0 +1,54 @@
+//! What lists without aliases say. Each is gone through from its last item, and the first answer is the list's.
+
+ghost use Rattle.std.specs.Prelude.{◌≡◌, Some, None, true, if◌then◌else◌};
+ghost use Rattle.sudo_decide.specs.Decision as answers;
+ghost use Rattle.sudo_compiled.specs.Compiled as compiled;
+
+use crate::plain::Plain;
+use sudo_policy::Signed;
+use sudo_words::{Arg, Cmnd, FilePath, Form, Word};
+
+/// An item's yes, turned over where it is negated.
+fn yes(negated: bool) -> Option<bool>
+    ensures { result ≡ answers.signed_answer negated (Some true) }
+{
+    Some(!negated)
+}
+
+/// What the list says of this name.
+pub(crate) fn plains_say<F: Form>(list: &[Signed<Plain<Word<F>>>], asked: &Word<F>) -> Option<bool>
+    ensures { result ≡ compiled.plains_say asked.now list.now }
+{
+    let mut rest = list;
+    while let Some((last, others)) = rest.split_last() {
+        if is_meant(&last.item, asked) {
+            return yes(last.negated);
+        }
+        rest = others;
+    }
+    None
+}
+
+/// Whether the item is about this name.
+fn is_meant<F: Form>(item: &Plain<Word<F>>, asked: &Word<F>) -> bool
+    ensures { (if result then Some true else None) ≡ compiled.plain_answer asked.now item.now }
+{
+    match item {
+        Plain::All => true,
+        Plain::Name(name) => name == asked,
+    }
+}
+
+/// What the list says of the path with these arguments.
+pub(crate) fn cmnds_say(list: &[Signed<Cmnd>], path: &FilePath, args: &[Arg]) -> Option<bool>
+    ensures { result ≡ compiled.cmnds_say path.now args.now list.now }
+{
+    let mut rest = list;
+    while let Some((last, others)) = rest.split_last() {
+        if last.item.matches(path, args) {
+            return yes(last.negated);
+        }
+        rest = others;
+    }
+    None
+}
