@@ -10,6 +10,7 @@ pub mod PolicyForms
 pub mod Lists
 pub mod Others
 pub mod DecisionLemmas
+pub mod CompiledGaps
 pub mod RunLemmas
 pub mod Halving
 pub mod Listings
