@@ -15,11 +15,11 @@ use Rattle.sudo_compiled.specs.declared.plain.PlainRule.{PlainRule}
 
 -- ---- lists: `ALL` says yes, and a name where it is the one asked for
 
-abbrev pub plain_answer : List ℕ → Plain (List ℕ) → Option Bool
+abbrev pub plain_answer : List ℕ → Plain → Option Bool
 plain_answer asked plains.All = Some true
 plain_answer asked (plains.Name name) = if bytes_eq name asked then Some true else None
 
-abbrev pub plains_say : List ℕ → List (Signed (Plain (List ℕ))) → Option Bool
+abbrev pub plains_say : List ℕ → List (Signed Plain) → Option Bool
 plains_say asked list = list_answer (plain_answer asked) list
 
 -- a command says yes where it matches the path with these arguments

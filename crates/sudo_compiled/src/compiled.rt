@@ -20,7 +20,7 @@ use sudo_policy::{Entry, Policy, Rule};
 use sudo_words::NoMemory;
 
 /// A policy whose aliases are written out, with copies of its own of all names and commands. Contracts see it as its rules.
-#[derive(Debug, Drop)]
+#[derive(Drop)]
 pub struct Compiled {
     rules: Vec<PlainRule>,
 }

@@ -13,6 +13,8 @@ ghost use Rattle.sudo_compiled.specs.Compiled.{plain_answer, match_answer};
 ghost use Rattle.sudo_compiled.specs.private.Writing.{written_says};
 
 use crate::plain::Plain;
+use crate::short::Short;
+use std::alloc::Global;
 use sudo_policy::{CmndItem, Item, Policy, Signed};
 use sudo_words::{AliasName, Cmnd, Form, HostName, Name, NoMemory, Word};
 
@@ -46,17 +48,14 @@ pub(crate) trait Kind {
         ensures { MatchOption result (is_defined (flat_map def p.now) name.now ≡ false) (λ x. DefinedAt def p.now x.0 name.now x.1.now) };
 
     /// The item as it is written, a copy of its own.
-    fn written<'a>(item: &'a Self::Item) -> Result<Written<'a, Self::Plain>, NoMemory>
+    fn written<'a>(
+        alloc: Global,
+        item: &'a Self::Item,
+    ) -> Result<Written<'a, Self::Plain>, NoMemory>
         ensures { IfOk result (λ w. (i : Invocation) (alias_says : List ℕ → Option Bool) → written_says (plain i) alias_says w ≡ says i alias_says item.now) };
 
     /// A policy defines each alias of the kind once.
     ghost once: { (es : List Entry) → IsPolicy es → AreNew def [] es };
-}
-
-fn copied_name<F: Form + Clone>(name: &Word<F>) -> Result<Word<F>, NoMemory>
-    ensures { IfOk result (λ x. x ≡ name.now) }
-{
-    Ok(name.clone()?)
 }
 
 fn copied_cmnd(cmnd: &Cmnd) -> Result<Cmnd, NoMemory>
@@ -66,14 +65,15 @@ fn copied_cmnd(cmnd: &Cmnd) -> Result<Cmnd, NoMemory>
 }
 
 /// An item of users, hosts or targets.
-fn written_item<'a, F: Form + Clone>(
+fn written_item<'a, F: Form>(
+    alloc: Global,
     item: &'a Item<Word<F>>,
-) -> Result<Written<'a, Plain<Word<F>>>, NoMemory>
+) -> Result<Written<'a, Plain>, NoMemory>
     ensures { IfOk result (λ w. (asked : List ℕ) (alias_says : List ℕ → Option Bool) → written_says (plain_answer asked) alias_says w ≡ item_answer alias_says asked item.now) }
 {
     match item {
         Item::All => Ok(Written::Own(Plain::All)),
-        Item::Name(name) => Ok(Written::Own(Plain::Name(copied_name(name)?))),
+        Item::Name(name) => Ok(Written::Own(Plain::Name(Short::of(alloc, name.as_str())?))),
         Item::Alias(name) => Ok(Written::Alias(name)),
     }
 }
@@ -84,7 +84,7 @@ pub(crate) struct Users;
 impl Kind for Users {
     type Item = Item<Name>;
 
-    type Plain = Plain<Name>;
+    type Plain = Plain;
 
     ghost def = { user_def };
 
@@ -99,8 +99,8 @@ impl Kind for Users {
         p.user_alias(name)
     }
 
-    fn written<'a>(item: &'a Item<Name>) -> Result<Written<'a, Plain<Name>>, NoMemory> {
-        written_item(item)
+    fn written<'a>(alloc: Global, item: &'a Item<Name>) -> Result<Written<'a, Plain>, NoMemory> {
+        written_item(alloc, item)
     }
 
     ghost once = { user_aliases_new };
@@ -112,7 +112,7 @@ pub(crate) struct Targets;
 impl Kind for Targets {
     type Item = Item<Name>;
 
-    type Plain = Plain<Name>;
+    type Plain = Plain;
 
     ghost def = { runas_def };
 
@@ -127,8 +127,8 @@ impl Kind for Targets {
         p.runas_alias(name)
     }
 
-    fn written<'a>(item: &'a Item<Name>) -> Result<Written<'a, Plain<Name>>, NoMemory> {
-        written_item(item)
+    fn written<'a>(alloc: Global, item: &'a Item<Name>) -> Result<Written<'a, Plain>, NoMemory> {
+        written_item(alloc, item)
     }
 
     ghost once = { runas_aliases_new };
@@ -140,7 +140,7 @@ pub(crate) struct Hosts;
 impl Kind for Hosts {
     type Item = Item<HostName>;
 
-    type Plain = Plain<HostName>;
+    type Plain = Plain;
 
     ghost def = { host_def };
 
@@ -155,8 +155,11 @@ impl Kind for Hosts {
         p.host_alias(name)
     }
 
-    fn written<'a>(item: &'a Item<HostName>) -> Result<Written<'a, Plain<HostName>>, NoMemory> {
-        written_item(item)
+    fn written<'a>(
+        alloc: Global,
+        item: &'a Item<HostName>,
+    ) -> Result<Written<'a, Plain>, NoMemory> {
+        written_item(alloc, item)
     }
 
     ghost once = { host_aliases_new };
@@ -180,7 +183,7 @@ impl Kind for Cmnds {
         p.cmnd_alias(name)
     }
 
-    fn written<'a>(item: &'a CmndItem) -> Result<Written<'a, Cmnd>, NoMemory> {
+    fn written<'a>(_alloc: Global, item: &'a CmndItem) -> Result<Written<'a, Cmnd>, NoMemory> {
         match item {
             CmndItem::Alias(name) => Ok(Written::Alias(name)),
             CmndItem::Cmnd(cmnd) => Ok(Written::Own(copied_cmnd(cmnd)?)),

@@ -6,7 +6,7 @@ ghost use Rattle.sudo_compiled.specs.Compiled as compiled;
 
 use crate::plain::Plain;
 use sudo_policy::Signed;
-use sudo_words::{Arg, Cmnd, FilePath, Form, Word};
+use sudo_words::{Arg, Cmnd, FilePath};
 
 /// An item's yes, turned over where it is negated.
 fn yes(negated: bool) -> Option<bool>
@@ -16,7 +16,7 @@ fn yes(negated: bool) -> Option<bool>
 }
 
 /// What the list says of this name.
-pub(crate) fn plains_say<F: Form>(list: &[Signed<Plain<Word<F>>>], asked: &Word<F>) -> Option<bool>
+pub(crate) fn plains_say(list: &[Signed<Plain>], asked: &[u8]) -> Option<bool>
     ensures { result ≡ compiled.plains_say asked.now list.now }
 {
     let mut rest = list;
@@ -30,12 +30,12 @@ pub(crate) fn plains_say<F: Form>(list: &[Signed<Plain<Word<F>>>], asked: &Word<
 }
 
 /// Whether the item is about this name.
-fn is_meant<F: Form>(item: &Plain<Word<F>>, asked: &Word<F>) -> bool
+fn is_meant(item: &Plain, asked: &[u8]) -> bool
     ensures { (if result then Some true else None) ≡ compiled.plain_answer asked.now item.now }
 {
     match item {
         Plain::All => true,
-        Plain::Name(name) => name == asked,
+        Plain::Name(name) => name.as_bytes() == asked,
     }
 }
 

@@ -1,26 +1,28 @@
 //! What a compiled policy is made of: rules in whose lists no alias stands.
 
+use crate::few::Few;
+use crate::short::Short;
 use sudo_policy::Signed;
-use sudo_words::{Cmnd, HostName, Items, Moment, Name};
+use sudo_words::{Cmnd, Moment};
 
 /// An item of a list of users, hosts or targets that is no alias.
-#[derive(Debug, Drop)]
-pub enum Plain<N> {
+#[derive(Drop)]
+pub enum Plain {
     /// `ALL`.
     All,
     /// The one of this name.
-    Name(N),
+    Name(Short),
 }
 
 /// A rule whose aliases are written out: in the place of each stand the items of its list, turned round where it is negated.
-#[derive(Debug, Drop)]
+#[derive(Drop)]
 pub struct PlainRule {
     /// The users whom it is about.
-    pub users: Items<Signed<Plain<Name>>>,
+    pub users: Few<Signed<Plain>>,
     /// The hosts that it is about.
-    pub hosts: Items<Signed<Plain<HostName>>>,
+    pub hosts: Few<Signed<Plain>>,
     /// The targets that the commands may run as.
-    pub runas: Items<Signed<Plain<Name>>>,
+    pub runas: Few<Signed<Plain>>,
     /// The first moment at which it takes part; absent, there is no bound.
     pub not_before: Option<Moment>,
     /// The last moment at which it takes part; absent, there is no bound.
@@ -28,5 +30,5 @@ pub struct PlainRule {
     /// Whether no password is asked for.
     pub nopasswd: bool,
     /// The commands that it allows, or denies where they are negated.
-    pub cmnds: Items<Signed<Cmnd>>,
+    pub cmnds: Few<Signed<Cmnd>>,
 }

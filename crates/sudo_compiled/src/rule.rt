@@ -27,9 +27,9 @@ fn takes_part(rule: &PlainRule, at: Moment) -> bool
 fn is_about(rule: &PlainRule, i: &Invocation) -> bool
     ensures { result ≡ compiled.is_about rule.now i.now }
 {
-    plains_say(rule.users.as_slice(), &i.user).unwrap_or(false)
-        && plains_say(rule.hosts.as_slice(), &i.host).unwrap_or(false)
-        && plains_say(rule.runas.as_slice(), &i.runas).unwrap_or(false)
+    plains_say(rule.users.plains(), i.user.as_str().as_bytes()).unwrap_or(false)
+        && plains_say(rule.hosts.plains(), i.host.as_str().as_bytes()).unwrap_or(false)
+        && plains_say(rule.runas.plains(), i.runas.as_str().as_bytes()).unwrap_or(false)
 }
 
 /// What the rule says: nothing outside its dates, or where it is not about the invocation; else what its commands say.
@@ -39,7 +39,7 @@ fn says(rule: &PlainRule, i: &Invocation) -> Option<bool>
     if !takes_part(rule, i.at) || !is_about(rule, i) {
         return None;
     }
-    cmnds_say(rule.cmnds.as_slice(), &i.path, i.args.as_slice())
+    cmnds_say(rule.cmnds.cmnds(), &i.path, i.args.as_slice())
 }
 
 /// What the rule decides by its answer.

@@ -4,7 +4,7 @@ use Rattle.sudo_compiled.proofs.listed.plains_say.Given as goal
 
 -- what is behind the rest is silent
 abbrev pub invariant-loop-last : goal.invariant-loop-last
-invariant-loop-last g l = plains_say l.asked l.rest ≡ plains_say l.asked l.list
+invariant-loop-last l = plains_say l.asked l.rest ≡ plains_say l.asked l.list
 
 abbrev pub decreases-loop-last : goal.decreases-loop-last
-decreases-loop-last g l = length l.rest
+decreases-loop-last l = length l.rest
