@@ -1,6 +1,7 @@
 //! What lists without aliases say. Each is gone through from its last item, and the first answer is the list's.
 
-ghost use Rattle.std.specs.Prelude.{◌≡◌, Some, None, true, if◌then◌else◌};
+ghost use Rattle.std.specs.Prelude.{◌≡◌, ◌-◌, Some, None, true, if◌then◌else◌, length, slice_index};
+ghost use Rattle.std.specs.Str.{bytes_eq};
 ghost use Rattle.sudo_decide.specs.Decision as answers;
 ghost use Rattle.sudo_compiled.specs.Compiled as compiled;
 
@@ -29,13 +30,30 @@ pub(crate) fn plains_say(list: &[Signed<Plain>], asked: &[u8]) -> Option<bool>
     None
 }
 
+/// The last byte, or 0 where there is none.
+fn last_byte(text: &[u8]) -> u8
+    ensures { result ≡ slice_index text.now (length text.now - 1) }
+{
+    text.last().copied().unwrap_or(0)
+}
+
+/// Whether the texts are one. Names that differ mostly do so in their last bytes, which are looked at first.
+fn is_same(first: &[u8], second: &[u8]) -> bool
+    ensures { result ≡ bytes_eq first.now second.now }
+{
+    if last_byte(first) != last_byte(second) {
+        return false;
+    }
+    first == second
+}
+
 /// Whether the item is about this name.
 fn is_meant(item: &Plain, asked: &[u8]) -> bool
     ensures { (if result then Some true else None) ≡ compiled.plain_answer asked.now item.now }
 {
     match item {
         Plain::All => true,
-        Plain::Name(name) => name.as_bytes() == asked,
+        Plain::Name(name) => is_same(name.as_bytes(), asked),
     }
 }
 
