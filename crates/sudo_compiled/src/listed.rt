@@ -1,11 +1,12 @@
 //! What lists without aliases say. Each is gone through from its last item, and the first answer is the list's.
 
-ghost use Rattle.std.specs.Prelude.{◌≡◌, ◌-◌, Some, None, true, if◌then◌else◌, length, slice_index};
-ghost use Rattle.std.specs.Str.{bytes_eq};
+ghost use Rattle.std.specs.Prelude.{◌≡◌, Some, None, true, if◌then◌else◌};
 ghost use Rattle.sudo_decide.specs.Decision as answers;
 ghost use Rattle.sudo_compiled.specs.Compiled as compiled;
+ghost use Rattle.sudo_compiled.specs.private.Tags.{tag_of};
 
 use crate::plain::Plain;
+use crate::short::tag;
 use sudo_policy::Signed;
 use sudo_words::{Arg, Cmnd, FilePath};
 
@@ -20,9 +21,10 @@ fn yes(negated: bool) -> Option<bool>
 pub(crate) fn plains_say(list: &[Signed<Plain>], asked: &[u8]) -> Option<bool>
     ensures { result ≡ compiled.plains_say asked.now list.now }
 {
+    let asked_tag = tag(asked);
     let mut rest = list;
     while let Some((last, others)) = rest.split_last() {
-        if is_meant(&last.item, asked) {
+        if is_meant(&last.item, asked, asked_tag) {
             return yes(last.negated);
         }
         rest = others;
@@ -30,30 +32,14 @@ pub(crate) fn plains_say(list: &[Signed<Plain>], asked: &[u8]) -> Option<bool>
     None
 }
 
-/// The last byte, or 0 where there is none.
-fn last_byte(text: &[u8]) -> u8
-    ensures { result ≡ slice_index text.now (length text.now - 1) }
-{
-    text.last().copied().unwrap_or(0)
-}
-
-/// Whether the texts are one. Names that differ mostly do so in their last bytes, which are looked at first.
-fn is_same(first: &[u8], second: &[u8]) -> bool
-    ensures { result ≡ bytes_eq first.now second.now }
-{
-    if last_byte(first) != last_byte(second) {
-        return false;
-    }
-    first == second
-}
-
-/// Whether the item is about this name.
-fn is_meant(item: &Plain, asked: &[u8]) -> bool
+/// Whether the item is about the name of this tag, which is looked at first.
+fn is_meant(item: &Plain, asked: &[u8], asked_tag: u32) -> bool
+    requires { asked_tag ≡ tag_of asked.now }
     ensures { (if result then Some true else None) ≡ compiled.plain_answer asked.now item.now }
 {
     match item {
         Plain::All => true,
-        Plain::Name(name) => is_same(name.as_bytes(), asked),
+        Plain::Name(name) => name.tag() == asked_tag && name.as_bytes() == asked,
     }
 }
 
