@@ -5,6 +5,7 @@ ghost use Rattle.std.specs.Io.Buffered.{writer_buffer, writer_contents};
 ghost use Rattle.std.specs.Io.KnownBytes.{Appends, Keeps};
 ghost use Rattle.desk_commands.specs.Answers.{ChecksFile, DecidesByFile, EndsReading, HasAnswer, IsAnswer, IsCause, IsDecided, status_of};
 ghost use Rattle.sudo_policy.specs.Spelling.{Spells};
+ghost use Rattle.sudo_decide.specs.Decision.{Decides};
 ghost use Rattle.desk_jobs.specs.declared.task.Job.TheVariants as jobs;
 ghost use Rattle.desk_jobs.specs.declared.task.Places.{Places as Parts};
 
@@ -18,9 +19,10 @@ use desk_jobs::{Job, Status};
 use review::Scope;
 use std::alloc::{AllocError, Global};
 use std::io::{BufWriter, Read, Write};
-use sudo_decide::{Decision, Invocation, decide};
+use sudo_compiled::compile;
+use sudo_decide::{Decision, Invocation};
 use sudo_syntax::{Policy, print_owned, read_policy};
-use sudo_words::{HostName, Moment};
+use sudo_words::{HostName, Moment, NoMemory};
 
 fn status_of(decision: Decision) -> Status
     ensures { result ≡ status_of decision }
@@ -62,12 +64,25 @@ fn check(alloc: Global, file: &mut Vec<u8>) -> Result<Answer, Refusal>
     })
 }
 
+/// What the policy decides, once it is compiled.
+fn decision_of(
+    alloc: Global,
+    policy: &Policy,
+    invocation: &Invocation,
+) -> Result<Decision, NoMemory>
+    ensures { IfOk result (λ d. Decides policy.now invocation.now d) }
+{
+    let compiled = compile(alloc, policy)?;
+    Ok(compiled.decide(invocation))
+}
+
 fn decided(alloc: Global, file: &mut Vec<u8>, invocation: &Invocation) -> Result<Answer, Refusal>
     ensures err { IfErr result (EndsReading file.old.items) }
     ensures found { IfOk result (λ a. DecidesByFile file.old.items invocation.now a.status (string_bytes a.text)) }
 {
     let policy = policy_of(alloc, file)?;
-    Ok(decision_line(alloc, decide(&policy, invocation))?)
+    let decision = decision_of(alloc, &policy, invocation)?;
+    Ok(decision_line(alloc, decision)?)
 }
 
 fn check_first(alloc: Global, files: &mut [Vec<u8>]) -> Result<Answer, Refusal>

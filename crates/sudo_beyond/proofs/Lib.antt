@@ -11,6 +11,7 @@ pub mod KeywordLemmas
 pub mod Lists
 pub mod Others
 pub mod DecisionLemmas
+pub mod CompiledGaps
 pub mod RunLemmas
 pub mod Halving
 pub mod Listings

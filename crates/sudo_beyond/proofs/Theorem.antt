@@ -63,7 +63,7 @@ at_a_case s a b c is_a is_b are beyond =
       at.2,
     )
 
-pub nothing_beyond : (s : Scope) (a b : List Entry) (c : Cases) → IsPolicy a → IsPolicy b → AreCases s a b c → NoGap a b (invocations c) → SomethingBeyond s a b → ⊥
+pub nothing_beyond : (s : Scope) (a b : List Entry) (c : Cases) → IsPolicy a → IsPolicy b → AreCases s a b c → NoGap (IsGap a b) (invocations c) → SomethingBeyond s a b → ⊥
 nothing_beyond s a b c is_a is_b are none beyond =
     let at = at_a_case s a b c is_a is_b are beyond in
     All-contains (λ i. IsGap a b i → ⊥) (invocations c) at.0 (All-from_recursion (λ i. IsGap a b i → ⊥) (invocations c) none) at.1 at.2.gap

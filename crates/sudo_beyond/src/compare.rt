@@ -37,5 +37,5 @@ pub fn beyond(
     if cases.count() > MOST_CASES {
         return Err(BeyondFault::TooManyCases);
     }
-    Ok(first_gap(a, b, &cases)?)
+    Ok(first_gap(alloc, a, b, &cases)?)
 }

@@ -1,13 +1,16 @@
 //! The first of the cases that one policy allows and another refuses.
 
-ghost use Rattle.std.specs.Prelude.{◌≡◌, IfOk};
+ghost use Rattle.std.specs.Prelude.{◌≡◌, ◌+◌, if◌then◌else◌, Some, None, IfOk, OnOk};
 ghost use Rattle.sudo_beyond.specs.Beyond.{IsGap};
 ghost use Rattle.sudo_beyond.specs.Cases as specs;
 ghost use Rattle.sudo_beyond.specs.Answer.{FirstOf};
+ghost use Rattle.sudo_beyond.specs.private.Compared.{IsAnsweredGap};
 
 use crate::cases::Cases;
 use crate::decided::is_gap;
 use crate::run::{Args, Run};
+use std::alloc::Global;
+use sudo_compiled::{Compiled, compile};
 use sudo_decide::Invocation;
 use sudo_policy::Policy;
 use sudo_words::{FilePath, HostName, Items, Moment, Name, NoMemory};
@@ -55,58 +58,76 @@ fn invocation_of(
     })
 }
 
-/// One invocation serves all moments of a path with its arguments.
-fn of_run(
-    a: &Policy,
-    b: &Policy,
+/// Runs this, and leaves the rest of the invocation as it is.
+fn set_run(i: &mut Invocation, run: &Run) -> Result<(), NoMemory>
+    ensures user { i.new.user ≡ i.old.user }
+    ensures host { i.new.host ≡ i.old.host }
+    ensures runas { i.new.runas ≡ i.old.runas }
+    ensures run { OnOk result ((i.new.path ≡ run.now.path) × (i.new.args ≡ run.now.args)) }
+{
+    i.path = copied_path(&run.path)?;
+    i.args = Items::new(copied_args(&run.args)?.into_vec());
+    Ok(())
+}
+
+/// Tries each moment of a path with its arguments. At the first case that is a gap it stops, and the invocation is that case.
+fn try_run(
+    a: &Compiled,
+    b: &Compiled,
+    cases: &Cases,
+    run: &Run,
+    i: &mut Invocation,
+) -> Result<bool, NoMemory>
+    ensures user { i.new.user ≡ i.old.user }
+    ensures host { i.new.host ≡ i.old.host }
+    ensures runas { i.new.runas ≡ i.old.runas }
+    ensures found { IfOk result (λ found. FirstOf (IsAnsweredGap a.now b.now)
+        (specs.of_run cases.now i.old.user i.old.host i.old.runas run.now) (if found then Some i.new else None)) }
+{
+    set_run(i, run)?;
+    for at in cases.moments.as_slice() {
+        i.at = *at;
+        if is_gap(a, b, i) {
+            return Ok(true);
+        }
+    }
+    Ok(false)
+}
+
+/// One invocation serves all cases of a user, a host and a target.
+fn of_target(
+    a: &Compiled,
+    b: &Compiled,
     cases: &Cases,
     user: &Name,
     host: &HostName,
     runas: &Name,
-    run: &Run,
 ) -> Result<Option<Invocation>, NoMemory>
-    ensures { IfOk result (FirstOf (IsGap a.now b.now) (specs.of_run cases.now user.now host.now runas.now run.now)) }
+    ensures { IfOk result (FirstOf (IsAnsweredGap a.now b.now) (specs.of_target cases.now user.now host.now runas.now)) }
 {
-    let Some(first) = cases.moments.as_slice().first() else {
+    let Some(first) = cases.runs.as_slice().first() else {
         return Ok(None);
     };
-    let mut i = invocation_of(user, host, runas, run, *first)?;
-    for at in cases.moments.as_slice() {
-        i.at = *at;
-        if is_gap(a, b, &i) {
+    let Some(at) = cases.moments.as_slice().first() else {
+        return Ok(None);
+    };
+    let mut i = invocation_of(user, host, runas, first, *at)?;
+    for run in cases.runs.as_slice() {
+        if try_run(a, b, cases, run, &mut i)? {
             return Ok(Some(i));
         }
     }
     Ok(None)
 }
 
-fn of_target(
-    a: &Policy,
-    b: &Policy,
-    cases: &Cases,
-    user: &Name,
-    host: &HostName,
-    runas: &Name,
-) -> Result<Option<Invocation>, NoMemory>
-    ensures { IfOk result (FirstOf (IsGap a.now b.now) (specs.of_target cases.now user.now host.now runas.now)) }
-{
-    for run in cases.runs.as_slice() {
-        match of_run(a, b, cases, user, host, runas, run)? {
-            Some(i) => return Ok(Some(i)),
-            None => {}
-        }
-    }
-    Ok(None)
-}
-
 fn of_host(
-    a: &Policy,
-    b: &Policy,
+    a: &Compiled,
+    b: &Compiled,
     cases: &Cases,
     user: &Name,
     host: &HostName,
 ) -> Result<Option<Invocation>, NoMemory>
-    ensures { IfOk result (FirstOf (IsGap a.now b.now) (specs.of_host cases.now user.now host.now)) }
+    ensures { IfOk result (FirstOf (IsAnsweredGap a.now b.now) (specs.of_host cases.now user.now host.now)) }
 {
     for runas in cases.targets.as_slice() {
         match of_target(a, b, cases, user, host, runas)? {
@@ -118,12 +139,12 @@ fn of_host(
 }
 
 fn of_user(
-    a: &Policy,
-    b: &Policy,
+    a: &Compiled,
+    b: &Compiled,
     cases: &Cases,
     user: &Name,
 ) -> Result<Option<Invocation>, NoMemory>
-    ensures { IfOk result (FirstOf (IsGap a.now b.now) (specs.of_user cases.now user.now)) }
+    ensures { IfOk result (FirstOf (IsAnsweredGap a.now b.now) (specs.of_user cases.now user.now)) }
 {
     for host in cases.hosts.as_slice() {
         match of_host(a, b, cases, user, host)? {
@@ -134,9 +155,12 @@ fn of_user(
     Ok(None)
 }
 
-/// The first of the cases that the first policy allows and the second refuses, or `None` where there is none.
-pub fn first_gap(a: &Policy, b: &Policy, cases: &Cases) -> Result<Option<Invocation>, NoMemory>
-    ensures { IfOk result (FirstOf (IsGap a.now b.now) (specs.invocations cases.now)) }
+fn first_of_compiled(
+    a: &Compiled,
+    b: &Compiled,
+    cases: &Cases,
+) -> Result<Option<Invocation>, NoMemory>
+    ensures { IfOk result (FirstOf (IsAnsweredGap a.now b.now) (specs.invocations cases.now)) }
 {
     for user in cases.users.as_slice() {
         match of_user(a, b, cases, user)? {
@@ -145,4 +169,19 @@ pub fn first_gap(a: &Policy, b: &Policy, cases: &Cases) -> Result<Option<Invocat
         }
     }
     Ok(None)
+}
+
+/// The first of the cases that the first policy allows and the second refuses, or `None` where there is none. Both are
+/// compiled once.
+pub fn first_gap(
+    alloc: Global,
+    a: &Policy,
+    b: &Policy,
+    cases: &Cases,
+) -> Result<Option<Invocation>, NoMemory>
+    ensures { IfOk result (FirstOf (IsGap a.now b.now) (specs.invocations cases.now)) }
+{
+    let a = compile(alloc, a)?;
+    let b = compile(alloc, b)?;
+    first_of_compiled(&a, &b, cases)
 }

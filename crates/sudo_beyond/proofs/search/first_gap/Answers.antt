@@ -1,14 +1,14 @@
-use Rattle.std.proofs.Common.{ℕ, List, take, sym, subst}
-use Rattle.std.specs.List.{flat_map}
 use Rattle.sudo_beyond.specs.Beyond.{IsGap}
-use Rattle.sudo_beyond.specs.Cases.{of_user}
-use Rattle.sudo_beyond.specs.Answer.{IsFirst}
-use Rattle.sudo_beyond.proofs.Gaps.{NoGap, gap_here}
+use Rattle.sudo_beyond.specs.Cases.{invocations}
+use Rattle.sudo_beyond.specs.private.Compared.{IsAnsweredGap}
+use Rattle.sudo_beyond.proofs.CompiledGaps.{gap_from_answers, gap_to_answers}
+use Rattle.sudo_beyond.proofs.Gaps.{first_of_same, if_ok}
 use Rattle.sudo_beyond.proofs.search.first_gap.Goals as goal
 
-pub returns-in-Some : goal.returns-in-Some
-returns-in-Some c =
-    subst (λ (xs : List (List ℕ)). IsFirst (IsGap c.args.a.now c.args.b.now) (flat_map (of_user c.args.cases.now) xs) c.in-Some.i) c.as_slice-user-items.ensures
-    (gap_here c.args.a.now c.args.b.now (of_user c.args.cases.now) c.as_slice-user-items.result.now c.loop-user.user-index c.user-item.result c.in-Some.i c.loop-user-test.true c.user-item.is
-    (subst (λ (xs : List (List ℕ)). NoGap c.args.a.now c.args.b.now (flat_map (of_user c.args.cases.now) (take c.loop-user.user-index xs))) (sym c.as_slice-user-items.ensures) c.loop-user.invariant)
-    (rw c.in-Some.is at c.in_ok-i.ensures))
+pub returns : goal.returns
+returns c =
+    if_ok c.first_of_compiled.result
+    (λ found. first_of_same (IsAnsweredGap c.in_ok-a.a c.in_ok-b.b) (IsGap c.args.a.now c.args.b.now) (invocations c.args.cases.now) found
+    (gap_from_answers c.args.a.now c.args.b.now c.in_ok-a.a c.in_ok-b.b c.in_ok-a.ensures c.in_ok-b.ensures)
+    (gap_to_answers c.args.a.now c.args.b.now c.in_ok-a.a c.in_ok-b.b c.in_ok-a.ensures c.in_ok-b.ensures))
+    c.first_of_compiled.ensures

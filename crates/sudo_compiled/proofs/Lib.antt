@@ -1,0 +1,2 @@
+pub mod WrittenLists
+pub mod Answering

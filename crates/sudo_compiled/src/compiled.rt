@@ -1,0 +1,104 @@
+//! Policies compiled, and what they decide.
+
+ghost use Rattle.std.specs.Prelude.{◌≡◌, ◌++◌, ◌∷◌, [], List, reverse, IfOk, OnOk};
+ghost use Rattle.sudo_policy.specs.declared.entry.Entry.{Entry as PolicyEntry};
+ghost use Rattle.sudo_policy.specs.declared.entry.Entry.TheVariants as entries;
+ghost use Rattle.sudo_decide.specs.declared.invocation.Invocation.{Invocation as Asked};
+ghost use Rattle.sudo_decide.specs.Decision.{Decides, DecidesBy};
+ghost use Rattle.sudo_compiled.specs.Compiled.{answer};
+ghost use Rattle.sudo_compiled.specs.private.Writing.{IsWritten};
+
+use crate::kind::{Cmnds, Hosts, Targets, Users};
+use crate::plain::PlainRule;
+use crate::rule::spoken;
+use crate::writing::written_out;
+use std::alloc::Global;
+use std::marker::Model;
+use std::slice;
+use sudo_decide::{Decision, Invocation};
+use sudo_policy::{Entry, Policy, Rule};
+use sudo_words::NoMemory;
+
+/// A policy whose aliases are written out, with copies of its own of all names and commands. Contracts see it as its rules.
+#[derive(Drop)]
+pub struct Compiled {
+    rules: Vec<PlainRule>,
+}
+
+impl Model for Compiled {
+    ghost use Rattle.std.specs.Prelude.{List};
+    ghost use Rattle.sudo_compiled.specs.declared.plain.PlainRule.{PlainRule as OneRule};
+
+    ghost Value = { List OneRule };
+
+    ghost view = { λ c. c.rules.items };
+}
+
+/// The rule with its aliases written out.
+fn written_rule(alloc: Global, p: &Policy, rule: &Rule) -> Result<PlainRule, NoMemory>
+    ensures { IfOk result (IsWritten (reverse p.now) rule.now) }
+{
+    let users = written_out::<Users>(alloc, p, rule.users.as_slice())?;
+    let hosts = written_out::<Hosts>(alloc, p, rule.hosts.as_slice())?;
+    let runas = written_out::<Targets>(alloc, p, rule.runas.as_slice())?;
+    let cmnds = written_out::<Cmnds>(alloc, p, slice::from_ref(&rule.cmnd))?;
+    Ok(PlainRule {
+        users,
+        hosts,
+        runas,
+        not_before: rule.not_before,
+        not_after: rule.not_after,
+        nopasswd: rule.nopasswd,
+        cmnds,
+    })
+}
+
+/// Adds an entry's rule, if it is one: what the entries decided, and then this one, the rules then answer.
+fn push_rule(
+    alloc: Global,
+    rules: &mut Vec<PlainRule>,
+    p: &Policy,
+    entry: &Entry,
+) -> Result<(), NoMemory>
+    ensures { OnOk result ((es : List PolicyEntry) (i : Asked) → DecidesBy (reverse p.now) es i (answer rules.old.items i)
+        → DecidesBy (reverse p.now) (es ++ entry.now ∷ []) i (answer rules.new.items i)) }
+{
+    if let Entry::Rule(rule) = entry {
+        rules.push(written_rule(alloc, p, rule)?)?;
+    }
+    Ok(())
+}
+
+/// The policy compiled: whatever is asked, it answers what the policy decides.
+///
+/// Every alias is written out: in its place stand the items of its list in order, each turned over where the alias is negated.
+/// So it has at most 131,072 names and commands, the most that a policy weighs.
+pub fn compile(alloc: Global, p: &Policy) -> Result<Compiled, NoMemory>
+    ensures { IfOk result (λ c. (i : Asked) → Decides p.now i (answer c i)) }
+{
+    let mut rules = Vec::new(alloc);
+    for entry in p.entries() {
+        push_rule(alloc, &mut rules, p, entry)?;
+    }
+    Ok(Compiled { rules })
+}
+
+impl Compiled {
+    /// What the compiled policy answers: the last rule that speaks decides, and where none does, it is denied (sudoers(5),
+    /// "SUDOERS FILE FORMAT").
+    ///
+    /// It goes from the last rule back to the first, and in each list from the last item back, stops at the first answer, and
+    /// takes no memory.
+    pub fn decide(&self, i: &Invocation) -> Decision
+        ensures { result ≡ answer self.now i.now }
+    {
+        let mut rest = self.rules.as_slice();
+        while let Some((last, others)) = rest.split_last() {
+            if let Some(decision) = spoken(last, i) {
+                return decision;
+            }
+            rest = others;
+        }
+        Decision::Deny
+    }
+}

@@ -1,0 +1,194 @@
+//! The kinds of aliases: where each is defined, and what is written of the items of its lists.
+
+ghost use Rattle.std.specs.Prelude.{◌≡◌, Bool, List, [], ℕ, Option, MatchOption, IfOk, false};
+ghost use Rattle.std.specs.List.{flat_map};
+ghost use Rattle.sudo_policy.specs.Alias.{DefinedAt, is_defined, user_def, runas_def, host_def, cmnd_def};
+ghost use Rattle.sudo_policy.specs.Policy.{IsPolicy};
+ghost use Rattle.sudo_policy.specs.declared.entry.Entry.{Entry};
+ghost use Rattle.sudo_policy.specs.declared.tree.Definition.{Definition};
+ghost use Rattle.sudo_decide.specs.declared.invocation.Invocation.{Invocation};
+ghost use Rattle.sudo_decide.specs.Decision.{item_answer, cmnd_answer};
+ghost use Rattle.sudo_decide.specs.Kinds.{AreNew, user_aliases_new, runas_aliases_new, host_aliases_new, cmnd_aliases_new};
+ghost use Rattle.sudo_compiled.specs.Compiled.{plain_answer, match_answer};
+ghost use Rattle.sudo_compiled.specs.private.Writing.{written_says};
+
+use crate::plain::Plain;
+use crate::short::Short;
+use std::alloc::Global;
+use sudo_policy::{CmndItem, Item, Policy, Signed};
+use sudo_words::{AliasName, Cmnd, Form, HostName, Name, NoMemory, Word};
+
+/// What is written of an item of a list.
+pub(crate) enum Written<'a, P> {
+    /// Itself.
+    Own(P),
+    /// What the alias's list says.
+    Alias(&'a AliasName),
+}
+
+/// A kind of aliases. One name may serve several kinds.
+pub(crate) trait Kind {
+    /// What its lists are made of.
+    type Item;
+
+    /// What a list is made of in which no alias stands.
+    type Plain: Drop;
+
+    /// What an entry defines of the kind.
+    ghost def: { Entry → List (Definition Self.Item) };
+
+    /// What an item says of the invocation, by what the aliases say.
+    ghost says: { Invocation → (List ℕ → Option Bool) → Self.Item → Option Bool };
+
+    /// What one that is no alias says of it.
+    ghost plain: { Invocation → Self.Plain → Option Bool };
+
+    /// The place where the alias is defined, and its list.
+    fn definition<'a>(p: &'a Policy, name: &AliasName) -> Option<(usize, &'a [Signed<Self::Item>])>
+        ensures { MatchOption result (is_defined (flat_map def p.now) name.now ≡ false) (λ x. DefinedAt def p.now x.0 name.now x.1.now) };
+
+    /// The item as it is written, a copy of its own.
+    fn written<'a>(
+        alloc: Global,
+        item: &'a Self::Item,
+    ) -> Result<Written<'a, Self::Plain>, NoMemory>
+        ensures { IfOk result (λ w. (i : Invocation) (alias_says : List ℕ → Option Bool) → written_says (plain i) alias_says w ≡ says i alias_says item.now) };
+
+    /// A policy defines each alias of the kind once.
+    ghost once: { (es : List Entry) → IsPolicy es → AreNew def [] es };
+}
+
+fn copied_cmnd(cmnd: &Cmnd) -> Result<Cmnd, NoMemory>
+    ensures { IfOk result (λ x. x ≡ cmnd.now) }
+{
+    Ok(cmnd.clone()?)
+}
+
+/// An item of users, hosts or targets.
+fn written_item<'a, F: Form>(
+    alloc: Global,
+    item: &'a Item<Word<F>>,
+) -> Result<Written<'a, Plain>, NoMemory>
+    ensures { IfOk result (λ w. (asked : List ℕ) (alias_says : List ℕ → Option Bool) → written_says (plain_answer asked) alias_says w ≡ item_answer alias_says asked item.now) }
+{
+    match item {
+        Item::All => Ok(Written::Own(Plain::All)),
+        Item::Name(name) => Ok(Written::Own(Plain::Name(Short::of(alloc, name.as_str())?))),
+        Item::Alias(name) => Ok(Written::Alias(name)),
+    }
+}
+
+/// The aliases of users.
+pub(crate) struct Users;
+
+impl Kind for Users {
+    type Item = Item<Name>;
+
+    type Plain = Plain;
+
+    ghost def = { user_def };
+
+    ghost says = { λ i alias_says item. item_answer alias_says i.user item };
+
+    ghost plain = { λ i x. plain_answer i.user x };
+
+    fn definition<'a>(
+        p: &'a Policy,
+        name: &AliasName,
+    ) -> Option<(usize, &'a [Signed<Item<Name>>])> {
+        p.user_alias(name)
+    }
+
+    fn written<'a>(alloc: Global, item: &'a Item<Name>) -> Result<Written<'a, Plain>, NoMemory> {
+        written_item(alloc, item)
+    }
+
+    ghost once = { user_aliases_new };
+}
+
+/// The aliases of targets.
+pub(crate) struct Targets;
+
+impl Kind for Targets {
+    type Item = Item<Name>;
+
+    type Plain = Plain;
+
+    ghost def = { runas_def };
+
+    ghost says = { λ i alias_says item. item_answer alias_says i.runas item };
+
+    ghost plain = { λ i x. plain_answer i.runas x };
+
+    fn definition<'a>(
+        p: &'a Policy,
+        name: &AliasName,
+    ) -> Option<(usize, &'a [Signed<Item<Name>>])> {
+        p.runas_alias(name)
+    }
+
+    fn written<'a>(alloc: Global, item: &'a Item<Name>) -> Result<Written<'a, Plain>, NoMemory> {
+        written_item(alloc, item)
+    }
+
+    ghost once = { runas_aliases_new };
+}
+
+/// The aliases of hosts.
+pub(crate) struct Hosts;
+
+impl Kind for Hosts {
+    type Item = Item<HostName>;
+
+    type Plain = Plain;
+
+    ghost def = { host_def };
+
+    ghost says = { λ i alias_says item. item_answer alias_says i.host item };
+
+    ghost plain = { λ i x. plain_answer i.host x };
+
+    fn definition<'a>(
+        p: &'a Policy,
+        name: &AliasName,
+    ) -> Option<(usize, &'a [Signed<Item<HostName>>])> {
+        p.host_alias(name)
+    }
+
+    fn written<'a>(
+        alloc: Global,
+        item: &'a Item<HostName>,
+    ) -> Result<Written<'a, Plain>, NoMemory> {
+        written_item(alloc, item)
+    }
+
+    ghost once = { host_aliases_new };
+}
+
+/// The aliases of commands.
+pub(crate) struct Cmnds;
+
+impl Kind for Cmnds {
+    type Item = CmndItem;
+
+    type Plain = Cmnd;
+
+    ghost def = { cmnd_def };
+
+    ghost says = { λ i alias_says item. cmnd_answer alias_says i.path i.args item };
+
+    ghost plain = { λ i x. match_answer i.path i.args x };
+
+    fn definition<'a>(p: &'a Policy, name: &AliasName) -> Option<(usize, &'a [Signed<CmndItem>])> {
+        p.cmnd_alias(name)
+    }
+
+    fn written<'a>(_alloc: Global, item: &'a CmndItem) -> Result<Written<'a, Cmnd>, NoMemory> {
+        match item {
+            CmndItem::Alias(name) => Ok(Written::Alias(name)),
+            CmndItem::Cmnd(cmnd) => Ok(Written::Own(copied_cmnd(cmnd)?)),
+        }
+    }
+
+    ghost once = { cmnd_aliases_new };
+}

@@ -1,0 +1,34 @@
+//! What a compiled policy is made of: rules in whose lists no alias stands.
+
+use crate::few::Few;
+use crate::short::Short;
+use sudo_policy::Signed;
+use sudo_words::{Cmnd, Moment};
+
+/// An item of a list of users, hosts or targets that is no alias.
+#[derive(Drop)]
+pub enum Plain {
+    /// `ALL`.
+    All,
+    /// The one of this name.
+    Name(Short),
+}
+
+/// A rule whose aliases are written out: in the place of each stand the items of its list, turned round where it is negated.
+#[derive(Drop)]
+pub struct PlainRule {
+    /// The users whom it is about.
+    pub users: Few<Signed<Plain>>,
+    /// The hosts that it is about.
+    pub hosts: Few<Signed<Plain>>,
+    /// The targets that the commands may run as.
+    pub runas: Few<Signed<Plain>>,
+    /// The first moment at which it takes part; absent, there is no bound.
+    pub not_before: Option<Moment>,
+    /// The last moment at which it takes part; absent, there is no bound.
+    pub not_after: Option<Moment>,
+    /// Whether no password is asked for.
+    pub nopasswd: bool,
+    /// The commands that it allows, or denies where they are negated.
+    pub cmnds: Few<Signed<Cmnd>>,
+}

@@ -1,0 +1,66 @@
+//! What a rule without aliases says of an invocation.
+
+ghost use Rattle.std.specs.Prelude.{◌≡◌};
+ghost use Rattle.sudo_compiled.specs.Compiled as compiled;
+
+use crate::listed::{cmnds_say, plains_say};
+use crate::plain::PlainRule;
+use sudo_decide::{Decision, Invocation};
+use sudo_words::Moment;
+
+/// Whether the moment is within the rule's dates, both of them included.
+fn takes_part(rule: &PlainRule, at: Moment) -> bool
+    ensures { result ≡ compiled.takes_part rule.now at }
+{
+    let begun = match rule.not_before {
+        None => true,
+        Some(first) => first <= at,
+    };
+    let lasts = match rule.not_after {
+        None => true,
+        Some(last) => at <= last,
+    };
+    begun && lasts
+}
+
+/// Whether the rule's users, hosts and targets each say yes; one that does not ends the look.
+fn is_about(rule: &PlainRule, i: &Invocation) -> bool
+    ensures { result ≡ compiled.is_about rule.now i.now }
+{
+    plains_say(rule.users.plains(), i.user.as_str().as_bytes()).unwrap_or(false)
+        && plains_say(rule.hosts.plains(), i.host.as_str().as_bytes()).unwrap_or(false)
+        && plains_say(rule.runas.plains(), i.runas.as_str().as_bytes()).unwrap_or(false)
+}
+
+/// What the rule says: nothing outside its dates, or where it is not about the invocation; else what its commands say.
+fn says(rule: &PlainRule, i: &Invocation) -> Option<bool>
+    ensures { result ≡ compiled.says rule.now i.now }
+{
+    if !takes_part(rule, i.at) || !is_about(rule, i) {
+        return None;
+    }
+    cmnds_say(rule.cmnds.cmnds(), &i.path, i.args.as_slice())
+}
+
+/// What the rule decides by its answer.
+fn outcome(rule: &PlainRule, answer: bool) -> Decision
+    ensures { result ≡ compiled.outcome rule.now answer }
+{
+    if !answer {
+        Decision::Deny
+    } else if rule.nopasswd {
+        Decision::AllowNoPassword
+    } else {
+        Decision::Allow
+    }
+}
+
+/// What the rule decides, where it speaks.
+pub(crate) fn spoken(rule: &PlainRule, i: &Invocation) -> Option<Decision>
+    ensures { result ≡ compiled.spoken i.now rule.now }
+{
+    match says(rule, i) {
+        None => None,
+        Some(answer) => Some(outcome(rule, answer)),
+    }
+}
