@@ -1,8 +1,9 @@
 -- Worked cases: a small roster, and the smallest text of one.
-use Rattle.std.specs.Prelude.{ℕ, List, [], ◌∷◌, codes}
+use Rattle.std.specs.Prelude.{ℕ, List, [], ◌∷◌, ◌++◌, codes}
 use Rattle.sudo_words.specs.declared.cmnd.Cmnd.{Cmnd}
 use Rattle.sudo_words.specs.declared.cmnd.Cmnd.TheVariants.{All}
 use Rattle.roster.specs.Fields.{CeilingFields, RosterFields}
+use Rattle.roster.specs.declared.days.Days.{Days}
 use Rattle.roster.specs.declared.days.Days.TheVariants.{Always, Between}
 
 -- Ann operates and approves, bob approves, and carol approves though she audits, which conflicts. Eve approves on 4 and 5 January
@@ -49,17 +50,17 @@ smallest = record {
   ceilings = [];
 }
 
--- a roster whose one person holds a duty on two days
-abbrev pub dated_text : List ℕ
-dated_text =
-    codes "relays = ['r']\nhosts = ['h']\nduties = ['d']\nconflicts = []\nceilings = {}\npeople = {a = [{duty = 'd', from = '19700101', until = '19700102'}]}"
+-- a text that would be a roster's but for the days on which its one person holds a duty
+abbrev pub text_with_days : (from until : List ℕ) → List ℕ
+text_with_days from until =
+    codes "relays=['r']\nhosts=['h']\nduties=['d']\nconflicts=[]\nceilings={}\npeople={a=[{duty='d',from='" ++ from ++ codes "',until='" ++ until ++ codes "'}]}"
 
-abbrev pub dated : RosterFields Cmnd
-dated = record {
+abbrev pub with_days : Days → RosterFields Cmnd
+with_days days = record {
   relays = codes "r" ∷ [];
   hosts = codes "h" ∷ [];
   duties = codes "d" ∷ [];
   conflicts = [];
-  people = (codes "a", (codes "d", Between 0 1) ∷ []) ∷ [];
+  people = (codes "a", (codes "d", days) ∷ []) ∷ [];
   ceilings = [];
 }

@@ -7,10 +7,10 @@ ghost use Rattle.roster.specs.Document.{day_spelled};
 ghost use Rattle.roster.specs.Faults.{Has, IsLeastFault, IsRosterText};
 ghost use Rattle.roster.specs.Fields.{CeilingFields, RosterFields};
 ghost use Rattle.roster.specs.Relations.{conflicting, eligible, hold, holds, may_revoke};
-ghost use Rattle.roster.specs.Worked.{dated, dated_text, office, everything, smallest, smallest_text};
+ghost use Rattle.roster.specs.Worked.{office, everything, smallest, smallest_text, text_with_days, with_days};
 ghost use Rattle.roster.specs.declared.days.Days.TheVariants.{Between};
 ghost use Rattle.roster.specs.declared.fault.RosterFault.{RosterFault};
-ghost use Rattle.roster.specs.declared.fault.RosterFault.TheVariants.{NotToml, UnknownKey, WrongType};
+ghost use Rattle.roster.specs.declared.fault.RosterFault.TheVariants.{NotToml, OutOfRange, UnknownKey, WrongType};
 
 /// A text is at most one roster's.
 pub fn one_roster()
@@ -101,12 +101,20 @@ pub fn worked_days()
 {}
 
 /// Worked texts: one that is no TOML; one with an unknown key, in which the known ones are missing too; one with a value of
-/// the wrong type; the smallest roster; and one with a person who holds a duty on two days.
+/// the wrong type; and the smallest roster.
 pub fn worked_texts()
     ensures not_toml { IsLeastFault (codes "relays") NotToml }
     ensures unknown_key { IsLeastFault (codes "x = 1") UnknownKey }
     ensures missing_too { Has (codes "x = 1") WrongType }
     ensures wrong_type { IsLeastFault (codes "relays = 1") WrongType }
     ensures smallest_roster { IsRosterText smallest_text smallest }
-    ensures dated_roster { IsRosterText dated_text dated }
+{}
+
+/// Worked texts of days: one roster; a day after the one until which the duty is held, and a text that is no day; and a table
+/// with another key.
+pub fn worked_entries()
+    ensures two_days { IsRosterText (text_with_days (codes "19700101") (codes "19700102")) (with_days (Between 0 1)) }
+    ensures backward { IsLeastFault (text_with_days (codes "19700102") (codes "19700101")) OutOfRange }
+    ensures no_day { IsLeastFault (text_with_days (codes "19700101") (codes "19700100")) OutOfRange }
+    ensures other_key { IsLeastFault (codes "people={a=[{by='d'}]}") UnknownKey }
 {}

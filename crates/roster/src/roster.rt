@@ -158,12 +158,13 @@ impl Roster {
     pub fn eligible(&self, person: &Name, asker: &Name, ceiling: &Ceiling, at: Moment) -> bool
         ensures { result ≡ relations.eligible self.now.says person.now asker.now ceiling.now at }
     {
+        if *person == *asker {
+            return false;
+        }
         // (the entries are looked up once for both)
         let entries = entries_of(self.people(), person);
         let day = at.day();
-        *person != *asker
-            && give(entries, &ceiling.approve, day)
-            && !self.is_one_against(entries, &ceiling.approve, day)
+        give(entries, &ceiling.approve, day) && !self.is_one_against(entries, &ceiling.approve, day)
     }
 
     /// Whether the person may revoke at the moment what the asker asked for under the ceiling: it is the asker, or someone
