@@ -22,7 +22,7 @@ ghost use Rattle.grants.specs.WorkedAdmission.{asked};
 ghost use Rattle.grants.specs.WorkedStatuses.{by_two, team};
 ghost use Rattle.review.specs.declared.reason.Reason.{Reason};
 ghost use Rattle.review.specs.declared.reason.Reason.TheVariants.{Asker, Duty, Conflict};
-ghost use Rattle.review.specs.Barred.{reason};
+ghost use Rattle.review.specs.Barred.{HasApprovedAt, IsBarred, reason};
 ghost use Rattle.sudo_beyond.specs.Beyond.{Allows, IsInvocation};
 ghost use Rattle.review.specs.Needs.{IsNeed, own_policy};
 ghost use Rattle.review.specs.Report.{IsReport, broad_for, lesser_first};
@@ -42,15 +42,16 @@ pub fn needless_gives_nothing()
         IsInvocation i → i.user ≡ q.by → Contains q.hosts i.host → i.runas ≡ q.runas → Allows (own_policy q w i.host) i → Allows base i }
 {}
 
-/// Whoever stands under BARRED is not eligible, and whoever approved and does not is (NIST SP 800-53 AC-5). An approval of
-/// somebody who stands there may be added or taken away: no name's status changes.
+/// There is a reason against an approval exactly where its author is not eligible at its moment (NIST SP 800-53 AC-5). An approval
+/// of somebody who stands under BARRED may be taken away or added again: no name's status changes.
 pub fn barred_changes_nothing()
-    ensures barred { (f : RosterFields Cmnd) (c : CeilingFields Cmnd) (asker person : List ℕ) (why : Reason) →
-        reason f c asker person ≡ Some why → eligible f person asker c ≡ false }
-    ensures other { (f : RosterFields Cmnd) (c : CeilingFields Cmnd) (asker person : List ℕ) →
-        reason f c asker person ≡ None → eligible f person asker c ≡ true }
+    ensures barred { (f : RosterFields Cmnd) (c : CeilingFields Cmnd) (asker person : List ℕ) (at : ℕ) (why : Reason) →
+        reason f c asker person at ≡ Some why → eligible f person asker c at ≡ false }
+    ensures other { (f : RosterFields Cmnd) (c : CeilingFields Cmnd) (asker person : List ℕ) (at : ℕ) →
+        reason f c asker person at ≡ None → eligible f person asker c at ≡ true }
     ensures nothing { (f : RosterFields Cmnd) (set : List Message) (q : RequestFields) (c : CeilingFields Cmnd) (v : VerdictFields) (why : Reason) (name : RequestName) (status : Status) →
-        StandsAlone set q → ceiling_at f q.ceiling ≡ Some c → reason f c q.by v.by ≡ Some why → IsAbout q v → v.kind ≡ Approve →
+        StandsAlone set q → ceiling_at f q.ceiling ≡ Some c → IsAbout q v → v.kind ≡ Approve →
+        IsBarred f c q.by v.by (HasApprovedAt (set ++ Verdict v ∷ []) q v.by) why →
         IsStatus f set name status ↔ IsStatus f (set ++ Verdict v ∷ []) name status }
 {}
 
@@ -59,6 +60,6 @@ pub fn barred_changes_nothing()
 pub fn worked_lines()
     ensures text { team_text ≡ codes "REVIEW 19700101093000Z\nLIVE\nann                                      7 db-root                          19700101091000Z 19700101110000Z needed\nBARRED\nann                                      7 carol                            conflict\nCONFLICTS\ncarol                            approve                          audit\nBROAD\nPARKED\n" }
     ensures pairs { map lesser_first team.conflicts ≡ lesser_first_pairs }
-    ensures reasons { map (reason team by_two (codes "ann")) (codes "ann" ∷ codes "eve" ∷ codes "carol" ∷ codes "bob" ∷ []) ≡ Some Asker ∷ Some Duty ∷ Some Conflict ∷ None ∷ [] }
+    ensures reasons { map (λ person. reason team by_two (codes "ann") person 28_800) (codes "ann" ∷ codes "eve" ∷ codes "carol" ∷ codes "bob" ∷ []) ≡ Some Asker ∷ Some Duty ∷ Some Conflict ∷ None ∷ [] }
     ensures broad { flat_map (broad_for asked) three_commands ≡ codes "ann                                      7 ALL" ∷ codes "ann                                      7 /usr/bin/" ∷ [] }
 {}
