@@ -1,7 +1,7 @@
 -- Who has approved a request and stands under BARRED, from the approvals in order.
-use Rattle.std.proofs.Common.{◌≡◌, ◌⊎◌, ℕ, ◌≤◌, Bool, true, false, List, [], ◌∷◌, ◌++◌, map, Option, Some, None, if◌then◌else◌, refl, sym, ap, ◌∙◌, subst, inl, inr, arith, append_assoc}
+use Rattle.std.proofs.Common.{◌≡◌, ◌⊎◌, ℕ, ◌≤◌, ltb, false, List, [], ◌∷◌, map, Option, Some, None, refl, sym, ap, ◌∙◌, subst, inl, inr, arith}
 use Rattle.std.specs.Cmp.{nat_cmp_is}
-use Rattle.std.specs.Cmp.Lexicographic.{nat_list_cmp_total, slice_cmp}
+use Rattle.std.specs.Cmp.Lexicographic.{nat_list_cmp_total}
 use Rattle.std.specs.FinSet.{nat_cmp-IsAntisymmetric, slice_cmp-IsAntisymmetric}
 use Rattle.std.specs.List.{AllByRecursion, Contains, flat_map}
 use Rattle.std.specs.List.Sorted.{IsStrictlySortedBy}
@@ -186,7 +186,7 @@ module _ (f : RosterFields Cmnd) (c : CeilingFields Cmnd) (asker : List ℕ) whe
       | inr more ↦ subst (λ (p : List ℕ). Contains (p ∷ keys ws) person) same (was.all person at more)
     ];
   }
-    where
+
   all_above : (p q : List ℕ) (ps : List (List ℕ)) → text_order p q ≡ Less → AllByRecursion (λ y. text_order q y ≡ Less) ps → AllByRecursion (λ y. text_order p y ≡ Less) ps
   all_above p q [] e all = tt
   all_above p q (x ∷ xs) e all = (nat_list_cmp_total.trans p q x e all.0, all_above p q xs e all.1)
@@ -217,16 +217,16 @@ module _ (f : RosterFields Cmnd) (c : CeilingFields Cmnd) (asker : List ℕ) whe
             (in_front a others (w ∷ ws) (low, all_above a.0 w.0 (keys ws) low (sorted_head text_order w.0 (keys ws) was.rising)) was)
       ]
 
+  nothing_rises : IsStrictlySortedBy text_order []
+  unfolding IsStrictlySortedBy
+  nothing_rises = tt
+
   whys_are : (others : List (List ℕ × ℕ)) → IsStrictlySortedBy approval_cmp others → WhysAre others (whys (reason f c asker) others)
   whys_are [] sorted = record {
     rising = nothing_rises;
     each = λ person why there. absurd (nothing_there (person, why) there);
     all = λ person at there. absurd (nothing_there (person, at) there);
   }
-    where
-      nothing_rises : IsStrictlySortedBy text_order []
-      unfolding IsStrictlySortedBy
-      nothing_rises = tt
   whys_are (a ∷ others) sorted = joined_are a others (whys (reason f c asker) others) sorted (whys_are others (sorted_tail approval_cmp a others sorted))
 
 -- ---- a request's

@@ -93,14 +93,17 @@ fn next<'s>(
 ) -> Result<Approver<'s>, NoMemory>
     ensures { IfOk result (λ then. (ws : List (List ℕ × Option AnyReason)) →
         spec.with_lines request.now (string_bytes out.new) (spec.joined then.person.now then.why ws)
-        ≡ spec.with_lines request.now (string_bytes out.old) (spec.before last.entry (spec.joined approver.person.now approver.why ws))) }
+        ≡ spec.with_lines request.now (string_bytes out.old) (spec.before last.entry (spec.joined approver.entry.person.now approver.entry.why ws))) }
 {
     let Some(last) = last else {
         return Ok(approver);
     };
     if last.person == approver.person {
         let why = both(last.why, approver.why);
-        return Ok(Approver { person: approver.person, why });
+        return Ok(Approver {
+            person: approver.person,
+            why,
+        });
     }
     push_barred_line(alloc, out, request, &last)?;
     Ok(approver)

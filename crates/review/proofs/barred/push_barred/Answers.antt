@@ -1,4 +1,4 @@
-use Rattle.std.proofs.Common.{◌++◌, string_bytes, map, Option, refl, sym, ap, subst, ◌∙◌, List, ℕ}
+use Rattle.std.proofs.Common.{string_bytes, map, Option, sym, ap, subst, ◌∙◌, List, ℕ}
 use Rattle.std.specs.List.{flat_map}
 use Rattle.messages.specs.Fields.{RequestFields}
 use Rattle.grants.specs.Summaries.{AreApprovals}
