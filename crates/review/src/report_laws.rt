@@ -19,13 +19,13 @@ ghost use Rattle.grants.specs.declared.outcome.Window.{Window};
 ghost use Rattle.review.specs.declared.need.Need.{Need};
 ghost use Rattle.review.specs.declared.need.Need.TheVariants.{Needless};
 ghost use Rattle.grants.specs.WorkedAdmission.{asked};
-ghost use Rattle.grants.specs.WorkedStatuses.{by_two, team};
+ghost use Rattle.grants.specs.WorkedStatuses.{by_two, rota, team};
 ghost use Rattle.review.specs.declared.reason.Reason.{Reason};
 ghost use Rattle.review.specs.declared.reason.Reason.TheVariants.{Asker, Duty, Conflict};
 ghost use Rattle.review.specs.Barred.{HasApprovedAt, IsBarred, reason};
 ghost use Rattle.sudo_beyond.specs.Beyond.{Allows, IsInvocation};
 ghost use Rattle.review.specs.Needs.{IsNeed, own_policy};
-ghost use Rattle.review.specs.Report.{IsReport, broad_for, lesser_first};
+ghost use Rattle.review.specs.Report.{IsReport, broad_for, conflicts_of, lesser_first};
 ghost use Rattle.review.specs.WorkedReport.{lesser_first_pairs, team_text, three_commands};
 
 /// Two lists of the same messages have one report at a moment: neither order nor repeats mean anything.
@@ -56,10 +56,15 @@ pub fn barred_changes_nothing()
 {}
 
 /// Worked lines: the text of a report with a grant, an approval that does not count and a holder of two conflicting duties; why
-/// four people's approvals do not count, or nothing; and which of three commands are broad.
+/// four people's approvals do not count, or nothing, and two people's by days; and which of three commands are broad.
 pub fn worked_lines()
     ensures text { team_text ≡ codes "REVIEW 19700101093000Z\nLIVE\nann                                      7 db-root                          19700101091000Z 19700101110000Z needed\nBARRED\nann                                      7 carol                            conflict\nCONFLICTS\ncarol                            approve                          audit\nBROAD\nPARKED\n" }
     ensures pairs { map lesser_first team.conflicts ≡ lesser_first_pairs }
     ensures reasons { map (λ person. reason team by_two (codes "ann") person 28_800) (codes "ann" ∷ codes "eve" ∷ codes "carol" ∷ codes "bob" ∷ []) ≡ Some Asker ∷ Some Duty ∷ Some Conflict ∷ None ∷ [] }
+    // Bob approves from 2 January on, and carol audits up to the 1st.
+    ensures days { map (reason rota by_two (codes "ann") (codes "bob")) (86_399 ∷ 86_400 ∷ []) ≡ Some Duty ∷ None ∷ [] }
+    ensures last_day { map (reason rota by_two (codes "ann") (codes "carol")) (86_399 ∷ 86_400 ∷ []) ≡ Some Conflict ∷ None ∷ [] }
+    ensures conflicts { flat_map (conflicts_of rota 86_399 lesser_first_pairs) rota.people ≡ codes "carol                            approve                          audit" ∷ [] }
+    ensures ended { flat_map (conflicts_of rota 86_400 lesser_first_pairs) rota.people ≡ [] }
     ensures broad { flat_map (broad_for asked) three_commands ≡ codes "ann                                      7 ALL" ∷ codes "ann                                      7 /usr/bin/" ∷ [] }
 {}
