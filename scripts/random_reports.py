@@ -28,6 +28,7 @@ BASES = [
     "bob db2 = ALL\nann ALL = /bin/, !/bin/ls\n",
 ]
 MIDNIGHT = 1_767_571_200
+DAYS = ["20260104", "20260105", "20260106"]
 
 
 def stamp(seconds):
@@ -42,6 +43,27 @@ def canonical(message):
     return json.dumps(message, separators=(",", ":"), sort_keys=True)
 
 
+def entries(chance, duty):
+    """A duty that is held always, from one day to another, or from two."""
+    count = chance.choice([0, 0, 1, 1, 2])
+    spans = [sorted(chance.sample(DAYS, 2)) if chance.random() < 0.5 else [chance.choice(DAYS)] * 2 for _ in range(count)]
+    return [{"duty": duty, "from": first, "until": last} for first, last in spans] or [duty]
+
+
+def is_held(entry, duty, at):
+    """Whether the entry of a roster gives the duty on the day of the moment, a text as messages have it."""
+    if isinstance(entry, str):
+        return entry == duty
+    return entry["duty"] == duty and entry["from"] <= at[:8] <= entry["until"]
+
+
+def inline(entry):
+    """The entry in TOML."""
+    if isinstance(entry, str):
+        return json.dumps(entry)
+    return "{ " + ", ".join(f"{key} = {json.dumps(word)}" for key, word in entry.items()) + " }"
+
+
 class Roster:
     """People with duties, pairs of duties that conflict, and two ceilings."""
 
@@ -49,14 +71,15 @@ class Roster:
         self.people = {}
         for person in PEOPLE:
             duties = set(chance.sample(DUTIES, chance.randint(0, 2))) | ({"approve-db"} if chance.random() < 0.6 else set())
-            self.people[person] = sorted(duties | ({"operate-db"} if person == "ann" else set()))
+            duties = sorted(duties | ({"operate-db"} if person == "ann" else set()))
+            self.people[person] = [entry for duty in duties for entry in entries(chance, duty)]
         pairs = [tuple(chance.sample(DUTIES, 2)) for _ in range(chance.choice([0, 0, 1, 2]))]
         self.conflicts = list(dict.fromkeys(pairs))
         self.needs = {"db-pair": chance.randint(1, 3), "db-root": chance.randint(1, 2)}
 
     def text(self):
         lines = ['relays = ["web"]', f"hosts = {json.dumps(HOSTS)}", f"duties = {json.dumps(DUTIES)}", f"conflicts = {json.dumps(self.conflicts)}", "[people]"]
-        lines += [f"{person} = {json.dumps(duties)}" for person, duties in self.people.items()]
+        lines += [f"{person} = [{', '.join(map(inline, held))}]" for person, held in self.people.items()]
         for ceiling, needs in self.needs.items():
             hosts = HOSTS if ceiling == "db-root" else HOSTS[:1]
             lines += [f"[ceilings.{ceiling}]", 'ask = "operate-db"', 'approve = "approve-db"', f"needs = {needs}", f"hosts = {json.dumps(hosts)}"]
@@ -66,17 +89,21 @@ class Roster:
     def conflict(self, one, other):
         return (one, other) in self.conflicts or (other, one) in self.conflicts
 
-    def bar(self, person, asker):
-        """Why the person's approval does not count, or None."""
-        duties = self.people[person]
+    def duties(self, person, at):
+        """The duties that the person holds at the moment."""
+        return {duty for duty in DUTIES if any(is_held(entry, duty, at) for entry in self.people[person])}
+
+    def bar(self, person, asker, at):
+        """Why the person's approval at the moment does not count, or None."""
+        duties = self.duties(person, at)
         if person == asker:
             return "asker"
         if "approve-db" not in duties:
             return "duty"
         return "conflict" if any(self.conflict("approve-db", duty) for duty in duties) else None
 
-    def may_revoke(self, person, asker):
-        return person == asker or "approve-db" in self.people[person]
+    def may_revoke(self, person, asker, at):
+        return person == asker or "approve-db" in self.duties(person, at)
 
 
 def message(chance):
@@ -92,14 +119,14 @@ def message(chance):
             "kind": "request", "no": chance.randint(1, 8), "runas": "root", "until": moment(6, 14),
         }
     return {
-        "at": moment(0, 14), "by": chance.choice(PEOPLE), "kind": chance.choice(["approve"] * 8 + ["refuse", "revoke"]), "no": chance.randint(1, 9),
+        "at": chance.choice([moment(0, 14), moment(0, 14), moment(-2, 0), moment(144, 145)]), "by": chance.choice(PEOPLE), "kind": chance.choice(["approve"] * 8 + ["refuse", "revoke"]), "no": chance.randint(1, 9),
         "of": chance.choice(["ann", "ann", "bob"]),
     }
 
 
 def window(roster, request, verdicts):
     """The first and the last second of the request's window, or None."""
-    asker, eligible = request["by"], [verdict for verdict in verdicts if roster.bar(verdict["by"], request["by"]) is None]
+    asker, eligible = request["by"], [verdict for verdict in verdicts if roster.bar(verdict["by"], request["by"], verdict["at"]) is None]
     first = {}
     for verdict in eligible:
         if verdict["kind"] == "approve":
@@ -110,7 +137,7 @@ def window(roster, request, verdicts):
     complete = sorted(first.values())[needs - 1]
     if any(verdict["kind"] == "refuse" and seconds(verdict["at"]) <= complete for verdict in eligible):
         return None
-    revoked = [seconds(verdict["at"]) - 1 for verdict in verdicts if verdict["kind"] == "revoke" and roster.may_revoke(verdict["by"], asker)]
+    revoked = [seconds(verdict["at"]) - 1 for verdict in verdicts if verdict["kind"] == "revoke" and roster.may_revoke(verdict["by"], asker, verdict["at"])]
     start, end = max(seconds(request["from"]), complete), min([seconds(request["until"]), *revoked])
     return (start, end) if start <= end else None
 
@@ -157,9 +184,12 @@ def report(folder, roster, texts, at):
             live.append(f"{name} {request['ceiling']:<32} {stamp(held[0])} {stamp(held[1])} {folder.need(request, *held)}")
             broad += [f"{name} {command}" for command in request["cmnds"] if command == "ALL" or command.endswith("/")]
         approvers = sorted({verdict["by"] for verdict in verdicts if verdict["kind"] == "approve"})
-        barred += [f"{name} {person:<32} {roster.bar(person, asker)}" for person in approvers if roster.bar(person, asker)]
+        for person in approvers:
+            moments = sorted(verdict["at"] for verdict in verdicts if verdict["kind"] == "approve" and verdict["by"] == person)
+            reasons = [roster.bar(person, asker, moment) for moment in moments]
+            barred += [f"{name} {person:<32} {reasons[0]}"] if all(reasons) else []
     pairs = sorted({tuple(sorted(pair)) for pair in roster.conflicts})
-    held = [f"{person:<32} {one:<32} {other}" for person in sorted(PEOPLE) for one, other in pairs if {one, other} <= set(roster.people[person])]
+    held = [f"{person:<32} {one:<32} {other}" for person in sorted(PEOPLE) for one, other in pairs if {one, other} <= roster.duties(person, stamp(at))]
     parked = sorted(text for text, each in zip(texts, messages, strict=True) if "of" in each and (each["of"], each["no"]) not in requests)
     return [f"REVIEW {stamp(at)}", "LIVE", *live, "BARRED", *barred, "CONFLICTS", *held, "BROAD", *broad, "PARKED", *parked]
 
@@ -184,7 +214,7 @@ def draw(path, chance):
     given = "".join(line + "\n" for line in lines)
     answers = folder.run("deliver", folder.roster, folder.base, "-", "web", given=given).stdout.splitlines()
     held = sorted({line for line, answer in zip(lines, answers, strict=True) if answer == "ack"})
-    at = MIDNIGHT + chance.randint(18, 84) * 100
+    at = MIDNIGHT + chance.choice([chance.randint(18, 84) * 100, -1, 86_400])
     return Drawn(folder, lines, at, report(folder, roster, held, at))
 
 

@@ -31,6 +31,7 @@ use Rattle.grants.specs.Summaries.{Kept, StandsFor}
 use Rattle.grants.specs.declared.outcome.Status.{Status}
 use Rattle.grants.specs.declared.outcome.Status.TheVariants.{Disputed, Lapsed}
 use Rattle.grants.proofs.Answering.{no_denial}
+use Rattle.grants.proofs.MarkLemmas.{keep_nothing}
 use Rattle.grants.proofs.SomeAnswer.{some_answer}
 use Rattle.grants.proofs.StandLemmas as standing
 use Rattle.grants.proofs.StatusLemmas.{admitted_is, disputed_is, lapsed_is}
@@ -207,11 +208,8 @@ first q = record {
 }
   where
     nothing : (kind : VerdictKind) → Keep (Request q ∷ []) q kind []
-    nothing kind = record {
-      each = tt;
-      all = λ v h about is. absurd (elim (Contains-cases (Request q) [] (Verdict v) h) as (λ _. ⊥) [ inl wrong ↦ absurd cc | inr none ↦ no_member (Verdict v) none ]);
-      different = tt;
-    }
+    nothing kind = keep_nothing (Request q ∷ []) q kind
+        (λ v h about is. elim (Contains-cases (Request q) [] (Verdict v) h) as (λ _. ⊥) [ inl wrong ↦ absurd cc | inr none ↦ no_member (Verdict v) none ])
 
 once_more : (set : List Message) (m : Message) → Contains set m → SameMessages (m ∷ set) set
 once_more set m h n = (

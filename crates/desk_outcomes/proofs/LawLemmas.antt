@@ -64,7 +64,7 @@ module _ (f : RosterFields Cmnd) (set : List Message) (v : VerdictFields) where
 
   pub unlawful : v.kind ≡ Revoke → MayNotRevoke f set v → GrantTheSame f set longer
   unlawful kind lacks =
-      uncounted (λ q c asked about is. subst (λ (k : VerdictKind). may_give f c k v.by v.of ≡ false) (sym kind) (lacks q c asked about is))
+      uncounted (λ q c asked about is. subst (λ (k : VerdictKind). may_give f c k v.by v.of v.at ≡ false) (sym kind) (lacks q c asked about is))
 
   -- ---- a refusal
 

@@ -1,9 +1,9 @@
 -- A summary stands for each set that has the same messages about its name.
 use Rattle.std.proofs.Common.{◌≡◌, List, [], ◌∷◌, ◌++◌, refl, sym, ap, subst, inl, inr}
-use Rattle.std.specs.List.{Contains, AllByRecursion}
+use Rattle.std.specs.List.{Contains}
 use Rattle.std.proofs.lemmas.List.Elements.{Contains-append_left, Contains-push_cases}
-use Rattle.messages.specs.Fields.{RequestFields, VerdictFields}
-use Rattle.messages.specs.Names.{RequestName, IsNamed, IsAbout, SameMessages, SameName, name_of}
+use Rattle.messages.specs.Fields.{RequestFields}
+use Rattle.messages.specs.Names.{RequestName, IsNamed, SameMessages, SameName, name_of}
 use Rattle.messages.specs.declared.message.Message.{Message}
 use Rattle.messages.specs.declared.message.Message.TheVariants.{Request, Verdict}
 use Rattle.messages.specs.declared.kind.VerdictKind.{VerdictKind}
@@ -27,19 +27,14 @@ name_from_named q name named = rw (named.0, named.1) refl
 pub named_from_name : (q : RequestFields) (name : RequestName) → name_of q ≡ name → IsNamed q name
 named_from_name q name same = (ap (λ (n : RequestName). n.by) same, ap (λ (n : RequestName). n.no) same)
 
-about_name : (q : RequestFields) (v : VerdictFields) → IsAbout q v → name_meant v ≡ name_of q
-about_name q v about = rw (about.0, about.1) refl
-
 module _ (s t : List Message) (q : RequestFields) (to : Within s t (name_of q)) (back : Within t s (name_of q)) where
-  each_in : (kind : VerdictKind) (marks : List Mark) → AllByRecursion (λ mark. Contains s (Verdict (verdict_of q kind mark))) marks → AllByRecursion (λ mark. Contains t (Verdict (verdict_of q kind mark))) marks
-  each_in kind [] all = tt
-  each_in kind (mark ∷ more) all = (to (Verdict (verdict_of q kind mark)) refl all.0, each_in kind more all.1)
-
   keep_in : (kind : VerdictKind) (marks : List Mark) → Keep s q kind marks → Keep t q kind marks
   keep_in kind marks k = record {
-    each = each_in kind marks k.each;
-    all = λ v given about kind_is. k.all v (back (Verdict v) (about_name q v about) given) about kind_is;
-    different = k.different;
+    each = λ mark. (
+      λ m. to (Verdict (verdict_of q kind mark)) refl ((k.each mark).0 m),
+      λ given. (k.each mark).1 (back (Verdict (verdict_of q kind mark)) refl given),
+    );
+    once = k.once;
   }
 
 same_as : (p : RequestFields) (k : Kept) → SameName p k.request → name_of p ≡ name_of k.request

@@ -13,11 +13,11 @@ abbrev pub UnderEachCeiling : RosterFields Cmnd → List Message → VerdictFiel
 UnderEachCeiling f messages v P =
     (q : RequestFields) (c : CeilingFields Cmnd) → Contains messages (Request q) → IsAbout q v → ceiling_at f q.ceiling ≡ Some c → P c
 
--- Whoever gives the verdict holds a duty that conflicts with the approving duty.
+-- Whoever gives the verdict holds a duty at its moment that conflicts with the approving duty.
 abbrev pub HoldsConflicting : RosterFields Cmnd → List Message → VerdictFields → Type 0
 HoldsConflicting f messages v =
-    UnderEachCeiling f messages v (λ c. (duty : List ℕ) × (holds f v.by duty ≡ true) × (conflicting f duty c.approve ≡ true))
+    UnderEachCeiling f messages v (λ c. (duty : List ℕ) × (holds f v.by duty v.at ≡ true) × (conflicting f duty c.approve ≡ true))
 
--- Whoever gives the verdict may not revoke.
+-- Whoever gives the verdict may not revoke at its moment.
 abbrev pub MayNotRevoke : RosterFields Cmnd → List Message → VerdictFields → Type 0
-MayNotRevoke f messages v = UnderEachCeiling f messages v (λ c. may_revoke f v.by v.of c ≡ false)
+MayNotRevoke f messages v = UnderEachCeiling f messages v (λ c. may_revoke f v.by v.of c v.at ≡ false)

@@ -94,7 +94,7 @@ pub fn disputed_gives_nothing()
 {}
 
 /// Separation of duties (NIST SP 800-53 AC-5): the asker's own approval or refusal may be added or taken away, or that of somebody
-/// who holds a duty that conflicts with the approving duty, or the revocation of somebody who may not revoke: the same is granted.
+/// who holds a duty at its moment that conflicts with the approving duty, or the revocation of somebody who may not revoke then: the same is granted.
 pub fn who_changes_nothing()
     ensures asker { (f : RosterFields Cmnd) (set : List Message) (v : VerdictFields) →
         v.kind ≢ kinds.Revoke → v.by ≡ v.of → GrantTheSame f set (set ++ Verdict v ∷ []) }

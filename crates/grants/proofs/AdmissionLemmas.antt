@@ -85,12 +85,12 @@ module _ (f : RosterFields Cmnd) (r : RequestFields) where
     named : has_person f r.by ≡ true → ceiling_at f r.ceiling ≡ Some c → Clear 3
     named e is = below_next (λ d. ¬ DeniesRequest f r d) UnknownCeiling (listed e) (λ h. none-some c (sym h ∙ is))
 
-    pub not_asker : has_person f r.by ≡ true → ceiling_at f r.ceiling ≡ Some c → holds f r.by c.ask ≡ false → IsDenial f (Request r) NotAsker
+    pub not_asker : has_person f r.by ≡ true → ceiling_at f r.ceiling ≡ Some c → holds f r.by c.ask r.at ≡ false → IsDenial f (Request r) NotAsker
     not_asker e is h = record { applies = (c, is, h); first = named e is }
 
     asks : MayAskUnder f r c → Clear 4
     asks m = below_next (λ d. ¬ DeniesRequest f r d) NotAsker (named m.listed m.ceiling_is)
-        (not_under c (λ k. holds f r.by k.ask ≡ false) m.ceiling_is (λ h. both_ways (holds f r.by c.ask) h m.may_ask))
+        (not_under c (λ k. holds f r.by k.ask r.at ≡ false) m.ceiling_is (λ h. both_ways (holds f r.by c.ask r.at) h m.may_ask))
 
     abbrev HostsInside : Type 0
     HostsInside = (host : List ℕ) → Contains r.hosts host → Contains c.hosts host

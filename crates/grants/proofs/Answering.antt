@@ -22,7 +22,7 @@ under f r a P h = subst P (same_Some h.0 a.ceiling (sym h.1 ∙ a.may_ask.ceilin
 no_denial_request : (f : RosterFields Cmnd) (r : RequestFields) (d : Denial) → AdmitsRequest f r → ¬ DeniesRequest f r d
 no_denial_request f r UnknownPerson a h = both_ways (has_person f r.by) h a.may_ask.listed
 no_denial_request f r UnknownCeiling a h = none-some a.ceiling (sym h ∙ a.may_ask.ceiling_is)
-no_denial_request f r NotAsker a h = both_ways (holds f r.by a.ceiling.ask) (under f r a (λ c. holds f r.by c.ask ≡ false) h) a.may_ask.may_ask
+no_denial_request f r NotAsker a h = both_ways (holds f r.by a.ceiling.ask r.at) (under f r a (λ c. holds f r.by c.ask r.at ≡ false) h) a.may_ask.may_ask
 no_denial_request f r HostOutside a h = let out = under f r a (HasHostOutside r) h in out.2 (a.within.hosts out.0 out.1)
 no_denial_request f r RunasOutside a h = under f r a (λ c. ¬ Contains c.runas r.runas) h a.within.target
 no_denial_request f r CommandOutside a h = let out = under f r a (HasCommandOutside r) h in out.2 (a.within.commands out.0 out.1)

@@ -1,7 +1,7 @@
 -- Verdicts that do not count change nothing, and whose do not.
 use Rattle.std.proofs.Common.{◌≡◌, ◌≢◌, ℕ, Bool, true, false, ◌||◌, List, [], ◌∷◌, ◌++◌, refl, sym, subst, inl, inr}
 use Rattle.std.specs.List.{Contains}
-use Rattle.std.proofs.lemmas.Bool.{and_left, and_right, both_ways, not_from_true, false_from_ne_true}
+use Rattle.std.proofs.lemmas.Bool.{both_ways, false_from_ne_true}
 use Rattle.std.proofs.lemmas.List.Elements.{Contains-append_left, Contains-push_cases}
 use Rattle.std.proofs.lemmas.Slice.Eq.{bytes_eq-Decides}
 use Rattle.sudo_words.specs.declared.cmnd.Cmnd.{Cmnd}
@@ -12,12 +12,12 @@ use Rattle.messages.specs.declared.message.Message.TheVariants.{Request, Verdict
 use Rattle.messages.specs.declared.kind.VerdictKind.{VerdictKind}
 use Rattle.messages.specs.declared.kind.VerdictKind.TheVariants.{Approve, Refuse, Revoke}
 use Rattle.roster.specs.Fields.{CeilingFields, RosterFields}
-use Rattle.roster.specs.Relations.{conflicting, duties_of, eligible, holds, holds_against}
+use Rattle.roster.specs.Relations.{conflicting, eligible, holds}
+use Rattle.roster.proofs.DutyLemmas.{not_who_asks, holds_duty, not_against}
 use Rattle.grants.specs.Verdicts.{may_give, counts, IsGiven}
 use Rattle.grants.specs.Statuses.{IsStatus}
 use Rattle.grants.specs.Counting.{NeverCounts}
 use Rattle.grants.specs.declared.outcome.Status.{Status}
-use Rattle.grants.proofs.Members.{member, passes}
 use Rattle.grants.proofs.StatusLaws.{same_status}
 
 one_verdict : (v w : VerdictFields) → ◌≡◌ {A = Message} (Verdict v) (Verdict w) → v ≡ w
@@ -67,35 +67,31 @@ taken_away f set v name status never x =
 -- ---- separation of duties
 
 -- whoever is not eligible gives no approval and no refusal that counts
-not_eligible : (f : RosterFields Cmnd) (c : CeilingFields Cmnd) (kind : VerdictKind) (person asker : List ℕ) → kind ≢ Revoke → eligible f person asker c ≡ false → may_give f c kind person asker ≡ false
-not_eligible f c Approve person asker other h = h
-not_eligible f c Refuse person asker other h = h
-not_eligible f c Revoke person asker other h = absurd (other refl)
+not_eligible : (f : RosterFields Cmnd) (c : CeilingFields Cmnd) (kind : VerdictKind) (person asker : List ℕ) (at : ℕ) → kind ≢ Revoke → eligible f person asker c at ≡ false → may_give f c kind person asker at ≡ false
+not_eligible f c Approve person asker at other h = h
+not_eligible f c Refuse person asker at other h = h
+not_eligible f c Revoke person asker at other h = absurd (other refl)
 
 pub own_verdict : (f : RosterFields Cmnd) (c : CeilingFields Cmnd) (v : VerdictFields) → v.kind ≢ Revoke → v.by ≡ v.of → counts f c v ≡ false
 own_verdict f c v other own =
-    not_eligible f c v.kind v.by v.of other
-    (and_left _ _ (and_left _ _ (not_from_true _ ((bytes_eq-Decides v.by v.of).1 own))))
+    not_eligible f c v.kind v.by v.of v.at other
+    (subst (λ (person : List ℕ). eligible f person v.of c v.at ≡ false) (sym own) (not_who_asks f v.of c v.at))
 
-against : (f : RosterFields Cmnd) (person duty approve : List ℕ) → holds f person duty ≡ true → conflicting f duty approve ≡ true → holds_against f person approve ≡ true
-against f person duty approve held conflict =
-    passes (λ d. conflicting f d approve) (duties_of f person) duty (member (duties_of f person) duty held) conflict
-
-pub conflicting_duty : (f : RosterFields Cmnd) (c : CeilingFields Cmnd) (v : VerdictFields) (duty : List ℕ) → v.kind ≢ Revoke → holds f v.by duty ≡ true → conflicting f duty c.approve ≡ true → counts f c v ≡ false
+pub conflicting_duty : (f : RosterFields Cmnd) (c : CeilingFields Cmnd) (v : VerdictFields) (duty : List ℕ) → v.kind ≢ Revoke → holds f v.by duty v.at ≡ true → conflicting f duty c.approve ≡ true → counts f c v ≡ false
 conflicting_duty f c v duty other held conflict =
-    not_eligible f c v.kind v.by v.of other
-    (and_right _ _ (not_from_true _ (against f v.by duty c.approve held conflict)))
+    not_eligible f c v.kind v.by v.of v.at other
+    (not_against f v.by v.of duty c v.at held conflict)
 
 either : (a b : Bool) → a ≡ false → b ≡ false → (a || b) ≡ false
 either a b x y = rw (x, y) refl
 
-pub without_duty : (f : RosterFields Cmnd) (c : CeilingFields Cmnd) (v : VerdictFields) → v.by ≢ v.of → holds f v.by c.approve ≡ false → counts f c v ≡ false
+pub without_duty : (f : RosterFields Cmnd) (c : CeilingFields Cmnd) (v : VerdictFields) → v.by ≢ v.of → holds f v.by c.approve v.at ≡ false → counts f c v ≡ false
 without_duty f c v other lacks = lacking v.kind
   where
-    no_approver : eligible f v.by v.of c ≡ false
-    no_approver = and_left _ _ (and_right _ _ lacks)
+    no_approver : eligible f v.by v.of c v.at ≡ false
+    no_approver = false_from_ne_true _ (λ e. both_ways _ lacks (holds_duty f v.by v.of c v.at e))
 
-    lacking : (kind : VerdictKind) → may_give f c kind v.by v.of ≡ false
+    lacking : (kind : VerdictKind) → may_give f c kind v.by v.of v.at ≡ false
     lacking Approve = no_approver
     lacking Refuse = no_approver
     lacking Revoke =

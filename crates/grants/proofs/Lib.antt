@@ -12,8 +12,7 @@ pub mod WorkedSite
 pub mod MarkLemmas
 pub mod StandLemmas
 pub mod VoiceLemmas
-pub mod CountLemmas
-pub mod LeastLemmas
+pub mod FirstLemmas
 pub mod NthLemmas
 pub mod StatusLemmas
 pub mod StatusLaws
@@ -21,6 +20,8 @@ pub mod CountingLaws
 pub mod ApprovalLemmas
 pub mod MemberCases
 pub mod NthSmallest
+pub mod MomentLaws
+pub mod SummaryLaws
 pub mod WorkedTeam
 pub mod WindowLaws
 pub mod LawfulRules

@@ -1,179 +1,153 @@
 -- The marks of one kind, as a set grows.
-use Rattle.std.proofs.Common.{◌≡◌, ◌≢◌, ℕ, ◌≤◌, ◌<◌, ◌⊎◌, Bool, true, false, ◌&&◌, nat_lt, nat_le, List, [], ◌∷◌, ◌++◌, map, refl, sym, ◌∙◌, subst, inl, inr, arith}
-use Rattle.std.specs.List.{Contains, list_any, AllByRecursion}
-use Rattle.std.specs.Str.{bytes_eq}
-use Rattle.std.proofs.lemmas.Bool.{or_cases, or_left, or_right, or_parts, and_parts, and_from, and_cases, leb-true, le-leb, ltb-true, ltb-false, both_ways, cond_both}
-use Rattle.std.proofs.lemmas.Slice.Eq.{bytes_eq-Decides}
+use Rattle.std.proofs.Common.{◌≡◌, ◌⊎◌, Ordering, Less, Equal, Greater, List, [], ◌∷◌, ◌++◌, refl, sym, ap, ◌∙◌, subst, inl, inr}
+use Rattle.std.specs.BTreeSet.{insert_key}
+use Rattle.std.specs.Cmp.{IsTotalOrder}
+use Rattle.std.specs.Cmp.Lexicographic.{slice_cmp}
+use Rattle.std.specs.FinSet.{nat_cmp-IsAntisymmetric, slice_cmp-IsAntisymmetric}
+use Rattle.std.specs.List.{Contains, AllByRecursion}
+use Rattle.std.specs.List.Sorted.{IsStrictlySortedBy}
+use Rattle.std.specs.Ordering.{nat_cmp, match_ordering, ordering_then, ordering_reverse}
+use Rattle.std.proofs.lemmas.Cmp.{nat_cmp_total, nat_list_cmp_total, on_total, then_total}
 use Rattle.std.proofs.lemmas.List.Elements.{Contains-append_left, Contains-push, Contains-push_cases}
 use Rattle.messages.specs.Fields.{RequestFields, VerdictFields}
 use Rattle.messages.specs.declared.message.Message.{Message}
 use Rattle.messages.specs.declared.message.Message.TheVariants.{Verdict}
 use Rattle.messages.specs.declared.kind.VerdictKind.{VerdictKind}
-use Rattle.grants.specs.declared.marks.Mark.{Mark}
 use Rattle.messages.specs.Names.{IsAbout}
-use Rattle.grants.specs.Marks.{verdict_of, Covers, AreOfDifferent, Keep}
-use Rattle.grants.specs.private.Noting.{is_among, lowered, noted}
+use Rattle.grants.specs.declared.marks.Mark.{Mark}
+use Rattle.grants.specs.Marks.{verdict_of, mark_cmp, Keep}
+use Rattle.grants.specs.private.Noting.{noted}
+use Rattle.grants.proofs.MemberCases.{nothing_there, cases_behind}
+use Rattle.grants.proofs.Members.{Contains-head, Contains-behind}
 
-abbrev new_mark : List ℕ → ℕ → Mark
-new_mark person moment = record { person = person; at = moment }
+-- ---- the order of marks
 
-bytes_same : (w : List ℕ) → bytes_eq w w ≡ true
-bytes_same w = (bytes_eq-Decides w w).1 refl
+pub mark_cmp_total : IsTotalOrder mark_cmp
+mark_cmp_total = then_total (on_total (λ (m : Mark). m.person) nat_list_cmp_total) (on_total (λ (m : Mark). m.at) nat_cmp_total)
 
--- ---- one mark is lowered
+both_tie : (a b : Ordering) → ordering_then a b ≡ Equal → (a ≡ Equal) × (b ≡ Equal)
+both_tie Less b e = absurd cc
+both_tie Equal b e = (refl, e)
+both_tie Greater b e = absurd cc
 
--- what holds of the mark, and of the lower one where the person is the mark's and the moment is below
-lowered_cases : (P : Mark → Type 0) (person : List ℕ) (moment : ℕ) (r : Mark) → P r → (bytes_eq r.person person ≡ true → moment < r.at → P (new_mark r.person moment)) → P (lowered person moment r)
-lowered_cases P person moment r stays falls =
-    cond_both (bytes_eq r.person person && nat_lt moment r.at) (new_mark r.person moment) r P
-    (λ e. falls (and_parts _ _ e).0 (ltb-true moment r.at (and_parts _ _ e).1))
-    (λ _. stays)
+same_mark : (r s : Mark) → mark_cmp r s ≡ Equal → r ≡ s
+same_mark r s e =
+    let ties = both_tie (slice_cmp nat_cmp r.person s.person) (nat_cmp r.at s.at) e in
+    let person : r.person ≡ s.person = slice_cmp-IsAntisymmetric nat_cmp-IsAntisymmetric r.person s.person ties.0 in
+    let at : r.at ≡ s.at = nat_cmp-IsAntisymmetric r.at s.at ties.1 in
+    rw (person, at) refl
 
-lowered_person : (person : List ℕ) (moment : ℕ) (r : Mark) → (lowered person moment r).person ≡ r.person
-lowered_person person moment r = lowered_cases (λ s. s.person ≡ r.person) person moment r refl (λ _ _. refl)
+turned : (r s : Mark) → mark_cmp r s ≡ Greater → mark_cmp s r ≡ Less
+turned r s e = mark_cmp_total.antisymm s r ∙ ap ordering_reverse e
 
-each_lowered : (P : Mark → Type 0) (person : List ℕ) (moment : ℕ) (marks : List Mark) → ((r : Mark) → bytes_eq r.person person ≡ true → P (new_mark r.person moment)) → AllByRecursion P marks → AllByRecursion P (map (lowered person moment) marks)
-each_lowered P person moment [] falls all = tt
-each_lowered P person moment (r ∷ rs) falls all =
-    (lowered_cases P person moment r all.0 (λ e _. falls r e), each_lowered P person moment rs falls all.1)
+-- ---- a mark is put among others
 
-each_push : (P : Mark → Type 0) (marks : List Mark) (r : Mark) → P r → AllByRecursion P marks → AllByRecursion P (marks ++ r ∷ [])
-each_push P [] r here all = (here, tt)
-each_push P (s ∷ marks) r here all = (all.0, each_push P marks r here all.1)
-
-each_weaker : (P Q : Mark → Type 0) (marks : List Mark) → ((r : Mark) → P r → Q r) → AllByRecursion P marks → AllByRecursion Q marks
-each_weaker P Q [] f all = tt
-each_weaker P Q (r ∷ marks) f all = (f r all.0, each_weaker P Q marks f all.1)
-
--- ---- different people
-
-different_lowered : (person : List ℕ) (moment : ℕ) (marks : List Mark) → AreOfDifferent marks → AreOfDifferent (map (lowered person moment) marks)
-different_lowered person moment [] d = tt
-different_lowered person moment (r ∷ rs) d = (
-  each_weaker (λ s. s.person ≢ r.person) (λ s. s.person ≢ (lowered person moment r).person) (map (lowered person moment) rs)
-      (λ s ne e. ne (e ∙ lowered_person person moment r))
-      (other_lowered r.person person moment rs d.0),
-  different_lowered person moment rs d.1,
-)
+each_behind : (P : Mark → Type 0) (k : Mark) (marks : List Mark) → P k → AllByRecursion P marks → AllByRecursion P (insert_key mark_cmp marks k)
+each_behind P k [] here all = (here, tt)
+each_behind P k (x ∷ xs) here all = go (mark_cmp k x) (each_behind P k xs here all.1)
   where
-    other_lowered : (p person : List ℕ) (moment : ℕ) (marks : List Mark) → AllByRecursion (λ s. s.person ≢ p) marks → AllByRecursion (λ s. s.person ≢ p) (map (lowered person moment) marks)
-    other_lowered p person moment [] all = tt
-    other_lowered p person moment (s ∷ marks) all =
-        (λ e. all.0 (sym (lowered_person person moment s) ∙ e), other_lowered p person moment marks all.1)
+    go : (o : Ordering) → AllByRecursion P (insert_key mark_cmp xs k) → AllByRecursion P (match_ordering o (k ∷ x ∷ xs) (x ∷ xs) (x ∷ insert_key mark_cmp xs k))
+    go Less rest = (here, all)
+    go Equal rest = all
+    go Greater rest = (all.0, rest)
 
-different_push : (person : List ℕ) (moment : ℕ) (marks : List Mark) → is_among person marks ≡ false → AreOfDifferent marks → AreOfDifferent (marks ++ new_mark person moment ∷ [])
-different_push person moment [] none d = (tt, tt)
-different_push person moment (r ∷ rs) none d =
-    let parts = or_parts (bytes_eq r.person person) (is_among person rs) none in (
-      each_push (λ s. s.person ≢ r.person) rs (new_mark person moment)
-          (λ e. both_ways _ parts.0 ((bytes_eq-Decides r.person person).1 (sym e))) d.0,
-      different_push person moment rs parts.1 d.1,
-    )
+all_below : (k x : Mark) (xs : List Mark) → mark_cmp k x ≡ Less → AllByRecursion (λ y. mark_cmp x y ≡ Less) xs → AllByRecursion (λ y. mark_cmp k y ≡ Less) xs
+all_below k x [] e all = tt
+all_below k x (y ∷ ys) e all = (mark_cmp_total.trans k x y e all.0, all_below k x ys e all.1)
 
--- ---- what covers a verdict
+pub sorted_still : (k : Mark) (marks : List Mark) → IsStrictlySortedBy mark_cmp marks → IsStrictlySortedBy mark_cmp (insert_key mark_cmp marks k)
+unfolding IsStrictlySortedBy
+sorted_still k [] s = (tt, tt)
+sorted_still k (x ∷ xs) s = go (mark_cmp k x) refl (sorted_still k xs s.1)
+  where
+    go : (o : Ordering) → mark_cmp k x ≡ o → IsStrictlySortedBy mark_cmp (insert_key mark_cmp xs k) → IsStrictlySortedBy mark_cmp (match_ordering o (k ∷ x ∷ xs) (x ∷ xs) (x ∷ insert_key mark_cmp xs k))
+    go Less e rest = ((e, all_below k x xs e s.0), s)
+    go Equal e rest = s
+    go Greater e rest = (each_behind (λ y. mark_cmp x y ≡ Less) k xs (turned k x e) s.0, rest)
 
-abbrev covers : VerdictFields → Mark → Bool
-covers v r = bytes_eq r.person v.by && nat_le r.at v.at
-
-covers_lower : (v : VerdictFields) (person : List ℕ) (moment : ℕ) (r : Mark) → covers v r ≡ true → covers v (lowered person moment r) ≡ true
-covers_lower v person moment r h =
-    let parts = and_parts (bytes_eq r.person v.by) (nat_le r.at v.at) h in
-    let low : r.at ≤ v.at = leb-true r.at v.at parts.1 in
-    lowered_cases (λ s. covers v s ≡ true) person moment r h (λ _ below. and_from _ _ parts.0 (le-leb moment v.at (omega (arith, low, below))))
-
-covered_still : (v : VerdictFields) (person : List ℕ) (moment : ℕ) (marks : List Mark) → Covers v marks → Covers v (map (lowered person moment) marks)
-covered_still v person moment [] h = h
-covered_still v person moment (r ∷ rs) h =
-    elim (or_cases (covers v r) (list_any (covers v) rs) h) as (λ _. Covers v (map (lowered person moment) (r ∷ rs))) [
-      | inl here ↦ or_left _ _ (covers_lower v person moment r here)
-      | inr there ↦ or_right _ _ (covered_still v person moment rs there)
+pub there_still : (k : Mark) (marks : List Mark) (r : Mark) → Contains marks r → Contains (insert_key mark_cmp marks k) r
+there_still k [] r h = absurd (nothing_there r h)
+there_still k (x ∷ xs) r h = go (mark_cmp k x) (there_still k xs r)
+  where
+    go : (o : Ordering) → (Contains xs r → Contains (insert_key mark_cmp xs k) r) → Contains (match_ordering o (k ∷ x ∷ xs) (x ∷ xs) (x ∷ insert_key mark_cmp xs k)) r
+    go Less rest = Contains-behind k (x ∷ xs) r h
+    go Equal rest = h
+    go Greater rest = elim (cases_behind x xs r h) as (λ _. Contains (x ∷ insert_key mark_cmp xs k) r) [
+      | inl same ↦ subst (λ (m : Mark). Contains (x ∷ insert_key mark_cmp xs k) m) same (Contains-head x (insert_key mark_cmp xs k))
+      | inr there ↦ Contains-behind x (insert_key mark_cmp xs k) r (rest there)
     ]
 
-covers_itself : (v : VerdictFields) (r : Mark) → bytes_eq r.person v.by ≡ true → covers v (lowered v.by v.at r) ≡ true
-covers_itself v r same =
-    cond_both (bytes_eq r.person v.by && nat_lt v.at r.at) (new_mark r.person v.at) r (λ s. covers v s ≡ true)
-    (λ _. and_from _ _ same (le-leb v.at v.at (omega arith)))
-    (λ e. elim (and_cases (bytes_eq r.person v.by) (nat_lt v.at r.at) e) as (λ _. covers v r ≡ true) [
-      | inl differs ↦ absurd (both_ways _ differs same)
-      | inr high ↦ and_from _ _ same (le-leb r.at v.at (ltb-false v.at r.at high))
-    ])
+pub there_now : (k : Mark) (marks : List Mark) → Contains (insert_key mark_cmp marks k) k
+there_now k [] = Contains-head k []
+there_now k (x ∷ xs) = go (mark_cmp k x) refl (there_now k xs)
+  where
+    go : (o : Ordering) → mark_cmp k x ≡ o → Contains (insert_key mark_cmp xs k) k → Contains (match_ordering o (k ∷ x ∷ xs) (x ∷ xs) (x ∷ insert_key mark_cmp xs k)) k
+    go Less e rest = Contains-head k (x ∷ xs)
+    go Equal e rest = subst (λ (m : Mark). Contains (x ∷ xs) m) (sym (same_mark k x e)) (Contains-head x xs)
+    go Greater e rest = Contains-behind x (insert_key mark_cmp xs k) k rest
 
-covered_here : (v : VerdictFields) (marks : List Mark) → is_among v.by marks ≡ true → Covers v (map (lowered v.by v.at) marks)
-covered_here v [] h = h
-covered_here v (r ∷ rs) h =
-    elim (or_cases (bytes_eq r.person v.by) (is_among v.by rs) h) as (λ _. Covers v (map (lowered v.by v.at) (r ∷ rs))) [
-      | inl here ↦ or_left _ _ (covers_itself v r here)
-      | inr there ↦ or_right _ _ (covered_here v rs there)
+pub either_there : (k : Mark) (marks : List Mark) (r : Mark) → Contains (insert_key mark_cmp marks k) r → Contains marks r ⊎ (k ≡ r)
+either_there k [] r h = elim (cases_behind k [] r h) as (λ _. Contains [] r ⊎ (k ≡ r)) [ inl same ↦ inr same | inr none ↦ inl none ]
+either_there k (x ∷ xs) r h = go (mark_cmp k x) (either_there k xs r) h
+  where
+    go : (o : Ordering) → (Contains (insert_key mark_cmp xs k) r → Contains xs r ⊎ (k ≡ r)) → Contains (match_ordering o (k ∷ x ∷ xs) (x ∷ xs) (x ∷ insert_key mark_cmp xs k)) r → Contains (x ∷ xs) r ⊎ (k ≡ r)
+    go Less rest m = elim (cases_behind k (x ∷ xs) r m) as (λ _. Contains (x ∷ xs) r ⊎ (k ≡ r)) [ inl same ↦ inr same | inr there ↦ inl there ]
+    go Equal rest m = inl m
+    go Greater rest m = elim (cases_behind x (insert_key mark_cmp xs k) r m) as (λ _. Contains (x ∷ xs) r ⊎ (k ≡ r)) [
+      | inl same ↦ inl (subst (λ (y : Mark). Contains (x ∷ xs) y) same (Contains-head x xs))
+      | inr there ↦ elim (rest there) as (λ _. Contains (x ∷ xs) r ⊎ (k ≡ r)) [ inl old ↦ inl (Contains-behind x xs r old) | inr new ↦ inr new ]
     ]
-
-covered_push : (v : VerdictFields) (r : Mark) (marks : List Mark) → Covers v marks → Covers v (marks ++ r ∷ [])
-covered_push v r [] h = absurd (both_ways _ refl h)
-covered_push v r (s ∷ marks) h =
-    elim (or_cases (covers v s) (list_any (covers v) marks) h) as (λ _. Covers v ((s ∷ marks) ++ r ∷ [])) [
-      | inl here ↦ or_left _ _ here
-      | inr there ↦ or_right _ _ (covered_push v r marks there)
-    ]
-
-covered_last : (v : VerdictFields) (marks : List Mark) → Covers v (marks ++ new_mark v.by v.at ∷ [])
-covered_last v [] = or_left _ _ (and_from _ _ (bytes_same v.by) (le-leb v.at v.at (omega arith)))
-covered_last v (r ∷ marks) = or_right _ _ (covered_last v marks)
 
 -- ---- growth
 
-verdict_cases : (set : List Message) (m : Message) (v : VerdictFields) → Contains (set ++ m ∷ []) (Verdict v) → Contains set (Verdict v) ⊎ (m ≡ Verdict v)
-verdict_cases set m v h = Contains-push_cases set m (Verdict v) h
+-- where nothing is said of the kind, nothing is kept
+pub keep_nothing : (set : List Message) (q : RequestFields) (kind : VerdictKind) → ((v : VerdictFields) → Contains set (Verdict v) → IsAbout q v → v.kind ≡ kind → ⊥) → Keep set q kind []
+unfolding IsStrictlySortedBy
+keep_nothing set q kind none = record {
+  each = λ r. (λ h. absurd (nothing_there r h), λ h. absurd (none (verdict_of q kind r) h (refl, refl) refl));
+  once = tt;
+}
 
 -- a message that is no verdict of the kind on the request changes nothing
 pub keep_other : (set : List Message) (m : Message) (q : RequestFields) (kind : VerdictKind) (marks : List Mark) → ((v : VerdictFields) → m ≡ Verdict v → IsAbout q v → v.kind ≡ kind → ⊥) → Keep set q kind marks → Keep (set ++ m ∷ []) q kind marks
 keep_other set m q kind marks other k = record {
-  each = each_weaker _ (λ r. Contains (set ++ m ∷ []) (Verdict (verdict_of q kind r))) marks (λ r h. Contains-append_left set (m ∷ []) (Verdict (verdict_of q kind r)) h) k.each;
-  all = λ v h about is.
-      elim (verdict_cases set m v h) as (λ _. Covers v marks) [ inl old ↦ k.all v old about is | inr new ↦ absurd (other v new about is) ];
-  different = k.different;
+  each = λ r. (
+    λ h. Contains-append_left set (m ∷ []) (Verdict (verdict_of q kind r)) ((k.each r).0 h),
+    λ h. elim (Contains-push_cases set m (Verdict (verdict_of q kind r)) h) as (λ _. Contains marks r) [
+      | inl old ↦ (k.each r).1 old
+      | inr new ↦ absurd (other (verdict_of q kind r) new (refl, refl) refl)
+    ],
+  );
+  once = k.once;
 }
 
 one_verdict : (v w : VerdictFields) → ◌≡◌ {A = Message} (Verdict v) (Verdict w) → v ≡ w
 one_verdict v w e = cc
 
--- the verdict that the person's mark keeps is the one that came
-same_verdict : (q : RequestFields) (v : VerdictFields) (person : List ℕ) → IsAbout q v → person ≡ v.by → verdict_of q v.kind (new_mark person v.at) ≡ v
-same_verdict q v person about e = rw (e, ← about.0, ← about.1) refl
+-- the mark of a verdict, and the verdict of a mark
+abbrev pub mark_of : VerdictFields → Mark
+mark_of v = record { person = v.by; at = v.at }
 
--- what covers is the verdict that came, or covers as before
-all_noted : (set : List Message) (v w : VerdictFields) (marks new : List Mark) → Covers v new → (Contains set (Verdict w) → Covers w new) → Contains (set ++ Verdict v ∷ []) (Verdict w) → Covers w new
-all_noted set v w marks new here old h =
-    elim (verdict_cases set (Verdict v) w h) as (λ _. Covers w new) [
-      | inl before ↦ old before
-      | inr now ↦ subst (λ (x : VerdictFields). Covers x new) (one_verdict v w now) here
-    ]
+pub verdict_again : (q : RequestFields) (v : VerdictFields) → IsAbout q v → verdict_of q v.kind (mark_of v) ≡ v
+verdict_again q v about = rw (← about.0, ← about.1) refl
 
-came : (set : List Message) (q : RequestFields) (v : VerdictFields) (person : List ℕ) → IsAbout q v → person ≡ v.by → Contains (set ++ Verdict v ∷ []) (Verdict (verdict_of q v.kind (new_mark person v.at)))
-came set q v person about e =
-    let P : VerdictFields → Type 0 = λ x. Contains (set ++ Verdict v ∷ []) (Verdict x) in
-    subst P (sym (same_verdict q v person about e)) (Contains-push set (Verdict v))
-
-keep_lowered : (set : List Message) (q : RequestFields) (v : VerdictFields) (marks : List Mark) → IsAbout q v → is_among v.by marks ≡ true → Keep set q v.kind marks → Keep (set ++ Verdict v ∷ []) q v.kind (map (lowered v.by v.at) marks)
-keep_lowered set q v marks about among k =
-    let P : Mark → Type 0 = λ r. Contains (set ++ Verdict v ∷ []) (Verdict (verdict_of q v.kind r)) in
-    record {
-      each = each_lowered P v.by v.at marks (λ r e. came set q v r.person about ((bytes_eq-Decides r.person v.by).0 e)) (each_weaker _ P marks (λ r h. Contains-append_left set (Verdict v ∷ []) (Verdict (verdict_of q v.kind r)) h) k.each);
-      all = λ w h also is.
-          all_noted set v w marks (map (lowered v.by v.at) marks) (covered_here v marks among) (λ old. covered_still w v.by v.at marks (k.all w old also is)) h;
-      different = different_lowered v.by v.at marks k.different;
-    }
-
-keep_pushed : (set : List Message) (q : RequestFields) (v : VerdictFields) (marks : List Mark) → IsAbout q v → is_among v.by marks ≡ false → Keep set q v.kind marks → Keep (set ++ Verdict v ∷ []) q v.kind (marks ++ new_mark v.by v.at ∷ [])
-keep_pushed set q v marks about none k =
-    let P : Mark → Type 0 = λ r. Contains (set ++ Verdict v ∷ []) (Verdict (verdict_of q v.kind r)) in
-    record {
-      each = each_push P marks (new_mark v.by v.at) (came set q v v.by about refl) (each_weaker _ P marks (λ r h. Contains-append_left set (Verdict v ∷ []) (Verdict (verdict_of q v.kind r)) h) k.each);
-      all = λ w h also is.
-          all_noted set v w marks (marks ++ new_mark v.by v.at ∷ []) (covered_last v marks) (λ old. covered_push w (new_mark v.by v.at) marks (k.all w old also is)) h;
-      different = different_push v.by v.at marks none k.different;
-    }
+pub mark_again : (q : RequestFields) (kind : VerdictKind) (v : VerdictFields) (r : Mark) → v ≡ verdict_of q kind r → mark_of v ≡ r
+mark_again q kind v r e = ap mark_of e
 
 pub keep_noted : (set : List Message) (q : RequestFields) (v : VerdictFields) (marks : List Mark) → IsAbout q v → Keep set q v.kind marks → Keep (set ++ Verdict v ∷ []) q v.kind (noted v.by v.at marks)
-keep_noted set q v marks about k =
-    cond_both (is_among v.by marks) (map (lowered v.by v.at) marks) (marks ++ new_mark v.by v.at ∷ []) (λ new. Keep (set ++ Verdict v ∷ []) q v.kind new)
-    (λ e. keep_lowered set q v marks about e k)
-    (λ e. keep_pushed set q v marks about e k)
+keep_noted set q v marks about k = record {
+  each = λ r. (
+    λ h. elim (either_there (mark_of v) marks r h) as (λ _. Contains (set ++ Verdict v ∷ []) (Verdict (verdict_of q v.kind r))) [
+      | inl old ↦ Contains-append_left set (Verdict v ∷ []) (Verdict (verdict_of q v.kind r)) ((k.each r).0 old)
+      | inr new ↦
+          let same : v ≡ verdict_of q v.kind r = sym (verdict_again q v about) ∙ ap (λ (s : Mark). verdict_of q v.kind s) new in
+          subst (λ (w : VerdictFields). Contains (set ++ Verdict v ∷ []) (Verdict w)) same (Contains-push set (Verdict v))
+    ],
+    λ h. elim (Contains-push_cases set (Verdict v) (Verdict (verdict_of q v.kind r)) h) as (λ _. Contains (noted v.by v.at marks) r) [
+      | inl old ↦ there_still (mark_of v) marks r ((k.each r).1 old)
+      | inr new ↦
+          subst (λ (s : Mark). Contains (noted v.by v.at marks) s) (mark_again q v.kind v r (one_verdict v (verdict_of q v.kind r) new)) (there_now (mark_of v) marks)
+    ],
+  );
+  once = sorted_still (mark_of v) marks k.once;
+}

@@ -1,173 +1,179 @@
--- The least moment by which n marks that count have come.
-use Rattle.std.proofs.Common.{◌≡◌, ℕ, zero, suc, ◌+◌, ◌≤◌, ◌<◌, ◌⊎◌, Bool, true, false, cond, ◌&&◌, nat_le, List, [], ◌∷◌, Option, Some, None, refl, sym, ap, ◌∙◌, subst, inl, inr, arith}
-use Rattle.std.specs.List.{count_by, AllByRecursion}
-use Rattle.std.specs.Option.{MatchOption}
-use Rattle.std.proofs.lemmas.Bool.{cases_Bool, cases_eq, and_parts, and_from, and_left, both_ways, false_from_ne_true, leb-true, leb-false, le-leb, lt-leb, ltb-true, lt-ltb}
-use Rattle.std.proofs.lemmas.List.Sums.{sum_by-cons}
+-- The least moment by which n people have a mark that passes, found by taking the first mark, then the first of the others, and so on.
+use Rattle.std.proofs.Common.{◌≡◌, ◌≢◌, ℕ, zero, suc, ◌-◌, ◌≤◌, Bool, true, false, not, List, [], ◌∷◌, ◌++◌, Option, Some, None, refl, sym, ap, ◌∙◌, subst, inl, inr, arith}
+use Rattle.std.specs.List.{Contains}
+use Rattle.std.specs.Option.{MatchOption, option_and_then}
+use Rattle.std.specs.Prelude.{option_map}
+use Rattle.std.specs.Str.{bytes_eq}
+use Rattle.std.proofs.lemmas.Bool.{cases_Bool, and_parts, and_from, both_ways, or_parts, not-true, not_from_false, false_from_ne_true}
+use Rattle.std.proofs.lemmas.Slice.Eq.{bytes_eq-Decides}
 use Rattle.grants.specs.declared.marks.Mark.{Mark}
-use Rattle.grants.specs.private.Ranks.{is_by, rank, is_after, is_enough, least_from, nth_of}
-use Rattle.grants.proofs.CountLemmas.{Has, has_weaker, has_each, both_each, each_weaker, count_yes, count_not, count_more}
-use Rattle.grants.proofs.LeastLemmas.{IsLeast, Passes, is_least, one_least}
+use Rattle.grants.specs.Verdicts.{AtLeast}
+use Rattle.grants.specs.private.Firsts.{is_of, is_of_another, earliest_of, moment_of, after_others, nth_of}
+use Rattle.grants.proofs.FirstLemmas.{IsEarliest, is_earliest}
+use Rattle.grants.proofs.StatusLaws.{at_least_more}
 
-abbrev by : (Mark → Bool) → ℕ → Mark → Bool
-by who moment r = who r && nat_le r.at moment
+-- ---- different people
 
-count_same : (f g : Mark → Bool) (r : Mark) (rs : List Mark) → f r ≡ g r → count_by f rs ≡ count_by g rs → count_by f (r ∷ rs) ≡ count_by g (r ∷ rs)
-count_same f g r rs here rest =
-    let s : count_by f (r ∷ rs) ≡ cond (f r) 1 0 + count_by f rs = sum_by-cons (λ x. cond (f x) 1 0) r rs in
-    let t : count_by g (r ∷ rs) ≡ cond (g r) 1 0 + count_by g rs = sum_by-cons (λ x. cond (g x) 1 0) r rs in
-    let same : ◌≡◌ {A = ℕ} (cond (f r) 1 0) (cond (g r) 1 0) = ap (λ (b : Bool). cond b 1 0) here in
-    omega (arith, s, t, same, rest)
-
--- a mark is at the moment, or passes as a moment before
-at_or_before : (who : Mark → Bool) (moment : ℕ) (r : Mark) → ((who r ≡ true) × (r.at ≡ suc moment)) ⊎ (by who (suc moment) r ≡ by who moment r)
-at_or_before who moment r =
-    elim (cases_Bool (who r)) as (λ _. ((who r ≡ true) × (r.at ≡ suc moment)) ⊎ (by who (suc moment) r ≡ by who moment r)) [
-      | inl e ↦ elim (cases_eq r.at (suc moment)) as (λ _. ((who r ≡ true) × (r.at ≡ suc moment)) ⊎ (by who (suc moment) r ≡ by who moment r)) [
-        | inl same ↦ inl (e, same)
-        | inr differ ↦ inr (ap (λ b. who r && b) (same_test r.at moment differ))
-      ]
-      | inr e ↦ inr (and_left _ _ e ∙ sym (and_left _ _ e))
-    ]
-  where
-    same_test : (a moment : ℕ) → (a ≡ suc moment → ⊥) → nat_le a (suc moment) ≡ nat_le a moment
-    same_test a moment differ =
-        elim (cases_Bool (nat_le a moment)) as (λ _. nat_le a (suc moment) ≡ nat_le a moment) [
-          | inl e ↦ le-leb a (suc moment) (omega (arith, leb-true a moment e)) ∙ sym e
-          | inr e ↦ lt-leb a (suc moment) (omega (arith, leb-false a moment e, differ)) ∙ sym e
-        ]
-
-last_at : (who : Mark → Bool) (moment : ℕ) (marks : List Mark) → Has (λ r. (who r ≡ true) × (r.at ≡ suc moment)) marks ⊎ (count_by (by who (suc moment)) marks ≡ count_by (by who moment) marks)
-last_at who moment [] = inr refl
-last_at who moment (r ∷ rs) =
-    elim (at_or_before who moment r) as (λ _. Has (λ r. (who r ≡ true) × (r.at ≡ suc moment)) (r ∷ rs) ⊎ (count_by (by who (suc moment)) (r ∷ rs) ≡ count_by (by who moment) (r ∷ rs))) [
-      | inl here ↦ inl (inl here)
-      | inr same ↦ elim (last_at who moment rs) as (λ _. Has (λ r. (who r ≡ true) × (r.at ≡ suc moment)) (r ∷ rs) ⊎ (count_by (by who (suc moment)) (r ∷ rs) ≡ count_by (by who moment) (r ∷ rs))) [
-        | inl later ↦ inl (inr later)
-        | inr rest ↦ inr (count_same (by who (suc moment)) (by who moment) r rs same rest)
-      ]
+-- n + 1 different people are n different people but for one
+but_for_one : (n : ℕ) (P : List ℕ → Type 0) (x : List ℕ) → AtLeast (suc n) P → AtLeast n (λ other. P other × (other ≢ x))
+but_for_one zero P x h = tt
+but_for_one (suc n) P x h =
+    elim (cases_Bool (bytes_eq h.0 x)) as (λ _. AtLeast (suc n) (λ other. P other × (other ≢ x))) [
+      | inl e ↦
+          let same : h.0 ≡ x = (bytes_eq-Decides h.0 x).0 e in
+          at_least_more (suc n) (λ other. P other × (other ≢ h.0)) (λ other. P other × (other ≢ x)) (λ other p. (p.0, λ is. p.1 (is ∙ sym same))) h.2
+      | inr e ↦ (
+        h.0,
+        (h.1, λ is. both_ways _ e ((bytes_eq-Decides h.0 x).1 is)),
+        at_least_more n (λ other. (P other × (other ≢ h.0)) × (other ≢ x)) (λ other. (P other × (other ≢ x)) × (other ≢ h.0)) (λ other p. ((p.0.0, p.1), p.0.1))
+            (but_for_one n (λ other. P other × (other ≢ h.0)) x h.2),
+      )
     ]
 
-first_at : (who : Mark → Bool) (marks : List Mark) → Has (λ r. (who r ≡ true) × (r.at ≡ 0)) marks ⊎ (count_by (by who 0) marks ≡ 0)
-first_at who [] = inr refl
-first_at who (r ∷ rs) =
-    elim (cases_Bool (by who 0 r)) as (λ _. Has (λ r. (who r ≡ true) × (r.at ≡ 0)) (r ∷ rs) ⊎ (count_by (by who 0) (r ∷ rs) ≡ 0)) [
-      | inl e ↦ let parts = and_parts (who r) (nat_le r.at 0) e in inl (inl (parts.0, omega (arith, leb-true r.at 0 parts.1)))
-      | inr e ↦ elim (first_at who rs) as (λ _. Has (λ r. (who r ≡ true) × (r.at ≡ 0)) (r ∷ rs) ⊎ (count_by (by who 0) (r ∷ rs) ≡ 0)) [
-        | inl later ↦ inl (inr later)
-        | inr none ↦ inr (count_not (by who 0) r rs e ∙ none)
-      ]
-    ]
+-- ---- marks of others
 
--- where n have come by a moment, n have come by that of one of them
-descend : (who : Mark → Bool) (all : List Mark) (n : ℕ) → 1 ≤ n → (moment : ℕ) → n ≤ count_by (by who moment) all → Has (λ r. (who r ≡ true) × (r.at ≤ moment) × (n ≤ count_by (by who r.at) all)) all
-descend who all n some zero h =
-    elim (first_at who all) as (λ _. Has (λ r. (who r ≡ true) × (r.at ≤ 0) × (n ≤ count_by (by who r.at) all)) all) [
-      | inl here ↦ has_weaker _ (λ r. (who r ≡ true) × (r.at ≤ 0) × (n ≤ count_by (by who r.at) all)) all (λ r s. (s.0, omega (arith, s.1), subst (λ t. n ≤ count_by (by who t) all) (sym s.1) h)) here
-      | inr none ↦ absurd (omega (arith, some, h, none))
-    ]
-descend who all n some (suc moment) h =
-    elim (last_at who moment all) as (λ _. Has (λ r. (who r ≡ true) × (r.at ≤ suc moment) × (n ≤ count_by (by who r.at) all)) all) [
-      | inl here ↦ has_weaker _ (λ r. (who r ≡ true) × (r.at ≤ suc moment) × (n ≤ count_by (by who r.at) all)) all (λ r s. (s.0, omega (arith, s.1), subst (λ t. n ≤ count_by (by who t) all) (sym s.1) h)) here
-      | inr same ↦ has_weaker _ (λ r. (who r ≡ true) × (r.at ≤ suc moment) × (n ≤ count_by (by who r.at) all)) all (λ r s. (s.0, omega (arith, s.1), s.2)) (descend who all n some moment (omega (arith, h, same)))
-    ]
+-- the person has a mark by the moment that passes
+pub record HasBy (test : Mark → Bool) (marks : List Mark) (moment : ℕ) (person : List ℕ) : Type 0 where
+  pub mark : Mark
+  pub among : Contains marks mark
+  pub passes : test mark ≡ true
+  pub person_is : mark.person ≡ person
+  pub by_then : mark.at ≤ moment
 
--- ---- the least of the marks that are enough
+is_of_more : (people : List (List ℕ)) (x : List ℕ) (r : Mark) → is_of people r ≡ false → x ≢ r.person → is_of (people ++ x ∷ []) r ≡ false
+is_of_more [] x r none differ =
+    let other : bytes_eq x r.person ≡ false = false_from_ne_true (bytes_eq x r.person) (λ t. differ ((bytes_eq-Decides x r.person).0 t)) in
+    rw other refl
+is_of_more (p ∷ people) x r none differ =
+    let parts = or_parts (bytes_eq p r.person) (is_of people r) none in
+    let rest : is_of (people ++ x ∷ []) r ≡ false = is_of_more people x r parts.1 differ in
+    rw (parts.0, rest) refl
 
-enough_by : (test : Mark → Bool) (n : ℕ) (all : List Mark) → 1 ≤ n → (moment : ℕ) → n ≤ rank test all moment → Has (λ r. (is_enough test n all r ≡ true) × (r.at ≤ moment)) all
-enough_by test n all some moment h =
-    has_weaker _ (λ r. (is_enough test n all r ≡ true) × (r.at ≤ moment)) all (λ r s. (and_from (test r) _ s.0 (le-leb n _ s.2), s.1))
-    (descend test all n some moment h)
+is_of_less : (people : List (List ℕ)) (x : List ℕ) (r : Mark) → is_of (people ++ x ∷ []) r ≡ false → (is_of people r ≡ false) × (x ≢ r.person)
+is_of_less [] x r none =
+    (refl, λ same. both_ways _ (or_parts (bytes_eq x r.person) false none).0 ((bytes_eq-Decides x r.person).1 same))
+is_of_less (p ∷ people) x r none =
+    let parts = or_parts (bytes_eq p r.person) (is_of (people ++ x ∷ []) r) none in
+    let rest = is_of_less people x r parts.1 in
+    (rw (parts.0, rest.0) refl, rest.1)
 
-is_nth : (test : Mark → Bool) (n : ℕ) (all : List Mark) (o : Option ℕ) → nth_of test n all ≡ o → IsLeast (is_enough test n all) all o
-is_nth test n all o e = subst (IsLeast (is_enough test n all) all) e (is_least (is_enough test n all) all)
+module _ (test : Mark → Bool) (others : List (List ℕ)) (x : List ℕ) (r : Mark) where
+  another_more : is_of_another test others r ≡ true → x ≢ r.person → is_of_another test (others ++ x ∷ []) r ≡ true
+  another_more h differ =
+      let parts = and_parts (not (is_of others r)) (test r) h in
+      and_from _ _ (not_from_false _ (is_of_more others x r (not-true _ parts.0) differ)) parts.1
 
--- The law: the n-th smallest is the least moment by which n have come, and there is none where there is no such moment.
-pub nth_is : (test : Mark → Bool) (n : ℕ) (all : List Mark) → 1 ≤ n → (o : Option ℕ) → nth_of test n all ≡ o → MatchOption o ((moment : ℕ) → n ≤ rank test all moment → ⊥) (λ moment. (n ≤ rank test all moment) × ((other : ℕ) → n ≤ rank test all other → moment ≤ other))
-nth_is test n all some None e = λ moment h.
-    let found = has_each _ (λ r. is_enough test n all r ≡ false) all (enough_by test n all some moment h) (is_nth test n all None e) in
-    both_ways _ found.2 found.1.0
-nth_is test n all some (Some moment) e =
-    let is = is_nth test n all (Some moment) e in
-    let at = has_each _ (λ r. is_enough test n all r ≡ true → moment ≤ r.at) all is.0 is.1 in (
-      subst (λ (t : ℕ). n ≤ rank test all t) at.1.1 (leb-true n _ (and_parts (test at.0) _ at.1.0).1),
-      λ other h.
-          let found = has_each _ (λ r. is_enough test n all r ≡ true → moment ≤ r.at) all (enough_by test n all some other h) is.1 in
-          omega (arith, found.2 found.1.0, found.1.1),
-    )
+  another_less : is_of_another test (others ++ x ∷ []) r ≡ true → (is_of_another test others r ≡ true) × (x ≢ r.person)
+  another_less h =
+      let parts = and_parts (not (is_of (others ++ x ∷ []) r)) (test r) h in
+      let rest = is_of_less others x r (not-true _ parts.0) in
+      (and_from _ _ (not_from_false _ rest.0) parts.1, rest.1)
 
--- ---- as the code finds it: from one moment of a mark to the next
+-- ---- the least moment by which n people have
 
--- a mark has the moment, and no mark that is enough has an earlier one
-pub record Reached (test : Mark → Bool) (n : ℕ) (all : List Mark) (moment : ℕ) : Type 0 where
-  pub has : Has (Passes test moment) all
-  pub below : AllByRecursion (λ r. is_enough test n all r ≡ true → moment ≤ r.at) all
+-- the least moment by which n people have the property, or that there is none
+abbrev pub IsNth : ℕ → (ℕ → List ℕ → Type 0) → Option ℕ → Type 0
+IsNth n P o =
+    MatchOption o ((moment : ℕ) → AtLeast n (P moment) → ⊥) (λ moment. AtLeast n (P moment) × ((other : ℕ) → AtLeast n (P other) → moment ≤ other))
 
-pub first_reached : (test : Mark → Bool) (n : ℕ) (all : List Mark) (moment : ℕ) → least_from None (is_after test None) all ≡ Some moment → Reached test n all moment
-first_reached test n all moment e =
-    let is : IsLeast (is_after test None) all (Some moment) = subst (IsLeast (is_after test None) all) e (is_least (is_after test None) all) in
-    record {
-      has = is.0;
-      below = each_weaker (λ r. test r ≡ true → moment ≤ r.at) (λ r. is_enough test n all r ≡ true → moment ≤ r.at) all (λ r low enough. low (and_parts (test r) _ enough).0) is.1;
-    }
+-- where as many have the one property as the other
+pub nth_same : (n : ℕ) (P Q : ℕ → List ℕ → Type 0) → ((moment : ℕ) → AtLeast n (P moment) → AtLeast n (Q moment)) → ((moment : ℕ) → AtLeast n (Q moment) → AtLeast n (P moment)) → (o : Option ℕ) → IsNth n P o → IsNth n Q o
+nth_same n P Q to back None none = λ moment h. none moment (back moment h)
+nth_same n P Q to back (Some moment) is = (to moment is.0, λ other h. is.1 other (back other h))
 
-none_reached : (test : Mark → Bool) (n : ℕ) (all : List Mark) → AllByRecursion (λ r. is_enough test n all r ≡ false) all → nth_of test n all ≡ None
-none_reached test n all none = one_least (is_enough test n all) all (nth_of test n all) None (is_least (is_enough test n all) all) none
+module _ (test : Mark → Bool) (marks : List Mark) where
+  abbrev By : List (List ℕ) → ℕ → List ℕ → Type 0
+  By others = HasBy (is_of_another test others) marks
 
-pub first_none : (test : Mark → Bool) (n : ℕ) (all : List Mark) → least_from None (is_after test None) all ≡ None → nth_of test n all ≡ None
-first_none test n all e =
-    let is : IsLeast (is_after test None) all None = subst (IsLeast (is_after test None) all) e (is_least (is_after test None) all) in
-    none_reached test n all (each_weaker (λ r. test r ≡ false) (λ r. is_enough test n all r ≡ false) all (λ r out. and_left (test r) _ out) is)
+  -- what others than these have is what others than one of them have who is not that one
+  but_one : (others : List (List ℕ)) (x : List ℕ) (moment : ℕ) (person : List ℕ) → By others moment person × (person ≢ x) → By (others ++ x ∷ []) moment person
+  but_one others x moment person h = record {
+    mark = h.0.mark;
+    among = h.0.among;
+    passes = another_more test others x h.0.mark h.0.passes (λ same. h.1 (sym (same ∙ h.0.person_is)));
+    person_is = h.0.person_is;
+    by_then = h.0.by_then;
+  }
 
--- a mark that is enough is later than a moment by which too few have come
-later_enough : (test : Mark → Bool) (n : ℕ) (all : List Mark) (moment : ℕ) (r : Mark) → rank test all moment < n → (is_enough test n all r ≡ true → moment ≤ r.at) → is_enough test n all r ≡ true → is_after test (Some moment) r ≡ true
-later_enough test n all moment r few low enough =
-    let parts = and_parts (test r) _ enough in
-    let many : n ≤ rank test all r.at = leb-true n _ parts.1 in
-    elim (cases_eq r.at moment) as (λ _. is_after test (Some moment) r ≡ true) [
-      | inl same ↦
-          let many : n ≤ rank test all moment = subst (λ (t : ℕ). n ≤ rank test all t) same many in
-          absurd (omega (arith, few, many))
-      | inr differ ↦ and_from (test r) _ parts.0 (lt-ltb moment r.at (omega (arith, low enough, differ)))
-    ]
+  one_but : (others : List (List ℕ)) (x : List ℕ) (moment : ℕ) (person : List ℕ) → By (others ++ x ∷ []) moment person → By others moment person × (person ≢ x)
+  one_but others x moment person h =
+      let less = another_less test others x h.mark h.passes in
+      (record { mark = h.mark; among = h.among; passes = less.0; person_is = h.person_is; by_then = h.by_then }, λ same. less.1 (sym (h.person_is ∙ same)))
 
-pub next_reached : (test : Mark → Bool) (n : ℕ) (all : List Mark) (moment next : ℕ) → Reached test n all moment → rank test all moment < n → least_from None (is_after test (Some moment)) all ≡ Some next → Reached test n all next × (moment < next)
-next_reached test n all moment next at few e =
-    let is : IsLeast (is_after test (Some moment)) all (Some next) = subst (IsLeast (is_after test (Some moment)) all) e (is_least (is_after test (Some moment)) all) in
-    let found = has_each _ (λ r. is_after test (Some moment) r ≡ true → next ≤ r.at) all is.0 is.1 in
-    let above : moment < found.0.at = ltb-true moment found.0.at (and_parts (test found.0) _ found.1.0).1 in (
-      record {
-        has = has_weaker (Passes (is_after test (Some moment)) next) (Passes test next) all (λ r s. ((and_parts (test r) _ s.0).0, s.1)) is.0;
-        below = each_weaker (λ r. (is_after test (Some moment) r ≡ true → next ≤ r.at) × (is_enough test n all r ≡ true → moment ≤ r.at)) (λ r. is_enough test n all r ≡ true → next ≤ r.at) all
-            (λ r low enough. low.0 (later_enough test n all moment r few low.1 enough)) (both_each _ _ all is.1 at.below);
-      },
-      omega (arith, above, found.1.1),
-    )
+  -- without the first one, one fewer of the others
+  fewer : (others : List (List ℕ)) (x : List ℕ) (n moment : ℕ) → AtLeast (suc n) (By others moment) → AtLeast n (By (others ++ x ∷ []) moment)
+  fewer others x n moment h =
+      at_least_more n (λ person. By others moment person × (person ≢ x)) (By (others ++ x ∷ []) moment) (but_one others x moment)
+      (but_for_one n (By others moment) x h)
 
-pub next_none : (test : Mark → Bool) (n : ℕ) (all : List Mark) (moment : ℕ) → Reached test n all moment → rank test all moment < n → least_from None (is_after test (Some moment)) all ≡ None → nth_of test n all ≡ None
-next_none test n all moment at few e =
-    let is : IsLeast (is_after test (Some moment)) all None = subst (IsLeast (is_after test (Some moment)) all) e (is_least (is_after test (Some moment)) all) in
-    none_reached test n all
-    (each_weaker (λ r. (is_after test (Some moment) r ≡ false) × (is_enough test n all r ≡ true → moment ≤ r.at)) (λ r. is_enough test n all r ≡ false) all
-    (λ r out. false_from_ne_true _ (λ enough. both_ways _ out.0 (later_enough test n all moment r few out.1 enough))) (both_each _ _ all is at.below))
+  -- and with the first one again
+  again : (others : List (List ℕ)) (first : Mark) (n moment : ℕ) → IsEarliest (is_of_another test others) marks (Some first)
+      → AtLeast (suc n) (By (others ++ first.person ∷ []) moment) → AtLeast (suc (suc n)) (By others moment)
+  again others first n moment is h =
+      let next = one_but others first.person moment h.0 h.1 in
+      let low : first.at ≤ moment = omega (arith, is.least next.0.mark next.0.among next.0.passes, next.0.by_then) in (
+        first.person,
+        record { mark = first; among = is.among; passes = is.passes; person_is = refl; by_then = low },
+        at_least_more (suc n) (By (others ++ first.person ∷ []) moment) (λ person. By others moment person × (person ≢ first.person)) (one_but others first.person moment) h,
+      )
 
-pub reached_is : (test : Mark → Bool) (n : ℕ) (all : List Mark) (moment : ℕ) → Reached test n all moment → n ≤ rank test all moment → nth_of test n all ≡ Some moment
-reached_is test n all moment at many =
-    one_least (is_enough test n all) all (nth_of test n all) (Some moment) (is_least (is_enough test n all) all)
-    (has_weaker (Passes test moment) (Passes (is_enough test n all) moment) all (λ r s. (and_from (test r) _ s.0 (le-leb n _ (subst (λ (t : ℕ). n ≤ rank test all t) (sym s.1) many)), s.1)) at.has, at.below)
+  one : (others : List (List ℕ)) (o : Option Mark) → IsEarliest (is_of_another test others) marks o → IsNth 1 (By others) (option_map moment_of o)
+  one others None none = λ moment h. none h.1.mark h.1.among h.1.passes
+  one others (Some first) is = (
+    (first.person, record { mark = first; among = is.among; passes = is.passes; person_is = refl; by_then = omega arith }, tt),
+    λ other h. omega (arith, is.least h.1.mark h.1.among h.1.passes, h.1.by_then),
+  )
 
--- by the moment of a mark that counts, one has come
-one_has_come : (test : Mark → Bool) (moment : ℕ) (all : List Mark) → Has (Passes test moment) all → 1 ≤ rank test all moment
-one_has_come test moment [] has = absurd has
-one_has_come test moment (r ∷ rs) (inl here) =
-    let yes = count_yes (is_by test moment) r rs (and_from (test r) _ here.0 (le-leb r.at moment (omega (arith, here.1)))) in
-    omega (arith, yes)
-one_has_come test moment (r ∷ rs) (inr later) =
-    let rest : 1 ≤ count_by (is_by test moment) rs = one_has_come test moment rs later in
-    let more = count_more (is_by test moment) r rs in
-    omega (arith, rest, more.0)
+  one_more : (others : List (List ℕ)) (n : ℕ) (o : Option Mark) → IsEarliest (is_of_another test others) marks o
+      → ((first : Mark) → IsNth (suc n) (By (others ++ first.person ∷ [])) (after_others test (others ++ first.person ∷ []) n marks))
+      → IsNth (suc (suc n)) (By others) (option_and_then (λ first. after_others test (others ++ first.person ∷ []) n marks) o)
+  one_more others n None none rest = λ moment h. none h.1.mark h.1.among h.1.passes
+  one_more others n (Some first) is rest = more (after_others test (others ++ first.person ∷ []) n marks) (rest first)
+    where
+      more : (o : Option ℕ) → IsNth (suc n) (By (others ++ first.person ∷ [])) o → IsNth (suc (suc n)) (By others) o
+      more None none = λ moment h. none moment (fewer others first.person (suc n) moment h)
+      more (Some moment) nth =
+          (again others first n moment is nth.0, λ other h. nth.1 other (fewer others first.person (suc n) other h))
 
-pub first_is : (test : Mark → Bool) (n : ℕ) (all : List Mark) (moment : ℕ) → n ≤ 1 → least_from None (is_after test None) all ≡ Some moment → nth_of test n all ≡ Some moment
-first_is test n all moment few e =
-    let at = first_reached test n all moment e in
-    reached_is test n all moment at (omega (arith, few, one_has_come test moment all at.has))
+  after : (others : List (List ℕ)) (n : ℕ) → IsNth (suc n) (By others) (after_others test others n marks)
+  after others zero = one others (earliest_of (is_of_another test others) marks) (is_earliest (is_of_another test others) marks)
+  after others (suc n) =
+      one_more others n (earliest_of (is_of_another test others) marks) (is_earliest (is_of_another test others) marks) (λ first. after (others ++ first.person ∷ []) n)
+
+  -- nobody is left out at first
+  all_others : (moment : ℕ) (person : List ℕ) → HasBy test marks moment person → By [] moment person
+  all_others moment person h =
+      record { mark = h.mark; among = h.among; passes = and_from true _ refl h.passes; person_is = h.person_is; by_then = h.by_then }
+
+  others_all : (moment : ℕ) (person : List ℕ) → By [] moment person → HasBy test marks moment person
+  others_all moment person h =
+      record { mark = h.mark; among = h.among; passes = (and_parts true (test h.mark) h.passes).1; person_is = h.person_is; by_then = h.by_then }
+
+  -- The law: what is found is the least moment by which n people have a mark that passes.
+  pub nth_is : (n : ℕ) → 1 ≤ n → IsNth n (HasBy test marks) (nth_of test n marks)
+  nth_is zero some = absurd (omega (arith, some))
+  nth_is (suc n) some =
+      let count : suc n - 1 ≡ n = omega arith in
+      subst (λ (k : ℕ). IsNth (suc n) (HasBy test marks) (after_others test [] k marks)) (sym count)
+      (nth_same (suc n) (By []) (HasBy test marks)
+      (λ moment. at_least_more (suc n) (By [] moment) (HasBy test marks moment) (others_all moment))
+      (λ moment. at_least_more (suc n) (HasBy test marks moment) (By [] moment) (all_others moment))
+      (after_others test [] n marks) (after [] n))
+
+-- ---- as the code finds it
+
+module _ (test : Mark → Bool) (marks : List Mark) where
+  abbrev First : List (List ℕ) → Option Mark
+  First others = earliest_of (is_of_another test others) marks
+
+  no_more : (others : List (List ℕ)) (more : ℕ) → First others ≡ None → after_others test others more marks ≡ None
+  no_more others zero e = ap (option_map moment_of) e
+  no_more others (suc more) e = ap (option_and_then (λ (first : Mark). after_others test (others ++ first.person ∷ []) more marks)) e
+
+  -- where two at least are wanted, and there is a first one alone
+  pub no_second : (n : ℕ) (r : Mark) → 2 ≤ n → First [] ≡ Some r → First (r.person ∷ []) ≡ None → nth_of test n marks ≡ None
+  no_second n r two e f =
+      let count : n - 1 ≡ suc (n - 2) = omega (arith, two) in
+      ap (λ (k : ℕ). after_others test [] k marks) count
+      ∙ ap (option_and_then (λ (first : Mark). after_others test (first.person ∷ []) (n - 2) marks)) e
+      ∙ no_more (r.person ∷ []) (n - 2) f

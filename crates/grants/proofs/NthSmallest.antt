@@ -138,7 +138,7 @@ given_by f c set q person v at asked e =
     )
 
 -- whoever has approved has a first approval
-first_approval : (f : RosterFields Cmnd) (c : CeilingFields Cmnd) (set : List Message) (q : RequestFields) (person : List ℕ) (moment : ℕ) → IsUnder f q c → HasGiven f set q Approve moment person → (m : ℕ) × IsFirstApproval f set q person m × (m ≤ moment)
+pub first_approval : (f : RosterFields Cmnd) (c : CeilingFields Cmnd) (set : List Message) (q : RequestFields) (person : List ℕ) (moment : ℕ) → IsUnder f q c → HasGiven f set q Approve moment person → (m : ℕ) × IsFirstApproval f set q person m × (m ≤ moment)
 first_approval f c set q person moment at h =
     elim (least (time_of f c q person) set) as (λ _. (m : ℕ) × IsFirstApproval f set q person m × (m ≤ moment)) [
       | inl none ↦ absurd (not_none h.verdict.at (sym (none (Verdict h.verdict) h.given.given) ∙ is_time f c set q person h.verdict at h.given h.by_is))

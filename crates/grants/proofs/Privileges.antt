@@ -74,7 +74,7 @@ more f g (Request r) gives a =
       may_ask = record {
         listed = gives.people r.by a.may_ask.listed;
         ceiling_is = next.1;
-        may_ask = gives.duties r.by next.0.ask (subst (λ (duty : List ℕ). holds f r.by duty ≡ true) (sym next.2.ask) a.may_ask.may_ask);
+        may_ask = gives.duties r.by next.0.ask r.at (subst (λ (duty : List ℕ). holds f r.by duty r.at ≡ true) (sym next.2.ask) a.may_ask.may_ask);
       };
       within = both.0;
       in_time = both.1;

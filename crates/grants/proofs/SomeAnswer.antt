@@ -79,7 +79,7 @@ module _ (f : RosterFields Cmnd) (r : RequestFields) (request : IsRequest r) whe
       → ((c : CeilingFields Cmnd) → ceiling_at f r.ceiling ≡ Some c → All IsLawful c.commands) → Answered f (Request r)
   named None is listed lawful = inr (UnknownCeiling, unknown_ceiling f r listed is)
   named (Some c) is listed lawful =
-      elim (cases_Bool (holds f r.by c.ask)) as (λ _. Answered f (Request r)) [
+      elim (cases_Bool (holds f r.by c.ask r.at)) as (λ _. Answered f (Request r)) [
         | inl held ↦ asks c (record { listed = listed; ceiling_is = is; may_ask = held }) (lawful c is)
         | inr not_held ↦ inr (NotAsker, not_asker f r c listed is not_held)
       ]

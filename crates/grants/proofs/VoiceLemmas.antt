@@ -14,22 +14,18 @@ use Rattle.grants.specs.Marks.{Keep}
 use Rattle.grants.specs.private.Noting.{noted}
 use Rattle.grants.specs.Summaries.{StandsFor}
 use Rattle.grants.specs.Voices.{IsMeant, NobodyAsks, SpeakFor}
-use Rattle.grants.proofs.MarkLemmas.{keep_other}
+use Rattle.grants.proofs.MarkLemmas.{keep_nothing, keep_other}
 use Rattle.grants.proofs.StandLemmas.{keep_at, keep_apart}
 
 -- ---- nothing is said
 
 keep_none : (set : List Message) (name : RequestName) (q : RequestFields) (kind : VerdictKind) → ((v : VerdictFields) → Contains set (Verdict v) → IsMeant v name → ⊥) → name_of q ≡ name → Keep set q kind []
-keep_none set name q kind none named = record {
-  each = tt;
-  all = λ v given about is. absurd (none v given (meant v about));
-  different = tt;
-}
+keep_none set name q kind none named = keep_nothing set q kind (λ v given about is. none v given (meant v about))
   where
     meant : (v : VerdictFields) → IsAbout q v → IsMeant v name
     meant v about = (about.0 ∙ ap (λ (n : RequestName). n.by) named, about.1 ∙ ap (λ (n : RequestName). n.no) named)
 
-pub none_speak : (set : List Message) (name : RequestName) (v : Voices) → v.approvals.items ≡ [] → v.refusals.items ≡ [] → v.revocations.items ≡ [] → ((w : VerdictFields) → Contains set (Verdict w) → IsMeant w name → ⊥) → SpeakFor set name v
+pub none_speak : (set : List Message) (name : RequestName) (v : Voices) → v.approvals.keys ≡ [] → v.refusals.keys ≡ [] → v.revocations.keys ≡ [] → ((w : VerdictFields) → Contains set (Verdict w) → IsMeant w name → ⊥) → SpeakFor set name v
 none_speak set name v a b c none = record {
   approvals = λ q named. subst (Keep set q Approve) (sym a) (keep_none set name q Approve none named);
   refusals = λ q named. subst (Keep set q Refuse) (sym b) (keep_none set name q Refuse none named);
@@ -58,9 +54,9 @@ module _ (set : List Message) (name : RequestName) (v : VerdictFields) (meant : 
 
 pub speak_still : (set : List Message) (m : Message) (name : RequestName) (v : Voices) → ((w : VerdictFields) → m ≡ Verdict w → IsMeant w name → ⊥) → SpeakFor set name v → SpeakFor (set ++ m ∷ []) name v
 speak_still set m name v other speak = record {
-  approvals = λ q named. keep_other set m q Approve v.approvals.items (apart q named Approve) (speak.approvals q named);
-  refusals = λ q named. keep_other set m q Refuse v.refusals.items (apart q named Refuse) (speak.refusals q named);
-  revocations = λ q named. keep_other set m q Revoke v.revocations.items (apart q named Revoke) (speak.revocations q named);
+  approvals = λ q named. keep_other set m q Approve v.approvals.keys (apart q named Approve) (speak.approvals q named);
+  refusals = λ q named. keep_other set m q Refuse v.refusals.keys (apart q named Refuse) (speak.refusals q named);
+  revocations = λ q named. keep_other set m q Revoke v.revocations.keys (apart q named Revoke) (speak.revocations q named);
 }
   where
     apart : (q : RequestFields) → name_of q ≡ name → (kind : VerdictKind) → (w : VerdictFields) → m ≡ Verdict w → IsAbout q w → w.kind ≡ kind → ⊥
@@ -72,7 +68,7 @@ speak_still set m name v other speak = record {
 no_verdict : (q : RequestFields) (v : VerdictFields) → ◌≡◌ {A = Message} (Request q) (Verdict v) → ⊥
 no_verdict q v e = absurd cc
 
-pub asked_after : (set : List Message) (q : RequestFields) (v : Voices) → NobodyAsks set (name_of q) → SpeakFor set (name_of q) v → StandsFor (set ++ Request q ∷ []) (record { request = q; is_disputed = false; approvals = v.approvals.items; refusals = v.refusals.items; revocations = v.revocations.items })
+pub asked_after : (set : List Message) (q : RequestFields) (v : Voices) → NobodyAsks set (name_of q) → SpeakFor set (name_of q) v → StandsFor (set ++ Request q ∷ []) (record { request = q; is_disputed = false; approvals = v.approvals.keys; refusals = v.refusals.keys; revocations = v.revocations.keys })
 asked_after set q v nobody speak =
     let still = speak_still set (Request q) (name_of q) v (λ w is meant. no_verdict q w is) speak in
     record {

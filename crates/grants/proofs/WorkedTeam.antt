@@ -17,10 +17,11 @@ use Rattle.grants.specs.private.Reached.{admitted_status}
 use Rattle.grants.specs.Statuses.{IsStatus}
 use Rattle.grants.specs.Summaries.{Kept, StandsFor}
 use Rattle.grants.specs.WorkedAdmission.{asked, asked_from}
-use Rattle.grants.specs.WorkedStatuses.{team, by_two, shorter, ComesTo}
+use Rattle.grants.specs.WorkedStatuses.{team, by_two, shorter, rota, for_the_second, ComesTo, ComesToByDays}
 use Rattle.grants.specs.declared.outcome.Status.{Status}
 use Rattle.grants.specs.declared.outcome.Status.TheVariants.{Disputed, Lapsed}
 use Rattle.grants.proofs.AdmissionLemmas.{within}
+use Rattle.grants.proofs.MarkLemmas.{keep_nothing}
 use Rattle.grants.proofs.MemberCases.{head_is}
 use Rattle.grants.proofs.Members.{Contains-head, Contains-behind}
 use Rattle.grants.proofs.StandLemmas.{approved, refused, revoked}
@@ -39,9 +40,9 @@ stands_fresh q = record {
   asked = Contains-head (Request q) [];
   alone = λ _ p h named. sym (one_request q p (head_is (Request q) (Request p) h));
   other = λ two. absurd cc;
-  approvals = record { each = tt; all = λ v h about is. absurd (no_verdict v h); different = tt };
-  refusals = record { each = tt; all = λ v h about is. absurd (no_verdict v h); different = tt };
-  revocations = record { each = tt; all = λ v h about is. absurd (no_verdict v h); different = tt };
+  approvals = keep_nothing (Request q ∷ []) q Approve (λ v h about is. no_verdict v h);
+  refusals = keep_nothing (Request q ∷ []) q Refuse (λ v h about is. no_verdict v h);
+  revocations = keep_nothing (Request q ∷ []) q Revoke (λ v h about is. no_verdict v h);
 }
   where
     no_verdict : (v : VerdictFields) → Contains (Request q ∷ []) (Verdict v) → ⊥
@@ -92,6 +93,22 @@ comes_to verdicts status all same single e =
     let stands = stands_all (Request asked ∷ []) (fresh asked) verdicts all (stands_fresh asked) in
     let is = admitted_is team by_two (Request asked ∷ map Verdict verdicts) k (subst (λ (q : RequestFields). ceiling_at team q.ceiling ≡ Some by_two) (sym same) refl) (lit≤ tt) (subst (AdmitsRequest team) (sym same) team_admits) single stands in
     subst (λ (x : Status). ComesTo verdicts x) e (subst (λ (q : RequestFields). IsStatus team (Request asked ∷ map Verdict verdicts) (name_of q) (admitted_status team by_two k)) same is)
+
+rota_admits : AdmitsRequest rota for_the_second
+rota_admits = record {
+  ceiling = by_two;
+  may_ask = record { listed = refl; ceiling_is = refl; may_ask = refl };
+  within = within rota for_the_second by_two refl refl refl;
+  in_time = record { short = lit≤ tt; ahead = lit≤ tt; forward = lit≤ tt };
+}
+
+pub comes_to_by_days : (verdicts : List VerdictFields) (status : Status) → AllByRecursion (IsAbout for_the_second) verdicts → (took_all (fresh for_the_second) verdicts).request ≡ for_the_second → (took_all (fresh for_the_second) verdicts).is_disputed ≡ false → admitted_status rota by_two (took_all (fresh for_the_second) verdicts) ≡ status → ComesToByDays verdicts status
+comes_to_by_days verdicts status all same single e =
+    let q = for_the_second in
+    let k = took_all (fresh q) verdicts in
+    let stands = stands_all (Request q ∷ []) (fresh q) verdicts all (stands_fresh q) in
+    let is = admitted_is rota by_two (Request q ∷ map Verdict verdicts) k (subst (λ (p : RequestFields). ceiling_at rota p.ceiling ≡ Some by_two) (sym same) refl) (lit≤ tt) (subst (AdmitsRequest rota) (sym same) rota_admits) single stands in
+    subst (λ (x : Status). ComesToByDays verdicts x) e (subst (λ (p : RequestFields). IsStatus rota (Request q ∷ map Verdict verdicts) (name_of p) (admitted_status rota by_two k)) same is)
 
 -- ---- disputed and lapsed
 

@@ -29,11 +29,11 @@ pub record IsInTime (r : RequestFields) (c : CeilingFields Cmnd) : Type 0 where
   pub ahead : r.at ≤ r.from
   pub forward : r.from ≤ r.until
 
--- The request's ceiling is this one, and who asks is listed and holds the duty that it wants of whoever asks.
+-- The request's ceiling is this one, and who asks is listed and holds, as the request is made, the duty that it wants of whoever asks.
 pub record MayAskUnder (f : RosterFields Cmnd) (r : RequestFields) (c : CeilingFields Cmnd) : Type 0 where
   pub listed : has_person f r.by ≡ true
   pub ceiling_is : ceiling_at f r.ceiling ≡ Some c
-  pub may_ask : holds f r.by c.ask ≡ true
+  pub may_ask : holds f r.by c.ask r.at ≡ true
 
 -- The roster admits the request: who asks may ask under a ceiling that holds all that is asked for, for so long.
 pub record AdmitsRequest (f : RosterFields Cmnd) (r : RequestFields) : Type 0 where
@@ -69,7 +69,7 @@ HasCommandOutside r c = (cmnd : Cmnd) × Contains r.cmnds cmnd × ¬ LiesInsideO
 abbrev pub DeniesRequest : RosterFields Cmnd → RequestFields → Denial → Type 0
 DeniesRequest f r UnknownPerson = has_person f r.by ≡ false
 DeniesRequest f r UnknownCeiling = ceiling_at f r.ceiling ≡ None
-DeniesRequest f r NotAsker = UnderCeiling f r (λ c. holds f r.by c.ask ≡ false)
+DeniesRequest f r NotAsker = UnderCeiling f r (λ c. holds f r.by c.ask r.at ≡ false)
 DeniesRequest f r HostOutside = UnderCeiling f r (HasHostOutside r)
 DeniesRequest f r RunasOutside = UnderCeiling f r (λ c. ¬ Contains c.runas r.runas)
 DeniesRequest f r CommandOutside = UnderCeiling f r (HasCommandOutside r)

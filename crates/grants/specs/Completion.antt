@@ -7,7 +7,7 @@ use Rattle.messages.specs.declared.kind.VerdictKind.TheVariants.{Approve}
 use Rattle.roster.specs.Fields.{RosterFields}
 use Rattle.grants.specs.Verdicts.{AtLeast, HasGiven, RevokedBy}
 
--- The person's earliest approval that counts is of this moment.
+-- The person's earliest approval that counts, made while the person was eligible, is of this moment.
 pub record IsFirstApproval (f : RosterFields Cmnd) (messages : List Message) (q : RequestFields) (person : List ℕ) (moment : ℕ) : Type 0 where
   pub given : HasGiven f messages q Approve moment person
   pub least : (other : ℕ) → HasGiven f messages q Approve other person → moment ≤ other

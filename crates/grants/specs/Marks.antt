@@ -1,9 +1,10 @@
--- The marks of a summary: of each person the earliest verdict of one kind.
-use Rattle.std.specs.Prelude.{◌≡◌, ◌≢◌, true, ◌&&◌, nat_le, List, [], ◌∷◌, Contains}
-use Rattle.std.specs.List.{list_any, AllByRecursion}
-use Rattle.std.specs.Str.{bytes_eq}
+-- The marks of a summary: of each person every moment of the verdicts of one kind.
+use Rattle.std.specs.Prelude.{◌↔◌, List, Contains}
+use Rattle.std.specs.Cmp.Lexicographic.{slice_cmp}
+use Rattle.std.specs.List.Sorted.{IsStrictlySortedBy}
+use Rattle.std.specs.Ordering.{nat_cmp, ordering_then}
+use Rattle.std.specs.declared.cmp.Ordering.{Ordering}
 use Rattle.messages.specs.Fields.{RequestFields, VerdictFields}
-use Rattle.messages.specs.Names.{IsAbout}
 use Rattle.messages.specs.declared.message.Message.{Message}
 use Rattle.messages.specs.declared.message.Message.TheVariants.{Verdict}
 use Rattle.messages.specs.declared.kind.VerdictKind.{VerdictKind}
@@ -13,17 +14,11 @@ use Rattle.grants.specs.declared.marks.Mark.{Mark}
 abbrev pub verdict_of : RequestFields → VerdictKind → Mark → VerdictFields
 verdict_of q kind mark = record { at = mark.at; by = mark.person; kind = kind; no = q.no; of = q.by }
 
--- a mark of the person's, which is no later
-abbrev pub Covers : VerdictFields → List Mark → Type 0
-Covers v marks = list_any (λ mark. bytes_eq mark.person v.by && nat_le mark.at v.at) marks ≡ true
+-- by person in byte order, then by moment
+abbrev pub mark_cmp : Mark → Mark → Ordering
+mark_cmp a b = ordering_then (slice_cmp nat_cmp a.person b.person) (nat_cmp a.at b.at)
 
--- no two of one person
-abbrev pub AreOfDifferent : List Mark → Type 0
-AreOfDifferent [] = Unit {0}
-AreOfDifferent (mark ∷ more) = AllByRecursion (λ other. other.person ≢ mark.person) more × AreOfDifferent more
-
--- The marks stand for the set's verdicts of one kind on the request: each is one of them, and of each person's the earliest is kept.
+-- The marks are the set's verdicts of the kind on the request, whether they count or not: each of them, and once.
 pub record Keep (messages : List Message) (q : RequestFields) (kind : VerdictKind) (marks : List Mark) : Type 0 where
-  pub each : AllByRecursion (λ mark. Contains messages (Verdict (verdict_of q kind mark))) marks
-  pub all : (v : VerdictFields) → Contains messages (Verdict v) → IsAbout q v → v.kind ≡ kind → Covers v marks
-  pub different : AreOfDifferent marks
+  pub each : (mark : Mark) → Contains marks mark ↔ Contains messages (Verdict (verdict_of q kind mark))
+  pub once : IsStrictlySortedBy mark_cmp marks

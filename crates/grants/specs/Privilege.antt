@@ -31,8 +31,8 @@ pub record IsWider (c d : CeilingFields Cmnd) : Type 0 where
   pub commands : (cmnd : Cmnd) → Contains c.commands cmnd → LiesInsideOne d.commands cmnd
   pub longest : c.longest ≤ d.longest
 
--- The second roster lists all whom the first lists, with all their duties, and has a wider ceiling for each of the first.
+-- The second roster lists all whom the first lists, with all their duties at each moment, and has a wider ceiling for each of the first.
 pub record GivesMore (f g : RosterFields Cmnd) : Type 0 where
   pub people : (person : List ℕ) → has_person f person ≡ true → has_person g person ≡ true
-  pub duties : (person duty : List ℕ) → holds f person duty ≡ true → holds g person duty ≡ true
+  pub duties : (person duty : List ℕ) (at : ℕ) → holds f person duty at ≡ true → holds g person duty at ≡ true
   pub ceilings : (label : List ℕ) (c : CeilingFields Cmnd) → ceiling_at f label ≡ Some c → (d : CeilingFields Cmnd) × (ceiling_at g label ≡ Some d) × IsWider c d

@@ -30,16 +30,16 @@ pub record IsDisputed (messages : List Message) (name : RequestName) : Type 0 wh
 
 -- ---- verdicts that count
 
--- Who may give which verdict on what the asker asked for (NIST SP 800-53 AC-5): eligible people approve and refuse; the
--- asker, and whoever holds the approving duty, revoke.
-abbrev pub may_give : RosterFields Cmnd → CeilingFields Cmnd → VerdictKind → (person asker : List ℕ) → Bool
-may_give f c Approve person asker = eligible f person asker c
-may_give f c Refuse person asker = eligible f person asker c
-may_give f c Revoke person asker = may_revoke f person asker c
+-- Who may give which verdict at a moment, on what the asker asked for (NIST SP 800-53 AC-5): people approve and refuse who are
+-- eligible then; the asker, and whoever holds the approving duty then, revoke.
+abbrev pub may_give : RosterFields Cmnd → CeilingFields Cmnd → VerdictKind → (person asker : List ℕ) → (at : ℕ) → Bool
+may_give f c Approve person asker at = eligible f person asker c at
+may_give f c Refuse person asker at = eligible f person asker c at
+may_give f c Revoke person asker at = may_revoke f person asker c at
 
--- Under the ceiling the verdict counts.
+-- Under the ceiling the verdict counts: its author might give it at its own moment, whatever the author may do before or after.
 abbrev pub counts : RosterFields Cmnd → CeilingFields Cmnd → VerdictFields → Bool
-counts f c v = may_give f c v.kind v.by v.of
+counts f c v = may_give f c v.kind v.by v.of v.at
 
 -- The set has this verdict of the kind on the request, and it counts under the request's ceiling.
 pub record IsGiven (f : RosterFields Cmnd) (messages : List Message) (q : RequestFields) (kind : VerdictKind) (v : VerdictFields) : Type 0 where
@@ -50,7 +50,7 @@ pub record IsGiven (f : RosterFields Cmnd) (messages : List Message) (q : Reques
   pub ceiling_is : ceiling_at f q.ceiling ≡ Some ceiling
   pub counts_is : counts f ceiling v ≡ true
 
--- By this moment the person has given one.
+-- By this moment the person has given one: it counts by what the person might do as it was given.
 pub record HasGiven (f : RosterFields Cmnd) (messages : List Message) (q : RequestFields) (kind : VerdictKind) (moment : ℕ) (person : List ℕ) : Type 0 where
   pub verdict : VerdictFields
   pub given : IsGiven f messages q kind verdict

@@ -18,6 +18,6 @@ NobodyAsks messages name = (q : RequestFields) → Contains messages (Request q)
 
 -- Whatever request of the name comes, the marks stand for the set's verdicts of each kind on it.
 pub record SpeakFor (messages : List Message) (name : RequestName) (voices : Voices) : Type 0 where
-  pub approvals : (q : RequestFields) → name_of q ≡ name → Keep messages q Approve voices.approvals.items
-  pub refusals : (q : RequestFields) → name_of q ≡ name → Keep messages q Refuse voices.refusals.items
-  pub revocations : (q : RequestFields) → name_of q ≡ name → Keep messages q Revoke voices.revocations.items
+  pub approvals : (q : RequestFields) → name_of q ≡ name → Keep messages q Approve voices.approvals.keys
+  pub refusals : (q : RequestFields) → name_of q ≡ name → Keep messages q Refuse voices.refusals.keys
+  pub revocations : (q : RequestFields) → name_of q ≡ name → Keep messages q Revoke voices.revocations.keys

@@ -6,6 +6,7 @@ use Rattle.sudo_words.specs.declared.cmnd.ArgRule.TheVariants.{Any, Empty, Exact
 use Rattle.messages.specs.Fields.{RequestFields, VerdictFields}
 use Rattle.messages.specs.declared.kind.VerdictKind.TheVariants.{Approve}
 use Rattle.roster.specs.Fields.{CeilingFields, RosterFields}
+use Rattle.roster.specs.declared.days.Days.TheVariants.{Always}
 
 -- a file with any arguments, with none, and with these alone
 abbrev pub file : List ℕ → Cmnd
@@ -36,7 +37,7 @@ site = record {
   hosts = codes "db1" ∷ codes "db2" ∷ codes "web" ∷ [];
   duties = codes "approve" ∷ codes "operate" ∷ [];
   conflicts = [];
-  people = (codes "ann", codes "operate" ∷ []) ∷ (codes "bob", codes "approve" ∷ []) ∷ [];
+  people = (codes "ann", (codes "operate", Always) ∷ []) ∷ (codes "bob", (codes "approve", Always) ∷ []) ∷ [];
   ceilings = (codes "db-root", db_root) ∷ [];
 }
 

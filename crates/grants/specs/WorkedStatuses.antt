@@ -1,14 +1,15 @@
 -- Worked cases: a small team, of whom two have to approve, and what its messages come to. The moments are of 1 January 1970.
 use Rattle.std.specs.Prelude.{ℕ, List, [], ◌∷◌, map, codes}
 use Rattle.sudo_words.specs.declared.cmnd.Cmnd.{Cmnd}
-use Rattle.messages.specs.Fields.{VerdictFields}
+use Rattle.messages.specs.Fields.{RequestFields, VerdictFields}
 use Rattle.messages.specs.Names.{name_of}
 use Rattle.messages.specs.declared.message.Message.TheVariants.{Request, Verdict}
 use Rattle.messages.specs.declared.kind.VerdictKind.{VerdictKind}
 use Rattle.messages.specs.declared.kind.VerdictKind.TheVariants.{Approve, Refuse, Revoke}
 use Rattle.roster.specs.Fields.{CeilingFields, RosterFields}
+use Rattle.roster.specs.declared.days.Days.TheVariants.{Always, Between}
 use Rattle.grants.specs.Statuses.{IsStatus}
-use Rattle.grants.specs.WorkedAdmission.{asked, db_root}
+use Rattle.grants.specs.WorkedAdmission.{asked, asked_from, db_root}
 use Rattle.grants.specs.declared.outcome.Status.{Status}
 use Rattle.grants.specs.declared.outcome.Status.TheVariants.{Granted}
 
@@ -24,10 +25,10 @@ team = record {
   duties = codes "approve" ∷ codes "audit" ∷ codes "operate" ∷ [];
   conflicts = (codes "audit", codes "approve") ∷ [];
   people =
-      (codes "ann", codes "operate" ∷ [])
-      ∷ (codes "bob", codes "approve" ∷ [])
-      ∷ (codes "carol", codes "approve" ∷ codes "audit" ∷ [])
-      ∷ (codes "dave", codes "approve" ∷ [])
+      (codes "ann", (codes "operate", Always) ∷ [])
+      ∷ (codes "bob", (codes "approve", Always) ∷ [])
+      ∷ (codes "carol", (codes "approve", Always) ∷ (codes "audit", Always) ∷ [])
+      ∷ (codes "dave", (codes "approve", Always) ∷ [])
       ∷ [];
   ceilings = (codes "db-root", by_two) ∷ [];
 }
@@ -60,3 +61,31 @@ ComesTo verdicts status = IsStatus team (Request asked ∷ map Verdict verdicts)
 -- they come to a grant of these moments
 abbrev pub Gives : List VerdictFields → (start end : ℕ) → Type 0
 Gives verdicts start end = ComesTo verdicts (Granted (record { start = start; end = end }))
+
+-- ---- duties of some days
+
+-- The same team by days: bob approves from 2 January on, and carol, who always approves, audits up to 1 January.
+abbrev pub rota : RosterFields Cmnd
+rota = record team {
+  people =
+      (codes "ann", (codes "operate", Always) ∷ [])
+      ∷ (codes "bob", (codes "approve", Between 1 30) ∷ [])
+      ∷ (codes "carol", (codes "approve", Always) ∷ (codes "audit", Between 0 0) ∷ [])
+      ∷ (codes "dave", (codes "approve", Always) ∷ [])
+      ∷ [];
+}
+
+-- on 1 January ann asks for nine to eleven of the 2nd
+abbrev pub for_the_second : RequestFields
+for_the_second = asked_from 118_800 126_000
+
+-- what that and these verdicts come to
+abbrev pub ComesToByDays : List VerdictFields → Status → Type 0
+ComesToByDays verdicts status = IsStatus rota (Request for_the_second ∷ map Verdict verdicts) (name_of for_the_second) status
+
+abbrev pub GivesByDays : List VerdictFields → (start end : ℕ) → Type 0
+GivesByDays verdicts start end = ComesToByDays verdicts (Granted (record { start = start; end = end }))
+
+-- dave approves on 1 January at ten past nine
+abbrev pub dave_and : List VerdictFields → List VerdictFields
+dave_and more = approves (codes "dave") 33_000 ∷ more

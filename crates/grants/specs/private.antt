@@ -1,7 +1,7 @@
 -- What only private clauses and proofs cite: no public contract speaks of it.
 pub mod Forms
 pub mod Noting
-pub mod Ranks
+pub mod Firsts
 pub mod Voters
 pub mod Reached
 pub mod Given

@@ -14,28 +14,21 @@ use crate::denial::Denial;
 use crate::within::dir_of;
 use messages::{Message, Request, Verdict};
 use roster::{Ceiling, Roster};
-use sudo_words::{ArgRule, Cmnd, FilePath, Label};
+use sudo_words::{ArgRule, Cmnd, FilePath};
 
-/// Whether one of the duties is that which the ceiling wants of whoever asks.
-fn may_ask(duties: &[Label], ceiling: &Ceiling) -> bool
-    ensures { result ≡ is_among duties.now ceiling.now.ask }
-{
-    duties.contains(ceiling.ask())
-}
-
-/// The ceiling that the request names, where who asks is listed and may ask under it.
+/// The ceiling that the request names, where who asks is listed and may ask under it at the request's own moment.
 fn ceiling_for<'r>(roster: &'r Roster, request: &Request) -> Result<&'r Ceiling, Denial>
     ensures { MatchResult result
         (λ c. MayAskUnder roster.now.says request.now c.now)
         (IsDenial roster.now.says (message_of.Request request.now)) }
 {
-    let Some(duties) = roster.duties(request.by()) else {
+    if !roster.has_person(request.by()) {
         return Err(Denial::UnknownPerson);
-    };
+    }
     let Some(ceiling) = roster.ceiling(request.ceiling()) else {
         return Err(Denial::UnknownCeiling);
     };
-    if !may_ask(duties, ceiling) {
+    if !roster.holds(request.by(), ceiling.ask(), request.at()) {
         return Err(Denial::NotAsker);
     }
     Ok(ceiling)

@@ -5,16 +5,17 @@ mod admission;
 mod admission_laws;
 mod base;
 mod denial;
+mod firsts;
 mod host_fault;
 mod host_file;
 mod lines;
 mod marks;
 mod outcome;
-mod ranks;
 mod reached;
 mod rules;
 mod status_laws;
 mod summary;
+mod summary_laws;
 mod voices;
 mod voters;
 mod within;
@@ -34,10 +35,11 @@ pub use outcome::{Status, Window};
 pub use reached::status;
 pub use rules::{grant_rules, rules_of};
 pub use status_laws::{
-    bounds_of_window, completion_is_nth_smallest, one_status, order_is_free,
-    uncounted_changes_nothing, who_does_not_count, worked_statuses,
+    bounds_of_window, completion_is_nth_smallest, one_status, order_is_free, rights_of_the_moment,
+    uncounted_changes_nothing, who_does_not_count, worked_days, worked_statuses,
 };
 pub use summary::{Summary, apply, ask, ask_again};
+pub use summary_laws::one_summary;
 pub use voices::{Voices, ask_after};
 pub use within::is_inside;
 pub use within_laws::{forms_of_inclusion, worked_inclusions};

@@ -1,11 +1,11 @@
 //! What the messages about a request come to.
 
-ghost use Rattle.std.specs.Prelude.{◌≡◌, List, max, Some, IfSome, IfNone};
+ghost use Rattle.std.specs.Prelude.{◌≡◌, ◌≤◌, List, max, Some, IfSome, IfNone};
 ghost use Rattle.messages.specs.Names.{name_of};
 ghost use Rattle.messages.specs.declared.message.Message.{Message as AnyMessage};
 ghost use Rattle.messages.specs.declared.kind.VerdictKind.TheVariants as kinds;
 ghost use Rattle.grants.specs.Admission.{AdmitsRequest};
-ghost use Rattle.grants.specs.private.Ranks.{has_counting};
+ghost use Rattle.grants.specs.private.Firsts.{has_counting};
 ghost use Rattle.grants.specs.private.Reached as reached;
 ghost use Rattle.grants.specs.private.Reached.{IsAdmittedUnder};
 ghost use Rattle.grants.specs.Statuses.{IsStatus};
@@ -13,13 +13,14 @@ ghost use Rattle.grants.specs.Summaries.{StandsFor};
 ghost use Rattle.grants.specs.private.Voters.{counting};
 
 use crate::admission::admit_request;
+use crate::firsts::nth;
 use crate::marks::Mark;
 use crate::outcome::{Status, Window};
-use crate::ranks::nth;
 use crate::summary::Summary;
 use crate::voters::Voters;
 use messages::{Request, VerdictKind};
 use roster::{Ceiling, Roster};
+use std::collections::BTreeSet;
 use sudo_words::Moment;
 
 fn is_in_time(complete: Option<Moment>, moment: Moment) -> bool
@@ -35,11 +36,11 @@ fn is_in_time(complete: Option<Moment>, moment: Moment) -> bool
 fn refuses(voters: &Voters, complete: Option<Moment>, refusal: &Mark) -> bool
     ensures { result ≡ reached.refuses (counting voters.now) complete refusal.now }
 {
-    voters.count(refusal) && is_in_time(complete, refusal.at)
+    is_in_time(complete, refusal.at) && voters.count(refusal)
 }
 
-fn is_refused(voters: &Voters, complete: Option<Moment>, refusals: &[Mark]) -> bool
-    ensures { result ≡ reached.is_refused (counting voters.now) complete refusals.now }
+fn is_refused(voters: &Voters, complete: Option<Moment>, refusals: &BTreeSet<Mark>) -> bool
+    ensures { result ≡ reached.is_refused (counting voters.now) complete refusals.now.keys }
 {
     refusals.iter().any(|mark| refuses(voters, complete, mark))
 }
@@ -96,6 +97,8 @@ fn voters<'a>(
 
 /// When the request is complete.
 fn completion(roster: &Roster, ceiling: &Ceiling, s: &Summary) -> Option<Moment>
+    requires some { 1 ≤ ceiling.now.needs }
+    requires few { ceiling.now.needs ≤ 3 }
     ensures { result ≡ reached.completion roster.now.says ceiling.now s.now }
 {
     let approvers = voters(roster, ceiling, s, VerdictKind::Approve);
@@ -134,6 +137,8 @@ fn unless_refused(refused: bool, status: Status) -> Status
 
 /// What a request has come to that the roster admits under the ceiling.
 fn admitted_status(roster: &Roster, ceiling: &Ceiling, s: &Summary) -> Status
+    requires some { 1 ≤ ceiling.now.needs }
+    requires few { ceiling.now.needs ≤ 3 }
     ensures { result ≡ reached.admitted_status roster.now.says ceiling.now s.now }
 {
     match completion(roster, ceiling, s) {

@@ -8,13 +8,13 @@ ghost use Rattle.messages.specs.declared.message.Message.{Message};
 ghost use Rattle.messages.specs.declared.message.Message.TheVariants.{Request, Verdict};
 ghost use Rattle.messages.specs.declared.kind.VerdictKind.TheVariants as kinds;
 ghost use Rattle.roster.specs.Fields.{CeilingFields, RosterFields};
-ghost use Rattle.roster.specs.Relations.{ceiling_at, conflicting, holds};
+ghost use Rattle.roster.specs.Relations.{ceiling_at, conflicting, eligible, holds, may_revoke};
 ghost use Rattle.grants.specs.Completion.{IsFirstApproval, IsFirstRevocation, IsNthSmallest};
 ghost use Rattle.grants.specs.Counting.{NeverCounts};
 ghost use Rattle.grants.specs.Statuses.{IsFirstMoment, IsLastMoment, IsStatus};
-ghost use Rattle.grants.specs.Verdicts.{counts, IsComplete, RevokedBy};
+ghost use Rattle.grants.specs.Verdicts.{counts, IsComplete, IsGiven, RevokedBy};
 ghost use Rattle.grants.specs.WorkedAdmission.{asked, asked_from};
-ghost use Rattle.grants.specs.WorkedStatuses.{ComesTo, Gives, approves, both_and, refuses, revokes, shorter, team};
+ghost use Rattle.grants.specs.WorkedStatuses.{ComesTo, ComesToByDays, Gives, GivesByDays, approves, both_and, dave_and, refuses, revokes, shorter, team};
 ghost use Rattle.grants.specs.declared.outcome.Status.{Status};
 ghost use Rattle.grants.specs.declared.outcome.Status.TheVariants.{Disputed, Lapsed, Refused, Void, Waiting};
 
@@ -30,8 +30,8 @@ pub fn order_is_free()
         SameMessages s t → IsStatus f s name status → IsStatus f t name status }
 {}
 
-/// A request is complete at the n-th smallest of the moments at which people first gave an approval that counts, n being
-/// as many as its ceiling needs.
+/// A request is complete at the n-th smallest of the moments at which people first gave an approval while they were eligible, n
+/// being as many as its ceiling needs.
 pub fn completion_is_nth_smallest()
     ensures { (f : RosterFields Cmnd) (set : List Message) (q : RequestFields) (c : CeilingFields Cmnd) (moment : ℕ) →
         ceiling_at f q.ceiling ≡ Some c → 1 ≤ c.needs →
@@ -56,14 +56,28 @@ pub fn uncounted_changes_nothing()
 {}
 
 /// Separation of duties (NIST SP 800-53 AC-5): the asker's own approval or refusal never counts, nor that of somebody who
-/// holds a duty that conflicts with the approving duty; and without the approving duty nobody but the asker is heard at all.
+/// holds a duty at its moment that conflicts with the approving duty; and whoever lacks the approving duty at that moment is not
+/// heard at all, but for the asker.
 pub fn who_does_not_count()
     ensures asker { (f : RosterFields Cmnd) (c : CeilingFields Cmnd) (v : VerdictFields) →
         v.kind ≢ kinds.Revoke → v.by ≡ v.of → counts f c v ≡ false }
     ensures conflict { (f : RosterFields Cmnd) (c : CeilingFields Cmnd) (v : VerdictFields) (duty : List ℕ) →
-        v.kind ≢ kinds.Revoke → holds f v.by duty ≡ true → conflicting f duty c.approve ≡ true → counts f c v ≡ false }
+        v.kind ≢ kinds.Revoke → holds f v.by duty v.at ≡ true → conflicting f duty c.approve ≡ true → counts f c v ≡ false }
     ensures without_duty { (f : RosterFields Cmnd) (c : CeilingFields Cmnd) (v : VerdictFields) →
-        v.by ≢ v.of → holds f v.by c.approve ≡ false → counts f c v ≡ false }
+        v.by ≢ v.of → holds f v.by c.approve v.at ≡ false → counts f c v ≡ false }
+{}
+
+/// A verdict counts by its author's rights as it was given, whatever they are before or after. So whoever approved while eligible has
+/// a first such approval, no later, and that was given while eligible: one given before, without the right to, stands in nobody's way.
+pub fn rights_of_the_moment()
+    ensures alike { (f g : RosterFields Cmnd) (c : CeilingFields Cmnd) (v : VerdictFields) →
+        eligible f v.by v.of c v.at ≡ eligible g v.by v.of c v.at →
+        may_revoke f v.by v.of c v.at ≡ may_revoke g v.by v.of c v.at → counts f c v ≡ counts g c v }
+    ensures has_first { (f : RosterFields Cmnd) (set : List Message) (q : RequestFields) (v : VerdictFields) →
+        IsGiven f set q kinds.Approve v → (moment : ℕ) × IsFirstApproval f set q v.by moment × (moment ≤ v.at) }
+    ensures first_given { (f : RosterFields Cmnd) (set : List Message) (q : RequestFields) (person : List ℕ) (moment : ℕ) →
+        IsFirstApproval f set q person moment →
+        (v : VerdictFields) × IsGiven f set q kinds.Approve v × (v.by ≡ person) × (v.at ≡ moment) }
 {}
 
 /// Worked statuses, of what ann asked from nine to eleven (32,400 to 39,600) where two have to approve.
@@ -85,4 +99,21 @@ pub fn worked_statuses()
     // Another request of the name disputes it; and where the ceiling was lowered since, it is lapsed.
     ensures disputed { IsStatus team (Request asked ∷ Request (asked_from 32_400 36_000) ∷ []) (name_of asked) Disputed }
     ensures lapsed { IsStatus shorter (Request asked ∷ []) (name_of asked) Lapsed }
+{}
+
+/// Worked statuses where duties are held on some days: of what ann asks on 1 January for nine to eleven of the 2nd (118,800 to
+/// 126,000), where two have to approve and dave has.
+pub fn worked_days()
+    // Bob's approval of the day before his first has no effect, even once he may approve; his next has, from its moment on.
+    ensures before { ComesToByDays (dave_and (approves (codes "bob") 86_399 ∷ [])) Waiting }
+    ensures again { GivesByDays (dave_and (approves (codes "bob") 86_399 ∷ approves (codes "bob") 120_000 ∷ [])) 120_000 126_000 }
+    ensures turned { GivesByDays (dave_and (approves (codes "bob") 120_000 ∷ approves (codes "bob") 86_399 ∷ [])) 120_000 126_000 }
+    // Carol's has none on the last day on which she audits, and has in the first second after it.
+    ensures audits { ComesToByDays (dave_and (approves (codes "carol") 86_399 ∷ [])) Waiting }
+    ensures audited { GivesByDays (dave_and (approves (codes "carol") 86_400 ∷ [])) 118_800 126_000 }
+    // A refusal counts by the same rights; carol revokes at any moment, bob on the 1st not yet.
+    ensures refused_early { GivesByDays (dave_and (approves (codes "carol") 86_400 ∷ refuses (codes "bob") 86_399 ∷ [])) 118_800 126_000 }
+    ensures refused { ComesToByDays (dave_and (approves (codes "carol") 90_000 ∷ refuses (codes "bob") 86_400 ∷ [])) Refused }
+    ensures revoked_early { GivesByDays (dave_and (approves (codes "carol") 86_400 ∷ revokes (codes "bob") 86_399 ∷ [])) 118_800 126_000 }
+    ensures revoked { GivesByDays (dave_and (approves (codes "carol") 86_400 ∷ revokes (codes "carol") 120_000 ∷ [])) 118_800 119_999 }
 {}

@@ -7,21 +7,23 @@ ghost use Rattle.messages.specs.declared.message.Message.TheVariants as message_
 ghost use Rattle.grants.specs.Summaries.{AreApprovals, StandsFor};
 ghost use Rattle.grants.specs.Verdicts.{IsDisputed, StandsAlone};
 
-use crate::marks::{Mark, in_order, note};
+use crate::marks::{Mark, note, shown};
 use messages::{Request, Verdict, VerdictKind};
 use std::alloc::Global;
+use std::collections::BTreeSet;
 use std::marker::Model;
 use sudo_words::{Moment, Name, NoMemory};
 
 /// What the messages about one request say: a request of its name, whether there is another of that name, and of each
-/// person the earliest verdict of each kind.
+/// person and kind every moment at which the person has given such a verdict.
 #[derive(Debug, Drop)]
 pub struct Summary {
+    pub(crate) alloc: Global,
     pub(crate) request: Request,
     pub(crate) is_disputed: bool,
-    pub(crate) approvals: Vec<Mark>,
-    pub(crate) refusals: Vec<Mark>,
-    pub(crate) revocations: Vec<Mark>,
+    pub(crate) approvals: BTreeSet<Mark>,
+    pub(crate) refusals: BTreeSet<Mark>,
+    pub(crate) revocations: BTreeSet<Mark>,
 }
 
 impl Model for Summary {
@@ -32,9 +34,9 @@ impl Model for Summary {
     ghost view = { λ s. record {
       request = s.request;
       is_disputed = s.is_disputed;
-      approvals = s.approvals.items;
-      refusals = s.refusals.items;
-      revocations = s.revocations.items;
+      approvals = s.approvals.keys;
+      refusals = s.refusals.keys;
+      revocations = s.revocations.keys;
     } };
 }
 
@@ -53,11 +55,11 @@ impl Summary {
         }
     }
 
-    /// Who has approved and when first, whether it counts or not, by person and then by moment.
+    /// Who has approved and when, whether it counts or not: every approval, by person and then by moment.
     pub fn approvals(&self) -> Result<Vec<(Name, Moment)>, NoMemory>
         ensures { (set : List AnyMessage) → StandsFor set self.now → IfOk result (λ list. AreApprovals set self.now.request list.items) }
     {
-        in_order(*self.approvals.allocator(), &self.approvals)
+        shown(self.alloc, &self.approvals)
     }
 }
 
@@ -66,11 +68,12 @@ pub fn ask(alloc: Global, request: &Request) -> Result<Summary, NoMemory>
     ensures { IfOk result (λ s. StandsFor (message_of.Request request.now ∷ []) s) }
 {
     Ok(Summary {
+        alloc,
         request: request.clone()?,
         is_disputed: false,
-        approvals: Vec::new(alloc),
-        refusals: Vec::new(alloc),
-        revocations: Vec::new(alloc),
+        approvals: BTreeSet::new(alloc),
+        refusals: BTreeSet::new(alloc),
+        revocations: BTreeSet::new(alloc),
     })
 }
 

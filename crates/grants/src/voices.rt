@@ -12,14 +12,16 @@ use crate::marks::{Mark, note};
 use crate::summary::Summary;
 use messages::{Request, Verdict, VerdictKind};
 use std::alloc::Global;
+use std::collections::BTreeSet;
 use sudo_words::NoMemory;
 
-/// What the verdicts on a name say under which nobody has asked yet: of each person the earliest of each kind.
+/// What the verdicts on a name say under which nobody has asked yet: of each person and kind every moment.
 #[derive(Debug, Drop)]
 pub struct Voices {
-    approvals: Vec<Mark>,
-    refusals: Vec<Mark>,
-    revocations: Vec<Mark>,
+    alloc: Global,
+    approvals: BTreeSet<Mark>,
+    refusals: BTreeSet<Mark>,
+    revocations: BTreeSet<Mark>,
 }
 
 impl Voices {
@@ -28,9 +30,10 @@ impl Voices {
         ensures { (set : List AnyMessage) (name : AnyName) → ((v : VerdictFields) → Contains set (message_of.Verdict v) → ¬ IsMeant v name) → SpeakFor set name result }
     {
         Voices {
-            approvals: Vec::new(alloc),
-            refusals: Vec::new(alloc),
-            revocations: Vec::new(alloc),
+            alloc,
+            approvals: BTreeSet::new(alloc),
+            refusals: BTreeSet::new(alloc),
+            revocations: BTreeSet::new(alloc),
         }
     }
 
@@ -56,11 +59,13 @@ pub fn ask_after(request: &Request, voices: Voices) -> Result<Summary, NoMemory>
     ensures same_request { IfOk result (λ s. s.request ≡ request.now) }
 {
     let Voices {
+        alloc,
         approvals,
         refusals,
         revocations,
     } = voices;
     Ok(Summary {
+        alloc,
         request: request.clone()?,
         is_disputed: false,
         approvals,

@@ -18,18 +18,16 @@ pub(crate) struct Voters<'a> {
 }
 
 impl<'a> Voters<'a> {
-    /// Whether the verdict that the mark keeps counts (NIST SP 800-53 AC-5).
+    /// Whether the verdict that the mark keeps counts: by its author's rights at its own moment (NIST SP 800-53 AC-5).
     pub(crate) fn count(&self, mark: &Mark) -> bool
         ensures { result ≡ counting self.now mark.now }
     {
+        let (person, at) = (&mark.person, mark.at);
         match self.kind {
             VerdictKind::Approve | VerdictKind::Refuse => {
-                self.roster.eligible(&mark.person, self.asker, self.ceiling)
+                self.roster.eligible(person, self.asker, self.ceiling, at)
             }
-            VerdictKind::Revoke => {
-                self.roster
-                    .may_revoke(&mark.person, self.asker, self.ceiling)
-            }
+            VerdictKind::Revoke => self.roster.may_revoke(person, self.asker, self.ceiling, at),
         }
     }
 }

@@ -4,4 +4,5 @@ pub mod ReportLaws
 pub mod ReportOne
 pub mod ReportParts
 pub mod Approvers
+pub mod Joined
 pub mod OfDesk

@@ -1,5 +1,5 @@
 -- What a desk lends is what a report is made from.
-use Rattle.std.specs.Prelude.{◌≡◌, ℕ, ◌<◌, ◌⊎◌, List, [], ◌∷◌, Contains, map, true, refl}
+use Rattle.std.specs.Prelude.{◌≡◌, ℕ, List, [], ◌∷◌, Contains, map, true, refl}
 use Rattle.std.specs.List.{AllByRecursion}
 use Rattle.std.specs.List.Sorted.{IsStrictlySortedBy}
 use Rattle.std.specs.Cmp.{nat_cmp_is}
@@ -19,7 +19,7 @@ use Rattle.desk_outcomes.specs.Summaries.{AreSummaries as AreLent, SummaryPreced
 use Rattle.sudo_beyond.specs.Cases.{text_order}
 use Rattle.sudo_beyond.proofs.Lists.{contains_head, contains_map}
 use Rattle.sudo_beyond.proofs.OneList.{cons_cases, no_element}
-use Rattle.review.specs.Report.{AreAll, AreSummaries, IsAsked, IsParkedText, name_order}
+use Rattle.review.specs.Report.{AreAll, AreSummaries, IsParkedText, name_order}
 
 below : (o : Ordering) → is_lt o ≡ true → o ≡ Less
 below Less lt = refl

@@ -1,7 +1,8 @@
 -- What a report says of needless grants, and of those whose approvals do not count.
-use Rattle.std.proofs.Common.{◌≡◌, ℕ, Bool, true, false, not, ◌&&◌, if◌then◌else◌, List, [], ◌∷◌, ◌++◌, reverse, Some, None, refl, sym, ap, ◌∙◌, subst, inl, inr}
+use Rattle.std.proofs.Common.{◌≡◌, ℕ, Bool, true, false, not, ◌&&◌, if◌then◌else◌, List, [], ◌∷◌, ◌++◌, reverse, Some, None, refl, sym, ap, ap₂, ◌∙◌, subst, inl, inr}
 use Rattle.std.specs.List.{Contains}
 use Rattle.std.specs.Prelude.{◌↔◌}
+use Rattle.std.proofs.lemmas.List.Elements.{Contains-push}
 use Rattle.std.specs.Str.{bytes_eq}
 use Rattle.sudo_words.specs.declared.cmnd.Cmnd.{Cmnd}
 use Rattle.sudo_policy.specs.declared.entry.Entry.{Entry}
@@ -27,7 +28,7 @@ use Rattle.grants.proofs.CountingLaws.{added, taken_away}
 use Rattle.review.specs.declared.need.Need.TheVariants.{Needless}
 use Rattle.review.specs.declared.reason.Reason.{Reason}
 use Rattle.review.specs.declared.reason.Reason.TheVariants.{Asker, Duty, Conflict}
-use Rattle.review.specs.Barred.{reason}
+use Rattle.review.specs.Barred.{HasApprovedAt, IsBarred, approval, reason}
 use Rattle.sudo_beyond.specs.Beyond.{Allows, IsInvocation}
 use Rattle.review.specs.Needs.{IsNeed, own_policy}
 
@@ -65,24 +66,34 @@ open_by false false against e = absurd cc
 open_by false true true e = absurd cc
 open_by false true false e = refl
 
-pub barred_is_not_eligible : (f : RosterFields Cmnd) (c : CeilingFields Cmnd) (asker person : List ℕ) (r : Reason) → reason f c asker person ≡ Some r → eligible f person asker c ≡ false
-barred_is_not_eligible f c asker person r e = barred_by (bytes_eq person asker) (holds f person c.approve) (holds_against f person c.approve) r e
+pub barred_is_not_eligible : (f : RosterFields Cmnd) (c : CeilingFields Cmnd) (asker person : List ℕ) (at : ℕ) (r : Reason) → reason f c asker person at ≡ Some r → eligible f person asker c at ≡ false
+barred_is_not_eligible f c asker person at r e = barred_by (bytes_eq person asker) (holds f person c.approve at) (holds_against f person c.approve at) r e
 
-pub unbarred_is_eligible : (f : RosterFields Cmnd) (c : CeilingFields Cmnd) (asker person : List ℕ) → reason f c asker person ≡ None → eligible f person asker c ≡ true
-unbarred_is_eligible f c asker person e = open_by (bytes_eq person asker) (holds f person c.approve) (holds_against f person c.approve) e
+pub unbarred_is_eligible : (f : RosterFields Cmnd) (c : CeilingFields Cmnd) (asker person : List ℕ) (at : ℕ) → reason f c asker person at ≡ None → eligible f person asker c at ≡ true
+unbarred_is_eligible f c asker person at e = open_by (bytes_eq person asker) (holds f person c.approve at) (holds_against f person c.approve at) e
 
 same_ceiling : (f : RosterFields Cmnd) (label : List ℕ) (c d : CeilingFields Cmnd) → ceiling_at f label ≡ Some c → ceiling_at f label ≡ Some d → c ≡ d
 same_ceiling f label c d was is = let both : Some c ≡ Some d = sym was ∙ is in cc
 
-never_counts : (f : RosterFields Cmnd) (set : List Message) (q : RequestFields) (c : CeilingFields Cmnd) (v : VerdictFields) (r : Reason) → StandsAlone set q → ceiling_at f q.ceiling ≡ Some c → reason f c q.by v.by ≡ Some r → IsAbout q v → v.kind ≡ Approve → NeverCounts f set v
-never_counts f set q c v r alone ceiling_is barred about kind p d asked about_p ceiling_p =
+-- the verdict is the person's approval at its moment
+own_approval : (q : RequestFields) (v : VerdictFields) → IsAbout q v → v.kind ≡ Approve → v ≡ approval q v.by v.at
+own_approval q v about kind =
+    ap (λ (k : VerdictKind). record { at = v.at; by = v.by; kind = k; no = v.no; of = v.of }) kind
+    ∙ ap₂ (λ (n : ℕ) (of : List ℕ). record { at = v.at; by = v.by; kind = Approve; no = n; of = of }) about.1 about.0
+
+never_counts : (f : RosterFields Cmnd) (set : List Message) (q : RequestFields) (c : CeilingFields Cmnd) (v : VerdictFields) (r : Reason) → StandsAlone set q → ceiling_at f q.ceiling ≡ Some c → IsAbout q v → v.kind ≡ Approve
+    → IsBarred f c q.by v.by (HasApprovedAt (set ++ Verdict v ∷ []) q v.by) r → NeverCounts f set v
+never_counts f set q c v r alone ceiling_is about kind barred p d asked about_p ceiling_p =
     let same : p ≡ q = alone.alone p asked (sym about_p.0 ∙ about.0, sym about_p.1 ∙ about.1) in
     let ceilings : c ≡ d = same_ceiling f q.ceiling c d ceiling_is (subst (λ (x : RequestFields). ceiling_at f x.ceiling ≡ Some d) same ceiling_p) in
-    let out : eligible f v.by q.by c ≡ false = barred_is_not_eligible f c q.by v.by r barred in
-    let here : eligible f v.by v.of d ≡ false = subst (λ (x : CeilingFields Cmnd). eligible f v.by v.of x ≡ false) ceilings (subst (λ (x : List ℕ). eligible f v.by x c ≡ false) (sym about.0) out) in
-    ap (λ (k : VerdictKind). may_give f d k v.by v.of) kind ∙ here
+    let there : HasApprovedAt (set ++ Verdict v ∷ []) q v.by v.at =
+    subst (λ (x : VerdictFields). Contains (set ++ Verdict v ∷ []) (Verdict x)) (own_approval q v about kind) (Contains-push set (Verdict v)) in
+    let out : eligible f v.by q.by c v.at ≡ false = barred.never v.at there in
+    let here : eligible f v.by v.of d v.at ≡ false = subst (λ (x : CeilingFields Cmnd). eligible f v.by v.of x v.at ≡ false) ceilings (subst (λ (x : List ℕ). eligible f v.by x c v.at ≡ false) (sym about.0) out) in
+    ap (λ (k : VerdictKind). may_give f d k v.by v.of v.at) kind ∙ here
 
-pub barred_changes_nothing : (f : RosterFields Cmnd) (set : List Message) (q : RequestFields) (c : CeilingFields Cmnd) (v : VerdictFields) (r : Reason) (name : RequestName) (status : Status) → StandsAlone set q → ceiling_at f q.ceiling ≡ Some c → reason f c q.by v.by ≡ Some r → IsAbout q v → v.kind ≡ Approve → IsStatus f set name status ↔ IsStatus f (set ++ Verdict v ∷ []) name status
-barred_changes_nothing f set q c v r name status alone ceiling_is barred about kind =
-    let never = never_counts f set q c v r alone ceiling_is barred about kind in
+pub barred_changes_nothing : (f : RosterFields Cmnd) (set : List Message) (q : RequestFields) (c : CeilingFields Cmnd) (v : VerdictFields) (r : Reason) (name : RequestName) (status : Status) → StandsAlone set q → ceiling_at f q.ceiling ≡ Some c → IsAbout q v → v.kind ≡ Approve
+    → IsBarred f c q.by v.by (HasApprovedAt (set ++ Verdict v ∷ []) q v.by) r → IsStatus f set name status ↔ IsStatus f (set ++ Verdict v ∷ []) name status
+barred_changes_nothing f set q c v r name status alone ceiling_is about kind barred =
+    let never = never_counts f set q c v r alone ceiling_is about kind barred in
     (added f set v name status never, taken_away f set v name status never)

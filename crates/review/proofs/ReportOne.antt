@@ -1,9 +1,10 @@
 -- A set of messages has one report at a moment.
-use Rattle.std.proofs.Common.{◌≡◌, ℕ, Bool, true, false, List, [], ◌∷◌, ◌++◌, map, Option, Some, None, sym, ap, ◌∙◌, subst}
+use Rattle.std.proofs.Common.{◌≡◌, ℕ, Bool, true, false, List, [], ◌∷◌, ◌++◌, map, Option, Some, None, ◌≤◌, refl, sym, ap, ◌∙◌, subst, arith}
 use Rattle.std.specs.List.{flat_map}
 use Rattle.std.specs.Cmp.{IsTotalOrder}
 use Rattle.std.specs.Cmp.Lexicographic.{nat_list_cmp_total}
 use Rattle.std.specs.declared.cmp.Ordering.{Ordering}
+use Rattle.std.proofs.lemmas.Bool.{both_ways}
 use Rattle.std.proofs.lemmas.Cmp.{nat_cmp_total, on_total, then_total}
 use Rattle.sudo_words.specs.declared.cmnd.Cmnd.{Cmnd}
 use Rattle.sudo_policy.specs.declared.entry.Entry.{Entry}
@@ -18,7 +19,8 @@ use Rattle.grants.specs.declared.outcome.Status.{Status}
 use Rattle.grants.specs.declared.outcome.Window.{Window}
 use Rattle.grants.proofs.StatusLaws.{one_status, order_free}
 use Rattle.review.specs.declared.need.Need.{Need}
-use Rattle.review.specs.Barred.{HasApproved, barred_lines}
+use Rattle.review.specs.declared.reason.Reason.{Reason}
+use Rattle.review.specs.Barred.{AreBarredLines, HasApproved, HasApprovedAt, IsWhy, approval, barred_for, reason}
 use Rattle.sudo_beyond.specs.Cases.{AreParts, text_order}
 use Rattle.review.specs.Columns.{lines_text}
 use Rattle.review.specs.Needs.{IsNeedOn, grant_scope, own_policy}
@@ -37,6 +39,15 @@ one_all : {X : Type 0} (R : X → X → Ordering) (total : IsTotalOrder R) (Is A
 one_all R total Is Also to back xs ys a b =
     one_sorted R total xs ys a.in_order b.in_order (λ z there. b.all z (to z (a.each z there))) (λ z there. a.all z (back z (b.each z there)))
 
+-- parts by two relations that give an element the same
+one_parts_of_two : {X : Type 0} (IsPart Also : X → List (List ℕ) → Type 0) → ((x : X) (ys zs : List (List ℕ)) → IsPart x ys → Also x zs → ys ≡ zs) → (xs : List X) (ys zs : List (List ℕ)) → AreParts IsPart xs ys → AreParts Also xs zs → ys ≡ zs
+one_parts_of_two IsPart Also one [] ys zs are also = are ∙ sym also
+one_parts_of_two IsPart Also one (x ∷ xs) ys zs are also =
+    are.2
+    ∙ ap (λ (part : List (List ℕ)). part ++ are.1) (one x are.0 also.0 are.3 also.3)
+    ∙ ap (λ (rest : List (List ℕ)). also.0 ++ rest) (one_parts_of_two IsPart Also one xs are.1 also.1 are.4 also.4)
+    ∙ sym also.2
+
 module _ (f : RosterFields Cmnd) (s t : List Message) (same : SameMessages s t) where
   same_asked : (u v : List Message) → SameMessages u v → (name : RequestName) → IsAsked u name → IsAsked v name
   same_asked u v e name is = record { request = is.request; asked = (e (Request is.request)).0 is.asked; named = is.named }
@@ -45,13 +56,7 @@ module _ (f : RosterFields Cmnd) (s t : List Message) (same : SameMessages s t) 
   turned m = ((same m).1, (same m).0)
 
   same_approved : (u v : List Message) → SameMessages u v → (q : RequestFields) (person : List ℕ) → HasApproved u q person → HasApproved v q person
-  same_approved u v e q person is = record {
-    verdict = is.verdict;
-    given = (e (Verdict is.verdict)).0 is.given;
-    about = is.about;
-    kind_is = is.kind_is;
-    by_is = is.by_is;
-  }
+  same_approved u v e q person is = (is.0, (e (Verdict (approval q person is.0))).0 is.1)
 
   same_parked : (u v : List Message) → SameMessages u v → (text : List ℕ) → IsParkedText u text → IsParkedText v text
   same_parked u v e text is = record {
@@ -79,15 +84,29 @@ module _ (f : RosterFields Cmnd) (s t : List Message) (same : SameMessages s t) 
     one_in_force at name xs ys a b =
         one_lines name (window_at at b.status) xs ys (subst (λ (x : Status). LinesInForce Of s name (window_at at x) xs) (one_name_status name a.status b.status a.status_is b.status_is) a.lines_are) b.lines_are
 
+  -- a person stands under BARRED for one reason, or does not
+  one_why : (c : CeilingFields Cmnd) (q : RequestFields) (person : List ℕ) (x y : Option Reason) → IsWhy f c q.by person (HasApprovedAt s q person) x → IsWhy f c q.by person (HasApprovedAt t q person) y → x ≡ y
+  one_why c q person None None a b = refl
+  one_why c q person None (Some y) a b = absurd (both_ways _ (b.never a.moment ((same (Verdict (approval q person a.moment))).0 a.approved)) a.eligible_then)
+  one_why c q person (Some x) None a b = absurd (both_ways _ (a.never b.moment ((same (Verdict (approval q person b.moment))).1 b.approved)) b.eligible_then)
+  one_why c q person (Some x) (Some y) a b =
+      let sooner : a.first ≤ b.first = a.earliest b.first ((same (Verdict (approval q person b.first))).1 b.approved) in
+      let later : b.first ≤ a.first = b.earliest a.first ((same (Verdict (approval q person a.first))).0 a.approved) in
+      let first : a.first ≡ b.first = omega (arith, sooner, later) in
+      sym a.why_is ∙ ap (λ (at : ℕ). reason f c q.by person at) first ∙ b.why_is
+
+  one_person : (c : CeilingFields Cmnd) (q : RequestFields) (person : List ℕ) (xs ys : List (List ℕ)) → AreBarredLines f s c q person xs → AreBarredLines f t c q person ys → xs ≡ ys
+  one_person c q person xs ys a b = a.2 ∙ ap (barred_for q person) (one_why c q person a.0 b.0 a.1 b.1) ∙ sym b.2
+
   one_barred_under : (q : RequestFields) (xs ys : List (List ℕ)) → AreBarredUnder f s q xs → AreBarredUnder f t q ys → xs ≡ ys
   one_barred_under q xs ys a b =
       let people : a.people ≡ b.people = one_all text_order nat_list_cmp_total (HasApproved s q) (HasApproved t q) (same_approved s t same q) (same_approved t s turned q) a.people b.people a.people_are b.people_are in
       let both : Some a.ceiling ≡ Some b.ceiling = sym a.ceiling_is ∙ b.ceiling_is in
       let ceilings : a.ceiling ≡ b.ceiling = cc in
-      a.lines_are
-      ∙ ap (λ (c : CeilingFields Cmnd). flat_map (barred_lines f c q) a.people) ceilings
-      ∙ ap (λ (l : List (List ℕ)). flat_map (barred_lines f b.ceiling q) l) people
-      ∙ sym b.lines_are
+      one_parts_of_two (AreBarredLines f s b.ceiling q) (AreBarredLines f t b.ceiling q) (one_person b.ceiling q) b.people xs ys
+      (subst (λ (ps : List (List ℕ)). AreParts (AreBarredLines f s b.ceiling q) ps xs) people
+      (subst (λ (c : CeilingFields Cmnd). AreParts (AreBarredLines f s c q) a.people xs) ceilings a.lines_are))
+      b.lines_are
 
   one_barred_lines : (name : RequestName) (open_is : Bool) (xs ys : List (List ℕ)) → BarredLines f s name open_is xs → BarredLines f t name open_is ys → xs ≡ ys
   one_barred_lines name false xs ys a b = a ∙ sym b
@@ -106,15 +125,6 @@ one_live_line base q w xs ys a b =
 one_broad_lines : (q : RequestFields) (w : Window) (xs ys : List (List ℕ)) → AreBroadLines q w xs → AreBroadLines q w ys → xs ≡ ys
 one_broad_lines q w xs ys a b = a ∙ sym b
 
--- parts by two relations that give an element the same
-one_parts_of_two : (IsPart Also : RequestName → List (List ℕ) → Type 0) → ((x : RequestName) (ys zs : List (List ℕ)) → IsPart x ys → Also x zs → ys ≡ zs) → (xs : List RequestName) (ys zs : List (List ℕ)) → AreParts IsPart xs ys → AreParts Also xs zs → ys ≡ zs
-one_parts_of_two IsPart Also one [] ys zs are also = are ∙ sym also
-one_parts_of_two IsPart Also one (x ∷ xs) ys zs are also =
-    are.2
-    ∙ ap (λ (part : List (List ℕ)). part ++ are.1) (one x are.0 also.0 are.3 also.3)
-    ∙ ap (λ (rest : List (List ℕ)). also.0 ++ rest) (one_parts_of_two IsPart Also one xs are.1 also.1 are.4 also.4)
-    ∙ sym also.2
-
 pub one_report : (f : RosterFields Cmnd) (base : List Entry) (s t : List Message) (at : ℕ) (x y : List ℕ) → SameMessages s t → IsReport f base s at x → IsReport f base t at y → x ≡ y
 one_report f base s t at x y same a b =
     let back : SameMessages t s = turned f s t same in
@@ -128,9 +138,9 @@ one_report f base s t at x y same a b =
     let broad : a.broad ≡ b.broad = one_parts_of_two (AreInForce f s at AreBroadLines) (AreInForce f t at AreBroadLines) (one_in_force f s t same AreBroadLines one_broad_lines at) b.names a.broad b.broad
     (subst (λ (ns : List RequestName). AreParts (AreInForce f s at AreBroadLines) ns a.broad) names a.broad_are) b.broad_are in
     a.text_is
-    ∙ ap (λ (l : List (List ℕ)). lines_text (report_lines at l a.barred (flat_map (conflicts_of f a.pairs) f.people) a.broad a.parked)) live
-    ∙ ap (λ (l : List (List ℕ)). lines_text (report_lines at b.live l (flat_map (conflicts_of f a.pairs) f.people) a.broad a.parked)) barred
-    ∙ ap (λ (l : List (List ℕ × List ℕ)). lines_text (report_lines at b.live b.barred (flat_map (conflicts_of f l) f.people) a.broad a.parked)) pairs
-    ∙ ap (λ (l : List (List ℕ)). lines_text (report_lines at b.live b.barred (flat_map (conflicts_of f b.pairs) f.people) l a.parked)) broad
-    ∙ ap (λ (l : List (List ℕ)). lines_text (report_lines at b.live b.barred (flat_map (conflicts_of f b.pairs) f.people) b.broad l)) parked
+    ∙ ap (λ (l : List (List ℕ)). lines_text (report_lines at l a.barred (flat_map (conflicts_of f at a.pairs) f.people) a.broad a.parked)) live
+    ∙ ap (λ (l : List (List ℕ)). lines_text (report_lines at b.live l (flat_map (conflicts_of f at a.pairs) f.people) a.broad a.parked)) barred
+    ∙ ap (λ (l : List (List ℕ × List ℕ)). lines_text (report_lines at b.live b.barred (flat_map (conflicts_of f at l) f.people) a.broad a.parked)) pairs
+    ∙ ap (λ (l : List (List ℕ)). lines_text (report_lines at b.live b.barred (flat_map (conflicts_of f at b.pairs) f.people) l a.parked)) broad
+    ∙ ap (λ (l : List (List ℕ)). lines_text (report_lines at b.live b.barred (flat_map (conflicts_of f at b.pairs) f.people) b.broad l)) parked
     ∙ sym b.text_is

@@ -9,11 +9,10 @@ use Rattle.roster.specs.Fields.{RosterFields}
 use Rattle.roster.specs.Relations.{ceiling_at}
 use Rattle.grants.specs.Admission.{AdmitsRequest}
 use Rattle.grants.specs.Statuses.{IsStatus}
-use Rattle.grants.specs.Verdicts.{IsDisputed, StandsAlone}
+use Rattle.grants.specs.Verdicts.{StandsAlone}
 use Rattle.grants.specs.declared.outcome.Status.{Status}
 use Rattle.grants.specs.declared.outcome.Status.TheVariants.{Disputed, Lapsed, Refused, Waiting, Void, Granted}
 use Rattle.grants.specs.declared.outcome.Window.{Window}
-use Rattle.grants.proofs.StatusLaws.{one_status}
 use Rattle.review.specs.Columns.{lines_text}
 use Rattle.review.specs.Report.{AreBarred, AreBarredUnder, AreInForce, BarredLines, IsOnlyRequest, LinesInForce, is_open, window_at}
 use Rattle.review.specs.private.Reporting.{AddsLines}

@@ -9,13 +9,13 @@ use Rattle.sudo_words.specs.Command.{cmnd_text}
 use Rattle.sudo_words.specs.Moment.{stamp}
 use Rattle.sudo_words.specs.declared.cmnd.Cmnd.{Cmnd}
 use Rattle.sudo_words.specs.declared.cmnd.Cmnd.TheVariants.{All, Path, Dir}
-use Rattle.sudo_policy.specs.declared.entry.Entry.{Entry}
+use Rattle.sudo_policy.specs.declared.entry.Entry.{Entry as PolicyEntry}
 use Rattle.messages.specs.Fields.{RequestFields, VerdictFields}
 use Rattle.messages.specs.Names.{RequestName, IsNamed, IsAbout, name_of}
 use Rattle.messages.specs.Wire.{wire}
 use Rattle.messages.specs.declared.message.Message.{Message}
 use Rattle.messages.specs.declared.message.Message.TheVariants.{Request, Verdict}
-use Rattle.roster.specs.Fields.{CeilingFields, RosterFields}
+use Rattle.roster.specs.Fields.{CeilingFields, Entry, RosterFields}
 use Rattle.roster.specs.Relations.{ceiling_at, holds, is_before, pair_order}
 use Rattle.grants.specs.Statuses.{IsStatus}
 use Rattle.grants.specs.Summaries.{Kept, StandsFor}
@@ -24,7 +24,7 @@ use Rattle.grants.specs.declared.outcome.Status.{Status}
 use Rattle.grants.specs.declared.outcome.Status.TheVariants.{Disputed, Lapsed, Refused, Waiting, Void, Granted}
 use Rattle.grants.specs.declared.outcome.Window.{Window}
 use Rattle.review.specs.declared.need.Need.{Need}
-use Rattle.review.specs.Barred.{HasApproved, barred_lines}
+use Rattle.review.specs.Barred.{AreBarredLines, HasApproved}
 use Rattle.sudo_beyond.specs.Cases.{AreParts, IsEachOnce, text_order}
 use Rattle.review.specs.Columns.{left, name_columns, lines_text}
 use Rattle.review.specs.Needs.{IsNeed, need_text}
@@ -84,7 +84,7 @@ span_columns w = codes " " ++ stamp w.start ++ codes " " ++ stamp w.end ++ codes
 abbrev pub live_line : RequestFields → Window → Need → List ℕ
 live_line q w need = grant_columns q ++ span_columns w ++ need_text need
 
-abbrev pub IsLiveLine : (base : List Entry) → RequestFields → Window → List (List ℕ) → Type 0
+abbrev pub IsLiveLine : (base : List PolicyEntry) → RequestFields → Window → List (List ℕ) → Type 0
 IsLiveLine base q w lines = (need : Need) × IsNeed base q w need × (lines ≡ live_line q w need ∷ [])
 
 -- ---- BROAD: each command of a grant in force that is ALL or a directory
@@ -100,7 +100,8 @@ broad_for q (Dir dir) = broad_line q (Dir dir) ∷ []
 abbrev pub AreBroadLines : RequestFields → Window → List (List ℕ) → Type 0
 AreBroadLines q w lines = lines ≡ flat_map (broad_for q) q.cmnds
 
--- ---- BARRED: of a name that is neither disputed nor lapsed, each person who approved and is not eligible, and why
+-- ---- BARRED: of a name that is neither disputed nor lapsed, each person who approved and was eligible at none of the approvals, and why not at
+-- the earliest
 
 abbrev pub is_open : Status → Bool
 is_open Disputed = false
@@ -115,7 +116,7 @@ pub record AreBarredUnder (f : RosterFields Cmnd) (messages : List Message) (q :
   pub people : List (List ℕ)
   pub ceiling_is : ceiling_at f q.ceiling ≡ Some ceiling
   pub people_are : AreAll text_order (HasApproved messages q) people
-  pub lines_are : lines ≡ flat_map (barred_lines f ceiling q) people
+  pub lines_are : AreParts (AreBarredLines f messages ceiling q) people lines
 
 abbrev pub BarredLines : RosterFields Cmnd → List Message → RequestName → Bool → List (List ℕ) → Type 0
 BarredLines f messages name false lines = lines ≡ []
@@ -126,7 +127,7 @@ pub record AreBarred (f : RosterFields Cmnd) (messages : List Message) (name : R
   pub status_is : IsStatus f messages name status
   pub lines_are : BarredLines f messages name (is_open status) lines
 
--- ---- CONFLICTS: each conflicting pair of duties that a person holds, the lesser duty first
+-- ---- CONFLICTS: each conflicting pair of duties that a person holds at the moment, the lesser duty first
 
 abbrev pub lesser_first : List ℕ × List ℕ → List ℕ × List ℕ
 lesser_first pair = if is_before pair.1 pair.0 then (pair.1, pair.0) else pair
@@ -134,17 +135,17 @@ lesser_first pair = if is_before pair.1 pair.0 then (pair.1, pair.0) else pair
 abbrev pub ArePairs : RosterFields Cmnd → List (List ℕ × List ℕ) → Type 0
 ArePairs f pairs = IsEachOnce pair_order (map lesser_first f.conflicts) pairs
 
-abbrev pub holds_both : RosterFields Cmnd → (person : List ℕ) → List ℕ × List ℕ → Bool
-holds_both f person pair = holds f person pair.0 && holds f person pair.1
+abbrev pub holds_both : RosterFields Cmnd → (at : ℕ) → (person : List ℕ) → List ℕ × List ℕ → Bool
+holds_both f at person pair = holds f person pair.0 at && holds f person pair.1 at
 
 abbrev pub conflict_line : (person : List ℕ) → List ℕ × List ℕ → List ℕ
 conflict_line person pair = left person ++ codes " " ++ left pair.0 ++ codes " " ++ pair.1
 
-abbrev pub conflict_for : RosterFields Cmnd → (person : List ℕ) → List ℕ × List ℕ → List (List ℕ)
-conflict_for f person pair = if holds_both f person pair then conflict_line person pair ∷ [] else []
+abbrev pub conflict_for : RosterFields Cmnd → (at : ℕ) → (person : List ℕ) → List ℕ × List ℕ → List (List ℕ)
+conflict_for f at person pair = if holds_both f at person pair then conflict_line person pair ∷ [] else []
 
-abbrev pub conflicts_of : RosterFields Cmnd → List (List ℕ × List ℕ) → List ℕ × List (List ℕ) → List (List ℕ)
-conflicts_of f pairs person = flat_map (conflict_for f person.0) pairs
+abbrev pub conflicts_of : RosterFields Cmnd → (at : ℕ) → (pairs : List (List ℕ × List ℕ)) → List ℕ × List Entry → List (List ℕ)
+conflicts_of f at pairs person = flat_map (conflict_for f at person.0) pairs
 
 -- ---- PARKED: the texts of the verdicts whose request is not among the messages
 
@@ -165,7 +166,7 @@ report_lines at live barred conflicts broad parked =
     ++ codes "PARKED" ∷ parked
 
 -- The report's text. Each part goes over the names that somebody asks under, in their order.
-pub record IsReport (f : RosterFields Cmnd) (base : List Entry) (messages : List Message) (at : ℕ) (text : List ℕ) : Type 0 where
+pub record IsReport (f : RosterFields Cmnd) (base : List PolicyEntry) (messages : List Message) (at : ℕ) (text : List ℕ) : Type 0 where
   pub names : List RequestName
   pub pairs : List (List ℕ × List ℕ)
   pub live : List (List ℕ)
@@ -178,7 +179,7 @@ pub record IsReport (f : RosterFields Cmnd) (base : List Entry) (messages : List
   pub barred_are : AreParts (AreBarred f messages) names barred
   pub broad_are : AreParts (AreInForce f messages at AreBroadLines) names broad
   pub parked_are : AreAll text_order (IsParkedText messages) parked
-  pub text_is : text ≡ lines_text (report_lines at live barred (flat_map (conflicts_of f pairs) f.people) broad parked)
+  pub text_is : text ≡ lines_text (report_lines at live barred (flat_map (conflicts_of f at pairs) f.people) broad parked)
 
 -- ---- what a report is made from
 

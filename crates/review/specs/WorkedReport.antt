@@ -7,7 +7,7 @@ use Rattle.grants.specs.WorkedAdmission.{asked, file}
 use Rattle.grants.specs.WorkedStatuses.{by_two, team}
 use Rattle.grants.specs.declared.outcome.Window.{Window}
 use Rattle.review.specs.declared.need.Need.TheVariants.{Needed}
-use Rattle.review.specs.Barred.{barred_lines}
+use Rattle.review.specs.Barred.{barred_for, reason}
 use Rattle.review.specs.Columns.{lines_text}
 use Rattle.review.specs.Report.{conflicts_of, live_line, report_lines}
 
@@ -18,10 +18,10 @@ held = record { start = 33_000; end = 39_600 }
 abbrev pub lesser_first_pairs : List (List ℕ × List ℕ)
 lesser_first_pairs = (codes "approve", codes "audit") ∷ []
 
--- the grant's line, carol's approval, who may not approve, and her duties
+-- the grant's line, carol's approval of eight, when she may not approve, and her duties
 abbrev pub team_text : List ℕ
 team_text =
-    lines_text (report_lines 34_200 (live_line asked held Needed ∷ []) (barred_lines team by_two asked (codes "carol")) (flat_map (conflicts_of team lesser_first_pairs) team.people) [] [])
+    lines_text (report_lines 34_200 (live_line asked held Needed ∷ []) (barred_for asked (codes "carol") (reason team by_two (codes "ann") (codes "carol") 28_800)) (flat_map (conflicts_of team 34_200 lesser_first_pairs) team.people) [] [])
 
 -- a command of each kind
 abbrev pub three_commands : List Cmnd

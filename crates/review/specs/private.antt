@@ -1,3 +1,5 @@
 -- What only private clauses and proofs cite: no public contract speaks of it.
 -- the parts of the report
 pub mod Reporting
+-- why none of a person's approvals counts
+pub mod Whys

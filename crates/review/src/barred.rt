@@ -1,22 +1,23 @@
 //! Whose approvals do not count: a report's lines under BARRED.
 
-ghost use Rattle.std.specs.Prelude.{◌≡◌, List, ◌++◌, IfOk, OnOk, map, string_bytes};
-ghost use Rattle.std.specs.List.{AllByRecursion, flat_map};
+ghost use Rattle.std.specs.Prelude.{◌≡◌, ℕ, List, ◌++◌, IfOk, OnOk, Option, string_bytes};
+ghost use Rattle.std.specs.List.{AllByRecursion};
 ghost use Rattle.messages.specs.declared.message.Message.{Message as AnyMessage};
 ghost use Rattle.grants.specs.Summaries.{StandsFor};
-ghost use Rattle.review.specs.Barred.{HasApproved, barred_lines};
-ghost use Rattle.sudo_beyond.specs.Cases.{AreParts, text_order};
+ghost use Rattle.review.specs.Barred.{barred_for, reason};
+ghost use Rattle.review.specs.declared.reason.Reason.{Reason as AnyReason};
+ghost use Rattle.sudo_beyond.specs.Cases.{AreParts};
 ghost use Rattle.review.specs.Columns.{lines_text};
 ghost use Rattle.review.specs.Report as report;
 ghost use Rattle.review.specs.private.Reporting.{AddsLines, IsOpenOf, kept_name};
+ghost use Rattle.review.specs.private.Whys as spec;
 
 use crate::columns::{push_left, push_name};
-use crate::reason::why_barred;
+use crate::reason::{Reason, why_barred};
 use grants::{Status, Summary, status};
 use messages::Request;
 use roster::{Ceiling, Roster};
 use std::alloc::Global;
-use sudo_beyond::in_order;
 use sudo_words::{Moment, Name, NoMemory};
 
 /// A request that is neither disputed nor lapsed, and its ceiling.
@@ -45,63 +46,90 @@ fn open_request<'s>(roster: &'s Roster, summary: &'s Summary) -> Option<OpenRequ
     Some(OpenRequest { request, ceiling })
 }
 
-/// The people of the list.
-fn people_of(alloc: Global, list: &[(Name, Moment)]) -> Result<Vec<Name>, NoMemory>
-    ensures { IfOk result (λ people. people.items ≡ map (λ x. x.0) list.now) }
+/// A person who approved, and why none of the person's approvals so far counts, if none does.
+#[derive(Clone, Copy)]
+pub(crate) struct Approver<'s> {
+    person: &'s Name,
+    why: Option<Reason>,
+}
+
+/// Of an approval and later ones of the same person: why the first does not count, unless one of them does.
+fn both(first: Option<Reason>, later: Option<Reason>) -> Option<Reason>
+    ensures { result ≡ spec.both first later }
 {
-    let mut people = Vec::new(alloc);
-    for (person, _) in list {
-        people.push(person.clone()?)?;
+    match later {
+        Some(_) => first,
+        None => None,
     }
-    Ok(people)
 }
 
-/// Who has approved the summary's request, each once, in byte order.
-fn approvers(alloc: Global, summary: &Summary) -> Result<Vec<Name>, NoMemory>
-    ensures { (set : List AnyMessage) → StandsFor set summary.now
-        → IfOk result (λ people. report.AreAll text_order (HasApproved set summary.now.request) people.items) }
-{
-    let approvals = summary.approvals()?;
-    Ok(in_order(people_of(alloc, &approvals)?))
-}
-
-/// Adds the line of a person who approved, where the person is not eligible.
+/// Adds the line of a person who approved, where none of the approvals counts.
 fn push_barred_line(
     alloc: Global,
     out: &mut String,
-    roster: &Roster,
-    ceiling: &Ceiling,
     request: &Request,
-    person: &Name,
+    approver: &Approver,
 ) -> Result<(), NoMemory>
-    ensures { OnOk result (string_bytes out.new ≡ string_bytes out.old ++ lines_text (barred_lines roster.now.says ceiling.now request.now person.now)) }
+    ensures { OnOk result (string_bytes out.new ≡ string_bytes out.old ++ lines_text (barred_for request.now approver.now.person.now approver.now.why)) }
 {
-    let Some(why) = why_barred(roster, ceiling, request.by(), person) else {
+    let Some(why) = approver.why else {
         return Ok(());
     };
     push_name(alloc, out, request)?;
-    push_left(out, person.as_str())?;
+    push_left(out, approver.person.as_str())?;
     out.push_str(" ")?;
     out.push_str(why.text())?;
     out.push_str("\n")?;
     Ok(())
 }
 
-/// Adds those of these people.
+/// The approver so far with one more approval, or that of the approval alone, once the line of another one so far is added.
+fn next<'s>(
+    alloc: Global,
+    out: &mut String,
+    request: &Request,
+    last: Option<Approver<'s>>,
+    approver: Approver<'s>,
+) -> Result<Approver<'s>, NoMemory>
+    ensures { IfOk result (λ then. (ws : List (List ℕ × Option AnyReason)) →
+        spec.with_lines request.now (string_bytes out.new) (spec.joined then.person.now then.why ws)
+        ≡ spec.with_lines request.now (string_bytes out.old) (spec.before last.entry (spec.joined approver.entry.person.now approver.entry.why ws))) }
+{
+    let Some(last) = last else {
+        return Ok(approver);
+    };
+    if last.person == approver.person {
+        let why = both(last.why, approver.why);
+        return Ok(Approver {
+            person: approver.person,
+            why,
+        });
+    }
+    push_barred_line(alloc, out, request, &last)?;
+    Ok(approver)
+}
+
+/// Adds the lines of the people of a list of approvals, by person and then by moment.
 fn push_barred_people(
     alloc: Global,
     out: &mut String,
     roster: &Roster,
     ceiling: &Ceiling,
     request: &Request,
-    people: &[Name],
+    approvals: &[(Name, Moment)],
 ) -> Result<(), NoMemory>
-    ensures { OnOk result (string_bytes out.new ≡ string_bytes out.old ++ lines_text (flat_map (barred_lines roster.now.says ceiling.now request.now) people.now)) }
+    ensures { OnOk result (string_bytes out.new
+        ≡ spec.with_lines request.now (string_bytes out.old) (spec.whys (reason roster.now.says ceiling.now request.now.by) approvals.now)) }
 {
-    for person in people {
-        push_barred_line(alloc, out, roster, ceiling, request, person)?;
+    let mut last = None;
+    for (person, at) in approvals {
+        let why = why_barred(roster, ceiling, request.by(), person, *at);
+        last = Some(next(alloc, out, request, last, Approver { person, why })?);
     }
-    Ok(())
+    match last {
+        Some(last) => push_barred_line(alloc, out, request, &last),
+        None => Ok(()),
+    }
 }
 
 /// Adds those of a summary's request.
@@ -117,8 +145,8 @@ fn push_barred(
     let Some(open) = open_request(roster, summary) else {
         return Ok(());
     };
-    let people = approvers(alloc, summary)?;
-    push_barred_people(alloc, out, roster, open.ceiling, open.request, &people)
+    let approvals = summary.approvals()?;
+    push_barred_people(alloc, out, roster, open.ceiling, open.request, &approvals)
 }
 
 /// Adds the lines under BARRED.

@@ -1,4 +1,4 @@
-//! Who holds duties that conflict: a report's lines under CONFLICTS.
+//! Who holds duties that conflict at a moment: a report's lines under CONFLICTS.
 
 ghost use Rattle.std.specs.Prelude.{◌≡◌, ℕ, List, ◌++◌, IfOk, OnOk, codes, map, string_bytes};
 ghost use Rattle.std.specs.List.{flat_map};
@@ -9,7 +9,7 @@ use crate::columns::push_left;
 use roster::Roster;
 use std::alloc::Global;
 use sudo_beyond::in_order;
-use sudo_words::{Label, Name, NoMemory};
+use sudo_words::{Label, Moment, Name, NoMemory};
 
 /// The two duties, the lesser first.
 fn lesser_first(one: &Label, other: &Label) -> Result<(Label, Label), NoMemory>
@@ -33,11 +33,11 @@ fn turned(alloc: Global, conflicts: &[(Label, Label)]) -> Result<Vec<(Label, Lab
     Ok(pairs)
 }
 
-/// Whether the person holds both duties.
-fn holds_both(roster: &Roster, person: &Name, pair: &(Label, Label)) -> bool
-    ensures { result ≡ report.holds_both roster.now.says person.now pair.now }
+/// Whether the person holds both duties at the moment.
+fn holds_both(roster: &Roster, at: Moment, person: &Name, pair: &(Label, Label)) -> bool
+    ensures { result ≡ report.holds_both roster.now.says at person.now pair.now }
 {
-    roster.holds(person, &pair.0) && roster.holds(person, &pair.1)
+    roster.holds(person, &pair.0, at) && roster.holds(person, &pair.1, at)
 }
 
 /// Adds the line of a pair.
@@ -54,16 +54,17 @@ fn push_pair(out: &mut String, person: &Name, pair: &(Label, Label)) -> Result<(
     Ok(())
 }
 
-/// The same, where the person holds both.
+/// The same, where the person holds both at the moment.
 fn push_conflict(
     out: &mut String,
     roster: &Roster,
+    at: Moment,
     person: &Name,
     pair: &(Label, Label),
 ) -> Result<(), NoMemory>
-    ensures { OnOk result (string_bytes out.new ≡ string_bytes out.old ++ lines_text (report.conflict_for roster.now.says person.now pair.now)) }
+    ensures { OnOk result (string_bytes out.new ≡ string_bytes out.old ++ lines_text (report.conflict_for roster.now.says at person.now pair.now)) }
 {
-    if !holds_both(roster, person, pair) {
+    if !holds_both(roster, at, person, pair) {
         return Ok(());
     }
     push_pair(out, person, pair)
@@ -73,13 +74,14 @@ fn push_conflict(
 fn push_conflicts(
     out: &mut String,
     roster: &Roster,
+    at: Moment,
     person: &Name,
     pairs: &[(Label, Label)],
 ) -> Result<(), NoMemory>
-    ensures { OnOk result (string_bytes out.new ≡ string_bytes out.old ++ lines_text (flat_map (report.conflict_for roster.now.says person.now) pairs.now)) }
+    ensures { OnOk result (string_bytes out.new ≡ string_bytes out.old ++ lines_text (flat_map (report.conflict_for roster.now.says at person.now) pairs.now)) }
 {
     for pair in pairs {
-        push_conflict(out, roster, person, pair)?;
+        push_conflict(out, roster, at, person, pair)?;
     }
     Ok(())
 }
@@ -89,13 +91,14 @@ pub(crate) fn push_all_conflicts(
     alloc: Global,
     out: &mut String,
     roster: &Roster,
+    at: Moment,
 ) -> Result<(), NoMemory>
     ensures { OnOk result ((pairs : List (List ℕ × List ℕ)) × report.ArePairs roster.now.says pairs
-        × (string_bytes out.new ≡ string_bytes out.old ++ lines_text (flat_map (report.conflicts_of roster.now.says pairs) roster.now.says.people))) }
+        × (string_bytes out.new ≡ string_bytes out.old ++ lines_text (flat_map (report.conflicts_of roster.now.says at pairs) roster.now.says.people))) }
 {
     let pairs = in_order(turned(alloc, roster.conflicts())?);
     for entry in roster.people() {
-        push_conflicts(out, roster, &entry.0, &pairs)?;
+        push_conflicts(out, roster, at, &entry.0, &pairs)?;
     }
     Ok(())
 }

@@ -4,9 +4,9 @@ ghost use Rattle.std.specs.Prelude.{◌≡◌};
 ghost use Rattle.review.specs.Barred as barred;
 
 use roster::{Ceiling, Roster};
-use sudo_words::Name;
+use sudo_words::{Moment, Name};
 
-/// Why a person is not eligible to approve: the first of these that applies.
+/// Why a person is not eligible to approve at a moment: the first of these that applies.
 #[derive(Clone, Copy, Debug, PartialEq, Eq)]
 pub(crate) enum Reason {
     /// The person asked.
@@ -30,20 +30,21 @@ impl Reason {
     }
 }
 
-/// Why the person may not approve what the asker asked for under the ceiling (NIST SP 800-53 AC-5).
+/// Why the person may not approve at the moment what the asker asked for under the ceiling (NIST SP 800-53 AC-5).
 pub(crate) fn why_barred(
     roster: &Roster,
     ceiling: &Ceiling,
     asker: &Name,
     person: &Name,
+    at: Moment,
 ) -> Option<Reason>
-    ensures { result ≡ barred.reason roster.now.says ceiling.now asker.now person.now }
+    ensures { result ≡ barred.reason roster.now.says ceiling.now asker.now person.now at }
 {
-    if roster.eligible(person, asker, ceiling) {
+    if roster.eligible(person, asker, ceiling, at) {
         None
     } else if person == asker {
         Some(Reason::Asker)
-    } else if !roster.holds(person, ceiling.approve()) {
+    } else if !roster.holds(person, ceiling.approve(), at) {
         Some(Reason::Duty)
     } else {
         Some(Reason::Conflict)

@@ -59,7 +59,7 @@ pub fn report_of(
     out.push_str("BARRED\n")?;
     push_all_barred(alloc, &mut out, roster, summaries)?;
     out.push_str("CONFLICTS\n")?;
-    push_all_conflicts(alloc, &mut out, roster)?;
+    push_all_conflicts(alloc, &mut out, roster, at)?;
     out.push_str("BROAD\n")?;
     push_all_broad(alloc, &mut out, roster, summaries, at)?;
     out.push_str("PARKED\n")?;

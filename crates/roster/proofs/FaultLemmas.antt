@@ -1,5 +1,5 @@
 -- A roster's text has no fault, and any other text at most one least fault.
-use Rattle.std.proofs.Common.{◌≡◌, ◌≢◌, ◌<◌, ℕ, ◌∙◌, ◌==◌, cond, List, Some, None, true, refl, sym, ap, subst, arith}
+use Rattle.std.proofs.Common.{◌≡◌, ◌≢◌, ◌<◌, ℕ, ◌∙◌, ◌==◌, cond, List, Some, None, true, false, refl, sym, ap, subst, arith}
 use Rattle.std.proofs.lemmas.Bool.{true≢false}
 use Rattle.std.proofs.lemmas.Option.{same_Some, none-some}
 use Rattle.sudo_words.specs.declared.cmnd.Cmnd.{Cmnd}
@@ -9,6 +9,7 @@ use Rattle.roster.specs.Document.{has_known_keys, fields_of}
 use Rattle.roster.specs.Faults.{Has, IsLeastFault, IsRosterText, Says, number}
 use Rattle.roster.specs.Fields.{RosterFields, in_texts}
 use Rattle.roster.specs.Rules.{IsCmndText, GoodNames, are_known, has_self_conflict, in_range}
+use Rattle.roster.specs.private.Stages.{IsDraftOf}
 use Rattle.roster.specs.declared.fault.RosterFault.{RosterFault}
 use Rattle.roster.specs.declared.fault.RosterFault.TheVariants.{NotToml, UnknownKey, WrongType, BadName, UnknownName, SelfConflict, OutOfRange, NoMemory}
 use Rattle.roster.proofs.Texts.{good_in_texts, known_in_texts, apart_in_texts, range_in_texts}
@@ -73,6 +74,10 @@ one_fault text d e a b =
     let same : number d ≡ number e = omega (arith, not_below, not_above) in
     sym (at_its_number d) ∙ ap fault_at same ∙ at_its_number e
 
+-- what the draft of a text says is all that it says
+one_saying : (text : List ℕ) (t u : RosterFields (List ℕ)) → IsDraftOf text t → Says text u → t ≡ u
+one_saying text t u d s = same_Some t u (sym d.types ∙ ap fields_of (one_document text d.document s.0 d.toml s.1) ∙ s.2)
+
 only_from_three : (text : List ℕ) (d : Members) → parse_document text ≡ Some d → has_known_keys d ≡ true → (lower : RosterFault) → number lower < 3 → ¬ Has text lower
 only_from_three text d toml keys NotToml l h = none-some d (sym h ∙ toml)
 only_from_three text d toml keys UnknownKey l h =
@@ -87,3 +92,32 @@ only_from_three text d toml keys NoMemory l h = h
 -- a text with a roster's keys alone, of which a value is missing or has not its type, has that fault and no lower one
 pub of_wrong_type : (text : List ℕ) (d : Members) → parse_document text ≡ Some d → has_known_keys d ≡ true → fields_of d ≡ None → IsLeastFault text WrongType
 of_wrong_type text d toml keys wrong = ((d, toml, wrong), only_from_three text d toml keys)
+
+-- a text whose names are good and known, where no duty conflicts with itself and something is out of range, has that fault and no lower one
+only_from_seven : (text : List ℕ) (t : RosterFields (List ℕ)) → IsDraftOf text t → GoodNames IsCmndText t → are_known t ≡ true → has_self_conflict t ≡ false
+    → (lower : RosterFault) → number lower < 7 → ¬ Has text lower
+only_from_seven text t d good known apart NotToml l h = none-some d.document (sym h ∙ d.toml)
+only_from_seven text t d good known apart UnknownKey l h =
+    true≢false (sym d.keys ∙ ap has_known_keys (one_document text d.document h.0 d.toml h.1) ∙ h.2)
+only_from_seven text t d good known apart WrongType l h =
+    none-some t (sym h.2 ∙ ap fields_of (one_document text h.0 d.document h.1 d.toml) ∙ d.types)
+only_from_seven text t d good known apart BadName l h = h.2 (subst (GoodNames IsCmndText) (one_saying text t h.0 d h.1) good)
+only_from_seven text t d good known apart UnknownName l h = true≢false (sym known ∙ ap are_known (one_saying text t h.0 d h.1) ∙ h.2)
+only_from_seven text t d good known apart SelfConflict l h = true≢false (sym h.2 ∙ ap has_self_conflict (sym (one_saying text t h.0 d h.1)) ∙ apart)
+only_from_seven text t d good known apart OutOfRange l h = omega arith
+only_from_seven text t d good known apart NoMemory l h = h
+
+pub of_out_of_range : (text : List ℕ) (t : RosterFields (List ℕ)) → IsDraftOf text t → GoodNames IsCmndText t → are_known t ≡ true → has_self_conflict t ≡ false
+    → in_range text t ≡ false → IsLeastFault text OutOfRange
+of_out_of_range text t d good known apart out = ((t, (d.document, d.toml, d.types), out), only_from_seven text t d good known apart)
+
+-- a text with a document is TOML, and has only greater faults than that
+pub read_at_all : (text : List ℕ) (d : Members) → parse_document text ≡ Some d → (lower : RosterFault) → number lower < 2 → ¬ Has text lower
+read_at_all text d p NotToml l h = none-some d (sym h ∙ p)
+read_at_all text d p UnknownKey l h = omega arith
+read_at_all text d p WrongType l h = omega arith
+read_at_all text d p BadName l h = omega arith
+read_at_all text d p UnknownName l h = omega arith
+read_at_all text d p SelfConflict l h = omega arith
+read_at_all text d p OutOfRange l h = omega arith
+read_at_all text d p NoMemory l h = h

@@ -11,3 +11,5 @@ pub mod CommandLemmas
 pub mod Ranges
 pub mod KeyLemmas
 pub mod Names
+pub mod DayLemmas
+pub mod Steps

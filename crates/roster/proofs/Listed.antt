@@ -12,7 +12,7 @@ use Rattle.std.proofs.lemmas.List.Sorted.{list_any-IsPermutation, searchable_fro
 use Rattle.sudo_words.specs.declared.cmnd.Cmnd.{Cmnd}
 use Rattle.roster.specs.Fields.{RosterFields}
 use Rattle.roster.specs.Relations.{text_order, AreTextsInOrder, IsInOrder}
-use Rattle.roster.specs.Rules.{are_known, is_among, is_known_ceiling, is_known_pair, names_only}
+use Rattle.roster.specs.Rules.{are_known, is_among, is_known_ceiling, is_known_entry, is_known_pair, is_known_person, names_only}
 
 pub absent : {X : Type 0} (test : X → Bool) (xs : List X) → ((k : ℕ) (d : X) → k < length xs → test (get_or xs k d) ≡ false) → list_any test xs ≡ false
 absent test [] none = refl
@@ -53,6 +53,6 @@ known_in_order f duties hosts d h =
     ap₂ (λ a b. a && b)
     (ap₂ (λ a b. a && b)
     (all_same (is_known_pair duties) (is_known_pair f.duties) (λ p. ap₂ (λ a b. a && b) (duty p.0) (duty p.1)) f.conflicts)
-    (all_same (λ p. list_all (is_among duties) p.1) (λ p. list_all (is_among f.duties) p.1) (λ p. all_same (is_among duties) (is_among f.duties) duty p.1) f.people))
+    (all_same (is_known_person duties) (is_known_person f.duties) (λ p. all_same (is_known_entry duties) (is_known_entry f.duties) (λ e. duty e.0) p.1) f.people))
     (all_same (is_known_ceiling duties hosts) (is_known_ceiling f.duties f.hosts)
     (λ c. ap₂ (λ a b. a && b) (ap₂ (λ a b. a && b) (duty c.1.ask) (duty c.1.approve)) (all_same (is_among hosts) (is_among f.hosts) host c.1.hosts)) f.ceilings)

@@ -10,7 +10,7 @@ use Rattle.sudo_words.specs.Command.{IsLawful, cmnd_text}
 use Rattle.sudo_words.specs.declared.cmnd.Cmnd.{Cmnd}
 use Rattle.roster.specs.Faults.{IsRosterText}
 use Rattle.roster.specs.Fields.{CeilingFields, RosterFields, entry_in_texts, in_texts}
-use Rattle.roster.specs.Rules.{IsCmndText, IsNamedCeiling, GoodNames, good_names, are_known, has_self_conflict, in_range, is_ranged, is_within, is_known_ceiling, is_known_pair, is_among, has_counts, has_ceiling_counts}
+use Rattle.roster.specs.Rules.{IsCmndText, IsNamedCeiling, GoodNames, good_names, are_known, has_self_conflict, in_range, is_ranged, is_within, is_known_ceiling, is_known_pair, is_known_person, has_counts, has_ceiling_counts}
 use Rattle.roster.specs.private.Stages.{IsDraftOf, KeepsRules}
 
 commands_in_texts : (cs : List Cmnd) → All IsLawful cs → All IsCmndText (map cmnd_text cs)
@@ -36,7 +36,7 @@ good_in_texts f n = record {
 pub known_in_texts : (f : RosterFields Cmnd) → are_known (in_texts f) ≡ are_known f
 unfolding are_known
 known_in_texts f =
-    ap (λ b. list_all (is_known_pair f.duties) f.conflicts && list_all (λ p. list_all (is_among f.duties) p.1) f.people && b)
+    ap (λ b. list_all (is_known_pair f.duties) f.conflicts && list_all (is_known_person f.duties) f.people && b)
     (list_all-map (is_known_ceiling f.duties f.hosts) entry_in_texts f.ceilings)
 
 pub known_of_draft : (f : RosterFields Cmnd) (t : RosterFields (List ℕ)) → in_texts f ≡ t → are_known t ≡ are_known f

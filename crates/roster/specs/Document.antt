@@ -1,8 +1,10 @@
 -- Which TOML document is which roster: its keys, and the type of each value (TOML 1.1).
-use Rattle.std.specs.Prelude.{ℕ, ℤ, pos, negsuc, List, [], ◌∷◌, Option, Some, None, Bool, true, codes, ◌&&◌, ◌||◌}
+use Rattle.std.specs.Prelude.{ℕ, zero, suc, ◌+◌, ℤ, pos, negsuc, List, [], ◌∷◌, Option, Some, None, Bool, true, if◌then◌else◌, codes, ◌&&◌, ◌||◌}
 use Rattle.std.specs.Str.{bytes_eq}
 use Rattle.toml.specs.Data.{Data, array, table, as_str, as_integer, Items, no_items, item, Members, no_members, member, get_member}
-use Rattle.roster.specs.Fields.{CeilingFields, RosterFields}
+use Rattle.sudo_words.specs.Moment.{date_text}
+use Rattle.roster.specs.Fields.{CeilingFields, Entry, RosterFields}
+use Rattle.roster.specs.declared.days.Days.TheVariants.{Always, Between}
 
 -- the second step is taken on what the first gives, where it gives something
 infixl 10 ◌>>=◌
@@ -46,11 +48,6 @@ abbrev pub pairs_of : Data → Option (List (List ℕ × List ℕ))
 pairs_of (array ds) = each_item pair_of ds
 pairs_of _ = None
 
--- a table of lists of texts
-abbrev pub people_of : Data → Option (List (List ℕ × List (List ℕ)))
-people_of (table ms) = each_member texts_of ms
-people_of _ = None
-
 -- a whole number; each one below 0 stands as 0, which no range of a roster has
 abbrev pub at_least_zero : ℤ → ℕ
 at_least_zero (pos n) = n
@@ -58,6 +55,21 @@ at_least_zero (negsuc n) = 0
 
 abbrev pub number_of : Data → Option ℕ
 number_of d = as_integer d >>= λ z. Some (at_least_zero z)
+
+-- ---- days
+
+-- of this day and so many later ones the one that the text is the date of, or the day after them where it is none's
+unfoldable pub day_from : (later day : ℕ) → List ℕ → ℕ
+day_from zero day text = day
+day_from (suc later) day text = if bytes_eq (date_text day) text then day else day_from later (day + 1) text
+
+-- The day from 1970-01-01 to 2099-12-31 that the text is the date of, `yyyymmdd`. Each other text stands as the day after
+-- them, which no entry of a roster has.
+unfoldable pub day_spelled : List ℕ → ℕ
+day_spelled text = day_from 47_482 0 text
+
+abbrev pub day_in : Data → Option ℕ
+day_in d = as_str d >>= λ text. Some (day_spelled text)
 
 -- ---- keys
 
@@ -70,6 +82,11 @@ each_key test (member k d ms) = test k && each_key test ms
 abbrev pub each_value : (Data → Bool) → Members → Bool
 each_value test no_members = true
 each_value test (member k d ms) = test d && each_value test ms
+
+-- each item passes
+abbrev pub each_one : (Data → Bool) → Items → Bool
+each_one test no_items = true
+each_one test (item d ds) = test d && each_one test ds
 
 -- the keys of a ceiling
 abbrev pub is_ceiling_key : List ℕ → Bool
@@ -86,21 +103,59 @@ abbrev pub have_ceiling_keys : Option Data → Bool
 have_ceiling_keys (Some (table ms)) = each_value has_ceiling_keys ms
 have_ceiling_keys _ = true
 
+-- the keys of an entry that is a table
+abbrev pub is_entry_key : List ℕ → Bool
+is_entry_key k = bytes_eq k (codes "duty") || bytes_eq k (codes "from") || bytes_eq k (codes "until")
+
+abbrev pub has_entry_keys : Data → Bool
+has_entry_keys (table ms) = each_key is_entry_key ms
+has_entry_keys _ = true
+
+-- of each entry of a person, and of each person
+abbrev pub have_entry_keys : Data → Bool
+have_entry_keys (array ds) = each_one has_entry_keys ds
+have_entry_keys _ = true
+
+abbrev pub people_have_entry_keys : Option Data → Bool
+people_have_entry_keys (Some (table ms)) = each_value have_entry_keys ms
+people_have_entry_keys _ = true
+
 -- the keys of a roster
 abbrev pub is_roster_key : List ℕ → Bool
 is_roster_key k =
     bytes_eq k (codes "relays") || bytes_eq k (codes "hosts") || bytes_eq k (codes "duties") || bytes_eq k (codes "conflicts")
     || bytes_eq k (codes "people") || bytes_eq k (codes "ceilings")
 
--- each key of the document is one of a roster, and each key of a ceiling one of a ceiling
+-- each key of the document is one of a roster, each key of a ceiling one of a ceiling, and each key of an entry one of an entry
 unfoldable pub has_known_keys : Members → Bool
-has_known_keys ms = each_key is_roster_key ms && have_ceiling_keys (get_member (codes "ceilings") ms)
+has_known_keys ms =
+    each_key is_roster_key ms && have_ceiling_keys (get_member (codes "ceilings") ms)
+    && people_have_entry_keys (get_member (codes "people") ms)
 
 -- ---- what a document says
 
 -- what stands at a key
 abbrev pub member_of : {X : Type 0} → (Data → Option X) → List ℕ → Members → Option X
 member_of f key ms = get_member key ms >>= f
+
+-- An entry is a duty's label, and then held always, or a table of a duty and of the days from which and until which it is held.
+unfoldable pub duty_entry : Data → Option Entry
+duty_entry (table ms) = do
+  duty ← member_of as_str (codes "duty") ms
+  from ← member_of day_in (codes "from") ms
+  until ← member_of day_in (codes "until") ms
+  Some (duty, Between from until)
+duty_entry d = as_str d >>= λ duty. Some (duty, Always)
+
+-- a list of entries
+abbrev pub duty_entries : Data → Option (List Entry)
+duty_entries (array ds) = each_item duty_entry ds
+duty_entries _ = None
+
+-- a table of such lists
+abbrev pub people_of : Data → Option (List (List ℕ × List Entry))
+people_of (table ms) = each_member duty_entries ms
+people_of _ = None
 
 -- what a ceiling says, where no key is missing and each value has its type
 unfoldable pub ceiling_of : Data → Option (CeilingFields (List ℕ))

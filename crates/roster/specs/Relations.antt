@@ -1,5 +1,5 @@
--- Who holds which duty, which duties conflict, who may approve and who may revoke (NIST SP 800-53 AC-5).
-use Rattle.std.specs.Prelude.{◌≡◌, ℕ, List, [], ◌∷◌, Option, Some, None, if◌then◌else◌, Bool, true, not, ◌&&◌, ◌||◌, is_some}
+-- Who holds which duty when, which duties conflict, who may approve and who may revoke (NIST SP 800-53 AC-5).
+use Rattle.std.specs.Prelude.{◌≡◌, ℕ, List, [], ◌∷◌, Option, Some, None, if◌then◌else◌, Bool, true, not, ◌&&◌, ◌||◌, is_some, nat_le}
 use Rattle.std.specs.List.{list_all, list_any}
 use Rattle.std.specs.List.Sorted.{IsPermutation, IsSorted, IsStrictlySortedBy}
 use Rattle.std.specs.Map.{keys_of}
@@ -7,25 +7,37 @@ use Rattle.std.specs.declared.cmp.Ordering.{Ordering}
 use Rattle.std.specs.Ordering.{nat_cmp, is_lt, ordering_then}
 use Rattle.std.specs.Cmp.Lexicographic.{slice_cmp}
 use Rattle.std.specs.Str.{bytes_eq}
-use Rattle.roster.specs.Fields.{CeilingFields, RosterFields}
+use Rattle.sudo_words.specs.Moment.{day_of}
+use Rattle.roster.specs.Fields.{CeilingFields, Entry, RosterFields}
 use Rattle.roster.specs.Rules.{is_among}
+use Rattle.roster.specs.declared.days.Days.{Days}
+use Rattle.roster.specs.declared.days.Days.TheVariants.{Always, Between}
 
 -- what stands at a name in a list of names with something each
 abbrev pub entry_of : {X : Type 0} → List (List ℕ × X) → List ℕ → Option X
 entry_of [] name = None
 entry_of (e ∷ es) name = if bytes_eq e.0 name then Some e.1 else entry_of es name
 
--- the duties of a person; one whom the roster does not list has none
-abbrev pub or_none : Option (List (List ℕ)) → List (List ℕ)
+-- the entries of a person; one whom the roster does not list has none
+abbrev pub or_none : Option (List Entry) → List Entry
 or_none None = []
-or_none (Some duties) = duties
+or_none (Some entries) = entries
 
-abbrev pub duties_of : {C : Type 0} → RosterFields C → (person : List ℕ) → List (List ℕ)
-duties_of f person = or_none (entry_of f.people person)
+abbrev pub entries_of : {C : Type 0} → RosterFields C → (person : List ℕ) → List Entry
+entries_of f person = or_none (entry_of f.people person)
 
--- the person holds the duty
-abbrev pub holds : {C : Type 0} → RosterFields C → (person duty : List ℕ) → Bool
-holds f person duty = is_among (duties_of f person) duty
+-- the day is one of the days
+abbrev pub hold : Days → (day : ℕ) → Bool
+hold Always day = true
+hold (Between from until) day = nat_le from day && nat_le day until
+
+-- the entry is of the duty, and the day is one of its days
+abbrev pub gives : (duty : List ℕ) (day : ℕ) → Entry → Bool
+gives duty day e = bytes_eq e.0 duty && hold e.1 day
+
+-- the person holds the duty at the moment
+abbrev pub holds : {C : Type 0} → RosterFields C → (person duty : List ℕ) (at : ℕ) → Bool
+holds f person duty at = list_any (gives duty (day_of at)) (entries_of f person)
 
 -- the pair is of these two, this way round
 abbrev pub is_pair : (first second : List ℕ) → List ℕ × List ℕ → Bool
@@ -39,18 +51,22 @@ joins first second p = is_pair first second p || is_pair second first p
 abbrev pub conflicting : {C : Type 0} → RosterFields C → (first second : List ℕ) → Bool
 conflicting f first second = list_any (joins first second) f.conflicts
 
--- the person holds a duty that conflicts with this one
-abbrev pub holds_against : {C : Type 0} → RosterFields C → (person duty : List ℕ) → Bool
-holds_against f person duty = list_any (λ d. conflicting f d duty) (duties_of f person)
+-- the entry is of a duty that conflicts with this one, and the day is one of its days
+abbrev pub is_against : {C : Type 0} → RosterFields C → (duty : List ℕ) (day : ℕ) → Entry → Bool
+is_against f duty day e = hold e.1 day && conflicting f e.0 duty
 
--- Separation of duties: who approves is not who asks, holds the approving duty, and holds none that conflicts with it.
-abbrev pub eligible : {C D : Type 0} → RosterFields C → (person asker : List ℕ) → CeilingFields D → Bool
-eligible f person asker c =
-    not (bytes_eq person asker) && holds f person c.approve && not (holds_against f person c.approve)
+-- the person holds at the moment a duty that conflicts with this one
+abbrev pub holds_against : {C : Type 0} → RosterFields C → (person duty : List ℕ) (at : ℕ) → Bool
+holds_against f person duty at = list_any (is_against f duty (day_of at)) (entries_of f person)
 
--- who asked may revoke, and who holds the approving duty
-abbrev pub may_revoke : {C D : Type 0} → RosterFields C → (person asker : List ℕ) → CeilingFields D → Bool
-may_revoke f person asker c = bytes_eq person asker || holds f person c.approve
+-- Separation of duties: who approves at a moment is not who asks, holds the approving duty then, and holds none then that conflicts with it.
+abbrev pub eligible : {C D : Type 0} → RosterFields C → (person asker : List ℕ) → CeilingFields D → (at : ℕ) → Bool
+eligible f person asker c at =
+    not (bytes_eq person asker) && holds f person c.approve at && not (holds_against f person c.approve at)
+
+-- who asked may revoke, and who holds the approving duty at the moment
+abbrev pub may_revoke : {C D : Type 0} → RosterFields C → (person asker : List ℕ) → CeilingFields D → (at : ℕ) → Bool
+may_revoke f person asker c at = bytes_eq person asker || holds f person c.approve at
 
 -- the ceiling of a label
 abbrev pub ceiling_at : {C : Type 0} → RosterFields C → (label : List ℕ) → Option (CeilingFields C)

@@ -5,15 +5,20 @@ use Rattle.std.specs.Str.{bytes_eq}
 use Rattle.sudo_words.specs.Word.{is_name, is_host_name, is_label}
 use Rattle.sudo_words.specs.Command.{IsLawful, cmnd_text}
 use Rattle.sudo_words.specs.declared.cmnd.Cmnd.{Cmnd}
-use Rattle.roster.specs.Fields.{CeilingFields, RosterFields}
+use Rattle.roster.specs.Fields.{CeilingFields, Entry, RosterFields}
+use Rattle.roster.specs.declared.days.Days.{Days}
+use Rattle.roster.specs.declared.days.Days.TheVariants.{Always, Between}
 
 -- ---- names
 
 abbrev pub is_named_pair : List ℕ × List ℕ → Bool
 is_named_pair p = is_label p.0 && is_label p.1
 
-abbrev pub is_named_person : List ℕ × List (List ℕ) → Bool
-is_named_person p = is_name p.0 && list_all is_label p.1
+abbrev pub is_named_entry : Entry → Bool
+is_named_entry e = is_label e.0
+
+abbrev pub is_named_person : List ℕ × List Entry → Bool
+is_named_person p = is_name p.0 && list_all is_named_entry p.1
 
 -- the text of a lawful command (sudoers(5), "Cmnd")
 abbrev pub IsCmndText : List ℕ → Type 0
@@ -47,13 +52,19 @@ is_among words w = list_any (λ v. bytes_eq v w) words
 abbrev pub is_known_pair : List (List ℕ) → List ℕ × List ℕ → Bool
 is_known_pair duties p = is_among duties p.0 && is_among duties p.1
 
+abbrev pub is_known_entry : List (List ℕ) → Entry → Bool
+is_known_entry duties e = is_among duties e.0
+
+abbrev pub is_known_person : List (List ℕ) → List ℕ × List Entry → Bool
+is_known_person duties p = list_all (is_known_entry duties) p.1
+
 abbrev pub is_known_ceiling : {C : Type 0} → List (List ℕ) → List (List ℕ) → List ℕ × CeilingFields C → Bool
 is_known_ceiling duties hosts c = is_among duties c.1.ask && is_among duties c.1.approve && list_all (is_among hosts) c.1.hosts
 
 -- each duty that is named is one of these, and each host of a ceiling one of these hosts
 abbrev pub names_only : {C : Type 0} → (duties hosts : List (List ℕ)) → RosterFields C → Bool
 names_only duties hosts f =
-    list_all (is_known_pair duties) f.conflicts && list_all (λ p. list_all (is_among duties) p.1) f.people
+    list_all (is_known_pair duties) f.conflicts && list_all (is_known_person duties) f.people
     && list_all (is_known_ceiling duties hosts) f.ceilings
 
 -- each duty that is named is one of the duties, and each host of a ceiling one of the hosts
@@ -75,11 +86,27 @@ is_ranged c =
     is_within 1 3 c.1.needs && is_within 1 256 (length c.1.hosts) && is_within 1 256 (length c.1.runas)
     && is_within 1 256 (length c.1.commands) && is_within 1 2_592_000 c.1.longest
 
--- 1 to 64 relays, 1 to 1,024 hosts, up to 256 duties, 4,096 conflicts and 4,096 people, each with up to 256 duties
-abbrev pub has_counts : {C : Type 0} → RosterFields C → Bool
-has_counts f =
+-- from a day to one that is not before it, up to 2099-12-31
+abbrev pub are_in_range : Days → Bool
+are_in_range Always = true
+are_in_range (Between from until) = nat_le from until && nat_le until 47_481
+
+abbrev pub is_ranged_entry : Entry → Bool
+is_ranged_entry e = are_in_range e.1
+
+-- up to 256 entries, each of days in range
+abbrev pub is_ranged_person : List ℕ × List Entry → Bool
+is_ranged_person p = nat_le (length p.1) 256 && list_all is_ranged_entry p.1
+
+-- 1 to 64 relays, 1 to 1,024 hosts, up to 256 duties, 4,096 conflicts and 4,096 people
+abbrev pub has_list_counts : {C : Type 0} → RosterFields C → Bool
+has_list_counts f =
     is_within 1 64 (length f.relays) && is_within 1 1024 (length f.hosts) && nat_le (length f.duties) 256
-    && nat_le (length f.conflicts) 4096 && nat_le (length f.people) 4096 && list_all (λ p. nat_le (length p.1) 256) f.people
+    && nat_le (length f.conflicts) 4096 && nat_le (length f.people) 4096
+
+-- and each person in range
+abbrev pub has_counts : {C : Type 0} → RosterFields C → Bool
+has_counts f = has_list_counts f && list_all is_ranged_person f.people
 
 -- up to 1,024 ceilings
 abbrev pub has_ceiling_counts : {C : Type 0} → RosterFields C → Bool

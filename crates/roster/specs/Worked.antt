@@ -1,10 +1,13 @@
 -- Worked cases: a small roster, and the smallest text of one.
-use Rattle.std.specs.Prelude.{ℕ, List, [], ◌∷◌, codes}
+use Rattle.std.specs.Prelude.{ℕ, List, [], ◌∷◌, ◌++◌, codes}
 use Rattle.sudo_words.specs.declared.cmnd.Cmnd.{Cmnd}
 use Rattle.sudo_words.specs.declared.cmnd.Cmnd.TheVariants.{All}
 use Rattle.roster.specs.Fields.{CeilingFields, RosterFields}
+use Rattle.roster.specs.declared.days.Days.{Days}
+use Rattle.roster.specs.declared.days.Days.TheVariants.{Always, Between}
 
--- ann operates and approves, bob approves, and carol approves though she audits, which conflicts
+-- Ann operates and approves, bob approves, and carol approves though she audits, which conflicts. Eve approves on 4 and 5 January
+-- 1970, which are the days 3 and 4, and fay always, though she audits until the first of them.
 abbrev pub office : RosterFields Cmnd
 office = record {
   relays = codes "mail" ∷ [];
@@ -12,9 +15,11 @@ office = record {
   duties = codes "approve" ∷ codes "audit" ∷ codes "operate" ∷ [];
   conflicts = (codes "audit", codes "approve") ∷ [];
   people =
-      (codes "ann", codes "approve" ∷ codes "operate" ∷ [])
-      ∷ (codes "bob", codes "approve" ∷ [])
-      ∷ (codes "carol", codes "approve" ∷ codes "audit" ∷ [])
+      (codes "ann", (codes "approve", Always) ∷ (codes "operate", Always) ∷ [])
+      ∷ (codes "bob", (codes "approve", Always) ∷ [])
+      ∷ (codes "carol", (codes "approve", Always) ∷ (codes "audit", Always) ∷ [])
+      ∷ (codes "eve", (codes "approve", Between 3 4) ∷ [])
+      ∷ (codes "fay", (codes "approve", Always) ∷ (codes "audit", Between 0 3) ∷ [])
       ∷ [];
   ceilings = [];
 }
@@ -42,5 +47,20 @@ smallest = record {
   duties = [];
   conflicts = [];
   people = [];
+  ceilings = [];
+}
+
+-- a text that would be a roster's but for the days on which its one person holds a duty
+abbrev pub text_with_days : (from until : List ℕ) → List ℕ
+text_with_days from until =
+    codes "relays=['r']\nhosts=['h']\nduties=['d']\nconflicts=[]\nceilings={}\npeople={a=[{duty='d',from='" ++ from ++ codes "',until='" ++ until ++ codes "'}]}"
+
+abbrev pub with_days : Days → RosterFields Cmnd
+with_days days = record {
+  relays = codes "r" ∷ [];
+  hosts = codes "h" ∷ [];
+  duties = codes "d" ∷ [];
+  conflicts = [];
+  people = (codes "a", (codes "d", days) ∷ []) ∷ [];
   ceilings = [];
 }

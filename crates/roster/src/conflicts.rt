@@ -1,13 +1,14 @@
 //! The pairs of duties that conflict.
 
-ghost use Rattle.std.specs.Prelude.{◌≡◌, IfOk};
+ghost use Rattle.std.specs.Prelude.{◌≡◌, ◌&&◌, IfOk};
 ghost use Rattle.std.specs.List.{list_any};
 ghost use Rattle.roster.specs.Relations as relations;
 
+use crate::days::Days;
 use crate::pairs::{are_paired, in_order};
 use std::alloc::AllocError;
 use std::marker::Model;
-use sudo_words::{Items, Label};
+use sudo_words::{Day, Items, Label};
 
 /// The pairs as they are listed, which contracts see, and once more in the order in which they are looked up.
 #[derive(Drop)]
@@ -49,10 +50,12 @@ impl Conflicts {
         are_paired(self.ordered.as_slice(), first, second)
     }
 
-    /// Whether one of the duties is paired with this one.
-    pub(crate) fn join_one(&self, duties: &[Label], duty: &Label) -> bool
-        ensures { result ≡ list_any (λ d. list_any (relations.joins d duty.now) self.now) duties.now }
+    /// Whether one of the entries is of a duty that is paired with this one, on a day that is one of its days.
+    pub(crate) fn join_one(&self, entries: &[(Label, Days)], duty: &Label, day: Day) -> bool
+        ensures { result ≡ list_any (λ e. relations.hold e.1 day && list_any (relations.joins e.0 duty.now) self.now) entries.now }
     {
-        duties.iter().any(|d| self.joins(d, duty))
+        entries
+            .iter()
+            .any(|e| e.1.hold(day) && self.joins(&e.0, duty))
     }
 }

@@ -1,5 +1,6 @@
 //! A roster whose texts are not yet known to be names and commands.
 
+use crate::days::Days;
 use crate::text::Text;
 use std::marker::Model;
 use sudo_words::Items;
@@ -30,7 +31,7 @@ pub(crate) struct Draft {
     pub(crate) hosts: Items<Text>,
     pub(crate) duties: Items<Text>,
     pub(crate) conflicts: Items<(Text, Text)>,
-    pub(crate) people: Items<(Text, Items<Text>)>,
+    pub(crate) people: Items<(Text, Items<(Text, Days)>)>,
     pub(crate) ceilings: Items<(Text, DraftCeiling)>,
 }
 

@@ -1,13 +1,16 @@
 //! Laws of rosters, each the contract of a function that does nothing.
 
-ghost use Rattle.std.specs.Prelude.{◌≡◌, ℕ, List, true, false, codes};
+ghost use Rattle.std.specs.Prelude.{◌≡◌, ◌↔◌, ◌≤◌, ◌<◌, ◌+◌, ◌*◌, ℕ, List, true, false, codes};
 ghost use Rattle.sudo_words.specs.declared.cmnd.Cmnd.{Cmnd};
+ghost use Rattle.sudo_words.specs.Moment.{day_of, IsDateText, IsDay};
+ghost use Rattle.roster.specs.Document.{day_spelled};
 ghost use Rattle.roster.specs.Faults.{Has, IsLeastFault, IsRosterText};
 ghost use Rattle.roster.specs.Fields.{CeilingFields, RosterFields};
-ghost use Rattle.roster.specs.Relations.{conflicting, eligible, holds, may_revoke};
-ghost use Rattle.roster.specs.Worked.{office, everything, smallest, smallest_text};
+ghost use Rattle.roster.specs.Relations.{conflicting, eligible, hold, holds, may_revoke};
+ghost use Rattle.roster.specs.Worked.{office, everything, smallest, smallest_text, text_with_days, with_days};
+ghost use Rattle.roster.specs.declared.days.Days.TheVariants.{Between};
 ghost use Rattle.roster.specs.declared.fault.RosterFault.{RosterFault};
-ghost use Rattle.roster.specs.declared.fault.RosterFault.TheVariants.{NotToml, UnknownKey, WrongType};
+ghost use Rattle.roster.specs.declared.fault.RosterFault.TheVariants.{NotToml, OutOfRange, UnknownKey, WrongType};
 
 /// A text is at most one roster's.
 pub fn one_roster()
@@ -31,45 +34,70 @@ pub fn conflict_is_between_two()
     ensures either_way { (f : RosterFields Cmnd) (d e : List ℕ) → conflicting f d e ≡ conflicting f e d }
 {}
 
-/// Duties are separate (NIST SP 800-53 AC-5): nobody approves what they asked for, and nobody approves who does not
-/// hold the approving duty or who holds one that conflicts with it.
+/// Duties are separate (NIST SP 800-53 AC-5): nobody approves what they asked for, and nobody approves at a moment who does
+/// not hold the approving duty then or who holds one then that conflicts with it.
 pub fn duties_are_separate()
-    ensures not_who_asks { (f : RosterFields Cmnd) (asker : List ℕ) (c : CeilingFields Cmnd) →
-        eligible f asker asker c ≡ false }
-    ensures holds_duty { (f : RosterFields Cmnd) (person asker : List ℕ) (c : CeilingFields Cmnd) →
-        eligible f person asker c ≡ true → holds f person c.approve ≡ true }
-    ensures not_against { (f : RosterFields Cmnd) (person asker duty : List ℕ) (c : CeilingFields Cmnd) →
-        holds f person duty ≡ true → conflicting f duty c.approve ≡ true → eligible f person asker c ≡ false }
+    ensures not_who_asks { (f : RosterFields Cmnd) (asker : List ℕ) (c : CeilingFields Cmnd) (at : ℕ) →
+        eligible f asker asker c at ≡ false }
+    ensures holds_duty { (f : RosterFields Cmnd) (person asker : List ℕ) (c : CeilingFields Cmnd) (at : ℕ) →
+        eligible f person asker c at ≡ true → holds f person c.approve at ≡ true }
+    ensures not_against { (f : RosterFields Cmnd) (person asker duty : List ℕ) (c : CeilingFields Cmnd) (at : ℕ) →
+        holds f person duty at ≡ true → conflicting f duty c.approve ≡ true → eligible f person asker c at ≡ false }
 {}
 
-/// Adding conflicts makes nobody eligible.
+/// Adding conflicts makes nobody eligible, at any moment.
 pub fn more_conflicts_fewer_eligible()
-    ensures { (f g : RosterFields Cmnd) (person asker : List ℕ) (c : CeilingFields Cmnd) →
+    ensures { (f g : RosterFields Cmnd) (person asker : List ℕ) (c : CeilingFields Cmnd) (at : ℕ) →
         g.people ≡ f.people →
         ((d e : List ℕ) → conflicting f d e ≡ true → conflicting g d e ≡ true) →
-        eligible g person asker c ≡ true → eligible f person asker c ≡ true }
+        eligible g person asker c at ≡ true → eligible f person asker c at ≡ true }
 {}
 
-/// Giving further duties to people who hold the approving duty makes none of them eligible.
+/// Giving further duties to people who hold the approving duty at a moment makes none of them eligible then.
 pub fn more_duties_no_more_eligible()
-    ensures { (f g : RosterFields Cmnd) (person asker : List ℕ) (c : CeilingFields Cmnd) →
+    ensures { (f g : RosterFields Cmnd) (person asker : List ℕ) (c : CeilingFields Cmnd) (at : ℕ) →
         g.conflicts ≡ f.conflicts →
-        ((d : List ℕ) → holds f person d ≡ true → holds g person d ≡ true) →
-        holds f person c.approve ≡ true →
-        eligible g person asker c ≡ true → eligible f person asker c ≡ true }
+        ((d : List ℕ) → holds f person d at ≡ true → holds g person d at ≡ true) →
+        holds f person c.approve at ≡ true →
+        eligible g person asker c at ≡ true → eligible f person asker c at ≡ true }
+{}
+
+/// A duty from a day to a day is held from the first second of the one to the last of the other.
+pub fn days_in_seconds()
+    ensures { (from until at : ℕ) →
+        (hold (Between from until) (day_of at) ≡ true) ↔ ((from * 86_400 ≤ at) × (at < (until + 1) * 86_400)) }
+{}
+
+/// The day that a text stands for is the one whose date it is, where it is any's.
+pub fn day_is_its_date()
+    ensures read { (text : List ℕ) (day : ℕ) → IsDay day → IsDateText text day → day_spelled text ≡ day }
+    ensures only { (text : List ℕ) → IsDay (day_spelled text) → IsDateText text (day_spelled text) }
 {}
 
 /// Worked duties: bob may approve what ann asked for; ann may not, nor carol, who also audits, nor dan, whom the roster
 /// does not list. Ann and whoever approves may revoke it, and dan may not.
 pub fn worked_duties()
-    ensures bob { eligible office (codes "bob") (codes "ann") everything ≡ true }
-    ensures ann { eligible office (codes "ann") (codes "ann") everything ≡ false }
-    ensures carol { eligible office (codes "carol") (codes "ann") everything ≡ false }
-    ensures dan { eligible office (codes "dan") (codes "ann") everything ≡ false }
+    ensures bob { eligible office (codes "bob") (codes "ann") everything 0 ≡ true }
+    ensures ann { eligible office (codes "ann") (codes "ann") everything 0 ≡ false }
+    ensures carol { eligible office (codes "carol") (codes "ann") everything 0 ≡ false }
+    ensures dan { eligible office (codes "dan") (codes "ann") everything 0 ≡ false }
     ensures either_way { conflicting office (codes "approve") (codes "audit") ≡ true }
-    ensures ann_revokes { may_revoke office (codes "ann") (codes "ann") everything ≡ true }
-    ensures carol_revokes { may_revoke office (codes "carol") (codes "ann") everything ≡ true }
-    ensures dan_revokes_not { may_revoke office (codes "dan") (codes "ann") everything ≡ false }
+    ensures ann_revokes { may_revoke office (codes "ann") (codes "ann") everything 0 ≡ true }
+    ensures carol_revokes { may_revoke office (codes "carol") (codes "ann") everything 0 ≡ true }
+    ensures dan_revokes_not { may_revoke office (codes "dan") (codes "ann") everything 0 ≡ false }
+{}
+
+/// Worked days: eve may approve from the first second of 1970-01-04 to the last of 1970-01-05, and revoke then; fay may from
+/// the second after the last day on which she audits.
+pub fn worked_days()
+    ensures eve_not_yet { eligible office (codes "eve") (codes "ann") everything 259_199 ≡ false }
+    ensures eve_from { eligible office (codes "eve") (codes "ann") everything 259_200 ≡ true }
+    ensures eve_until { eligible office (codes "eve") (codes "ann") everything 431_999 ≡ true }
+    ensures eve_no_more { eligible office (codes "eve") (codes "ann") everything 432_000 ≡ false }
+    ensures eve_revokes { may_revoke office (codes "eve") (codes "ann") everything 431_999 ≡ true }
+    ensures eve_revokes_no_more { may_revoke office (codes "eve") (codes "ann") everything 432_000 ≡ false }
+    ensures fay_audits { eligible office (codes "fay") (codes "ann") everything 345_599 ≡ false }
+    ensures fay_no_more { eligible office (codes "fay") (codes "ann") everything 345_600 ≡ true }
 {}
 
 /// Worked texts: one that is no TOML; one with an unknown key, in which the known ones are missing too; one with a value of
@@ -80,4 +108,13 @@ pub fn worked_texts()
     ensures missing_too { Has (codes "x = 1") WrongType }
     ensures wrong_type { IsLeastFault (codes "relays = 1") WrongType }
     ensures smallest_roster { IsRosterText smallest_text smallest }
+{}
+
+/// Worked texts of days: one roster; a day after the one until which the duty is held, and a text that is no day; and a table
+/// with another key.
+pub fn worked_entries()
+    ensures two_days { IsRosterText (text_with_days (codes "19700101") (codes "19700102")) (with_days (Between 0 1)) }
+    ensures backward { IsLeastFault (text_with_days (codes "19700102") (codes "19700101")) OutOfRange }
+    ensures no_day { IsLeastFault (text_with_days (codes "19700101") (codes "19700100")) OutOfRange }
+    ensures other_key { IsLeastFault (codes "people={a=[{by='d'}]}") UnknownKey }
 {}

@@ -4,6 +4,7 @@
 mod ceiling;
 mod commands;
 mod conflicts;
+mod days;
 mod draft;
 mod fault;
 mod keys;
@@ -19,10 +20,12 @@ mod text;
 mod typed;
 
 pub use ceiling::Ceiling;
+pub use days::Days;
 pub use fault::RosterFault;
 pub use laws::{
-    conflict_is_between_two, duties_are_separate, more_conflicts_fewer_eligible,
-    more_duties_no_more_eligible, one_fault, one_roster, roster_has_no_fault, worked_duties,
-    worked_texts,
+    conflict_is_between_two, day_is_its_date, days_in_seconds, duties_are_separate,
+    more_conflicts_fewer_eligible, more_duties_no_more_eligible, one_fault, one_roster,
+    roster_has_no_fault, worked_days, worked_duties, worked_entries, worked_texts,
 };
+pub use relations::give;
 pub use roster::Roster;

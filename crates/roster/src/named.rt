@@ -7,13 +7,14 @@ ghost use Rattle.sudo_words.specs.Word.{is_label, is_name};
 ghost use Rattle.roster.specs.Commands.{cmnd_order};
 ghost use Rattle.roster.specs.Fields.{entry_in_texts, in_texts};
 ghost use Rattle.roster.specs.Relations.{IsInOrder};
-ghost use Rattle.roster.specs.Rules.{GoodNames, IsCmndText, IsNamedCeiling, is_named_pair, is_named_person};
+ghost use Rattle.roster.specs.Rules.{GoodNames, IsCmndText, IsNamedCeiling, is_named_entry, is_named_pair, is_named_person};
 ghost use Rattle.roster.specs.private.Stages.{Checks, Meets};
 ghost use Rattle.roster.specs.declared.fault.RosterFault.TheVariants.{BadName};
 
 use crate::ceiling::Ceiling;
 use crate::commands::in_order;
 use crate::conflicts::Conflicts;
+use crate::days::Days;
 use crate::draft::{Draft, DraftCeiling};
 use crate::fault::RosterFault;
 use crate::said::Said;
@@ -67,18 +68,38 @@ fn conflicts(alloc: Global, texts: &[(Text, Text)]) -> Result<Conflicts, RosterF
     Ok(Conflicts::of(pairs(alloc, texts)?)?)
 }
 
-fn person(alloc: Global, person: &(Text, Items<Text>)) -> Result<(Name, Items<Label>), RosterFault>
+fn entry(alloc: Global, text: &(Text, Days)) -> Result<(Label, Days), RosterFault>
+    ensures { Checks BadName (is_named_entry text.now) text.now result }
+{
+    Ok((word(alloc, &text.0)?, text.1))
+}
+
+fn entries(alloc: Global, texts: &[(Text, Days)]) -> Result<Items<(Label, Days)>, RosterFault>
+    ensures { Checks BadName (list_all is_named_entry texts.now) texts.now result }
+{
+    let mut entries = Vec::new(alloc);
+    for text in texts {
+        let entry = entry(alloc, text)?;
+        entries.push(entry)?;
+    }
+    Ok(Items::new(entries))
+}
+
+fn person(
+    alloc: Global,
+    person: &(Text, Items<(Text, Days)>),
+) -> Result<(Name, Items<(Label, Days)>), RosterFault>
     ensures { Checks BadName (is_named_person person.now) person.now result }
 {
     let name = word(alloc, &person.0)?;
-    let duties = words(alloc, person.1.as_slice())?;
-    Ok((name, duties))
+    let entries = entries(alloc, person.1.as_slice())?;
+    Ok((name, entries))
 }
 
 fn people(
     alloc: Global,
-    texts: &[(Text, Items<Text>)],
-) -> Result<Items<(Name, Items<Label>)>, RosterFault>
+    texts: &[(Text, Items<(Text, Days)>)],
+) -> Result<Items<(Name, Items<(Label, Days)>)>, RosterFault>
     ensures { Checks BadName (list_all is_named_person texts.now) texts.now result }
 {
     let mut people = Vec::new(alloc);

@@ -1,11 +1,13 @@
 //! Look-ups in what a roster says. They take no memory.
 
 ghost use Rattle.std.specs.Prelude.{◌≡◌, ◌≤◌, length, option_map};
+ghost use Rattle.std.specs.List.{list_any};
 ghost use Rattle.roster.specs.Relations as relations;
 ghost use Rattle.roster.specs.Rules as rules;
 
+use crate::days::Days;
 use std::cmp::Ordering;
-use sudo_words::{Form, Items, Label, Name, Word};
+use sudo_words::{Day, Form, Items, Label, Name, Word};
 
 /// Whether one of the words is this text.
 pub(crate) fn is_among<F: Form>(words: &[Word<F>], text: &str) -> bool
@@ -33,15 +35,25 @@ pub(crate) fn entry_of<'e, F: Form, T>(entries: &'e [(Word<F>, T)], name: &Word<
     None
 }
 
-/// The duties of the person, none where the person is not listed.
-pub(crate) fn duties_of<'p>(people: &'p [(Name, Items<Label>)], person: &Name) -> &'p [Label]
+/// The entries of the person, none where the person is not listed.
+pub(crate) fn entries_of<'p>(
+    people: &'p [(Name, Items<(Label, Days)>)],
+    person: &Name,
+) -> &'p [(Label, Days)]
     requires { relations.AreRising people.now }
     ensures { result.now ≡ relations.or_none (relations.entry_of people.now person.now) }
 {
     match entry_of(people, person) {
-        Some(duties) => duties.as_slice(),
+        Some(entries) => entries.as_slice(),
         None => &[],
     }
+}
+
+/// Whether one of the entries is of the duty, on a day that is one of its days. It takes no memory.
+pub fn give(entries: &[(Label, Days)], duty: &Label, day: Day) -> bool
+    ensures { result ≡ list_any (relations.gives duty.now day) entries.now }
+{
+    entries.iter().any(|e| e.0 == *duty && e.1.hold(day))
 }
 
 /// The first of the words in byte order.

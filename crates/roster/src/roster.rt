@@ -10,14 +10,15 @@ ghost use Rattle.roster.specs.Rules as rules;
 ghost use Rattle.roster.specs.declared.fault.RosterFault.TheVariants.{NoMemory};
 
 use crate::ceiling::Ceiling;
+use crate::days::Days;
 use crate::fault::RosterFault;
 use crate::read::said_by;
-use crate::relations::{duties_of, entry_of, first_of, is_among};
+use crate::relations::{entries_of, entry_of, first_of, give, is_among};
 use crate::said::Said;
 use std::alloc::Global;
 use std::fmt;
 use std::marker::Model;
-use sudo_words::{HostName, Items, Label, Name};
+use sudo_words::{Day, HostName, Items, Label, Moment, Name};
 
 /// Who holds which duty, which duties conflict, and under which ceilings rights are granted.
 ///
@@ -72,8 +73,9 @@ impl Roster {
         self.text.as_str()
     }
 
-    /// The people, each with the duties that the text gives them, in the byte order of their names.
-    pub fn people(&self) -> &[(Name, Items<Label>)]
+    /// The people, in the byte order of their names, each with the entries that the text gives them: duties, each with the
+    /// days on which it is held.
+    pub fn people(&self) -> &[(Name, Items<(Label, Days)>)]
         ensures value { result.now ≡ self.now.says.people }
         ensures rising { relations.AreRising result.now }
     {
@@ -91,15 +93,18 @@ impl Roster {
     pub fn has_person(&self, person: &Name) -> bool
         ensures { result ≡ relations.has_person self.now.says person.now }
     {
-        entry_of(self.people(), person).is_some()
+        match entry_of(self.people(), person) {
+            Some(_) => true,
+            None => false,
+        }
     }
 
-    /// The duties that the text gives the person, none where the roster does not list the person.
-    pub fn duties(&self, person: &Name) -> Option<&[Label]>
-        ensures { option_map (λ d. d.now) result ≡ relations.entry_of self.now.says.people person.now }
+    /// The entries that the text gives the person, none where the roster does not list the person.
+    pub fn entries(&self, person: &Name) -> Option<&[(Label, Days)]>
+        ensures { option_map (λ e. e.now) result ≡ relations.entry_of self.now.says.people person.now }
     {
         match entry_of(self.people(), person) {
-            Some(duties) => Some(duties.as_slice()),
+            Some(entries) => Some(entries.as_slice()),
             None => None,
         }
     }
@@ -134,11 +139,11 @@ impl Roster {
         entry_of(self.said.ceilings.as_slice(), label)
     }
 
-    /// Whether the person holds the duty.
-    pub fn holds(&self, person: &Name, duty: &Label) -> bool
-        ensures { result ≡ relations.holds self.now.says person.now duty.now }
+    /// Whether the person holds the duty at the moment.
+    pub fn holds(&self, person: &Name, duty: &Label, at: Moment) -> bool
+        ensures { result ≡ relations.holds self.now.says person.now duty.now at }
     {
-        is_among(duties_of(self.people(), person), duty.as_str())
+        give(entries_of(self.people(), person), duty, at.day())
     }
 
     /// Whether the roster lists the two duties as a pair, either way round.
@@ -148,30 +153,32 @@ impl Roster {
         self.said.conflicts.joins(first, second)
     }
 
-    /// Whether the person may approve or refuse what the asker asked for under the ceiling: the person is someone else,
-    /// holds the approving duty, and holds none that conflicts with it (NIST SP 800-53 AC-5).
-    pub fn eligible(&self, person: &Name, asker: &Name, ceiling: &Ceiling) -> bool
-        ensures { result ≡ relations.eligible self.now.says person.now asker.now ceiling.now }
+    /// Whether the person may approve or refuse at the moment what the asker asked for under the ceiling: the person is
+    /// someone else, holds the approving duty then, and holds none then that conflicts with it (NIST SP 800-53 AC-5).
+    pub fn eligible(&self, person: &Name, asker: &Name, ceiling: &Ceiling, at: Moment) -> bool
+        ensures { result ≡ relations.eligible self.now.says person.now asker.now ceiling.now at }
     {
-        // (the duties are looked up once for both)
-        let duties = duties_of(self.people(), person);
-        *person != *asker
-            && is_among(duties, ceiling.approve.as_str())
-            && !self.is_one_against(duties, &ceiling.approve)
+        if *person == *asker {
+            return false;
+        }
+        // (the entries are looked up once for both)
+        let entries = entries_of(self.people(), person);
+        let day = at.day();
+        give(entries, &ceiling.approve, day) && !self.is_one_against(entries, &ceiling.approve, day)
     }
 
-    /// Whether the person may revoke what the asker asked for under the ceiling: it is the asker, or someone who holds
-    /// the approving duty.
-    pub fn may_revoke(&self, person: &Name, asker: &Name, ceiling: &Ceiling) -> bool
-        ensures { result ≡ relations.may_revoke self.now.says person.now asker.now ceiling.now }
+    /// Whether the person may revoke at the moment what the asker asked for under the ceiling: it is the asker, or someone
+    /// who holds the approving duty then.
+    pub fn may_revoke(&self, person: &Name, asker: &Name, ceiling: &Ceiling, at: Moment) -> bool
+        ensures { result ≡ relations.may_revoke self.now.says person.now asker.now ceiling.now at }
     {
-        *person == *asker || self.holds(person, &ceiling.approve)
+        *person == *asker || self.holds(person, &ceiling.approve, at)
     }
 
-    /// Whether one of the duties conflicts with this one.
-    fn is_one_against(&self, duties: &[Label], duty: &Label) -> bool
-        ensures { result ≡ list_any (λ d. relations.conflicting self.now.says d duty.now) duties.now }
+    /// Whether one of the entries is of a duty that conflicts with this one, on a day that is one of its days.
+    fn is_one_against(&self, entries: &[(Label, Days)], duty: &Label, day: Day) -> bool
+        ensures { result ≡ list_any (relations.is_against self.now.says duty.now day) entries.now }
     {
-        self.said.conflicts.join_one(duties, duty)
+        self.said.conflicts.join_one(entries, duty, day)
     }
 }

@@ -7,6 +7,7 @@ ghost use Rattle.roster.specs.Relations.{text_order, AreTextsInOrder, IsInOrder}
 ghost use Rattle.roster.specs.Rules as rules;
 
 use crate::ceiling::Ceiling;
+use crate::days::Days;
 use crate::draft::{Draft, DraftCeiling};
 use crate::said::Said;
 use crate::text::Text;
@@ -45,11 +46,18 @@ fn knows_pairs(duties: &[Label], pairs: &[(Label, Label)]) -> bool
         .all(|p| is_among(duties, &p.0) && is_among(duties, &p.1))
 }
 
-fn knows_people(duties: &[Label], people: &[(Name, Items<Label>)]) -> bool
+fn knows_entries(duties: &[Label], entries: &[(Label, Days)]) -> bool
     requires { AreTextsInOrder duties.now }
-    ensures { result ≡ list_all (λ p. list_all (rules.is_among duties.now) p.1) people.now }
+    ensures { result ≡ list_all (rules.is_known_entry duties.now) entries.now }
 {
-    people.iter().all(|p| are_among(duties, p.1.as_slice()))
+    entries.iter().all(|e| is_among(duties, &e.0))
+}
+
+fn knows_people(duties: &[Label], people: &[(Name, Items<(Label, Days)>)]) -> bool
+    requires { AreTextsInOrder duties.now }
+    ensures { result ≡ list_all (rules.is_known_person duties.now) people.now }
+{
+    people.iter().all(|p| knows_entries(duties, p.1.as_slice()))
 }
 
 fn knows_ceiling(duties: &[Label], hosts: &[HostName], ceiling: &(Label, Ceiling)) -> bool
@@ -105,12 +113,6 @@ pub(crate) fn has_self_conflict(draft: &Draft) -> bool
     has_equal_pair(draft.conflicts.as_slice())
 }
 
-fn have_few_duties(people: &[(Text, Items<Text>)]) -> bool
-    ensures { result ≡ list_all (λ p. nat_le (length p.1) 256) people.now }
-{
-    people.iter().all(|p| p.1.as_slice().len() <= 256)
-}
-
 fn is_within(least: usize, most: usize, n: usize) -> bool
     ensures { result ≡ rules.is_within least most n }
 {
@@ -121,6 +123,25 @@ fn is_up_to(most: usize, n: usize) -> bool
     ensures { result ≡ nat_le n most }
 {
     n <= most
+}
+
+fn are_entries_ranged(entries: &[(Text, Days)]) -> bool
+    ensures { result ≡ list_all rules.is_ranged_entry entries.now }
+{
+    entries.iter().all(|e| e.1.are_in_range())
+}
+
+fn is_person_ranged(person: &(Text, Items<(Text, Days)>)) -> bool
+    ensures { result ≡ rules.is_ranged_person person.now }
+{
+    let entries = person.1.as_slice();
+    is_up_to(256, entries.len()) && are_entries_ranged(entries)
+}
+
+fn are_people_ranged(people: &[(Text, Items<(Text, Days)>)]) -> bool
+    ensures { result ≡ list_all rules.is_ranged_person people.now }
+{
+    people.iter().all(|p| is_person_ranged(p))
 }
 
 fn is_number_within(least: u64, most: u64, n: u64) -> bool
@@ -145,15 +166,20 @@ fn are_ranged(ceilings: &[(Text, DraftCeiling)]) -> bool
     ceilings.iter().all(|c| is_ranged(c))
 }
 
-fn has_counts(draft: &Draft) -> bool
-    ensures { result ≡ rules.has_counts draft.now }
+fn has_list_counts(draft: &Draft) -> bool
+    ensures { result ≡ rules.has_list_counts draft.now }
 {
     is_within(1, 64, draft.relays.as_slice().len())
         && is_within(1, 1024, draft.hosts.as_slice().len())
         && is_up_to(256, draft.duties.as_slice().len())
         && is_up_to(4096, draft.conflicts.as_slice().len())
         && is_up_to(4096, draft.people.as_slice().len())
-        && have_few_duties(draft.people.as_slice())
+}
+
+fn has_counts(draft: &Draft) -> bool
+    ensures { result ≡ rules.has_counts draft.now }
+{
+    has_list_counts(draft) && are_people_ranged(draft.people.as_slice())
 }
 
 fn has_ceiling_counts(draft: &Draft) -> bool

@@ -2,6 +2,7 @@
 
 use crate::ceiling::Ceiling;
 use crate::conflicts::Conflicts;
+use crate::days::Days;
 use std::marker::Model;
 use sudo_words::{HostName, Items, Label, Name};
 
@@ -11,7 +12,7 @@ pub(crate) struct Said {
     pub(crate) hosts: Items<HostName>,
     pub(crate) duties: Items<Label>,
     pub(crate) conflicts: Conflicts,
-    pub(crate) people: Items<(Name, Items<Label>)>,
+    pub(crate) people: Items<(Name, Items<(Label, Days)>)>,
     pub(crate) ceilings: Items<(Label, Ceiling)>,
 }
 

@@ -4,16 +4,17 @@ ghost use Rattle.std.specs.Prelude.{◌≡◌, Some, None, IfOk, MatchResult};
 ghost use Rattle.toml.specs.Data.{as_str, get_member, table as data_table};
 ghost use Rattle.toml.specs.View.{view, items_view, members_view, table_view};
 ghost use Rattle.roster.specs.Document as document;
-ghost use Rattle.roster.specs.Document.{each_item, each_member, as_pair, texts_of, pair_of, pairs_of, people_of, number_of, ceiling_of, ceilings_of, member_of, fields_of};
+ghost use Rattle.roster.specs.Document.{each_item, each_member, as_pair, texts_of, pair_of, pairs_of, day_in, duty_entry, duty_entries, people_of, number_of, ceiling_of, ceilings_of, member_of, fields_of};
 ghost use Rattle.roster.specs.Relations.{AreRising, IsOrdered};
 ghost use Rattle.roster.specs.private.Stages.{Reads};
 ghost use Rattle.roster.specs.declared.fault.RosterFault.TheVariants.{WrongType};
 
+use crate::days::Days;
 use crate::draft::{Draft, DraftCeiling};
 use crate::fault::RosterFault;
 use crate::text::Text;
 use std::alloc::Global;
-use sudo_words::Items;
+use sudo_words::{Day, Items};
 use toml::{Table, Value};
 
 fn text(alloc: Global, value: &Value) -> Result<Text, RosterFault>
@@ -75,19 +76,6 @@ fn each_pair(alloc: Global, values: &[Value]) -> Result<Items<(Text, Text)>, Ros
     Ok(Items::new(pairs))
 }
 
-fn each_person(alloc: Global, table: &Table) -> Result<Items<(Text, Items<Text>)>, RosterFault>
-    ensures reads { Reads WrongType (each_member texts_of (table_view table.now)) result }
-    ensures rising { IfOk result AreRising }
-{
-    let mut people = Vec::new(alloc);
-    for (key, value) in table.iter() {
-        let duties = texts(alloc, value)?;
-        let name = Text::of(alloc, key.as_str())?;
-        people.push((name, duties))?;
-    }
-    Ok(Items::new(people))
-}
-
 pub(crate) fn value_at<'t>(table: &'t Table, key: &str) -> Result<&'t Value, RosterFault>
     ensures { MatchResult result (λ v. get_member key.now (table_view table.now) ≡ Some (view v.now)) (λ e. (e ≡ WrongType) × (get_member key.now (table_view table.now) ≡ None)) }
 {
@@ -129,6 +117,88 @@ fn number_at(table: &Table, key: &str) -> Result<u64, RosterFault>
     ensures { Reads WrongType (member_of number_of key.now (table_view table.now)) result }
 {
     number(value_at(table, key)?)
+}
+
+/// The day whose date the text is, or the day after 2099-12-31 where it is none's.
+fn day_spelled(text: &str) -> Day
+    ensures { result ≡ document.day_spelled text.now }
+{
+    match Day::read(text) {
+        Some(day) => day,
+        None => Day::from_number(47_482),
+    }
+}
+
+fn day(value: &Value) -> Result<Day, RosterFault>
+    ensures { Reads WrongType (day_in (view value.now)) result }
+{
+    match value.as_str() {
+        Some(text) => Ok(day_spelled(text)),
+        None => Err(RosterFault::WrongType),
+    }
+}
+
+fn day_at(table: &Table, key: &str) -> Result<Day, RosterFault>
+    ensures { Reads WrongType (member_of day_in key.now (table_view table.now)) result }
+{
+    day(value_at(table, key)?)
+}
+
+#[tactic(auto, unfolding(crate::specs::Document::duty_entry))]
+fn entry_in(alloc: Global, table: &Table) -> Result<(Text, Days), RosterFault>
+    ensures { Reads WrongType (duty_entry (data_table (table_view table.now))) result }
+{
+    let from = day_at(table, "from")?;
+    let until = day_at(table, "until")?;
+    let duty = text_at(alloc, table, "duty")?;
+    Ok((duty, Days::Between(from, until)))
+}
+
+/// A duty's label, or a table of a duty and its days.
+#[tactic(auto, unfolding(crate::specs::Document::duty_entry))]
+fn entry(alloc: Global, value: &Value) -> Result<(Text, Days), RosterFault>
+    ensures { Reads WrongType (duty_entry (view value.now)) result }
+{
+    match value {
+        Value::Table(table) => entry_in(alloc, table),
+        _ => Ok((text(alloc, value)?, Days::Always)),
+    }
+}
+
+fn each_entry(alloc: Global, values: &[Value]) -> Result<Items<(Text, Days)>, RosterFault>
+    ensures { Reads WrongType (each_item duty_entry (items_view values.now)) result }
+{
+    let mut entries = Vec::new(alloc);
+    for value in values {
+        let entry = entry(alloc, value)?;
+        entries.push(entry)?;
+    }
+    Ok(Items::new(entries))
+}
+
+fn entries(alloc: Global, value: &Value) -> Result<Items<(Text, Days)>, RosterFault>
+    ensures { Reads WrongType (duty_entries (view value.now)) result }
+{
+    match value {
+        Value::Array(values) => each_entry(alloc, values),
+        _ => Err(RosterFault::WrongType),
+    }
+}
+
+fn each_person(
+    alloc: Global,
+    table: &Table,
+) -> Result<Items<(Text, Items<(Text, Days)>)>, RosterFault>
+    ensures reads { Reads WrongType (each_member duty_entries (table_view table.now)) result }
+    ensures rising { IfOk result AreRising }
+{
+    let mut people = Vec::new(alloc);
+    for (key, value) in table.iter() {
+        let entries = entries(alloc, value)?;
+        let name = Text::of(alloc, key.as_str())?;
+        people.push((name, entries))?;
+    }
+    Ok(Items::new(people))
 }
 
 #[tactic(auto, unfolding(crate::specs::Document::ceiling_of))]
@@ -189,7 +259,7 @@ fn people_at(
     alloc: Global,
     table: &Table,
     key: &str,
-) -> Result<Items<(Text, Items<Text>)>, RosterFault>
+) -> Result<Items<(Text, Items<(Text, Days)>)>, RosterFault>
     ensures reads { Reads WrongType (member_of people_of key.now (table_view table.now)) result }
     ensures rising { IfOk result AreRising }
 {

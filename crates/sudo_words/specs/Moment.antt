@@ -6,6 +6,13 @@ use Rattle.jiff_core.specs.Calendar.{IsCivilDate, days_from_civil, days_in_month
 abbrev pub IsMoment : ℕ → Type 0
 IsMoment t = t ≤ 4_102_444_799
 
+-- A day is the count of days since 1970-01-01, up to 2099-12-31; a moment is in one.
+abbrev pub IsDay : ℕ → Type 0
+IsDay day = day ≤ 47_481
+
+abbrev pub day_of : ℕ → ℕ
+day_of t = t / 86_400
+
 -- a number below 100 in two digits, and one below 10000 in four
 abbrev pub two : ℕ → List ℕ
 two n = (48 + n / 10) ∷ (48 + n % 10) ∷ []

@@ -1,9 +1,10 @@
 //! Moments of time, as texts and as counts of seconds.
 
 ghost use Rattle.std.specs.Prelude.{◌≡◌, ℕ, ◌<◌, ◌≤◌, ◌+◌, IfSome, Some};
-ghost use Rattle.sudo_words.specs.Moment.{stamp};
+ghost use Rattle.sudo_words.specs.Moment.{day_of, stamp};
 
 use crate::civil::date_at;
+use crate::day::Day;
 use crate::parts::{clock, date};
 use std::marker::Model;
 use std::{fmt, str};
@@ -59,6 +60,13 @@ impl Moment {
         ensures moment { IsMoment result }
     {
         u64::from(self.secs)
+    }
+
+    /// The day that it is in.
+    pub fn day(&self) -> Day
+        ensures { result ≡ day_of self.now }
+    {
+        Day::from_number(self.secs / 86_400)
     }
 
     /// The moment so many seconds after 1970-01-01T00:00:00Z, or `None` past the year 2099.

@@ -7,7 +7,7 @@ use Rattle.messages.specs.declared.kind.VerdictKind.TheVariants as kinds
 use Rattle.roster.specs.Fields.{CeilingFields, RosterFields}
 use Rattle.roster.specs.Relations.{ceiling_at}
 use Rattle.grants.specs.Admission.{AdmitsRequest}
-use Rattle.grants.specs.private.Ranks.{has_counting, nth_of}
+use Rattle.grants.specs.private.Firsts.{has_counting, nth_of}
 use Rattle.grants.specs.Summaries.{Kept}
 use Rattle.grants.specs.declared.marks.Mark.{Mark}
 use Rattle.grants.specs.declared.outcome.Status.{Status}
@@ -17,7 +17,7 @@ use Rattle.grants.specs.declared.outcome.Status.TheVariants.{Refused, Waiting, V
 pub record IsAdmittedUnder (f : RosterFields Cmnd) (q : RequestFields) (c : CeilingFields Cmnd) : Type 0 where
   pub admits : AdmitsRequest f q
   pub ceiling_is : ceiling_at f q.ceiling ≡ Some c
-  pub needs : 1 ≤ c.needs
+  pub needs : (1 ≤ c.needs) × (c.needs ≤ 3)
 
 abbrev pub completion : RosterFields Cmnd → CeilingFields Cmnd → Kept → Option ℕ
 completion f c k = nth_of (has_counting f c kinds.Approve k.request.by) c.needs k.approvals
@@ -31,7 +31,7 @@ is_in_time None moment = true
 is_in_time (Some complete) moment = nat_le moment complete
 
 abbrev pub refuses : (Mark → Bool) → Option ℕ → Mark → Bool
-refuses test complete mark = test mark && is_in_time complete mark.at
+refuses test complete mark = is_in_time complete mark.at && test mark
 
 abbrev pub is_refused : (Mark → Bool) → Option ℕ → List Mark → Bool
 is_refused test complete marks = list_any (refuses test complete) marks

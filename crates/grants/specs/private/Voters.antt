@@ -1,6 +1,6 @@
 -- Those whose verdicts of a kind count. For private clauses.
 use Rattle.std.specs.Prelude.{Bool}
-use Rattle.grants.specs.private.Ranks.{has_counting}
+use Rattle.grants.specs.private.Firsts.{has_counting}
 use Rattle.grants.specs.declared.marks.Mark.{Mark}
 use Rattle.grants.specs.declared.voters.Voters.{Voters}
 

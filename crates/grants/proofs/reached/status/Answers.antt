@@ -22,4 +22,4 @@ returns-in-Some c = λ set s.
     let single = ap (λ (x : Kept). x.is_disputed) (sym c.s.view_is) ∙ c.if-s.false in
     let under = subst (λ (x : Kept). IsAdmittedUnder f x.request ceiling) c.s.view_is c.in-Some.ensures.admitted in
     subst (λ (x : Status). IsStatus f set (name_of k.request) x) (sym c.admitted_status.ensures)
-    (admitted_is f ceiling set k under.ceiling_is under.needs under.admits single s)
+    (admitted_is f ceiling set k under.ceiling_is under.needs.0 under.admits single s)

@@ -1,12 +1,14 @@
-use Rattle.std.proofs.Common.{◌++◌, string_bytes, refl, sym, ap, subst, ◌∙◌, List, ℕ}
+use Rattle.std.proofs.Common.{string_bytes, map, Option, sym, ap, subst, ◌∙◌, List, ℕ}
 use Rattle.std.specs.List.{flat_map}
 use Rattle.messages.specs.Fields.{RequestFields}
-use Rattle.review.specs.Barred.{HasApproved, barred_lines}
-use Rattle.sudo_beyond.specs.Cases.{text_order}
-use Rattle.review.specs.Columns.{lines_text}
-use Rattle.review.specs.Report.{AreAll, AreBarred}
+use Rattle.grants.specs.Summaries.{AreApprovals}
+use Rattle.review.specs.declared.reason.Reason.{Reason}
+use Rattle.review.specs.Barred.{barred_for, reason}
+use Rattle.review.specs.Report.{AreBarred}
 use Rattle.review.specs.private.Reporting.{AddsLines, kept_name}
+use Rattle.review.specs.private.Whys.{whys, with_lines}
 use Rattle.sudo_beyond.proofs.Lists.{on_ok}
+use Rattle.review.proofs.Approvers.{approvers_are, barred_are}
 use Rattle.review.proofs.ReportParts.{none_barred, some_barred}
 use Rattle.review.proofs.barred.push_barred.Goals as goal
 
@@ -22,13 +24,20 @@ returns c = λ set s.
     let k = c.args.summary.now in
     let q = c.in-Some.open.request.now in
     let ceiling = c.in-Some.open.ceiling.now in
-    let people = c.in_ok-people.people.items in
+    let list = c.in_ok-approvals.approvals.items in
     let old = string_bytes c.args.out.now in
     let new = string_bytes c.push_barred_people.new.out in
     let found = c.in-Some.ensures set s in
-    let approved : AreAll text_order (HasApproved set q) people = subst (λ (p : RequestFields). AreAll text_order (HasApproved set p) people) (sym found.4) (c.in_ok-people.ensures set s) in
+    let are : AreApprovals set q list = subst (λ (p : RequestFields). AreApprovals set p list) (sym found.4) (c.in_ok-approvals.ensures set s) in
+    let ws = whys (reason f ceiling q.by) list in
     on_ok c.push_barred_people.result _ (AddsLines (AreBarred f set (kept_name k)) old new)
-    (λ adds. some_barred f set (kept_name k) old new found.0 q (flat_map (barred_lines f ceiling q) people) found.1 found.2 found.3
-    (record { ceiling = ceiling; people = people; ceiling_is = found.5; people_are = approved; lines_are = refl })
-    (adds ∙ ap (λ (ps : List (List ℕ)). old ++ lines_text (flat_map (barred_lines f ceiling q) ps)) c.deref.ensures.value))
+    (λ adds. some_barred f set (kept_name k) old new found.0 q (flat_map (λ (w : List ℕ × Option Reason). barred_for q w.0 w.1) ws) found.1 found.2 found.3
+    (record {
+      ceiling = ceiling;
+      people = map (λ (w : List ℕ × Option Reason). w.0) ws;
+      ceiling_is = found.5;
+      people_are = approvers_are f set ceiling q list are;
+      lines_are = barred_are f set ceiling q list are;
+    })
+    (adds ∙ ap (λ (xs : List (List ℕ × ℕ)). with_lines q old (whys (reason f ceiling q.by) xs)) c.deref.ensures.value))
     c.push_barred_people.ensures

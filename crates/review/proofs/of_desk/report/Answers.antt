@@ -1,6 +1,4 @@
-use Rattle.std.proofs.Common.{◌∙◌, List, map, string_bytes, subst, sym}
-use Rattle.messages.specs.declared.message.Message.{Message}
-use Rattle.desk_store.specs.Sets.{Lists}
+use Rattle.std.proofs.Common.{◌∙◌, map, string_bytes, subst, sym}
 use Rattle.sudo_beyond.specs.Cases.{text_order}
 use Rattle.review.specs.Report.{AreAll, AreSummaries, IsParkedText, IsReport}
 use Rattle.review.proofs.OfDesk.{lent_parked, lent_summaries, still_lists}

@@ -16,3 +16,15 @@ returns-clause-reasons c = refl
 pub returns-clause-broad : goal.returns-clause-broad
 unfolding digits
 returns-clause-broad c = refl
+
+pub returns-clause-days : goal.returns-clause-days
+returns-clause-days c = refl
+
+pub returns-clause-last_day : goal.returns-clause-last_day
+returns-clause-last_day c = refl
+
+pub returns-clause-conflicts : goal.returns-clause-conflicts
+returns-clause-conflicts c = refl
+
+pub returns-clause-ended : goal.returns-clause-ended
+returns-clause-ended c = refl

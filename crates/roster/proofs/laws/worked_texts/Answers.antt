@@ -1,7 +1,6 @@
-use Rattle.std.proofs.Common.{◌≡◌, ℕ, ◌<◌, ◌∙◌, List, Some, None, true, pos, refl, sym, arith}
+use Rattle.std.proofs.Common.{◌≡◌, ℕ, ◌<◌, List, Some, None, true, pos, refl, arith}
 use Rattle.std.specs.Prelude.{codes}
 use Rattle.std.proofs.lemmas.List.Elements.{All-nil}
-use Rattle.std.proofs.lemmas.Option.{none-some}
 use Rattle.sudo_words.specs.Command.{IsLawful}
 use Rattle.sudo_words.specs.Word.{is_keyword}
 use Rattle.toml.proofs.OnLiterals.{toml_on_literals}
@@ -13,19 +12,8 @@ use Rattle.roster.specs.Rules.{IsNamedCeiling, good_names, are_known, has_self_c
 use Rattle.roster.specs.declared.fault.RosterFault.{RosterFault}
 use Rattle.roster.specs.declared.fault.RosterFault.TheVariants.{NotToml, UnknownKey, WrongType, BadName, UnknownName, SelfConflict, OutOfRange, NoMemory}
 use Rattle.roster.specs.Worked.{smallest_text}
-use Rattle.roster.proofs.FaultLemmas.{of_wrong_type}
+use Rattle.roster.proofs.FaultLemmas.{of_wrong_type, read_at_all}
 use Rattle.roster.proofs.laws.worked_texts.Goals as goal
-
--- a text with a document is TOML, and has only greater faults than that
-read_at_all : (text : List ℕ) (d : Members) → parse_document text ≡ Some d → (lower : RosterFault) → number lower < 2 → ¬ Has text lower
-read_at_all text d p NotToml l h = none-some d (sym h ∙ p)
-read_at_all text d p UnknownKey l h = omega arith
-read_at_all text d p WrongType l h = omega arith
-read_at_all text d p BadName l h = omega arith
-read_at_all text d p UnknownName l h = omega arith
-read_at_all text d p SelfConflict l h = omega arith
-read_at_all text d p OutOfRange l h = omega arith
-read_at_all text d p NoMemory l h = h
 
 none_below_one : (text : List ℕ) (lower : RosterFault) → number lower < 1 → ¬ Has text lower
 none_below_one text NotToml l h = omega arith

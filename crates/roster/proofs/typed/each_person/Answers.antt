@@ -1,26 +1,26 @@
 use Rattle.std.proofs.Common.{◌∙◌, Some, ap, sym}
 use Rattle.std.proofs.lemmas.Result.{err_from_is_err_and}
-use Rattle.roster.specs.Document.{texts_of}
+use Rattle.roster.specs.Document.{duty_entries}
 use Rattle.roster.proofs.Loop.{members_more, members_read, members_wrong}
 use Rattle.roster.proofs.Rising.{members_rise}
 use Rattle.roster.proofs.typed.each_person.Goals as goal
 
-pub returns-in_err-duties-clause-reads : goal.returns-in_err-duties-clause-reads
-returns-in_err-duties-clause-reads c =
+pub returns-in_err-entries-clause-reads : goal.returns-in_err-entries-clause-reads
+returns-in_err-entries-clause-reads c =
     let p = err_from_is_err_and c.from_residual.result c.from_residual.ensures.1 in
     rw (p.1, p.2) (λ n.
-    let h = c.in_err-duties.ensures n in
-    (h.0, members_wrong texts_of c.loop-key.key-iterator c.next.new.self (c.in-Some.key.now, c.in-Some.value.now) c.loop-key.people.items _ c.in-Some.ensures.steps h.1 c.loop-key.invariant))
+    let h = c.in_err-entries.ensures n in
+    (h.0, members_wrong duty_entries c.loop-key.key-iterator c.next.new.self (c.in-Some.key.now, c.in-Some.value.now) c.loop-key.people.items _ c.in-Some.ensures.steps h.1 c.loop-key.invariant))
 
 pub loop-key-preserved : goal.loop-key-preserved
 loop-key-preserved c =
-    members_more texts_of c.loop-key.key-iterator c.next.new.self (c.in-Some.key.now, c.in-Some.value.now) c.in_ok-name.name c.in_ok-duties.duties c.loop-key.people.items c.push.new.self.items _
-    c.in-Some.ensures.steps (c.in_ok-name.ensures ∙ c.as_str.ensures.value) c.in_ok-duties.ensures c.in_ok-push.ensures.items c.loop-key.invariant
+    members_more duty_entries c.loop-key.key-iterator c.next.new.self (c.in-Some.key.now, c.in-Some.value.now) c.in_ok-name.name c.in_ok-entries.entries c.loop-key.people.items c.push.new.self.items _
+    c.in-Some.ensures.steps (c.in_ok-name.ensures ∙ c.as_str.ensures.value) c.in_ok-entries.ensures c.in_ok-push.ensures.items c.loop-key.invariant
 
 pub returns-clause-reads : goal.returns-clause-reads
 returns-clause-reads c =
-    members_read texts_of c.loop-key.key-iterator c.loop-key.people.items _ c.in-None.ensures.steps.0 c.loop-key.invariant ∙ ap Some (sym c.new.ensures)
+    members_read duty_entries c.loop-key.key-iterator c.loop-key.people.items _ c.in-None.ensures.steps.0 c.loop-key.invariant ∙ ap Some (sym c.new.ensures)
 
 -- a table's keys rise, and they are all read
 pub returns-clause-rising : goal.returns-clause-rising
-returns-clause-rising c = members_rise texts_of c.args.table.now.entries c.new.result (returns-clause-reads c) c.iter-key-items.ensures.ordered
+returns-clause-rising c = members_rise duty_entries c.args.table.now.entries c.new.result (returns-clause-reads c) c.iter-key-items.ensures.ordered

@@ -9,9 +9,9 @@ returns-in-Approve c = λ set name meant speak.
     let v = c.args.verdict.now in
     let is = sym c.kind.ensures.value ∙ c.in-Approve.is in
     on_ok_weaker c.note.result (λ d. record {
-      approvals = more_said set name v meant Approve c.by.result.now c.at.result c.args.self.now.approvals.items c.note.new.marks.items is c.by.ensures.value c.at.ensures.value d speak.approvals;
-      refusals = no_more_said set name v meant Refuse c.args.self.now.refusals.items (kind_differs v Approve Refuse is (λ e. cc)) speak.refusals;
-      revocations = no_more_said set name v meant Revoke c.args.self.now.revocations.items (kind_differs v Approve Revoke is (λ e. cc)) speak.revocations;
+      approvals = more_said set name v meant Approve c.by.result.now c.at.result c.args.self.now.approvals.keys c.note.new.marks.keys is c.by.ensures.value c.at.ensures.value d speak.approvals;
+      refusals = no_more_said set name v meant Refuse c.args.self.now.refusals.keys (kind_differs v Approve Refuse is (λ e. cc)) speak.refusals;
+      revocations = no_more_said set name v meant Revoke c.args.self.now.revocations.keys (kind_differs v Approve Revoke is (λ e. cc)) speak.revocations;
     }) c.note.ensures.ok
 
 pub returns-in-Refuse : goal.returns-in-Refuse
@@ -19,9 +19,9 @@ returns-in-Refuse c = λ set name meant speak.
     let v = c.args.verdict.now in
     let is = sym c.kind.ensures.value ∙ c.in-Refuse.is in
     on_ok_weaker c.note-in-Refuse.result (λ d. record {
-      approvals = no_more_said set name v meant Approve c.args.self.now.approvals.items (kind_differs v Refuse Approve is (λ e. cc)) speak.approvals;
-      refusals = more_said set name v meant Refuse c.by-in-Refuse.result.now c.at-in-Refuse.result c.args.self.now.refusals.items c.note-in-Refuse.new.marks.items is c.by-in-Refuse.ensures.value c.at-in-Refuse.ensures.value d speak.refusals;
-      revocations = no_more_said set name v meant Revoke c.args.self.now.revocations.items (kind_differs v Refuse Revoke is (λ e. cc)) speak.revocations;
+      approvals = no_more_said set name v meant Approve c.args.self.now.approvals.keys (kind_differs v Refuse Approve is (λ e. cc)) speak.approvals;
+      refusals = more_said set name v meant Refuse c.by-in-Refuse.result.now c.at-in-Refuse.result c.args.self.now.refusals.keys c.note-in-Refuse.new.marks.keys is c.by-in-Refuse.ensures.value c.at-in-Refuse.ensures.value d speak.refusals;
+      revocations = no_more_said set name v meant Revoke c.args.self.now.revocations.keys (kind_differs v Refuse Revoke is (λ e. cc)) speak.revocations;
     }) c.note-in-Refuse.ensures.ok
 
 pub returns-in-Revoke : goal.returns-in-Revoke
@@ -29,7 +29,7 @@ returns-in-Revoke c = λ set name meant speak.
     let v = c.args.verdict.now in
     let is = sym c.kind.ensures.value ∙ c.in-Revoke.is in
     on_ok_weaker c.note-in-Revoke.result (λ d. record {
-      approvals = no_more_said set name v meant Approve c.args.self.now.approvals.items (kind_differs v Revoke Approve is (λ e. cc)) speak.approvals;
-      refusals = no_more_said set name v meant Refuse c.args.self.now.refusals.items (kind_differs v Revoke Refuse is (λ e. cc)) speak.refusals;
-      revocations = more_said set name v meant Revoke c.by-in-Revoke.result.now c.at-in-Revoke.result c.args.self.now.revocations.items c.note-in-Revoke.new.marks.items is c.by-in-Revoke.ensures.value c.at-in-Revoke.ensures.value d speak.revocations;
+      approvals = no_more_said set name v meant Approve c.args.self.now.approvals.keys (kind_differs v Revoke Approve is (λ e. cc)) speak.approvals;
+      refusals = no_more_said set name v meant Refuse c.args.self.now.refusals.keys (kind_differs v Revoke Refuse is (λ e. cc)) speak.refusals;
+      revocations = more_said set name v meant Revoke c.by-in-Revoke.result.now c.at-in-Revoke.result c.args.self.now.revocations.keys c.note-in-Revoke.new.marks.keys is c.by-in-Revoke.ensures.value c.at-in-Revoke.ensures.value d speak.revocations;
     }) c.note-in-Revoke.ensures.ok

@@ -1,0 +1,49 @@
+//! Days of the calendar.
+
+ghost use Rattle.std.specs.Prelude.{◌≡◌, ℕ, IfSome, Some};
+ghost use Rattle.sudo_words.specs.Moment.{IsDateText, IsDay};
+
+use crate::parts::date;
+use std::marker::Model;
+
+/// A day of UTC, which contracts see as its number: 1970-01-01 is 0.
+#[derive(Clone, Copy, Debug, PartialEq, Eq, PartialOrd, Ord)]
+pub struct Day {
+    number: u32,
+}
+
+impl Model for Day {
+    ghost use Rattle.std.specs.Prelude.{ℕ};
+
+    ghost Value = { ℕ };
+
+    ghost view = { λ d. d.number };
+
+    ghost inverse = { λ n. record { number = n } };
+}
+
+impl Day {
+    /// The day of this number.
+    pub fn from_number(number: u32) -> Day
+        ensures { result ≡ number }
+    {
+        Day { number }
+    }
+
+    /// The days from 1970-01-01 to it.
+    pub fn number(&self) -> u32
+        ensures { result ≡ self.now }
+    {
+        self.number
+    }
+
+    /// The day from 1970-01-01 to 2099-12-31 whose date the text is, `yyyymmdd`, or `None` where it is none's. It takes no
+    /// memory.
+    pub fn read(text: &str) -> Option<Day>
+        ensures found { IfSome result (λ d. IsDay d × IsDateText text.now d) }
+        ensures only { (d : ℕ) → IsDay d → IsDateText text.now d → result ≡ Some d }
+    {
+        let number = date(text.as_bytes())?;
+        Some(Day { number })
+    }
+}
