@@ -1,6 +1,6 @@
 //! Laws of the texts of moments, each the contract of a function that does nothing.
 
-ghost use Rattle.std.specs.Prelude.{◌≡◌, ℕ, List, length};
+ghost use Rattle.std.specs.Prelude.{◌≡◌, ◌++◌, ℕ, List, codes, length};
 ghost use Rattle.sudo_words.specs.Moment.{IsMoment, IsStamp, Spells, stamp};
 
 /// No text spells two moments.
@@ -15,8 +15,8 @@ pub fn stamp_is_stamp()
     ensures length { (t : ℕ) → length (stamp t) ≡ 15 }
 {}
 
-/// The canonical text spells its moment, and is the only spelling of 15 bytes.
+/// The canonical text spells its moment, and is the only spelling of 15 bytes that ends in `Z`.
 pub fn stamp_spells()
     ensures spells { (text : List ℕ) (t : ℕ) → IsStamp text t → Spells text t }
-    ensures only { (text : List ℕ) (t : ℕ) → Spells text t → length text ≡ 15 → IsStamp text t }
+    ensures only { (text front : List ℕ) (t : ℕ) → Spells text t → length text ≡ 15 → text ≡ front ++ codes "Z" → IsStamp text t }
 {}
