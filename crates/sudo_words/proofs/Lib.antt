@@ -6,3 +6,4 @@ pub mod MomentTexts
 pub mod PathLemmas
 pub mod PieceLemmas
 pub mod ReadingLemmas
+pub mod WorkedMoments

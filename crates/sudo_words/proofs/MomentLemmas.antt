@@ -86,11 +86,14 @@ offset_fits end o (inr (inl h)) = rw h.4 (omega (arith, signed_arith, h.3))
 offset_fits end o (inr (inr h)) = rw h.4 (omega (arith, signed_arith, h.3))
 
 -- what a spelling has in its first 8 bytes, and behind them
+pub cut_date : (text date clock zone : List ℕ) (day : ℤ) → text ≡ date ++ clock ++ zone → IsDateText date day → (take 8 text ≡ date) × (drop 8 text ≡ clock ++ zone)
+cut_date text date clock zone day e d =
+    let digits = four d.year ++ two d.month ++ two d.day_of_month in
+    let whole : text ≡ digits ++ clock ++ zone = e ∙ ap (λ (l : List ℕ). l ++ clock ++ zone) d.text_is in
+    (ap (take 8) whole ∙ sym d.text_is, ap (drop 8) whole)
+
 pub parted : (text front rest : List ℕ) (t : ℕ) → front ≡ take 8 text → rest ≡ drop 8 text → (s : Spells text t) → (front ≡ s.date) × (rest ≡ s.clock ++ s.zone)
-parted text front rest t f r s =
-    let digits = four s.date_is.year ++ two s.date_is.month ++ two s.date_is.day_of_month in
-    let whole : text ≡ digits ++ s.clock ++ s.zone = s.text_is ∙ ap (λ (d : List ℕ). d ++ s.clock ++ s.zone) s.date_is.text_is in
-    ((rw whole at f) ∙ sym s.date_is.text_is, rw whole at r)
+parted text front rest t f r s = let cut = cut_date text s.date s.clock s.zone s.day s.text_is s.date_is in (f ∙ cut.0, r ∙ cut.1)
 
 -- what ends a time is `Z`, or five bytes of which the last is a digit
 abbrev IsNumeric : List ℕ → Type 0
@@ -152,9 +155,10 @@ utc_end text front end o e (inr z) last =
 
 -- two parts of one text that end alike are the same
 pub same_parts : (text a x b y : List ℕ) → text ≡ a ++ x → text ≡ b ++ y → length a ≡ length b → (a ≡ b) × (x ≡ y)
-same_parts text a x b y e f len =
-    (sym (take_at a x (length a) refl) ∙ ap (take (length a)) (sym e ∙ f) ∙ take_at b y (length a) (sym len),
-     sym (drop_at a x (length a) refl) ∙ ap (drop (length a)) (sym e ∙ f) ∙ drop_at b y (length a) (sym len))
+same_parts text a x b y e f len = (
+  sym (take_at a x (length a) refl) ∙ ap (take (length a)) (sym e ∙ f) ∙ take_at b y (length a) (sym len),
+  sym (drop_at a x (length a) refl) ∙ ap (drop (length a)) (sym e ∙ f) ∙ drop_at b y (length a) (sym len),
+)
 
 -- the canonical text spells its moment
 pub stamp_spells : (text : List ℕ) (t : ℕ) → IsStamp text t → Spells text t
@@ -162,7 +166,7 @@ stamp_spells text t s =
     let clock = two (hour t) ++ two (minute t) ++ two (second t) in
     let clock_is : clock ≡ two (hour (t % 86_400)) ++ two (minute (t % 86_400)) ++ two (second (t % 86_400)) = clock_in_day t in
     let whole : Spells text (86_400 * (t / 86_400) + t % 86_400) =
-      spells_from text s.date clock (t / 86_400) (t % 86_400) (s.text_is ∙ simp append_assoc) (day_in t s.moment) s.date_is (omega arith, inl clock_is) in
+    spells_from text s.date clock (t / 86_400) (t % 86_400) (s.text_is ∙ simp append_assoc) (day_in t s.moment) s.date_is (omega arith, inl clock_is) in
     let same : 86_400 * (t / 86_400) + t % 86_400 ≡ t = omega arith in
     rw same at whole
 

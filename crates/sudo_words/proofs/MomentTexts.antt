@@ -1,11 +1,11 @@
 -- A text spells one moment, and its spelling of 15 bytes that ends in `Z` is the canonical one.
-use Rattle.std.proofs.Common.{◌≡◌, ℕ, ◌+◌, ◌-◌, ◌*◌, ◌/◌, ◌%◌, ◌<◌, ◌∙◌, List, [], ◌∷◌, ◌++◌, length, get_or, take, drop, refl, sym, inl, inr, lit≤, arith, ℤ, pos, negsuc, neg_ℤ, ◌+ℤ◌, ◌-ℤ◌, ◌*ℤ◌, append_assoc, length-append, ap}
+use Rattle.std.proofs.Common.{◌≡◌, ℕ, ◌+◌, ◌-◌, ◌*◌, ◌/◌, ◌%◌, ◌<◌, ◌∙◌, List, [], ◌∷◌, ◌++◌, length, get_or, drop, refl, sym, inl, inr, lit≤, arith, ℤ, pos, negsuc, neg_ℤ, ◌+ℤ◌, ◌-ℤ◌, ◌*ℤ◌, append_assoc, length-append, ap}
 use Rattle.std.specs.Prelude.{codes}
 use Rattle.jiff_core.specs.Calendar.{days_from_civil}
 use Rattle.jiff_core.proofs.CalendarLemmas.{days_in_month_bounds}
 use Rattle.jiff_core.proofs.SignedLemmas.{signed_arith}
 use Rattle.sudo_words.specs.Moment.{IsDateText, IsClockText, IsDistance, IsOffsetText, IsStamp, Spells, four, two, hour, minute, second}
-use Rattle.sudo_words.proofs.MomentLemmas.{clock_in_day, ends, parted, same_parts, utc_end}
+use Rattle.sudo_words.proofs.MomentLemmas.{clock_in_day, cut_date, ends, same_parts, utc_end}
 
 -- the digits at the front of a text say which number they spell, and what stands behind them
 two_front : (m n : ℕ) (r s : List ℕ) → m < 100 → n < 100 → two m ++ r ≡ two n ++ s → (m ≡ n) × (r ≡ s)
@@ -67,7 +67,7 @@ one_distance text m n a b =
     omega (arith, both.0, both.1)
 
 -- what ends a time is of one offset
-heads_differ : (end a b : List ℕ) (m n : ℕ) → {P : Type 0} → m < n → end ≡ m ∷ a → end ≡ n ∷ b → P
+pub heads_differ : (end a b : List ℕ) (m n : ℕ) → {P : Type 0} → m < n → end ≡ m ∷ a → end ≡ n ∷ b → P
 heads_differ end a b m n low e f =
     let same : m ≡ n = ap (λ (l : List ℕ). get_or l 0 0) (sym e ∙ f) in
     absurd (omega arith)
@@ -94,29 +94,35 @@ pub one_end : (text a x b y : List ℕ) (o p : ℤ) → text ≡ a ++ x → IsOf
 one_end text a x b y o p e h f k =
     let len : length a ≡ length b = elim (ends text a x o e h) [
       | inl u ↦ elim (ends text b y p f k) [
-          | inl v ↦ omega (arith, u.length_is, v.length_is)
-          | inr v ↦
-              let at : length a ≡ length b + 4 = omega (arith, u.length_is, v.length_is) in
-              absurd (omega (arith, v.last_is, u.last_is, ap (λ (n : ℕ). get_or text n 0) at))
-        ]
+        | inl v ↦ omega (arith, u.length_is, v.length_is)
+        | inr v ↦
+            let at : length a ≡ length b + 4 = omega (arith, u.length_is, v.length_is) in
+            absurd (omega (arith, v.last_is, u.last_is, ap (λ (n : ℕ). get_or text n 0) at))
+      ]
       | inr u ↦ elim (ends text b y p f k) [
-          | inl v ↦
-              let at : length b ≡ length a + 4 = omega (arith, u.length_is, v.length_is) in
-              absurd (omega (arith, v.last_is, u.last_is, ap (λ (n : ℕ). get_or text n 0) at))
-          | inr v ↦ omega (arith, u.length_is, v.length_is)
-        ]
+        | inl v ↦
+            let at : length b ≡ length a + 4 = omega (arith, u.length_is, v.length_is) in
+            absurd (omega (arith, v.last_is, u.last_is, ap (λ (n : ℕ). get_or text n 0) at))
+        | inr v ↦ omega (arith, u.length_is, v.length_is)
+      ]
     ] in
     same_parts text a x b y e f len
 
+-- so whatever a text spells has the day, the seconds and the offset of its parts
+pub spelled_equation : (text date clock zone : List ℕ) (day : ℤ) (seconds : ℕ) (offset : ℤ) (t : ℕ) → text ≡ date ++ clock ++ zone → IsDateText date day → IsClockText clock seconds → IsOffsetText zone offset → Spells text t
+    → pos t ≡ pos 86_400 *ℤ day +ℤ pos seconds -ℤ pos 60 *ℤ offset
+spelled_equation text date clock zone day seconds offset t e date_is clock_is zone_is s =
+    let x = cut_date text date clock zone day e date_is in
+    let y = cut_date text s.date s.clock s.zone s.day s.text_is s.date_is in
+    let parts = one_end (drop 8 text) clock zone s.clock s.zone offset s.offset x.1 zone_is y.1 s.zone_is in
+    let same_day : day ≡ s.day = one_day date day s.day date_is (rw (sym y.0 ∙ x.0) at s.date_is) in
+    let same_seconds : seconds ≡ s.seconds = one_clock clock seconds s.seconds clock_is (rw (sym parts.0) at s.clock_is) in
+    let same_offset : offset ≡ s.offset = one_offset zone offset s.offset zone_is (rw (sym parts.1) at s.zone_is) in
+    rw (same_day, same_seconds, same_offset) s.moment_is
+
 pub one_spelled : (text : List ℕ) (s t : ℕ) → Spells text s → Spells text t → s ≡ t
 one_spelled text s t a b =
-    let x = parted text (take 8 text) (drop 8 text) s refl refl a in
-    let y = parted text (take 8 text) (drop 8 text) t refl refl b in
-    let parts = one_end (drop 8 text) a.clock a.zone b.clock b.zone a.offset b.offset x.1 a.zone_is y.1 b.zone_is in
-    let day : a.day ≡ b.day = one_day a.date a.day b.day a.date_is (rw (sym y.0 ∙ x.0) at b.date_is) in
-    let seconds : a.seconds ≡ b.seconds = one_clock a.clock a.seconds b.seconds a.clock_is (rw (sym parts.0) at b.clock_is) in
-    let offset : a.offset ≡ b.offset = one_offset a.zone a.offset b.offset a.zone_is (rw (sym parts.1) at b.zone_is) in
-    let same : pos s ≡ pos t = a.moment_is ∙ rw (day, seconds, offset) refl ∙ sym b.moment_is in
+    let same : pos s ≡ pos t = a.moment_is ∙ sym (spelled_equation text a.date a.clock a.zone a.day a.seconds a.offset t a.text_is a.date_is a.clock_is a.zone_is b) in
     cc
 
 -- in UTC a moment's day and the seconds into it are the day and the seconds of its text

@@ -37,9 +37,9 @@ second t = t % 60
 abbrev pub IsClockText : List ℕ → ℕ → Type 0
 IsClockText text seconds =
     (seconds < 86_400) × (
-      (text ≡ two (hour seconds) ++ two (minute seconds) ++ two (second seconds))
-      ⊎ ((text ≡ two (hour seconds) ++ two (minute seconds)) × (second seconds ≡ 0))
-      ⊎ ((text ≡ two (hour seconds)) × (minute seconds ≡ 0) × (second seconds ≡ 0)))
+    (text ≡ two (hour seconds) ++ two (minute seconds) ++ two (second seconds))
+    ⊎ ((text ≡ two (hour seconds) ++ two (minute seconds)) × (second seconds ≡ 0))
+    ⊎ ((text ≡ two (hour seconds)) × (minute seconds ≡ 0) × (second seconds ≡ 0)))
 
 -- `hhmm`: so many minutes, from 0000 to 2359
 abbrev pub IsDistance : List ℕ → ℕ → Type 0

@@ -59,10 +59,10 @@ impl Moment {
         ensures found { IfSome result (λ t. IsStamp text.now t) }
         ensures only { (t : ℕ) → IsStamp text.now t → result ≡ Some t }
     {
-        match text.as_bytes() {
-            [.., b'Z'] if text.len() == STAMP_LENGTH => Moment::read(text),
-            _ => None,
+        if text.len() != STAMP_LENGTH || !text.as_bytes().ends_with(b"Z") {
+            return None;
         }
+        Moment::read(text)
     }
 
     /// The seconds since 1970-01-01T00:00:00Z.
