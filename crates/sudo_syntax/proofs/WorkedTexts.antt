@@ -1,5 +1,5 @@
 -- Literal texts and the policies that they spell.
-use Rattle.std.proofs.Common.{◌≡◌, ℕ, true, false, List, [], ◌∷◌, ◌++◌, Some, None, refl, sym, ◌+◌, ◌*◌, ◌<◌, inl, inr, lit<, lit≤}
+use Rattle.std.proofs.Common.{◌≡◌, ℕ, true, false, List, [], ◌∷◌, ◌++◌, Some, None, refl, sym, ◌+◌, ◌*◌, inl, inr, lit<, lit≤}
 use Rattle.std.specs.List.{list_all}
 use Rattle.std.proofs.lemmas.List.{append-nil}
 use Rattle.sudo_words.specs.Bytes.{equals, comma, colon, opening, closing}
@@ -356,15 +356,15 @@ bin_spell =
 
 -- ---- dates, of which the second command inherits one
 
-five_january : (clock : List ℕ) (time : ℕ) → time < 86_400 → IsClockText clock time → moments.Spells (codes "20260105" ++ clock) (20_458 * 86_400 + time)
+five_january : (clock : List ℕ) (seconds : ℕ) → IsClockText clock seconds → moments.Spells (codes "20260105" ++ clock ++ codes "Z") (86_400 * 20_458 + seconds)
 unfolding date_of date_from_year date_from_month
-five_january clock time within is = spells_from (codes "20260105" ++ clock) (codes "20260105") clock 20_458 time refl (lit≤ tt) (date_text_is 20_458 (lit≤ tt)) within is
+five_january clock seconds is = spells_from (codes "20260105" ++ clock ++ codes "Z") (codes "20260105") clock 20_458 seconds refl (lit≤ tt) (date_text_is 20_458 (lit≤ tt)) is
 
 eleven : moments.Spells (codes "2026010511Z") 1_767_610_800
-eleven = five_january (codes "11Z") 39_600 (lit< tt) (inr (inr (refl, refl, refl)))
+eleven = five_january (codes "11") 39_600 (lit< tt, inr (inr (refl, refl, refl)))
 
 nine : moments.Spells (codes "2026010509Z") 1_767_603_600
-nine = five_january (codes "09Z") 32_400 (lit< tt) (inr (inr (refl, refl, refl)))
+nine = five_january (codes "09") 32_400 (lit< tt, inr (inr (refl, refl, refl)))
 
 abbrev cat : CmndItem
 cat = cmnds.Cmnd (commands.Path (codes "/bin/cat") rules.Any)

@@ -1,14 +1,14 @@
 -- `date_of` counts days as the calendar does.
-use Rattle.std.proofs.Common.{◌≡◌, ℕ, zero, suc, ◌+◌, ◌-◌, ◌<◌, ◌≤◌, ◌^◌, ◌∙◌, ◌+ℤ◌, refl, sym, subst, ap, inl, inr, arith, pos, to_z, w8, w16}
+use Rattle.std.proofs.Common.{◌≡◌, ℕ, zero, suc, ◌+◌, ◌-◌, ◌<◌, ◌≤◌, ◌^◌, ◌∙◌, refl, sym, subst, ap, inl, inr, arith, pos, to_z, w8, w16}
 use Rattle.std.specs.Int.{IsInRange}
 use Rattle.std.proofs.lemmas.Bool.{cases_lt, cond-true, cond-false, lt-ltb, le-ltb}
 use Rattle.std.proofs.lemmas.Int.{to_z_pos}
 use Rattle.jiff_core.specs.declared.civil.date.Date.{Date}
 use Rattle.jiff_core.specs.Date.{epoch_day, IsYmd}
-use Rattle.jiff_core.specs.Calendar.{IsYear, IsCivilDate, day_count, day_of_year, days_from_civil, days_in_month, days_in_year, days_of_months}
+use Rattle.jiff_core.specs.Calendar.{IsYear, IsCivilDate, IsDate, day_count, day_of_year, days_from_civil, days_in_month, days_in_year, days_of_months}
 use Rattle.jiff_core.proofs.SignedLemmas.{signed_arith}
 use Rattle.jiff_core.proofs.MarchLemmas.{day_count-early}
-use Rattle.jiff_core.proofs.CalendarLemmas.{days_from_civil-day_count, day_count-epoch, day_count-next_year, day_count-later_year, day_count-day_of_year, days_in_month_bounds, days_of_months_more, days_of_months-zero, days_of_months_all, day_of_year_bound}
+use Rattle.jiff_core.proofs.CalendarLemmas.{days_from_civil-day_count, day_count-epoch, day_count-next_year, day_count-day_of_year, days_in_month_bounds, days_of_months_more, days_of_months-zero, days_of_months_all}
 use Rattle.jiff_core.proofs.DateLemmas.{epoch_day_injective}
 use Rattle.sudo_words.specs.Moment.{CalendarDate, date_from_month, date_from_year, date_of}
 
@@ -153,17 +153,6 @@ date_of_only y m d day h civil number =
     let year : pos y ≡ pos (date_of day).year = same.0 in
     (cc, same.1, same.2)
 
--- a date of these years has one of their day numbers
-number_in : (y m d : ℕ) → IsInRange 1970 2099 y → IsCivilDate (pos y) m d → IsInRange 4_371_953 4_419_434 (day_count (pos y) m d)
-number_in y m d years civil =
-    let first = day_count-later_year (pos 1969) (pos y) (omega (arith, signed_arith)) (omega (arith, signed_arith)) in
-    let start = day_count-next_year (pos 1969) (pos 1970) (omega (arith, signed_arith)) refl in
-    let last = day_count-later_year (pos y) (pos 2100) (omega (arith, signed_arith)) (omega (arith, signed_arith)) in
-    let end = day_count-next_year (pos 2099) (pos 2100) (omega (arith, signed_arith)) refl in
-    let place_is = day_count-day_of_year (pos y) m d civil.2.0 in
-    let within = day_of_year_bound (pos y) m d civil in
-    (omega (arith, first, start, day_count-epoch, place_is, civil.2.0), omega (arith, last, end, day_count-end, place_is, within))
-
 -- the library's date of these numbers, which it takes as signed ones
 pub numbers_are : (y m d : ℕ) (date : Date) → y < 2 ^ 15 → m < 2 ^ 7 → d < 2 ^ 7 → IsYmd (to_z w16 y) (to_z w8 m) (to_z w8 d) date → (date.year ≡ pos y) × (date.month ≡ m) × (date.day ≡ d)
 numbers_are y m d date years months days h =
@@ -171,27 +160,21 @@ numbers_are y m d date years months days h =
     let day : pos date.day ≡ pos d = h.2 ∙ to_z_pos w8 d days in
     (h.0 ∙ to_z_pos w16 y years, cc, cc)
 
--- what the library's count of a date says of the date's numbers
-pub record IsNumbered (y m d days : ℕ) : Type 0 where
-  pub from : 4_371_587 ≤ days
-  pub to : days - 4_371_587 ≤ 47_481
-  pub civil : IsCivilDate (pos y) m d
-  pub number : days_from_civil (pos y) m d ≡ pos (days - 4_371_587)
-
-pub numbered : (y m d days : ℕ) (date : Date) → IsInRange 1970 2099 y → m ≤ 12 → d ≤ 31 → IsYmd (to_z w16 y) (to_z w8 m) (to_z w8 d) date → epoch_day date +ℤ pos 4_371_587 ≡ pos days → IsNumbered y m d days
-numbered y m d days date years months in_month ymd e =
-    let are = numbers_are y m d date (omega arith) (omega arith) (omega arith) ymd in
+-- so it is the calendar's date of these numbers, with its day number
+pub civil_is : (y m d : ℕ) (date : Date) → y < 10_000 → m < 100 → d < 100 → IsYmd (to_z w16 y) (to_z w8 m) (to_z w8 d) date → IsCivilDate (pos y) m d × (days_from_civil (pos y) m d ≡ epoch_day date)
+civil_is y m d date years months days h =
+    let are = numbers_are y m d date (omega arith) (omega arith) (omega arith) h in
     let own : IsCivilDate date.year date.month date.day = (date.year_in, date.month_in, date.day_in) in
     let civil : IsCivilDate (pos y) m d = rw (are.0, are.1, are.2) at own in
-    let same : epoch_day date ≡ days_from_civil (pos y) m d = rw (are.0, are.1, are.2) refl in
-    let count = days_from_civil-day_count (pos y) m d in
-    let range = number_in y m d years civil in
-    record {
-      from = omega (arith, signed_arith, same, e, count, range);
-      to = omega (arith, signed_arith, same, e, count, range);
-      civil = civil;
-      number = omega (arith, signed_arith, same, e, count, range);
-    }
+    (civil, rw (are.0, are.1, are.2) refl)
+
+-- and it has each date of so many digits
+pub date_known : (y m d : ℕ) → y < 10_000 → m < 100 → d < 100 → IsCivilDate (pos y) m d → IsDate (to_z w16 y) (to_z w8 m) (to_z w8 d)
+date_known y m d years months days civil =
+    let year = to_z_pos w16 y (omega arith) in
+    let month = to_z_pos w8 m (omega arith) in
+    let day = to_z_pos w8 d (omega arith) in
+    rw (year, month, day) (civil.0, (omega (arith, signed_arith, civil.1), omega (arith, signed_arith, civil.1)), (omega (arith, signed_arith, civil.2), omega (arith, signed_arith, civil.2)))
 
 -- a date with such a day number is within these bounds
 pub numbers_in : (y m d day : ℕ) → day ≤ 47_481 → IsCivilDate (pos y) m d → days_from_civil (pos y) m d ≡ pos day → IsInRange 1970 2099 y × (m ≤ 12) × (d ≤ 31)

@@ -7,3 +7,4 @@ pub mod NameLemmas
 pub mod PathLemmas
 pub mod PieceLemmas
 pub mod ReadingLemmas
+pub mod WorkedMoments

@@ -1,5 +1,5 @@
 -- Moments, after Generalized Time (RFC 4517, section 3.3.13): whole seconds of UTC, and the texts that spell them.
-use Rattle.std.specs.Prelude.{◌≡◌, ℕ, zero, suc, ◌+◌, ◌-◌, ◌/◌, ◌%◌, ◌≤◌, ◌⊎◌, ◌&&◌, ◌||◌, ◌==◌, Bool, nat_lt, nat_le, if◌then◌else◌, List, [], ◌∷◌, ◌++◌, pos, codes}
+use Rattle.std.specs.Prelude.{◌≡◌, ℕ, zero, suc, ◌+◌, ◌-◌, ◌/◌, ◌%◌, ◌<◌, ◌≤◌, ◌⊎◌, ◌&&◌, ◌||◌, ◌==◌, Bool, nat_lt, nat_le, if◌then◌else◌, List, [], ◌∷◌, ◌++◌, ℤ, pos, neg_ℤ, ◌+ℤ◌, ◌-ℤ◌, ◌*ℤ◌, codes}
 use Rattle.jiff_core.specs.Calendar.{IsCivilDate, days_from_civil, days_in_month, days_in_year}
 
 -- A moment is the count of seconds since 1970-01-01T00:00:00Z, up to 2099-12-31T23:59:59Z.
@@ -20,13 +20,13 @@ two n = (48 + n / 10) ∷ (48 + n % 10) ∷ []
 abbrev pub four : ℕ → List ℕ
 four n = two (n / 100) ++ two (n % 100)
 
--- `yyyymmdd`: the calendar's date with this day number, where 1970-01-01 is 0
-pub record IsDateText (text : List ℕ) (day : ℕ) : Type 0 where
+-- `yyyymmdd`: the calendar's date with this day number, where 1970-01-01 is 0 and the day before it -1. The year has four digits.
+pub record IsDateText (text : List ℕ) (day : ℤ) : Type 0 where
   pub year : ℕ
   pub month : ℕ
   pub day_of_month : ℕ
   pub date : IsCivilDate (pos year) month day_of_month
-  pub number : days_from_civil (pos year) month day_of_month ≡ pos day
+  pub number : days_from_civil (pos year) month day_of_month ≡ day
   pub text_is : text ≡ four year ++ two month ++ two day_of_month
 
 -- the time of day: hours, minutes and seconds since midnight
@@ -39,28 +39,47 @@ minute t = t % 3600 / 60
 abbrev pub second : ℕ → ℕ
 second t = t % 60
 
--- What may stand after the date: `HHMMSSZ`; or `HHMMZ` where the seconds are 00; or `HHZ` where the minutes are 00 too.
+-- What may stand after the date, for a time so many seconds into the day: `HHMMSS`; or `HHMM` where the seconds are 00; or `HH` where the
+-- minutes are 00 too.
 abbrev pub IsClockText : List ℕ → ℕ → Type 0
-IsClockText text t =
-    (text ≡ two (hour t) ++ two (minute t) ++ two (second t) ++ codes "Z")
-    ⊎ ((text ≡ two (hour t) ++ two (minute t) ++ codes "Z") × (second t ≡ 0))
-    ⊎ ((text ≡ two (hour t) ++ codes "Z") × (minute t ≡ 0) × (second t ≡ 0))
+IsClockText text seconds =
+    (seconds < 86_400) × (
+    (text ≡ two (hour seconds) ++ two (minute seconds) ++ two (second seconds))
+    ⊎ ((text ≡ two (hour seconds) ++ two (minute seconds)) × (second seconds ≡ 0))
+    ⊎ ((text ≡ two (hour seconds)) × (minute seconds ≡ 0) × (second seconds ≡ 0)))
 
--- The text spells the moment: its date is the moment's day, and its time of day the moment's.
+-- `hhmm`: so many minutes, from 0000 to 2359
+abbrev pub IsDistance : List ℕ → ℕ → Type 0
+IsDistance text minutes = (minutes < 1_440) × (text ≡ two (minutes / 60) ++ two (minutes % 60))
+
+-- What ends a time, for a clock so many minutes ahead of UTC: `Z` for UTC itself; `+hhmm`; or `-hhmm` for one that is behind it.
+abbrev pub IsOffsetText : List ℕ → ℤ → Type 0
+IsOffsetText text offset =
+    ((text ≡ codes "Z") × (offset ≡ pos 0))
+    ⊎ ((digits : List ℕ) × (minutes : ℕ) × (text ≡ codes "+" ++ digits) × IsDistance digits minutes × (offset ≡ pos minutes))
+    ⊎ ((digits : List ℕ) × (minutes : ℕ) × (text ≡ codes "-" ++ digits) × IsDistance digits minutes × (offset ≡ neg_ℤ (pos minutes)))
+
+-- The text spells the moment: its date, its time of day and its offset from UTC are the moment's. The date may lie outside the years of moments.
 pub record Spells (text : List ℕ) (t : ℕ) : Type 0 where
   pub moment : IsMoment t
   pub date : List ℕ
   pub clock : List ℕ
-  pub text_is : text ≡ date ++ clock
-  pub date_is : IsDateText date (t / 86_400)
-  pub clock_is : IsClockText clock t
+  pub zone : List ℕ
+  pub day : ℤ
+  pub seconds : ℕ
+  pub offset : ℤ
+  pub text_is : text ≡ date ++ clock ++ zone
+  pub date_is : IsDateText date day
+  pub clock_is : IsClockText clock seconds
+  pub zone_is : IsOffsetText zone offset
+  pub moment_is : pos t ≡ pos 86_400 *ℤ day +ℤ pos seconds -ℤ pos 60 *ℤ offset
 
 -- The moment's one canonical text, of 15 bytes: date, hours, minutes, seconds and `Z`.
 pub record IsStamp (text : List ℕ) (t : ℕ) : Type 0 where
   pub moment : IsMoment t
   pub date : List ℕ
   pub text_is : text ≡ date ++ two (hour t) ++ two (minute t) ++ two (second t) ++ codes "Z"
-  pub date_is : IsDateText date (t / 86_400)
+  pub date_is : IsDateText date (pos (t / 86_400))
 
 -- a date in numbers
 pub record CalendarDate : Type 0 where

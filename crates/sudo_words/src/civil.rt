@@ -1,6 +1,6 @@
 //! Dates of the calendar and their day numbers, where 1970-01-01 is 0.
 
-ghost use Rattle.std.specs.Prelude.{◌≡◌, ◌≤◌, ◌<◌, ℕ, pos, IfSome, Some};
+ghost use Rattle.std.specs.Prelude.{◌≡◌, ◌≤◌, ◌<◌, pos, IfSome, Some};
 ghost use Rattle.jiff_core.specs.Calendar.{IsCivilDate, days_from_civil};
 ghost use Rattle.sudo_words.specs.Moment.{date_of};
 
@@ -20,17 +20,16 @@ pub(crate) struct Civil {
     ghost day_digits: { day < 100 },
 }
 
-/// The day number of the date, where the calendar has it in the years 1970 to 2099.
-pub(crate) fn day_number(year: u16, month: u8, day: u8) -> Option<u32>
-    ensures found { IfSome result (λ n. (n ≤ 47_481) × IsCivilDate (pos year) month day × (days_from_civil (pos year) month day ≡ pos n)) }
-    ensures only { (n : ℕ) → n ≤ 47_481 → IsCivilDate (pos year) month day → days_from_civil (pos year) month day ≡ pos n → result ≡ Some n }
+/// The day number of the date, where the calendar has it. Its numbers are of so many digits that they fit the calendar's signed types.
+pub(crate) fn day_number(year: u16, month: u8, day: u8) -> Option<i32>
+    requires year_digits { year < 10000 }
+    requires month_digits { month < 100 }
+    requires day_digits { day < 100 }
+    ensures found { IfSome result (λ n. IsCivilDate (pos year) month day × (days_from_civil (pos year) month day ≡ n)) }
+    ensures only { IsCivilDate (pos year) month day → result ≡ Some (days_from_civil (pos year) month day) }
 {
-    // Outside these bounds no moment lies, and the numbers may not fit the calendar's signed types.
-    if year < 1970 || year > 2099 || month > 12 || day > 31 {
-        return None;
-    }
     match Date::new(year as i16, month as i8, day as i8) {
-        Ok(date) => Some(date.to_plain().days_since_min() - EPOCH),
+        Ok(date) => Some(date.to_plain().to_unix_epoch_day()),
         Err(_) => None,
     }
 }

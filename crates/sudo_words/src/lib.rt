@@ -32,7 +32,7 @@ pub use keyword::{is_keyword, is_sudoedit};
 pub use lawful::{MOST_ARGS, cmnd_len, is_lawful};
 pub use laws::{directory_and_component, no_sudoedit, one_command, worked_names, worked_paths};
 pub use moment::Moment;
-pub use moment_laws::{one_moment, stamp_is_stamp, stamp_spells};
+pub use moment_laws::{one_moment, stamp_is_stamp, stamp_spells, worked_moments};
 pub use name::{HostForm, HostName, Label, LabelForm, Name, UserForm};
 pub use path::{DirForm, DirPath, FileForm, FilePath};
 pub use word::{Form, Word};

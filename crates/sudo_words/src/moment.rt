@@ -1,11 +1,11 @@
 //! Moments of time, as texts and as counts of seconds.
 
-ghost use Rattle.std.specs.Prelude.{◌≡◌, ℕ, ◌<◌, ◌≤◌, ◌+◌, IfSome, Some};
-ghost use Rattle.sudo_words.specs.Moment.{day_of, stamp};
+ghost use Rattle.std.specs.Prelude.{◌≡◌, ℕ, ◌<◌, ◌≤◌, ◌+◌, pos, ◌+ℤ◌, ◌-ℤ◌, ◌*ℤ◌, IfSome, Some};
+ghost use Rattle.sudo_words.specs.Moment.{IsMoment, day_of, stamp};
 
 use crate::civil::date_at;
 use crate::day::Day;
-use crate::parts::{clock, date};
+use crate::parts::{clock, date, offset, split_offset};
 use std::marker::Model;
 use std::{fmt, str};
 
@@ -15,11 +15,15 @@ const LAST: u32 = 4_102_444_799;
 /// The length of `yyyymmdd`.
 const DATE_LENGTH: usize = 8;
 
+/// The length of the canonical text.
+const STAMP_LENGTH: usize = 15;
+
 /// A moment: a whole second of UTC in the years 1970 to 2099, without leap seconds.
 ///
 /// It is read from Generalized Time (RFC 4517, section 3.3.13) in one of the forms
 /// `yyyymmddHHMMSSZ`, `yyyymmddHHMMZ` and `yyyymmddHHZ`, and printed in the first, which is canonical.
-/// Fractions and the endings `+0100` and `-0100` of that syntax are not read.
+/// `+hhmm` or `-hhmm` may stand in place of `Z`, for a clock that is so far ahead of UTC or behind it.
+/// Fractions and offsets of hours alone, which that syntax has too, are not read.
 #[derive(Clone, Copy, Debug, PartialEq, Eq, PartialOrd, Ord)]
 pub struct Moment {
     secs: u32,
@@ -39,7 +43,7 @@ impl Model for Moment {
 }
 
 impl Moment {
-    ghost use Rattle.sudo_words.specs.Moment.{IsMoment, Spells};
+    ghost use Rattle.sudo_words.specs.Moment.{IsMoment, IsStamp, Spells};
 
     /// The moment that the text spells, or `None` where it spells none. It takes no memory.
     pub fn read(text: &str) -> Option<Moment>
@@ -47,11 +51,19 @@ impl Moment {
         ensures only { (t : ℕ) → Spells text.now t → result ≡ Some t }
     {
         let (front, rest) = text.as_bytes().split_at_checked(DATE_LENGTH)?;
-        let days = date(front)?;
-        let time = clock(rest)?;
-        Some(Moment {
-            secs: days * 86_400 + time,
-        })
+        let (time, end) = split_offset(rest)?;
+        moment_at(date(front)?, clock(time)?, offset(end)?)
+    }
+
+    /// The moment whose canonical text this is, or `None` where it is no moment's. It takes no memory.
+    pub fn read_stamp(text: &str) -> Option<Moment>
+        ensures found { IfSome result (λ t. IsStamp text.now t) }
+        ensures only { (t : ℕ) → IsStamp text.now t → result ≡ Some t }
+    {
+        if text.len() != STAMP_LENGTH || !text.as_bytes().ends_with(b"Z") {
+            return None;
+        }
+        Moment::read(text)
     }
 
     /// The seconds since 1970-01-01T00:00:00Z.
@@ -78,6 +90,18 @@ impl Moment {
             Ok(secs) if secs <= LAST => Some(Moment { secs }),
             _ => None,
         }
+    }
+}
+
+/// The moment of a time so many seconds into a day, by a clock so many minutes ahead of UTC.
+fn moment_at(day: i32, seconds: u32, offset: i32) -> Option<Moment>
+    ensures found { IfSome result (λ t. IsMoment t × (pos t ≡ pos 86_400 *ℤ day +ℤ pos seconds -ℤ pos 60 *ℤ offset)) }
+    ensures only { (t : ℕ) → IsMoment t → pos t ≡ pos 86_400 *ℤ day +ℤ pos seconds -ℤ pos 60 *ℤ offset → result ≡ Some t }
+{
+    let secs = 86_400 * i64::from(day) + i64::from(seconds) - 60 * i64::from(offset);
+    match u64::try_from(secs) {
+        Ok(secs) => Moment::from_secs(secs),
+        Err(_) => None,
     }
 }
 

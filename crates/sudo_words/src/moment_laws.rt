@@ -1,6 +1,6 @@
 //! Laws of the texts of moments, each the contract of a function that does nothing.
 
-ghost use Rattle.std.specs.Prelude.{◌≡◌, ℕ, List, length};
+ghost use Rattle.std.specs.Prelude.{◌≡◌, ◌++◌, ℕ, List, codes, length};
 ghost use Rattle.sudo_words.specs.Moment.{IsMoment, IsStamp, Spells, stamp};
 
 /// No text spells two moments.
@@ -15,8 +15,22 @@ pub fn stamp_is_stamp()
     ensures length { (t : ℕ) → length (stamp t) ≡ 15 }
 {}
 
-/// The canonical text spells its moment, and is the only spelling of 15 bytes.
+/// The canonical text spells its moment, and is the only spelling of 15 bytes that ends in `Z`.
 pub fn stamp_spells()
     ensures spells { (text : List ℕ) (t : ℕ) → IsStamp text t → Spells text t }
-    ensures only { (text : List ℕ) (t : ℕ) → Spells text t → length text ≡ 15 → IsStamp text t }
+    ensures only { (text front : List ℕ) (t : ℕ) → Spells text t → length text ≡ 15 → text ≡ front ++ codes "Z" → IsStamp text t }
+{}
+
+/// Times by clocks ahead of UTC and behind it: at 09:00:00 UTC, at the first moment by a date before it, at the last; and some that are none, for
+/// they lie before the first moment or past the last, or their offset is of 24 hours, or of hours alone.
+pub fn worked_moments()
+    ensures ahead { Spells (codes "20260105100000+0100") 1_767_603_600 }
+    ensures behind { Spells (codes "2026010504-0500") 1_767_603_600 }
+    ensures day_before_first { Spells (codes "19691231230000-0100") 0 }
+    ensures last_with_plus { Spells (codes "20991231235959+0000") 4_102_444_799 }
+    ensures last_with_minus { Spells (codes "20991231235959-0000") 4_102_444_799 }
+    ensures before_first { (t : ℕ) → Spells (codes "19700101000000+0100") t → ⊥ }
+    ensures past_last { (t : ℕ) → Spells (codes "20991231235959-0001") t → ⊥ }
+    ensures hour_24 { (t : ℕ) → Spells (codes "20260105100000+2400") t → ⊥ }
+    ensures hours_alone { (t : ℕ) → Spells (codes "20260105100000+01") t → ⊥ }
 {}

@@ -1,7 +1,7 @@
-//! The parts of a moment's text: its date, and its time of day.
+//! The parts of a moment's text: its date, its time of day, and its offset from UTC.
 
-ghost use Rattle.std.specs.Prelude.{◌≡◌, ◌<◌, ◌≤◌, ◌*◌, ◌+◌, ℕ, [], ◌∷◌, IfSome, Some};
-ghost use Rattle.sudo_words.specs.Moment.{two, IsClockText, IsDateText};
+ghost use Rattle.std.specs.Prelude.{◌≡◌, ◌<◌, ◌*◌, ◌+◌, ◌++◌, ℕ, ℤ, List, [], ◌∷◌, IfSome, MatchOption, Some};
+ghost use Rattle.sudo_words.specs.Moment.{two, IsClockText, IsDateText, IsDistance, IsOffsetText};
 
 use crate::civil::day_number;
 
@@ -41,25 +41,62 @@ fn seconds(hour: u8, minute: u8, second: u8) -> u32
     u32::from(hour) * 3600 + u32::from(minute) * 60 + u32::from(second)
 }
 
-/// The seconds since midnight of a time of day, `HHMMSSZ`, `HHMMZ` or `HHZ`.
+/// The seconds since midnight of a time of day, `HHMMSS`, `HHMM` or `HH`.
 pub(crate) fn clock(text: &[u8]) -> Option<u32>
-    ensures found { IfSome result (λ s. (s < 86_400) × IsClockText text.now s) }
-    ensures only { (s : ℕ) → s < 86_400 → IsClockText text.now s → result ≡ Some s }
+    ensures found { IfSome result (λ s. IsClockText text.now s) }
+    ensures only { (s : ℕ) → IsClockText text.now s → result ≡ Some s }
 {
     match text {
-        [a, b, b'Z'] => Some(seconds(hour_of(*a, *b)?, 0, 0)),
-        [a, b, c, d, b'Z'] => Some(seconds(hour_of(*a, *b)?, sixtieth(*c, *d)?, 0)),
-        [a, b, c, d, e, f, b'Z'] => {
+        [a, b] => Some(seconds(hour_of(*a, *b)?, 0, 0)),
+        [a, b, c, d] => Some(seconds(hour_of(*a, *b)?, sixtieth(*c, *d)?, 0)),
+        [a, b, c, d, e, f] => {
             Some(seconds(hour_of(*a, *b)?, sixtieth(*c, *d)?, sixtieth(*e, *f)?))
         }
         _ => None,
     }
 }
 
+/// The minutes of `hhmm`.
+fn distance(text: &[u8]) -> Option<u16>
+    ensures found { IfSome result (λ n. IsDistance text.now n) }
+    ensures only { (n : ℕ) → IsDistance text.now n → result ≡ Some n }
+{
+    match text {
+        [a, b, c, d] => Some(u16::from(hour_of(*a, *b)?) * 60 + u16::from(sixtieth(*c, *d)?)),
+        _ => None,
+    }
+}
+
+/// The minutes ahead of UTC of what ends a time, `Z`, `+hhmm` or `-hhmm`.
+pub(crate) fn offset(text: &[u8]) -> Option<i32>
+    ensures found { IfSome result (λ o. IsOffsetText text.now o) }
+    ensures only { (o : ℤ) → IsOffsetText text.now o → result ≡ Some o }
+{
+    match text {
+        [b'Z'] => Some(0),
+        [b'+', digits @ ..] => Some(i32::from(distance(digits)?)),
+        [b'-', digits @ ..] => Some(-i32::from(distance(digits)?)),
+        _ => None,
+    }
+}
+
+/// What stands before the end of a time, and the end, which says its offset from UTC.
+pub(crate) fn split_offset(text: &[u8]) -> Option<(&[u8], &[u8])>
+    ensures found { IfSome result (λ parts. text.now ≡ parts.0.now ++ parts.1.now) }
+    ensures only { (front end : List ℕ) (o : ℤ) → text.now ≡ front ++ end → IsOffsetText end o
+        → MatchOption result ⊥ (λ parts. (parts.0.now ≡ front) × (parts.1.now ≡ end)) }
+{
+    let length = match text {
+        [.., b'Z'] => 1,
+        _ => 5,
+    };
+    text.split_at_checked(text.len().checked_sub(length)?)
+}
+
 /// The day number of a date, `yyyymmdd`.
-pub(crate) fn date(text: &[u8]) -> Option<u32>
-    ensures found { IfSome result (λ n. (n ≤ 47_481) × IsDateText text.now n) }
-    ensures only { (n : ℕ) → n ≤ 47_481 → IsDateText text.now n → result ≡ Some n }
+pub(crate) fn date(text: &[u8]) -> Option<i32>
+    ensures found { IfSome result (λ n. IsDateText text.now n) }
+    ensures only { (n : ℤ) → IsDateText text.now n → result ≡ Some n }
 {
     match text {
         [a, b, c, d, e, f, g, h] => {
