@@ -1,5 +1,5 @@
 -- A day that a text spells is the one of which it is the date.
-use Rattle.std.proofs.Common.{◌≡◌, ◌<◌, ◌≤◌, ◌+◌, ℕ, zero, suc, ◌∙◌, List, true, sym, subst, arith, inl, inr}
+use Rattle.std.proofs.Common.{◌≡◌, ◌<◌, ◌≤◌, ◌+◌, ℕ, zero, suc, pos, ◌∙◌, List, true, sym, subst, arith, inl, inr}
 use Rattle.std.specs.Str.{bytes_eq}
 use Rattle.std.proofs.lemmas.Bool.{cases_Bool, cases_lt, cond-true, cond-false, true≢false}
 use Rattle.std.proofs.lemmas.Slice.Eq.{bytes_eq-Decides}
@@ -44,21 +44,22 @@ is_found (suc later) day d text low high e = elim (cases_Bool (bytes_eq (date_te
       rw (cond-false _ day (day_from later (day + 1) text) other) (omega (arith, is_found later (day + 1) d text (omega (arith, behind)) (omega (arith, high)) e))
 ]
 
-pub spelled_is_day : (text : List ℕ) → IsDay (day_spelled text) → IsDateText text (day_spelled text)
+pub spelled_is_day : (text : List ℕ) → IsDay (day_spelled text) → IsDateText text (pos (day_spelled text))
 unfolding day_spelled
 spelled_is_day text in_days =
     let found = day_from 47_482 0 text in
     let same : date_text found ≡ text = (bytes_eq-Decides (date_text found) text).0 (has_date 47_482 0 text (omega (arith, in_days))) in
-    subst (λ (x : List ℕ). IsDateText x found) same (date_text_is found in_days)
+    subst (λ (x : List ℕ). IsDateText x (pos found)) same (date_text_is found in_days)
 
-pub day_is_spelled : (text : List ℕ) (day : ℕ) → IsDay day → IsDateText text day → day_spelled text ≡ day
+pub day_is_spelled : (text : List ℕ) (day : ℕ) → IsDay day → IsDateText text (pos day) → day_spelled text ≡ day
 unfolding day_spelled
 day_is_spelled text day in_days is =
     let same : date_text day ≡ text = sym (date_text_only text day in_days is) in
     let l = is_found 47_482 0 day text (omega arith) (omega (arith, in_days)) ((bytes_eq-Decides (date_text day) text).1 same) in
-    one_day text (day_spelled text) day (spelled_is_day text (omega (arith, l))) is
+    let number : pos (day_spelled text) ≡ pos day = one_day text (pos (day_spelled text)) (pos day) (spelled_is_day text (omega (arith, l))) is in
+    cc
 
-pub none_spelled : (text : List ℕ) → ((day : ℕ) → IsDay day → ¬ IsDateText text day) → day_spelled text ≡ 47_482
+pub none_spelled : (text : List ℕ) → ((day : ℕ) → IsDay day → ¬ IsDateText text (pos day)) → day_spelled text ≡ 47_482
 unfolding day_spelled
 none_spelled text none =
     let most = within 47_482 0 text in

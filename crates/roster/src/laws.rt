@@ -1,6 +1,6 @@
 //! Laws of rosters, each the contract of a function that does nothing.
 
-ghost use Rattle.std.specs.Prelude.{◌≡◌, ◌↔◌, ◌≤◌, ◌<◌, ◌+◌, ◌*◌, ℕ, List, true, false, codes};
+ghost use Rattle.std.specs.Prelude.{◌≡◌, ◌↔◌, ◌≤◌, ◌<◌, ◌+◌, ◌*◌, ℕ, pos, List, true, false, codes};
 ghost use Rattle.sudo_words.specs.declared.cmnd.Cmnd.{Cmnd};
 ghost use Rattle.sudo_words.specs.Moment.{day_of, IsDateText, IsDay};
 ghost use Rattle.roster.specs.Document.{day_spelled};
@@ -70,8 +70,8 @@ pub fn days_in_seconds()
 
 /// The day that a text stands for is the one whose date it is, where it is any's.
 pub fn day_is_its_date()
-    ensures read { (text : List ℕ) (day : ℕ) → IsDay day → IsDateText text day → day_spelled text ≡ day }
-    ensures only { (text : List ℕ) → IsDay (day_spelled text) → IsDateText text (day_spelled text) }
+    ensures read { (text : List ℕ) (day : ℕ) → IsDay day → IsDateText text (pos day) → day_spelled text ≡ day }
+    ensures only { (text : List ℕ) → IsDay (day_spelled text) → IsDateText text (pos (day_spelled text)) }
 {}
 
 /// Worked duties: bob may approve what ann asked for; ann may not, nor carol, who also audits, nor dan, whom the roster

@@ -1,10 +1,13 @@
 //! Days of the calendar.
 
-ghost use Rattle.std.specs.Prelude.{◌≡◌, ℕ, IfSome, Some};
+ghost use Rattle.std.specs.Prelude.{◌≡◌, ℕ, pos, IfSome, Some};
 ghost use Rattle.sudo_words.specs.Moment.{IsDateText, IsDay};
 
 use crate::parts::date;
 use std::marker::Model;
+
+/// The last day of 2099.
+const LAST: u32 = 47_481;
 
 /// A day of UTC, which contracts see as its number: 1970-01-01 is 0.
 #[derive(Clone, Copy, Debug, PartialEq, Eq, PartialOrd, Ord)]
@@ -40,10 +43,12 @@ impl Day {
     /// The day from 1970-01-01 to 2099-12-31 whose date the text is, `yyyymmdd`, or `None` where it is none's. It takes no
     /// memory.
     pub fn read(text: &str) -> Option<Day>
-        ensures found { IfSome result (λ d. IsDay d × IsDateText text.now d) }
-        ensures only { (d : ℕ) → IsDay d → IsDateText text.now d → result ≡ Some d }
+        ensures found { IfSome result (λ d. IsDay d × IsDateText text.now (pos d)) }
+        ensures only { (d : ℕ) → IsDay d → IsDateText text.now (pos d) → result ≡ Some d }
     {
-        let number = date(text.as_bytes())?;
-        Some(Day { number })
+        match u32::try_from(date(text.as_bytes())?) {
+            Ok(number) if number <= LAST => Some(Day { number }),
+            _ => None,
+        }
     }
 }
