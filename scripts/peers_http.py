@@ -81,6 +81,7 @@ ASKED = [
     (["/v1/hosts/db9/sudoers"], ("404 Not Found", b"P2 UnknownHost\n")),
     (["/v1/hosts/d%20b/sudoers"], ("400 Bad Request", b"T2 BadTarget\n")),
     (["/v1/grants/2026010509Z"], ("400 Bad Request", b"T8 BadMoment\n")),
+    (["/v1/grants/2026010504-0500"], ("400 Bad Request", b"T8 BadMoment\n")),
     (["/v1/parked?x"], ("400 Bad Request", b"T2 BadTarget\n")),
     (["/v1/parked/"], ("404 Not Found", b"T3 NoRoute\n")),
     (["/v1/reviews/20260105093000Z"], ("200 OK", REPORT)),

@@ -1,10 +1,7 @@
 -- What is known of a moment's canonical text.
-use Rattle.std.proofs.Common.{◌≡◌, ℕ, List, length, ap, ◌∙◌, codes, lit≤, refl, subst}
+use Rattle.std.proofs.Common.{◌≡◌, ℕ, List, codes, lit≤, refl, subst}
 use Rattle.sudo_words.specs.Moment.{IsStamp, date_from_month, date_from_year, date_of, stamp}
-use Rattle.sudo_words.proofs.MomentLemmas.{stamp_is, stamp_only, stamp_length}
-
-pub length_stamped : (text : List ℕ) (t : ℕ) → IsStamp text t → length text ≡ 15
-length_stamped text t h = ap length (stamp_only text t h) ∙ stamp_length t
+use Rattle.sudo_words.proofs.MomentLemmas.{stamp_is}
 
 half_past_nine : stamp 1_767_605_400 ≡ codes "20260105093000Z"
 unfolding date_of date_from_year date_from_month

@@ -4,7 +4,6 @@ ghost use Rattle.std.specs.Prelude.{◌≡◌, ◌⊎◌, ◌<◌, ◌≤◌, �
 ghost use Rattle.std.specs.List.{list_all};
 ghost use Rattle.std.specs.Str.Parse.{digits_value};
 ghost use Rattle.clap.specs.Words.{found_of, rows_of};
-ghost use Rattle.sudo_words.specs.Moment.{IsStamp};
 ghost use Rattle.sudo_words.specs.Word.{is_arg};
 ghost use Rattle.desk_jobs.specs.CommandLine.{HasBadMoment, HasBadWord, HasBadWords, HasCount, HasMoment, HasMomentIfGiven, HasOption, HasSome, HasStore, HasValue, HasWord, HasWords, is_count, is_number, values};
 ghost use Rattle.desk_jobs.specs.Faults.{IsUsage};
@@ -17,9 +16,6 @@ use crate::text::Text;
 use clap::ArgMatches;
 use std::alloc::{AllocError, Global};
 use sudo_words::{Arg, Form, Items, Moment, Word};
-
-/// The length of a moment's canonical text.
-const STAMP_LENGTH: usize = 15;
 
 /// The most digits of a count.
 const MOST_DIGITS: usize = 7;
@@ -136,18 +132,6 @@ pub fn store(alloc: Global, matches: &ArgMatches<'_>, id: &str) -> Result<Store,
     }
 }
 
-/// The moment of this canonical text.
-#[tactic(auto, using(crate::proofs::Stamps::length_stamped))]
-fn stamped(text: &str) -> Option<Moment>
-    ensures found { IfSome result (λ m. IsStamp text.now m) }
-    ensures only { (m : ℕ) → IsStamp text.now m → result ≡ Some m }
-{
-    if text.len() != STAMP_LENGTH {
-        return None;
-    }
-    Moment::read(text)
-}
-
 /// The value of an argument that has one, a moment's canonical text.
 pub fn moment(matches: &ArgMatches<'_>, id: &str) -> Result<Moment, JobFault>
     requires { HasSome id.now (rows_of (found_of matches.now)) }
@@ -155,7 +139,7 @@ pub fn moment(matches: &ArgMatches<'_>, id: &str) -> Result<Moment, JobFault>
     ensures only { (m : ℕ) → HasMoment id.now (rows_of (found_of matches.now)) m → MatchResult result (λ r. r ≡ m) (λ e. ⊥) }
     ensures word { IfErr result (λ e. (e ≡ BadWord) × HasBadMoment id.now (rows_of (found_of matches.now))) }
 {
-    match stamped(value(matches, id)) {
+    match Moment::read_stamp(value(matches, id)) {
         Some(moment) => Ok(moment),
         None => Err(JobFault::BadWord),
     }
@@ -168,7 +152,7 @@ pub fn moment_if_given(matches: &ArgMatches<'_>, id: &str) -> Result<Option<Mome
     ensures word { IfErr result (λ e. (e ≡ BadWord) × HasBadMoment id.now (rows_of (found_of matches.now))) }
 {
     match matches.get_str(id) {
-        Some(text) => match stamped(text) {
+        Some(text) => match Moment::read_stamp(text) {
             Some(moment) => Ok(Some(moment)),
             None => Err(JobFault::BadWord),
         },

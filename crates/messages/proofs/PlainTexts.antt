@@ -14,7 +14,7 @@ use Rattle.serde_json.specs.Written.{compact_text}
 use Rattle.serde_json.specs.declared.value.Value.{the_lemmas}
 use Rattle.serde_json.specs.declared.value.Value.TheVariants as values
 use Rattle.sudo_words.specs.Word.{is_lower, is_name, is_name_byte, is_host_name, is_host_byte, is_label, is_path_byte, is_arg, is_arg_byte}
-use Rattle.sudo_words.specs.Moment.{IsMoment, Spells, is_stamp_byte, stamp}
+use Rattle.sudo_words.specs.Moment.{IsMoment, IsStamp, Spells, is_stamp_byte, stamp}
 use Rattle.sudo_words.specs.Command.{IsLawful, IsHead, IsArgRule, cmnd_text, head_text, rule_of, rule_text, spaced_arg}
 use Rattle.sudo_words.specs.declared.cmnd.Cmnd.{Cmnd}
 use Rattle.sudo_words.specs.declared.cmnd.Cmnd.TheVariants as commands
@@ -226,6 +226,10 @@ unfolding moment_text
 escaped_moment t h = escaped_plain (stamp t) (stamp_plain t h)
 
 -- ---- what the reader of a message needs
+
+pub moment_stamped : (t : ℕ) → IsMoment t → IsStamp (moment_text t) t
+unfolding moment_text
+moment_stamped t h = stamp_is t h
 
 pub moment_spelled : (t : ℕ) → IsMoment t → Spells (moment_text t) t
 unfolding moment_text

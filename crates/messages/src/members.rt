@@ -65,14 +65,14 @@ pub(crate) fn word_member<F: Form>(
     word_of(alloc, text_member(value, name)?)
 }
 
-/// The moment that a member's text spells.
-#[tactic(auto, using(crate::proofs::PlainTexts::moment_spelled))]
+/// The moment whose canonical text a member is.
+#[tactic(auto, using(crate::proofs::PlainTexts::moment_stamped))]
 pub(crate) fn moment_member(value: &Value, name: &str) -> Result<Moment, MessageFault>
     ensures found { IfOk result IsMoment }
     ensures only { (t : ℕ) → IsMoment t → get name.now (view value.now) ≡ Some (string (moment_text t)) → result ≡ Ok t }
     ensures err { IfErr result (λ e. e ≡ BadField) }
 {
-    Moment::read(text_member(value, name)?).ok_or(MessageFault::BadField)
+    Moment::read_stamp(text_member(value, name)?).ok_or(MessageFault::BadField)
 }
 
 /// The number of a request.

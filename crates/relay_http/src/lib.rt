@@ -14,7 +14,6 @@ mod fields;
 mod laws;
 mod line;
 mod methods;
-mod moment;
 mod page;
 mod place;
 mod reading;

@@ -14,7 +14,6 @@ use crate::content::{content, lacking};
 use crate::fault::RequestFault;
 use crate::fields::is_bad_host;
 use crate::methods::{allow, is_head};
-use crate::moment::moment_of;
 use crate::place::Place;
 use crate::routes::Routes;
 use crate::target::is_plain;
@@ -22,6 +21,7 @@ use crate::values::values_of;
 use httparse::Status;
 use httparse::spans::{EMPTY_HEADER_SPAN, HeaderSpan, parse_request};
 use std::str::from_utf8;
+use sudo_words::Moment;
 
 /// The most bytes of a head.
 pub(crate) const MOST_HEAD_BYTES: usize = 8192;
@@ -39,7 +39,7 @@ const NO_HEAD: Wanted<'static> = Wanted {
 fn grants_at<'b>(at: &str) -> Ask<'b>
     ensures { Dates (grants at.now) (asked_of result) }
 {
-    match moment_of(at) {
+    match Moment::read_stamp(at) {
         Some(moment) => Ask::Grants(moment),
         None => Ask::Refused(RequestFault::BadMoment),
     }
@@ -49,7 +49,7 @@ fn grants_at<'b>(at: &str) -> Ask<'b>
 fn report_at<'b>(at: &str) -> Ask<'b>
     ensures { Dates (report at.now) (asked_of result) }
 {
-    match moment_of(at) {
+    match Moment::read_stamp(at) {
         Some(moment) => Ask::Report(moment),
         None => Ask::Refused(RequestFault::BadMoment),
     }

@@ -22,7 +22,7 @@ pub fn worked_requests()
 {}
 
 /// Requests that are refused: without a Host or with two, of a target with a query or without a route, by another method, for another
-/// text than a moment's; and deliveries without a length, with a signed one, one byte short, and one byte too long, of which no byte is there.
+/// text than a moment's canonical one; and deliveries without a length, with a signed one, one byte short, and one byte too long, of which no byte is there.
 pub fn worked_refusals()
     ensures no_host { Asks (lines (codes "GET /v1/parked HTTP/1.1" ∷ [] ∷ [])) (record { with_body = true; asked = refused BadHead }) }
     ensures two_hosts { Asks (lines (codes "HEAD /v1/parked HTTP/1.0" ∷ codes "Host: desk" ∷ codes "hOST: desk" ∷ [] ∷ []))
@@ -32,6 +32,7 @@ pub fn worked_refusals()
     ensures posts { Asks (asked_with_host (codes "POST /v1/parked HTTP/1.1")) (record { with_body = true; asked = refused (BadMethod GetOrHead) }) }
     ensures gets { Asks (asked_with_host (codes "GET /v1/relays/web/messages HTTP/1.1")) (record { with_body = true; asked = refused (BadMethod Post) }) }
     ensures moment { Asks (asked_with_host (codes "GET /v1/grants/2026010509Z HTTP/1.1")) (record { with_body = true; asked = refused BadMoment }) }
+    ensures moment_with_offset { Asks (asked_with_host (codes "GET /v1/grants/2026010504-0500 HTTP/1.1")) (record { with_body = true; asked = refused BadMoment }) }
     ensures report_by_day { Asks (asked_with_host (codes "HEAD /v1/reviews/20260105 HTTP/1.1")) (record { with_body = false; asked = refused BadMoment }) }
     ensures posts_report { Asks (asked_with_host (codes "POST /v1/reviews/20260105093000Z HTTP/1.1")) (record { with_body = true; asked = refused (BadMethod GetOrHead) }) }
     ensures no_length { Asks (asked_with_host (codes "POST /v1/relays/web/messages HTTP/1.1")) (record { with_body = true; asked = refused LengthRequired }) }

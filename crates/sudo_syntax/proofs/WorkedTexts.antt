@@ -7,6 +7,7 @@ use Rattle.sudo_words.specs.Word.{is_keyword, is_reserved}
 use Rattle.sudo_words.specs.Moment as moments
 use Rattle.sudo_words.specs.Moment.{IsClockText, date_of, date_from_year, date_from_month}
 use Rattle.sudo_words.proofs.MomentLemmas.{date_text_is, spells_from}
+use Rattle.sudo_words.proofs.WorkedMoments.{ahead}
 use Rattle.std.specs.Prelude.{codes}
 use Rattle.sudo_words.specs.declared.cmnd.Cmnd.TheVariants as commands
 use Rattle.sudo_words.specs.declared.cmnd.ArgRule.TheVariants as rules
@@ -446,5 +447,60 @@ dates_spell = (
   entries_of dates_line,
   spelled dates_text (dates_text ∷ []) (entries_of dates_line) refl (plain dates_text [] [] refl refl refl)
       (one_line dates_text (entries_of dates_line) (spells_line dates_text (word false 0 (codes "ann")) dates_toks dates_line (lexed (word false 0 (codes "ann") ∷ dates_toks) [] refl) dates_tree)) refl,
+  refl,
+)
+
+-- ---- a date by a clock an hour ahead of UTC
+
+abbrev ahead_text : List ℕ
+ahead_text = codes "ann db1 = NOTBEFORE=20260105100000+0100 /bin/ls"
+
+abbrev ahead_toks : List Tok
+ahead_toks =
+    word true 0 (codes "db1") ∷ mark true equals ∷ word true 0 (codes "NOTBEFORE") ∷ mark false equals ∷ word false 0 (codes "20260105100000+0100")
+    ∷ word true 0 (codes "/bin/ls") ∷ []
+
+abbrev ahead_line : Line
+ahead_line = user_spec (user (codes "ann")) (part (codes "db1") (record { runas = None; not_before = Some 1_767_603_600; not_after = None; nopasswd = None; cmnd = yes ls }) ∷ [])
+
+ahead_tree : SpellsTree (word false 0 (codes "ann") ∷ ahead_toks) ahead_line
+ahead_tree = (
+  _,
+  (_, item refl, refl),
+  refl,
+  (
+    _,
+    record {
+      spaced = true;
+      next = _;
+      hosts = (_, item refl, refl);
+      specs = (
+        _,
+        record {
+          after_runas = _;
+          dates = record { word = codes "NOTBEFORE"; moment = 1_767_603_600 } ∷ [];
+          after_dates = _;
+          tags = [];
+          after_tags = _;
+          runas = refl;
+          dated = (true, codes "20260105100000+0100", _, ahead, refl, refl, refl);
+          bounds = (Some 1_767_603_600, None, inl (refl, refl, refl, refl), (refl, refl));
+          tagged = refl;
+          passwd = refl;
+          cmnd = cmnd (cmnd_is ls refl);
+        },
+        refl,
+      );
+    },
+    refl,
+  ),
+)
+
+pub ahead_spell : SpellsAs ahead_text (codes "ann db1 = (root) NOTBEFORE=20260105090000Z /bin/ls\n")
+unfolding date_of date_from_year date_from_month
+ahead_spell = (
+  entries_of ahead_line,
+  spelled ahead_text (ahead_text ∷ []) (entries_of ahead_line) refl (plain ahead_text [] [] refl refl refl)
+      (one_line ahead_text (entries_of ahead_line) (spells_line ahead_text (word false 0 (codes "ann")) ahead_toks ahead_line (lexed (word false 0 (codes "ann") ∷ ahead_toks) [] refl) ahead_tree)) refl,
   refl,
 )

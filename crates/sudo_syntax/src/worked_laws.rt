@@ -10,12 +10,13 @@ ghost use Rattle.sudo_policy.specs.Spelling.{Spells};
 ghost use Rattle.sudo_syntax.specs.Worked.{SpellsAs, SpellsNone, may_run};
 
 /// Worked texts, and the canonical texts of the policies that they spell: aliases and parts joined by `:`, a date that is
-/// inherited, a line that goes on, `!` that cancel out, a comment, and one name in two kinds of aliases.
+/// inherited, one by a clock ahead of UTC, a line that goes on, `!` that cancel out, a comment, and one name in two kinds of aliases.
 pub fn worked_texts()
     ensures aliases { SpellsAs (codes "User_Alias A = ann, bob : B = A, !bob\nB db1 = /bin/ls : db2 = (ALL) ALL")
         (codes "User_Alias A = ann, bob\nUser_Alias B = A, !bob\nB db1 = (root) /bin/ls\nB db2 = (ALL) ALL\n") }
     ensures dates { SpellsAs (codes "ann db1 = NOTAFTER=2026010511Z /bin/ls, NOTBEFORE=2026010509Z /bin/cat : db2 = /bin/ls")
         (codes "ann db1 = (root) NOTAFTER=20260105110000Z /bin/ls\nann db1 = (root) NOTBEFORE=20260105090000Z NOTAFTER=20260105110000Z /bin/cat\nann db2 = (root) /bin/ls\n") }
+    ensures ahead { SpellsAs (codes "ann db1 = NOTBEFORE=20260105100000+0100 /bin/ls") (codes "ann db1 = (root) NOTBEFORE=20260105090000Z /bin/ls\n") }
     ensures continued { SpellsAs (codes "ann db1 = \\\n/bin/ls") (codes "ann db1 = (root) /bin/ls\n") }
     ensures signs { SpellsAs (codes "!!ann db1 = !!!/bin/su") (codes "ann db1 = (root) !/bin/su\n") }
     ensures comment { SpellsAs (codes "ann db1 = ALL # see #12") (codes "ann db1 = (root) ALL\n") }

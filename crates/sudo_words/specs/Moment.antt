@@ -59,7 +59,8 @@ IsOffsetText text offset =
     ⊎ ((digits : List ℕ) × (minutes : ℕ) × (text ≡ codes "+" ++ digits) × IsDistance digits minutes × (offset ≡ pos minutes))
     ⊎ ((digits : List ℕ) × (minutes : ℕ) × (text ≡ codes "-" ++ digits) × IsDistance digits minutes × (offset ≡ neg_ℤ (pos minutes)))
 
--- The text spells the moment: its date, its time of day and its offset from UTC are the moment's. The date may lie outside the years of moments.
+-- The text spells the moment: 86,400 seconds for each day up to its date, and the seconds into that day, less 60 for each minute of its offset.
+-- The date itself may lie outside the years of moments.
 pub record Spells (text : List ℕ) (t : ℕ) : Type 0 where
   pub moment : IsMoment t
   pub date : List ℕ

@@ -11,29 +11,29 @@ pub returns-in-None-clause-only : goal.returns-in-None-clause-only
 returns-in-None-clause-only c =
     no_moment c.args.id.now (rows_of (found_of c.args.matches.now)) (first_rows c.args.matches.now c.args.id.now ∙ sym c.in-None.ensures)
 
-pub returns-in-Some-stamped-clause-found : goal.returns-in-Some-stamped-clause-found
-returns-in-Some-stamped-clause-found c =
-    (c.in-Some.text.now, first_rows c.args.matches.now c.args.id.now ∙ sym c.in-Some.ensures, c.in-Some-stamped.ensures.found)
+pub returns-in-Some-read_stamp-clause-found : goal.returns-in-Some-read_stamp-clause-found
+returns-in-Some-read_stamp-clause-found c =
+    (c.in-Some.text.now, first_rows c.args.matches.now c.args.id.now ∙ sym c.in-Some.ensures, c.in-Some-read_stamp.ensures.found)
 
-pub returns-in-Some-stamped-clause-only : goal.returns-in-Some-stamped-clause-only
-returns-in-Some-stamped-clause-only c = λ m has.
+pub returns-in-Some-read_stamp-clause-only : goal.returns-in-Some-read_stamp-clause-only
+returns-in-Some-read_stamp-clause-only c = λ m has.
     let is = first_rows c.args.matches.now c.args.id.now ∙ sym c.in-Some.ensures in
     let given = moment_given c.args.id.now (rows_of (found_of c.args.matches.now)) c.in-Some.text.now is m has in
-    c.in-Some-stamped.ensures.only given.0 given.2 ∙ sym given.1
+    c.in-Some-read_stamp.ensures.only given.0 given.2 ∙ sym given.1
 
-pub returns-in-None-stamped-clause-only : goal.returns-in-None-stamped-clause-only
-returns-in-None-stamped-clause-only c = λ m has.
+pub returns-in-None-read_stamp-clause-only : goal.returns-in-None-read_stamp-clause-only
+returns-in-None-read_stamp-clause-only c = λ m has.
     let is = first_rows c.args.matches.now c.args.id.now ∙ sym c.in-Some.ensures in
     let given = moment_given c.args.id.now (rows_of (found_of c.args.matches.now)) c.in-Some.text.now is m has in
-    let wrong : ◌≡◌ {A = Option ℕ} None (Some given.0) = c.in-None-stamped.ensures.only given.0 given.2 in
+    let wrong : ◌≡◌ {A = Option ℕ} None (Some given.0) = c.in-None-read_stamp.ensures.only given.0 given.2 in
     cc
 
-pub returns-in-None-stamped-clause-word : goal.returns-in-None-stamped-clause-word
-returns-in-None-stamped-clause-word c = (
+pub returns-in-None-read_stamp-clause-word : goal.returns-in-None-read_stamp-clause-word
+returns-in-None-read_stamp-clause-word c = (
   refl,
   record {
     text = c.in-Some.text.now;
     value = first_rows c.args.matches.now c.args.id.now ∙ sym c.in-Some.ensures;
-    bad = λ m h. let none : ◌≡◌ {A = Option ℕ} None (Some m) = c.in-None-stamped.ensures.only m h in cc;
+    bad = λ m h. let none : ◌≡◌ {A = Option ℕ} None (Some m) = c.in-None-read_stamp.ensures.only m h in cc;
   },
 )
