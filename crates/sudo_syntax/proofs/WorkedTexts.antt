@@ -464,6 +464,7 @@ abbrev ahead_line : Line
 ahead_line = user_spec (user (codes "ann")) (part (codes "db1") (record { runas = None; not_before = Some 1_767_603_600; not_after = None; nopasswd = None; cmnd = yes ls }) ∷ [])
 
 ahead_tree : SpellsTree (word false 0 (codes "ann") ∷ ahead_toks) ahead_line
+unfolding is_keyword
 ahead_tree = (
   _,
   (_, item refl, refl),
@@ -497,7 +498,7 @@ ahead_tree = (
 )
 
 pub ahead_spell : SpellsAs ahead_text (codes "ann db1 = (root) NOTBEFORE=20260105090000Z /bin/ls\n")
-unfolding date_of date_from_year date_from_month
+unfolding date_of date_from_year date_from_month is_keyword
 ahead_spell = (
   entries_of ahead_line,
   spelled ahead_text (ahead_text ∷ []) (entries_of ahead_line) refl (plain ahead_text [] [] refl refl refl)

@@ -3,6 +3,7 @@ use Rattle.std.specs.Prelude.{codes}
 use Rattle.std.proofs.lemmas.List.Elements.{All-nil}
 use Rattle.sudo_words.specs.Command.{IsLawful}
 use Rattle.sudo_words.specs.Moment.{date_of, date_from_month, date_from_year}
+use Rattle.sudo_words.specs.Word.{is_keyword}
 use Rattle.toml.proofs.OnLiterals.{toml_on_literals}
 use Rattle.toml.specs.Data.{Data, Members, no_members, member, array, table, string, no_items, item}
 use Rattle.toml.specs.Parse.{parse_document}
@@ -45,7 +46,7 @@ draft from until first last toml low high = record {
 }
 
 good : (days : Days) → GoodNames IsCmndText (in_texts (with_days days))
-unfolding good_names
+unfolding good_names is_keyword
 good days = record { names = refl; ceilings = All-nil (IsNamedCeiling IsCmndText) }
 
 known : (days : Days) → are_known (in_texts (with_days days)) ≡ true
@@ -79,7 +80,7 @@ unfolding toml_on_literals
 two_days = refl
 
 pub returns-clause-two_days : goal.returns-clause-two_days
-unfolding good_names are_known has_self_conflict in_range
+unfolding good_names are_known has_self_conflict in_range is_keyword
 returns-clause-two_days c =
     let d = draft (codes "19700101") (codes "19700102") 0 1 two_days first_day second_day in
     record {
