@@ -3,19 +3,17 @@
 
 Each policy under examples/ that the desk accepts and its canonical text, and each text of cases/checked.toml and its canonical text
 there, must pass `visudo -cf`, and so must the canonical text of each random text of odd words that the desk accepts; each invocation of
-examples/peers/invocations must be answered by `sudo -l` as `desk decide` answers it. sudo compares files by inode, so
-the commands are small files of this script's own under /srv, and its clock stands still at the moment that is asked about
-(`faketime -f`). All runs in a mount namespace of its own, with its own /etc/sudoers and /etc/passwd bound over the machine's, so
-nothing of the machine changes. `sudo -l` says nothing of NOPASSWD: only allow and deny are compared.
+examples/peers/invocations must be answered by `sudo -l` as `desk decide` answers it (scripts/sudo_peer.py says how sudo is asked).
+`sudo -l` says nothing of NOPASSWD: only allow and deny are compared.
 """
 
 import os
 import random
-import shutil
-import subprocess
 import sys
 import tempfile
 import tomllib
+
+from sudo_peer import accepts, allows, clear, enter_namespace, furnish, run, tool
 
 ROOT = os.path.dirname(os.path.dirname(os.path.abspath(__file__)))
 DESK = os.path.join(ROOT, "build", "desk")
@@ -35,68 +33,6 @@ ODD_WORDS = (
 ODD_TEXTS = 1500
 
 
-def tool(name):
-    """The path of a program that this script needs."""
-    path = shutil.which(name) or shutil.which(name, path="/usr/sbin:/sbin:/usr/bin")
-    if path is None:
-        sys.exit(f"{name} is missing: install Debian's packages sudo, faketime and util-linux")
-    return path
-
-
-def run(words, given=None):
-    return subprocess.run(words, input=given, stdout=subprocess.PIPE, stderr=subprocess.PIPE, text=True, check=False)
-
-
-def enter_namespace():
-    """Starts this script again in a mount namespace of its own."""
-    if os.geteuid() != 0:
-        sys.exit("peers needs root: sudo -l answers for another user only to root")
-    words = [tool("unshare"), "--mount", "--propagation", "private", sys.executable, os.path.abspath(__file__), "--inside"]
-    sys.exit(subprocess.run(words, check=False).returncode)
-
-
-def bind(source, target):
-    subprocess.run(["mount", "--bind", source, target], check=True)
-
-
-def furnish(folder):
-    """Commands, users and a sudoers file, bound over the machine's in this namespace alone."""
-    commands = os.path.join(folder, "srv")
-    for name in COMMANDS:
-        path = os.path.join(commands, name)
-        os.makedirs(os.path.dirname(path), exist_ok=True)
-        with open(path, "w") as file:
-            file.write(f"#!/bin/sh\n# {name}\n")
-        os.chmod(path, 0o755)
-    os.makedirs("/srv", exist_ok=True)
-    bind(commands, "/srv")
-    passwd = os.path.join(folder, "passwd")
-    with open(passwd, "w") as file:
-        file.write("root:x:0:0:root:/root:/bin/sh\n")
-        for number, user in enumerate(USERS):
-            file.write(f"{user}:x:{2001 + number}:2001::/:/bin/sh\n")
-    os.chmod(passwd, 0o644)
-    bind(passwd, "/etc/passwd")
-    sudoers = os.path.join(folder, "sudoers")
-    with open(sudoers, "w") as file:
-        file.write("")
-    os.chmod(sudoers, 0o440)
-    bind(sudoers, "/etc/sudoers")
-    return sudoers
-
-
-def check_text(visudo, what, text, folder):
-    """Whether visudo accepts the text."""
-    path = os.path.join(folder, "checked")
-    with open(path, "w") as file:
-        file.write(text)
-    os.chmod(path, 0o440)
-    answer = run([visudo, "-cf", path])
-    if answer.returncode != 0:
-        print(f"visudo refuses {what}: {answer.stdout}{answer.stderr}")
-    return answer.returncode == 0
-
-
 def accepted_rows():
     """The pairs of a text and its canonical text among the cases; those that scripts/cases.py makes of pieces are left out."""
     with open(ROWS, "rb") as file:
@@ -113,7 +49,7 @@ def check_policies(visudo, folder):
             if text in DIFFERS:
                 continue
             texts += 1
-            wrong += not check_text(visudo, f"the row {text!r}", text, folder)
+            wrong += not accepts(visudo, f"the row {text!r}", text, folder)
     for where, _, names in sorted(os.walk(EXAMPLES)):
         for name in sorted(names):
             if not name.endswith(".sudo"):
@@ -130,7 +66,7 @@ def check_policies(visudo, folder):
                 text = file.read()
             for what, each in ((shown, text), (f"the canonical text of {shown}", canonical.stdout)):
                 texts += 1
-                wrong += not check_text(visudo, what, each, folder)
+                wrong += not accepts(visudo, what, each, folder)
     return texts, wrong
 
 
@@ -205,27 +141,8 @@ def check_odd_texts(visudo, folder):
         if canonical.returncode != 0:
             continue
         read += 1
-        wrong += not check_text(visudo, f"the odd text {text!r}", canonical.stdout, folder)
+        wrong += not accepts(visudo, f"the odd text {text!r}", canonical.stdout, folder)
     return read, wrong
-
-
-def sudo_allows(programs, words):
-    """What sudo itself answers, at the moment that is asked about."""
-    user, host, runas, moment, path, *args = words
-    day = f"{moment[0:4]}-{moment[4:6]}-{moment[6:8]} {moment[8:10]}:{moment[10:12]}:{moment[12:14]}"
-    asked = [programs["sudo"], "-n", "-l", "-U", user, "-h", host, "-u", runas, "--", path, *args]
-    answer = subprocess.run(
-        [programs["faketime"], "-f", day, *asked],
-        stdin=subprocess.DEVNULL,
-        stdout=subprocess.PIPE,
-        stderr=subprocess.PIPE,
-        text=True,
-        check=False,
-        env={"PATH": "/usr/sbin:/usr/bin:/sbin:/bin", "TZ": "UTC", "LC_ALL": "C"},
-    )
-    if answer.returncode not in (0, 1) or "parse error" in answer.stderr:
-        sys.exit(f"sudo fails on {' '.join(words)}: {answer.stdout}{answer.stderr}")
-    return answer.returncode == 0
 
 
 def desk_allows(policy, words):
@@ -246,7 +163,7 @@ def compare(programs, sudoers):
             policies.add(name)
         with open(policy) as source, open(sudoers, "w") as target:
             target.write(source.read())
-        theirs, ours = sudo_allows(programs, words), desk_allows(policy, words)
+        theirs, ours = allows(programs, words), desk_allows(policy, words)
         asked += 1
         allowed += theirs
         if theirs != ours:
@@ -260,19 +177,17 @@ def inside():
     if not os.path.exists(DESK):
         sys.exit("build/desk is missing: run make desk")
     with tempfile.TemporaryDirectory() as folder:
-        os.chmod(folder, 0o755)
-        sudoers = furnish(folder)
+        sudoers = furnish(folder, USERS, COMMANDS)
         texts, refused = check_policies(programs["visudo"], folder)
         print(f"visudo accepts {texts - refused} of {texts} texts")
         odd, odd_refused = check_odd_texts(programs["visudo"], folder)
         print(f"of {ODD_TEXTS} random texts of odd words the desk reads {odd}, and visudo accepts {odd - odd_refused} of them")
         asked, allowed, policies, wrong = compare(programs, sudoers)
         print(f"sudo was asked {asked} times over {policies} policies: {allowed} allowed, {asked - allowed} denied, {wrong} otherwise than the desk")
-        for place in ("/etc/sudoers", "/etc/passwd", "/srv"):
-            subprocess.run(["umount", place], check=True)
+        clear()
     sys.exit(1 if refused or odd_refused or wrong else 0)
 
 
 if sys.argv[1:] == ["--inside"]:
     inside()
-enter_namespace()
+enter_namespace(__file__)

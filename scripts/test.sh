@@ -52,7 +52,7 @@ cases() {
 }
 
 peers() {
-    python3 scripts/peers.py && python3 scripts/peers_http.py && python3 scripts/peers_store.py
+    python3 scripts/peers.py && python3 scripts/peers_requests.py && python3 scripts/peers_http.py && python3 scripts/peers_store.py
 }
 
 bash scripts/tools.sh
@@ -74,7 +74,7 @@ cp crates/desk_cli/out/desk_cli build/desk
 
 part demo demo
 part_with cases setpriv -- cases
-part_with peers root sudo visudo faketime unshare curl nc sqlite3 -- peers
+part_with peers root sudo visudo cvtsudoers faketime unshare curl nc sqlite3 -- peers
 part_with faults cc -- python3 scripts/faults.py
 echo "$passed passed, $failed failed"
 [ "$failed" = 0 ]

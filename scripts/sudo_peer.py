@@ -1,0 +1,101 @@
+"""What the scripts that ask sudo share: a mount namespace of their own, with its own users, commands and /etc/sudoers, and sudo's answers there.
+
+sudo compares files by inode, so the commands are small files under /srv, and its clock stands still at the moment that is asked about
+(`faketime -f`). /etc/sudoers, /etc/passwd and /srv are bound over the machine's in that namespace alone, so nothing of the machine changes.
+"""
+
+import os
+import shutil
+import subprocess
+import sys
+
+PLACES = ("/etc/sudoers", "/etc/passwd", "/srv")
+
+
+def tool(name):
+    """The path of a program that these scripts need."""
+    path = shutil.which(name) or shutil.which(name, path="/usr/sbin:/sbin:/usr/bin")
+    if path is None:
+        sys.exit(f"{name} is missing: install Debian's packages sudo, faketime and util-linux")
+    return path
+
+
+def run(words, given=None):
+    return subprocess.run(words, input=given, stdout=subprocess.PIPE, stderr=subprocess.PIPE, text=True, check=False)
+
+
+def enter_namespace(script):
+    """Starts the script again in a mount namespace of its own."""
+    if os.geteuid() != 0:
+        sys.exit("this needs root: sudo -l answers for another user only to root")
+    words = [tool("unshare"), "--mount", "--propagation", "private", sys.executable, os.path.abspath(script), "--inside"]
+    sys.exit(subprocess.run(words, check=False).returncode)
+
+
+def bind(source, target):
+    subprocess.run(["mount", "--bind", source, target], check=True)
+
+
+def furnish(folder, users, commands):
+    """Commands, given by their paths below /srv, users and an empty sudoers file, bound over the machine's; the path of the file is answered."""
+    os.chmod(folder, 0o755)
+    top = os.path.join(folder, "srv")
+    os.makedirs(top, exist_ok=True)
+    for name in commands:
+        path = os.path.join(top, name)
+        os.makedirs(os.path.dirname(path), exist_ok=True)
+        with open(path, "w") as file:
+            file.write(f"#!/bin/sh\n# {name}\n")
+        os.chmod(path, 0o755)
+    os.makedirs("/srv", exist_ok=True)
+    bind(top, "/srv")
+    passwd = os.path.join(folder, "passwd")
+    with open(passwd, "w") as file:
+        file.write("root:x:0:0:root:/root:/bin/sh\n")
+        for number, user in enumerate(it for it in users if it != "root"):
+            file.write(f"{user}:x:{2001 + number}:2001::/:/bin/sh\n")
+    os.chmod(passwd, 0o644)
+    bind(passwd, "/etc/passwd")
+    sudoers = os.path.join(folder, "sudoers")
+    with open(sudoers, "w") as file:
+        file.write("")
+    os.chmod(sudoers, 0o440)
+    bind(sudoers, "/etc/sudoers")
+    return sudoers
+
+
+def clear():
+    """Takes away what was bound."""
+    for place in PLACES:
+        subprocess.run(["umount", place], check=True)
+
+
+def accepts(visudo, what, text, folder):
+    """Whether visudo accepts the text."""
+    path = os.path.join(folder, "checked")
+    with open(path, "w") as file:
+        file.write(text)
+    os.chmod(path, 0o440)
+    answer = run([visudo, "-cf", path])
+    if answer.returncode != 0:
+        print(f"visudo refuses {what}: {answer.stdout}{answer.stderr}")
+    return answer.returncode == 0
+
+
+def allows(programs, words):
+    """What sudo itself answers to (user, host, target, moment, path, arguments ..), at that moment."""
+    user, host, runas, moment, path, *args = words
+    day = f"{moment[0:4]}-{moment[4:6]}-{moment[6:8]} {moment[8:10]}:{moment[10:12]}:{moment[12:14]}"
+    asked = [programs["sudo"], "-n", "-l", "-U", user, "-h", host, "-u", runas, "--", path, *args]
+    answer = subprocess.run(
+        [programs["faketime"], "-f", day, *asked],
+        stdin=subprocess.DEVNULL,
+        stdout=subprocess.PIPE,
+        stderr=subprocess.PIPE,
+        text=True,
+        check=False,
+        env={"PATH": "/usr/sbin:/usr/bin:/sbin:/bin", "TZ": "UTC", "LC_ALL": "C"},
+    )
+    if answer.returncode not in (0, 1) or "parse error" in answer.stderr:
+        sys.exit(f"sudo fails on {' '.join(words)}: {answer.stdout}{answer.stderr}")
+    return answer.returncode == 0
