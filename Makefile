@@ -36,10 +36,11 @@ gate-times:
 edits:
 	python3 scripts/edits.py $(CRATES)
 
-# What the desk decides beside what sudo itself answers (as root; Debian's packages sudo and faketime), and what sudo reads of the files of 2,000 random requests of odd
-# words; nothing of the machine changes. Then `desk serve` asked over loopback (curl), the file of a desk beside Debian's `sqlite3`, and a desk that is killed while it takes messages.
+# What the desk decides beside what sudo itself answers (as root; Debian's packages sudo and faketime), and of 2,200 random policies; and what sudo reads of the files of 2,000
+# random requests of odd words; nothing of the machine changes. Then `desk serve` asked over loopback (curl), the file of a desk beside Debian's `sqlite3`, and a desk that is killed while it takes messages.
 peers: desk
 	python3 scripts/peers.py
+	python3 scripts/peers_policies.py
 	python3 scripts/peers_requests.py
 	python3 scripts/peers_http.py
 	python3 scripts/peers_store.py

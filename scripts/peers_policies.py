@@ -1,0 +1,138 @@
+#!/usr/bin/env python3
+"""Asks sudo what random policies decide: aliases nested in aliases, with signs at every depth, and times with offsets from UTC.
+
+Each policy has to pass `visudo -c`. Of each, sudo is asked once by `sudo -l` (scripts/sudo_peer.py), and of each time at the second before its
+bound, at the bound and a second after it; `desk decide` has to answer as sudo does. It prints what is otherwise, and ends with the counts; the seed is fixed.
+"""
+
+import os
+import random
+import sys
+import tempfile
+import time
+
+from sudo_peer import accepts, allows, clear, enter_namespace, furnish, run, tool
+
+ROOT = os.path.dirname(os.path.dirname(os.path.abspath(__file__)))
+DESK = os.path.join(ROOT, "build", "desk")
+POLICIES, TIMES = 2000, 200
+USERS, HOSTS, TARGETS = ("ann", "bob", "eve", "kim"), ("db1", "db2", "web1"), ("root", "op", "dba")
+FILES = ("/srv/bin/ls", "/srv/bin/kill", "/srv/lib/tool", "/srv/lib/deep/tool")
+COMMANDS = (*FILES, "/srv/bin/", "/srv/lib/", '/srv/bin/ls ""', "/srv/bin/ls -l")
+KINDS = (("User_Alias", USERS), ("Host_Alias", HOSTS), ("Runas_Alias", TARGETS), ("Cmnd_Alias", COMMANDS))
+LAST = 4102444799
+
+
+def signed(rng, word):
+    return rng.choice(("", "", "", "!", "!!")) + word
+
+
+def some_of(rng, words, aliases, most):
+    """A list of words and aliases, some of them negated."""
+    return ", ".join(signed(rng, rng.choice([*words, "ALL", *aliases * 3])) for _ in range(rng.randint(1, most)))
+
+
+def alias_policy(rng):
+    """Aliases of each kind, each over those above it, and rules over all of them."""
+    lines, names = [], {}
+    for kind, words in KINDS:
+        names[kind] = []
+        for number in range(rng.randint(1, 5)):
+            name = f"{kind[0]}{number}"
+            lines.append(f"{kind} {name} = {some_of(rng, words, names[kind], 3)}")
+            names[kind].append(name)
+    for _ in range(rng.randint(1, 3)):
+        users, hosts, targets, commands = (some_of(rng, words, names[kind], 2) for kind, words in KINDS)
+        lines.append(f"{users} {hosts} = ({targets}) {commands}")
+    return "".join(f"{line}\n" for line in lines)
+
+
+def invocation(rng):
+    path = rng.choice(FILES)
+    return [rng.choice(USERS), rng.choice(HOSTS), rng.choice(TARGETS), "20260105093000Z", path, *rng.choice(([], [], ["-l"], ["-a"]))]
+
+
+def stamp(moment):
+    return time.strftime("%Y%m%d%H%M%SZ", time.gmtime(moment))
+
+
+def spelled(rng, moment):
+    """A spelling of the moment by a clock ahead of UTC or behind it; it may lack seconds or minutes where they are zero."""
+    offset = rng.choice((0, 1, 59, 60, 330, 720, 845, 1439))
+    sign = rng.choice((1, -1))
+    text = time.strftime("%Y%m%d%H%M%S", time.gmtime(moment + sign * offset * 60))
+    while text.endswith("00") and len(text) > 10 and rng.random() < 0.7:
+        text = text[:-2]
+    return f"{text}{'+' if sign > 0 else '-'}{offset // 60:02}{offset % 60:02}"
+
+
+def bound(rng):
+    """A moment, often at the end of a day, a month or a year; far enough from 1970 and 2099 that a clock beside UTC shows a year of four digits in both."""
+    moment = rng.choice((rng.randrange(86400 * 2, LAST - 86400 * 2), 951782400, 951868800, 1767225600, 1767139200 + 86399, 4107542400 - 86400 * 61))
+    return moment - rng.choice((0, moment % 60, moment % 3600))
+
+
+class Run:
+    """The comparison, and its counts."""
+
+    def __init__(self, folder, programs, sudoers):
+        self.folder, self.programs, self.sudoers = folder, programs, sudoers
+        self.asked = self.allowed = self.wrong = 0
+
+    def policy(self, text):
+        """Puts a policy in place for both, where visudo accepts it."""
+        if not accepts(self.programs["visudo"], f"{text!r}", text, self.folder):
+            self.wrong += 1
+            return None
+        path = os.path.join(self.folder, "policy")
+        for place in (path, self.sudoers):
+            with open(place, "w") as file:
+                file.write(text)
+        return path
+
+    def ask(self, path, words, text):
+        theirs = allows(self.programs, words)
+        answer = run([DESK, "decide", path, *words[:5], "--", *words[5:]])
+        self.asked += 1
+        self.allowed += theirs
+        if answer.returncode not in (0, 1) or answer.stdout.startswith("allow") != theirs:
+            self.wrong += 1
+            print(f"{text}{' '.join(words)}: sudo {'allows' if theirs else 'denies'}, the desk says {(answer.stdout + answer.stderr).strip()}")
+
+    def aliases(self, rng):
+        text = alias_policy(rng)
+        path = self.policy(text)
+        if path:
+            self.ask(path, invocation(rng), text)
+
+    def times(self, rng):
+        moment, option = bound(rng), rng.choice(("NOTBEFORE", "NOTAFTER"))
+        text = f"ann db1 = (root) {option}={spelled(rng, moment)} /srv/bin/ls\n"
+        path = self.policy(text)
+        for at in (moment - 1, moment, moment + 1):
+            if path:
+                self.ask(path, ["ann", "db1", "root", stamp(at), "/srv/bin/ls"], text)
+
+
+def inside():
+    programs = {name: tool(name) for name in ("sudo", "visudo", "faketime")}
+    rng = random.Random(1)
+    with tempfile.TemporaryDirectory() as folder:
+        sudoers = furnish(folder, sorted({*USERS, *TARGETS}), [it.removeprefix("/srv/") for it in FILES])
+        ran = Run(folder, programs, sudoers)
+        for _ in range(POLICIES):
+            ran.aliases(rng)
+        aliases = ran.asked
+        for _ in range(TIMES):
+            ran.times(rng)
+        clear()
+    print(f"sudo was asked of {aliases} policies with nested aliases and {ran.asked - aliases} times of {TIMES} bounds with offsets: "
+          f"{ran.allowed} allowed, {ran.asked - ran.allowed} denied, {ran.wrong} otherwise than the desk")
+    sys.exit(1 if ran.wrong or aliases < POLICIES else 0)
+
+
+if sys.argv[1:] == ["--inside"]:
+    inside()
+if not os.path.exists(DESK):
+    sys.exit("build/desk is missing: run make desk")
+enter_namespace(__file__)
