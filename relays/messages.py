@@ -4,7 +4,10 @@ import json
 import re
 from collections.abc import Mapping, Sequence
 from dataclasses import dataclass, replace
+from datetime import timedelta
 from typing import Any
+
+from relays.moments import of_stamp
 
 PERSON = r"[a-z_][a-z0-9._-]{0,31}"
 LABEL = r"[a-z][a-z0-9-]{0,31}"
@@ -86,8 +89,12 @@ class Wish:
         )
 
     def is_like(self, other: "Wish") -> bool:
-        """Whether both ask for the same, whenever."""
-        return replace(self, begins="", ends="") == replace(other, begins="", ends="")
+        """Whether both ask for the same, until the same moment or for as long."""
+        is_same = replace(self, begins="", ends="") == replace(other, begins="", ends="")
+        return is_same and (self.ends == other.ends or self.length() == other.length())
+
+    def length(self) -> timedelta:
+        return of_stamp(self.ends) - of_stamp(self.begins)
 
     def from_now(self, at: str) -> "Wish":
         """The same, but with no moment before the one at which it is asked."""

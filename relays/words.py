@@ -12,6 +12,7 @@ from relays.moments import length_of, moment_of, stamp
 
 DAY = re.compile(r"today|tomorrow|in|[0-9]{4}-[0-9]{2}-[0-9]{2}")
 SECOND = re.compile(r"[0-9]{1,2}:[0-9]{2}(:[0-9]{2})?Z?|[0-9]+[dhms][0-9dhms]*")
+TIMES = ("--from", "--until", "--at")
 USAGE = """\
   ask CEILING --on HOST[,HOST..] --as USER --for 2h COMMAND [ARGUMENT..] [--and COMMAND ..]
       --until 17:00 in place of --for; --from 'tomorrow 09:00' to begin later
@@ -83,14 +84,12 @@ def split(line: str) -> list[str]:
 def joined_times(words: Iterable[str]) -> list[str]:
     """The words with each day and its hour in one: ssh drops the quotes of 'tomorrow 09:00'."""
     joined: list[str] = []
-    is_time = False
     for word in words:
-        if is_time and joined and DAY.fullmatch(joined[-1]) and SECOND.fullmatch(word):
+        is_after_day = joined[-2:-1] and joined[-2] in TIMES and DAY.fullmatch(joined[-1])
+        if is_after_day and SECOND.fullmatch(word):
             joined[-1] += f" {word}"
-            is_time = False
-            continue
-        is_time = is_time and not joined[-1].startswith("-") or word in ("--from", "--until", "--at")
-        joined.append(word)
+        else:
+            joined.append(word)
     return joined
 
 
@@ -114,10 +113,10 @@ def parse(line: str) -> argparse.Namespace:
     commands: list[list[str]] = []
     if words[:1] == ["ask"]:
         words, commands = cut(words)
-    said = parser().parse_args(joined_times(words))
-    if said.command == "ask":
         if not commands or not all(commands):
             raise BadWords("name a command by its whole path, such as /usr/bin/id, at the end")
+    said = parser().parse_args(joined_times(words))
+    if said.command == "ask":
         said.commands = [command_of(each) for each in commands]
     if said.command in VERDICTS:
         said.of, said.no = checked("person", said.of), number_of(said.no)

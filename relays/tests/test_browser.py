@@ -7,9 +7,11 @@ from pathlib import Path
 import pytest
 import requests
 from selenium import webdriver
+from selenium.common.exceptions import NoSuchElementException, StaleElementReferenceException
 from selenium.webdriver.chrome.service import Service
 from selenium.webdriver.common.by import By
 from selenium.webdriver.common.keys import Keys
+from selenium.webdriver.support.ui import WebDriverWait
 
 from relays.moments import now, of_stamp, stamp
 from relays.tests import sudo_says
@@ -76,8 +78,15 @@ def shoot(driver: webdriver.Chrome, name: str) -> None:
     driver.save_screenshot(str(SHOTS / f"{name}.png"))
 
 
-def text(driver: webdriver.Chrome) -> str:
-    return str(driver.find_element(By.TAG_NAME, "body").text)
+def see(driver: webdriver.Chrome, *pieces: str) -> None:
+    """Waits until the page has these texts."""
+
+    def is_there(each: webdriver.Chrome) -> bool:
+        text = each.find_element(By.TAG_NAME, "body").text
+        return all(piece in text for piece in pieces)
+
+    faults = [NoSuchElementException, StaleElementReferenceException]
+    WebDriverWait(driver, 30, ignored_exceptions=faults).until(is_there, str(pieces))
 
 
 def press(driver: webdriver.Chrome, selector: str) -> None:
@@ -98,28 +107,28 @@ def test_a_grants_life_in_two_browsers(
         ann.find_element(By.ID, field).send_keys(words)
     shoot(ann, "1-ask")
     press(ann, "#show")
-    assert "Ask for this?" in text(ann) and "1 hour" in text(ann) and "UTC (" in text(ann)
+    see(ann, "Ask for this?", "1 hour", "UTC (")
     shoot(ann, "2-ask-confirm")
     press(ann, "#yes")
-    assert "ann 1: It needs 1 approval; nobody approved it yet; bob, carol may." in text(ann)
+    see(ann, "ann 1: It needs 1 approval; nobody approved it yet; bob, carol may.")
     bob.get(front.url("bob"))
     shoot(bob, "3-waits")
     press(bob, "#waits-ann-1 button.approve")
-    assert "Approve ann 1?" in text(bob) and "/usr/bin/id" in text(bob)
+    see(bob, "Approve ann 1?", "/usr/bin/id")
     shoot(bob, "4-approve-confirm")
     press(bob, "#yes")
-    assert "ann 1: The desk acknowledged that you approved it." in text(bob)
-    assert "Nothing that came through this relay waits for you." in text(bob)
+    see(bob, "ann 1: The desk acknowledged that you approved it.", "Nothing that came through")
     ann.get(front.url("ann"))
-    assert "It is in force from" in text(ann)
+    see(ann, "It is in force from")
     assert ann.find_elements(By.CSS_SELECTOR, "svg rect.bar")
     shoot(ann, "5-in-force")
     granted = fetched(site)
     sudo_allows_exactly_it(site, granted)
     press(ann, "#mine-1 button.revoke")
+    see(ann, "Revoke ann 1?")
     press(ann, "#yes")
-    assert "ann 1: The desk acknowledged that you revoked it." in text(ann)
-    assert "It was in force from" in text(ann) and "Nothing is in force." in text(ann)
+    see(ann, "ann 1: The desk acknowledged that you revoked it.")
+    see(ann, "It was in force from", "Nothing is in force.")
     shoot(ann, "6-revoked")
     rows = [("ann", "db1", "root", stamp(now()), ["/usr/bin/id"])]
     assert sudo_says.ask(site.folder, fetched(site), rows) == [False]
@@ -164,13 +173,13 @@ def test_by_keyboard_alone(
         if at.get_attribute("id") == "show":
             break
     ann.switch_to.active_element.send_keys(Keys.ENTER)
-    assert "Ask for this?" in text(ann)
+    see(ann, "Ask for this?")
     for _ in range(10):
         if ann.switch_to.active_element.get_attribute("id") == "yes":
             break
         ann.switch_to.active_element.send_keys(Keys.TAB)
     ann.switch_to.active_element.send_keys(Keys.ENTER)
-    assert "It needs 1 approval; nobody approved it yet" in text(ann)
+    see(ann, "It needs 1 approval; nobody approved it yet")
 
 
 def test_labels_and_headings(

@@ -1,10 +1,8 @@
 """The relay by ssh, through a real sshd: a grant's life, and attempts to speak for somebody else."""
 
 import json
-import os
 import re
 from collections.abc import Iterator
-from pathlib import Path
 
 import pytest
 import requests
@@ -25,10 +23,9 @@ def both(tmp_path_factory: pytest.TempPathFactory) -> Iterator[tuple[Site, Sshd]
     site.close()
 
 
-def asked(sshd: Sshd, *more: str) -> int:
+def asked(sshd: Sshd) -> int:
     """Asks as ann, and gives the request's number."""
-    ran = sshd.ssh("ann", *ASK, "--and", "/usr/bin/w", *more, "--json") if more else None
-    ran = ran or sshd.ssh("ann", "ask --yes --json --again", *ASK[1:])
+    ran = sshd.ssh("ann", "ask --yes --json --again", *ASK[1:])
     assert ran.returncode == 0, ran
     return int(json.loads(ran.stdout)["no"])
 
@@ -113,22 +110,25 @@ def test_words_speak_for_nobody_else(both: tuple[Site, Sshd], words: list[str]) 
     assert messages(site) == before
 
 
-def test_other_ways_in_speak_for_nobody_else(both: tuple[Site, Sshd], monkeypatch: pytest.MonkeyPatch) -> None:
+def test_other_ways_in_speak_for_nobody_else(
+    both: tuple[Site, Sshd], monkeypatch: pytest.MonkeyPatch
+) -> None:
     site, sshd = both
     assert "You are ann." in sshd.ssh("ann").stdout
     assert "You are eve." in sshd.ssh("eve").stdout
-    monkeypatch.setenv("SSH_ORIGINAL_COMMAND", "approve ann 1 --yes")
+    # (where a site lets a client set the variable, it is ann's words still, and no more)
     monkeypatch.setenv("PYTHONPATH", "/tmp")
     options = ("-o", "SendEnv=SSH_ORIGINAL_COMMAND PYTHONPATH")
-    assert "You are ann." in sshd.ssh("ann", options=options).stdout
-    assert "approve" not in sshd.ssh("ann", "mine", options=options).stdout.splitlines()[0]
+    monkeypatch.setenv("SSH_ORIGINAL_COMMAND", "--person bob approve ann 99 --yes")
+    assert sshd.ssh("ann", options=options).returncode == 2
+    monkeypatch.setenv("SSH_ORIGINAL_COMMAND", "approve bob 99 --yes")
+    assert sshd.ssh("ann", options=options).returncode == 0
+    assert '"by":"ann"' in site.kept()[-1][0]
     before = messages(site)
     stranger = sshd.ssh("stranger", "mine")
     assert stranger.returncode == 255 and not stranger.stdout
-    for more in (("-s",), ("-N", "-L", "0:127.0.0.1:1", "-o", "ExitOnForwardFailure=yes")):
-        words = ["sftp"] if more[0] == "-s" else []
-        if more[0] == "-s":
-            assert sshd.ssh("ann", *words, options=more).returncode == 2
+    assert sshd.ssh("ann", "sftp", options=("-s",)).returncode == 2
+    assert not sshd.ssh("ann", options=("-W", "127.0.0.1:1")).stdout
     assert messages(site) == before
 
 
@@ -240,11 +240,10 @@ def test_who_audits_reads_the_findings(both: tuple[Site, Sshd]) -> None:
     assert ran.returncode == 2 and "for auditors" in ran.stderr
 
 
-def test_nobody_outside_the_roster(both: tuple[Site, Sshd], tmp_path: Path) -> None:
+def test_nobody_outside_the_roster(both: tuple[Site, Sshd]) -> None:
     site, _ = both
     ran = site.run("mallory", "ask db-care --on db1 --as root --for 2h --yes /usr/bin/id")
     assert ran.returncode == 2 and "A1 UnknownPerson" in ran.stdout, ran
     for name in ("", "Ann", "ann,bob", "ann\nbob", "../ann"):
         ran = site.run(name, "mine")
         assert ran.returncode == 2 and not ran.stdout, ran
-    assert os.path.exists(tmp_path)
