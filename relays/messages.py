@@ -96,10 +96,6 @@ class Wish:
     def length(self) -> timedelta:
         return of_stamp(self.ends) - of_stamp(self.begins)
 
-    def from_now(self, at: str) -> "Wish":
-        """The same, but with no moment before the one at which it is asked."""
-        return replace(self, begins=max(self.begins, at))
-
 
 @dataclass(frozen=True)
 class Request:

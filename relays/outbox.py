@@ -94,7 +94,7 @@ class Outbox:
         with self.writing():
             if old := self.same(by, once):
                 return old
-            request = Request(by, self.next_number(by), at, wish.from_now(at))
+            request = Request(by, self.next_number(by), at, wish)
             return self.insert(request, "request", by, request.no, once)
 
     def keep_verdict(self, verdict: Verdict, once: str | None = None) -> Kept:

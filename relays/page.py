@@ -7,7 +7,6 @@ confirmation's token holds the words themselves, signed for the person whom they
 import hmac
 import re
 import secrets
-from datetime import datetime
 from typing import Any
 
 import flask
@@ -200,7 +199,7 @@ def show_wish() -> str:
         ceiling=visit.roster.ceilings.get(wish.ceiling),
         note="",
         button="Yes, ask",
-        token=visit.token("send-request", wish=vars(wish)),
+        token=visit.token("send-request", wish=vars(wish), at=stamp(visit.now)),
     )
 
 
@@ -233,17 +232,21 @@ def send() -> Response:
     visit: Visit = flask.g.visit
     kind = flask.request.form.get("what", "")
     said = visit.said("send-verdict" if kind == "verdict" else "send-request")
-    kept = keep(visit, said, visit.now)
+    kept = keep(visit, said)
     post_one(visit.outbox, visit.desk, kept)
     return flask.redirect(flask.url_for("home", sent=kept.id), 303)
 
 
-def keep(visit: Visit, said: dict[str, Any], at: datetime) -> Kept:
+def keep(visit: Visit, said: dict[str, Any]) -> Kept:
+    """Keeps what the token says: for a request, what was shown, as of the moment of showing it."""
     if said["what"] == "send-verdict":
-        verdict = Verdict(visit.person, said["kind"], said["of"], said["no"], stamp(at))
+        verdict = Verdict(visit.person, said["kind"], said["of"], said["no"], stamp(visit.now))
         return visit.outbox.keep_verdict(verdict, said["once"])
     words = {name: tuple(it) if isinstance(it, list) else it for name, it in said["wish"].items()}
-    return visit.outbox.keep_request(visit.person, Wish(**words), stamp(at), said["once"])
+    wish = Wish(**words)
+    if of_stamp(wish.ends) < visit.now:
+        raise BadWord("the window that you were shown is over: ask again")
+    return visit.outbox.keep_request(visit.person, wish, said["at"], said["once"])
 
 
 def serve(config: Config) -> None:

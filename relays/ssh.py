@@ -72,7 +72,8 @@ def status_of(kept: Kept) -> int:
 
 def ask(call: Call) -> int:
     """Asks for rights: shows what is asked for, keeps it, posts it, and says what became of it."""
-    wish = wish_of(call.said, call.zone, now())
+    at = now()
+    wish = wish_of(call.said, call.zone, at)
     call.say(f"{call.person} asks")
     call.say_lines(telling.wish_lines(wish, call.zone))
     if not call.said.once and not call.said.again and (old := same_wish(call, wish)):
@@ -82,7 +83,7 @@ def ask(call: Call) -> int:
         return NOT_SENT
     if not call.is_agreed("Send it?"):
         return NOT_SENT
-    kept = call.outbox.keep_request(call.person, wish, stamp(now()), call.said.once)
+    kept = call.outbox.keep_request(call.person, wish, stamp(at), call.said.once)
     name = f"{call.person} {kept.request.no}"
     call.say(f"Kept as {name}.")
     kept = post_one(call.outbox, call.desk, kept)

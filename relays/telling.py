@@ -89,7 +89,7 @@ def waits_for(standing: Standing, roster: Roster, now: datetime) -> str:
     needed = f"It needs {approvals(ceiling.needs)}" if ceiling else "It waits for approvals"
     left = [it for it in roster.approvers(asker, wish.ceiling, now) if it not in given]
     so_far = f"approved so far by {', '.join(given)}" if given else "nobody approved it yet"
-    may = f"{', '.join(left)} may" if left else "by the roster nobody may now"
+    may = f"{', '.join(left)} may approve it" if left else "by the roster nobody may now"
     return f"{needed}; {so_far}; {may}."
 
 

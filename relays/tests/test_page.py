@@ -124,7 +124,7 @@ def test_asking_on_the_page(fronted: tuple[Site, Front]) -> None:
     assert len(site.kept()) == before
     data = {"token": token(shown.text), "what": "request"}
     first = post(f"{front.url('ann')}/send", data)
-    assert "nobody approved it yet; bob, carol may." in first.text
+    assert "nobody approved it yet; bob, carol may approve it." in first.text
     assert len(site.kept()) == before + 1
     again = post(f"{front.url('ann')}/send", data)
     assert again.url == first.url and len(site.kept()) == before + 1

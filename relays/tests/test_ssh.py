@@ -44,7 +44,7 @@ def test_a_grants_whole_life(both: tuple[Site, Sshd]) -> None:
     assert ran.returncode == 0, ran
     assert "UTC (" in ran.stdout and "2 hours" in ran.stdout and "Send it? [y/N]" in ran.stdout
     found = re.search(r"Kept as ann ([0-9]+)\.", ran.stdout)
-    assert found and "nobody approved it yet; bob, carol may." in ran.stdout
+    assert found and "nobody approved it yet; bob, carol may approve it." in ran.stdout
     no = found[1]
     assert f"ann {no}" in sshd.ssh("bob", "waiting").stdout
     assert "Nothing" in sshd.ssh("dave", "waiting").stdout
