@@ -65,8 +65,11 @@ class Kept:
 class Outbox:
     def __init__(self, path: str, numbers: tuple[int, int] = (1, 999_999_999)) -> None:
         self.numbers = numbers
-        # (SQLite gives its log the rights of the file)
-        os.close(os.open(path, os.O_CREAT | os.O_RDWR, 0o600))
+        try:
+            # (SQLite gives its log the rights of the file)
+            os.close(os.open(path, os.O_CREAT | os.O_RDWR, 0o600))
+        except OSError as fault:
+            raise sqlite3.OperationalError(str(fault)) from None
         self.base = sqlite3.connect(path, timeout=20, isolation_level=None)
         self.base.execute("PRAGMA journal_mode = wal")
         self.base.execute("PRAGMA synchronous = full")

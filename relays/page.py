@@ -7,6 +7,7 @@ confirmation's token holds the words themselves, signed for the person whom they
 import hmac
 import re
 import secrets
+import sqlite3
 from typing import Any
 
 import flask
@@ -108,7 +109,7 @@ def create_app(config: Config) -> flask.Flask:
         reply.headers.update(HEADERS)
         return reply
 
-    for kind in (BadWord, BadWords, BadTime, OutOfNumbers, BadRoster, Silent):
+    for kind in (BadWord, BadWords, BadTime, OutOfNumbers, BadRoster, Silent, sqlite3.Error):
         app.register_error_handler(kind, complain)
     app.register_error_handler(400, complain)
     app.register_error_handler(403, complain)
@@ -122,8 +123,8 @@ def create_app(config: Config) -> flask.Flask:
 
 def complain(fault: Exception) -> tuple[str, int]:
     """What a person reads where something is wrong with what they sent."""
-    is_silent = isinstance(fault, Silent)
-    status = getattr(fault, "code", None) or (503 if is_silent else 400)
+    is_ours = isinstance(fault, (Silent, BadRoster, sqlite3.Error))
+    status = getattr(fault, "code", None) or (503 if is_ours else 400)
     text = getattr(fault, "description", None) or str(fault)
     person = flask.g.visit.person if "visit" in flask.g else None
     return flask.render_template("wrong.html", text=text, person=person), status
@@ -139,6 +140,7 @@ def home() -> str:
         review = visit.desk.review(visit.now) if visit.is_auditor() else None
     except Silent as why:
         trouble = str(why)
+    waiting = knowledge.waiting(visit.person)
     rows = [(grant, knowledge.asked_here(grant)) for grant in grants]
     rows += [(it.grant, it.request) for it in knowledge.coming() if it.grant]
     return flask.render_template(
@@ -147,7 +149,8 @@ def home() -> str:
         person=visit.person,
         notice=notice(visit),
         mine=knowledge.mine(visit.person, "all" in flask.request.args),
-        waiting=knowledge.waiting(visit.person),
+        waiting=[it for it in waiting if it.state is not State.OBJECTED],
+        objected=[it for it in waiting if it.state is State.OBJECTED],
         rows=rows,
         picture=timeline(rows, visit.now, visit.zone),
         ceilings=visit.roster.may_ask(visit.person, visit.now),
@@ -221,7 +224,7 @@ def show_verdict() -> str:
         ceiling=visit.roster.ceilings.get(standing.request.wish.ceiling) if standing else None,
         note=telling.fate(standing, visit.zone, visit.roster, visit.now)
         if standing
-        else "This relay did not bring the request: what it asks for is not known here.",
+        else telling.unseen(kind, of, no),
         button=f"Yes, {kind}",
         token=visit.token("send-verdict", kind=kind, of=of, no=no),
     )

@@ -2,6 +2,7 @@
 
 import argparse
 import json
+import sqlite3
 import sys
 from collections.abc import Callable
 from datetime import timedelta, tzinfo
@@ -116,7 +117,7 @@ def give_verdict(call: Call) -> int:
         call.say_lines(telling.wish_lines(standing.request.wish, call.zone))
         call.say(telling.fate(standing, call.zone, call.roster, now()))
     else:
-        call.say(f"This relay brought no request {of} {no}: it cannot show what it asks for.")
+        call.say(telling.unseen(kind, of, no))
     earlier = [it for it in call.outbox.verdicts(of, no) if it.message.by == call.person]
     if earlier and not call.said.again and any(it.verdict.kind == kind for it in earlier):
         call.say(f"You {telling.DONE[kind]} it already. Write --again to say it once more.")
@@ -218,6 +219,9 @@ def answer(config: Config, person: str, line: str) -> int:
     try:
         said = parse(line or "help")
         return ANSWERS[said.command](Call(config, person, said))
+    except sqlite3.Error as fault:
+        print(f"Nothing was sent: the outbox fails: {fault}. Tell the operator.", file=sys.stderr)
+        return REFUSED
     except (BadWords, BadWord, BadTime, BadRoster, OutOfNumbers) as fault:
         print(f"Nothing was sent: {fault}.\nWrite 'help' for the commands.", file=sys.stderr)
         return REFUSED

@@ -65,6 +65,10 @@ class Standing:
         given = [it for it in self.said if it.verdict.kind == "approve" and not it.barred]
         return [it for it in given if it.kept.state == "acked"]
 
+    def is_approved_by(self, person: str) -> bool:
+        given = [it for it in self.said if it.verdict.kind == "approve" and not it.barred]
+        return any(it.verdict.by == person for it in given)
+
     def objections(self) -> list[Said]:
         """Refusals and revocations that this relay brought. Whether each counts it cannot know."""
         given = [it for it in self.said if it.verdict.kind != "approve"]
@@ -141,7 +145,8 @@ class Knowledge:
         return [self.standing(it) for it in reversed(shown)]
 
     def waiting(self, person: str) -> list[Standing]:
-        """What a person may approve by the roster, the oldest first."""
+        """What a person may approve by the roster and did not, the oldest first; behind it what
+        somebody refused or revoked. Whether that counted, no route tells."""
         found = []
         for kept in self.outbox.requests():
             request = kept.request
@@ -149,8 +154,9 @@ class Knowledge:
             label = request.wish.ceiling
             if is_open and self.roster.may_approve(person, request.by, label, self.now):
                 found.append(self.standing(kept))
-        left = (State.WAITING, State.OBJECTED, State.KEPT, State.UNKNOWN)
-        return [it for it in found if it.state in left]
+        left = (State.WAITING, State.KEPT, State.UNKNOWN, State.OBJECTED)
+        still = [it for it in found if it.state in left and not it.is_approved_by(person)]
+        return sorted(still, key=lambda it: it.state is State.OBJECTED)
 
     def coming(self) -> list[Standing]:
         """What this relay's people asked for and the desk grants, but not yet."""

@@ -3,7 +3,7 @@
 from datetime import datetime, timedelta, tzinfo
 
 from relays.desk import Grant
-from relays.messages import Request, Verdict, Wish
+from relays.messages import BadWord, Request, Verdict, Wish
 from relays.moments import of_stamp, shown, spoken, stamp
 from relays.refusals import in_words
 from relays.roster import Ceiling, Roster
@@ -100,6 +100,15 @@ def verdict_fate(kind: str, state: str, answer: str) -> str:
     if state == "refused":
         return f"The desk refused that. {in_words(answer)}"
     return f"It is kept here and not yet at the desk: {answer}. It is posted again by itself."
+
+
+def unseen(kind: str, of: str, no: int) -> str:
+    """What to say of a verdict on a request that this relay did not bring. Nobody approves what
+    they cannot see: an approval may come before its request, which could then ask for anything."""
+    text = f"this relay brought no request {of} {no}, so it cannot show what it asks for"
+    if kind == "approve":
+        raise BadWord(f"{text}: approve it through the relay that brought it")
+    return f"{text[0].upper()}{text[1:]}."
 
 
 def as_data(standing: Standing) -> dict[str, object]:

@@ -1,4 +1,4 @@
-"""A front for tests: nginx, which knows who is calling by their certificate.
+"""A front for tests: nginx with relays/front.example.conf, which knows people by certificates.
 
 Browsers are told apart by the port that they come to: each port stands for one person. Both set
 the header of the person anew, whatever the client sent.
@@ -7,9 +7,10 @@ the header of the person anew, whatever the client sent.
 import subprocess
 from pathlib import Path
 
-from relays.tests.site import SECRET, Site, free_port, wait_for_port
+from relays.tests.site import ROOT, SECRET, Site, free_port, wait_for_port
 
 NGINX = "/usr/sbin/nginx"
+EXAMPLE = ROOT / "relays" / "front.example.conf"
 CONFIG = """\
 daemon off;
 pid {folder}/nginx.pid;
@@ -23,23 +24,7 @@ http {{
     fastcgi_temp_path {folder}/fastcgi;
     uwsgi_temp_path {folder}/uwsgi;
     scgi_temp_path {folder}/scgi;
-    map $ssl_client_s_dn $person {{
-        default "";
-        "~^CN=(?<name>[a-z_][a-z0-9._-]*)$" $name;
-    }}
-    server {{
-        listen 127.0.0.1:{tls} ssl;
-        ssl_certificate {folder}/front.pem;
-        ssl_certificate_key {folder}/front.key;
-        ssl_client_certificate {folder}/people.pem;
-        ssl_verify_client on;
-        location / {{
-            proxy_pass http://127.0.0.1:{page};
-            proxy_set_header Host $http_host;
-            proxy_set_header X-Desk-Person $person;
-            proxy_set_header X-Desk-Front {secret};
-        }}
-    }}
+{shipped}
 {servers}
 }}
 """
@@ -74,11 +59,15 @@ class Front:
         self.certificate("stranger", "others", "/CN=bob")
         self.certificate("joined", "people", "/O=site/CN=bob")
         values = {"folder": self.folder, "page": site.page, "secret": SECRET}
+        (self.folder / "page.front").write_text(f"proxy_set_header X-Desk-Front {SECRET};\n")
+        shipped = EXAMPLE.read_text().replace("8443", f"127.0.0.1:{self.tls}")
+        shipped = shipped.replace("127.0.0.1:8090", f"127.0.0.1:{site.page}")
+        shipped = shipped.replace("people-ca.pem", "people.pem").replace("/etc/desk", str(self.folder))
         servers = "".join(
             SERVER.format(port=port, person=person, **values) for person, port in self.ports.items()
         )
         config = self.folder / "nginx.conf"
-        config.write_text(CONFIG.format(tls=self.tls, servers=servers, **values))
+        config.write_text(CONFIG.format(shipped=shipped, servers=servers, **values))
         self.process = subprocess.Popen([NGINX, "-e", f"{self.folder}/nginx.log", "-c", str(config)])
         wait_for_port(self.tls)
 

@@ -19,7 +19,7 @@ from relays.tests.site import Site, wait_for_port
 from relays.tests.test_page import confirmation, token
 
 ROUNDS = 100
-PAGE_ROUNDS = 8
+PAGE_ROUNDS = 10
 DOWN_SECONDS = 60
 LINE = "ask db-care --on db1 --as root --for 1h --yes --again /usr/bin/id"
 
@@ -98,7 +98,7 @@ def test_the_page_is_killed(site: Site) -> None:
         for number in range(PAGE_ROUNDS):
             shown = confirmation(front, commands=f"/usr/bin/tool{number}")
             data = {"token": token(shown.text), "what": "request"}
-            timer = threading.Timer(chance.uniform(0, 0.12), page.kill)
+            timer = threading.Timer(chance.uniform(0, 0.6), page.kill)
             timer.start()
             first = requests.post(f"{front.url('ann')}/send", data, timeout=60, allow_redirects=False)
             sent += first.status_code == 303

@@ -209,6 +209,15 @@ def test_odd_words_on_the_page(fronted: tuple[Site, Front], words: dict[str, str
     assert site.kept() == before
 
 
+def test_nobody_approves_what_is_not_shown(fronted: tuple[Site, Front]) -> None:
+    _, front = fronted
+    reply = get(f"{front.url('bob')}/verdict?kind=approve&of=ann&no=4711")
+    assert reply.status_code == 400 and "cannot show what it asks for" in reply.text
+    assert "Yes, approve" not in reply.text
+    reply = get(f"{front.url('bob')}/verdict?kind=revoke&of=ann&no=4711")
+    assert reply.status_code == 200 and "Yes, revoke" in reply.text
+
+
 def test_each_reply_is_guarded(fronted: tuple[Site, Front]) -> None:
     _, front = fronted
     for path in ("/", "/nothing", "/verdict?kind=x&of=ann&no=1", "/static/page.css"):

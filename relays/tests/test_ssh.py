@@ -121,7 +121,7 @@ def test_other_ways_in_speak_for_nobody_else(
     options = ("-o", "SendEnv=SSH_ORIGINAL_COMMAND PYTHONPATH")
     monkeypatch.setenv("SSH_ORIGINAL_COMMAND", "--person bob approve ann 99 --yes")
     assert sshd.ssh("ann", options=options).returncode == 2
-    monkeypatch.setenv("SSH_ORIGINAL_COMMAND", "approve bob 99 --yes")
+    monkeypatch.setenv("SSH_ORIGINAL_COMMAND", "refuse bob 99 --yes")
     assert sshd.ssh("ann", options=options).returncode == 0
     assert '"by":"ann"' in site.kept()[-1][0]
     before = messages(site)
@@ -154,6 +154,7 @@ ODD = [
     ("ask db-care --on db1 --as root --until 20200101000000Z /usr/bin/id", "before it begins"),
     ("ask db-care --on db1 --as root --zone Mars/Base --for 2h /usr/bin/id", "no time zone"),
     ("ask db-care --on db1 --as root --zone ../../etc/passwd --for 2h /usr/bin/id", "no time zone"),
+    ("approve ann 4711", "cannot show what it asks for"),
     ("approve ann -1", "is no request's number"),
     ("approve ann 1e3", "is no request's number"),
     ("approve ann 01", "is no request's number"),
