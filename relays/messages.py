@@ -77,7 +77,11 @@ class Wish:
 
     @staticmethod
     def of(
-        ceiling: str, hosts: Sequence[str], runas: str, commands: Sequence[str], window: tuple[str, str]
+        ceiling: str,
+        hosts: Sequence[str],
+        runas: str,
+        commands: Sequence[str],
+        window: tuple[str, str],
     ) -> "Wish":
         """A wish of words that were checked; lists in the order that a message wants."""
         return Wish(

@@ -130,16 +130,21 @@ class Outbox:
         row = self.base.execute("SELECT last FROM numbers WHERE person = ?", (person,)).fetchone()
         number: int = max(first, row[0] + 1) if row else first
         if number > last:
-            raise OutOfNumbers(f"{person} has used the numbers up to {last}: ask the desk's operator")
+            raise OutOfNumbers(
+                f"{person} has used the numbers up to {last}: ask the desk's operator"
+            )
         self.base.execute(
-            "INSERT INTO numbers VALUES (?, ?) ON CONFLICT (person) DO UPDATE SET last = excluded.last",
+            "INSERT INTO numbers VALUES (?, ?)"
+            " ON CONFLICT (person) DO UPDATE SET last = excluded.last",
             (person, number),
         )
         return number
 
     def find(self, where: str, *values: object) -> list[Kept]:
         """Messages in the order in which they were kept."""
-        rows = self.base.execute(f"SELECT {COLUMNS} FROM messages WHERE {where} ORDER BY id", values)
+        rows = self.base.execute(
+            f"SELECT {COLUMNS} FROM messages WHERE {where} ORDER BY id", values
+        )
         return [Kept(id, read(body), state, answer) for id, body, state, answer in rows]
 
     def unposted(self) -> list[Kept]:
@@ -172,4 +177,6 @@ class Outbox:
     def post_again(self) -> int:
         """Marks all that was acknowledged as not posted: for a desk that lost its store."""
         with self.writing():
-            return self.base.execute("UPDATE messages SET state = 'kept' WHERE state = 'acked'").rowcount
+            return self.base.execute(
+                "UPDATE messages SET state = 'kept' WHERE state = 'acked'"
+            ).rowcount

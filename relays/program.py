@@ -17,7 +17,9 @@ CONFIG = "/etc/desk/relay.toml"
 
 
 def parser() -> argparse.ArgumentParser:
-    found = argparse.ArgumentParser("desk-relay", description="A relay of the privileged access desk.")
+    found = argparse.ArgumentParser(
+        "desk-relay", description="A relay of the privileged access desk."
+    )
     found.add_argument("--config", default=CONFIG, help=f"the settings (default {CONFIG})")
     found.add_argument("--person", help="who is calling by ssh; the words are SSH_ORIGINAL_COMMAND")
     jobs = found.add_subparsers(dest="job", metavar="JOB")

@@ -153,7 +153,9 @@ def show(call: Call, standings: list[Standing], knowledge: Knowledge, none: str)
 
 def mine(call: Call) -> int:
     knowledge = call.knowledge()
-    return show(call, knowledge.mine(call.person, call.said.all), knowledge, "You asked for nothing.")
+    return show(
+        call, knowledge.mine(call.person, call.said.all), knowledge, "You asked for nothing."
+    )
 
 
 def waiting(call: Call) -> int:

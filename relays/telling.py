@@ -55,7 +55,9 @@ def said_line(said: Said, zone: tzinfo) -> str:
         return f"{text}; kept here, not yet at the desk"
     if said.kept.state == "refused":
         return f"{text}; {in_words(said.kept.answer)}"
-    return f"{text}; it does not count: {BARS.get(said.barred, said.barred)}" if said.barred else text
+    return (
+        f"{text}; it does not count: {BARS.get(said.barred, said.barred)}" if said.barred else text
+    )
 
 
 def fate(standing: Standing, zone: tzinfo, roster: Roster, now: datetime) -> str:
@@ -74,7 +76,9 @@ def fate(standing: Standing, zone: tzinfo, roster: Roster, now: datetime) -> str
     if state is State.UNKNOWN:
         return "It is at the desk. What became of it is not known now: the desk does not answer."
     if state is State.OBJECTED:
-        by = ", ".join(f"{it.verdict.by} {DONE[it.verdict.kind]} it" for it in standing.objections())
+        by = ", ".join(
+            f"{it.verdict.by} {DONE[it.verdict.kind]} it" for it in standing.objections()
+        )
         return f"The desk grants nothing of it: {by}."
     if state is State.LAPSED:
         return "Its window is over, and the desk granted nothing of it."

@@ -49,7 +49,9 @@ def timeline(
     for number, (grant, request) in enumerate(rows):
         x, end = place(grant.begins), place(grant.ends)
         where = ", ".join(request.wish.hosts) if request else grant.ceiling
-        label = f"{grant.who} {grant.no} on {where}" if request else f"{grant.who} {grant.no}: {where}"
+        label = (
+            f"{grant.who} {grant.no} on {where}" if request else f"{grant.who} {grant.no}: {where}"
+        )
         is_now = grant.begins <= now <= grant.ends
         bars.append(Bar(TOP + number * ROW, x, max(end - x, 3.0), clipped(label), is_now))
     ticks = [(place(at), in_short(at, zone, whole)) for at in marks(first, whole)]

@@ -25,7 +25,7 @@ USAGE = """\
 
 With each: --json for scripts, --yes to send without being asked, --zone Europe/Berlin for times.
 A time is 'now', '17:00', 'tomorrow 09:00', '2026-01-05 09:00', '+2h', or UTC as 20260105090000Z.
-A command is a whole path; '\"\"' after it means without arguments. Who you are is your key's word."""
+A command is a whole path; '""' after it means without arguments. Your key says who you are."""
 
 
 class BadWords(ValueError):

@@ -62,13 +62,17 @@ class Front:
         (self.folder / "page.front").write_text(f"proxy_set_header X-Desk-Front {SECRET};\n")
         shipped = EXAMPLE.read_text().replace("8443", f"127.0.0.1:{self.tls}")
         shipped = shipped.replace("127.0.0.1:8090", f"127.0.0.1:{site.page}")
-        shipped = shipped.replace("people-ca.pem", "people.pem").replace("/etc/desk", str(self.folder))
+        shipped = shipped.replace("people-ca.pem", "people.pem").replace(
+            "/etc/desk", str(self.folder)
+        )
         servers = "".join(
             SERVER.format(port=port, person=person, **values) for person, port in self.ports.items()
         )
         config = self.folder / "nginx.conf"
         config.write_text(CONFIG.format(shipped=shipped, servers=servers, **values))
-        self.process = subprocess.Popen([NGINX, "-e", f"{self.folder}/nginx.log", "-c", str(config)])
+        self.process = subprocess.Popen(
+            [NGINX, "-e", f"{self.folder}/nginx.log", "-c", str(config)]
+        )
         wait_for_port(self.tls)
 
     def path(self, name: str) -> str:

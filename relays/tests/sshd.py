@@ -38,7 +38,10 @@ class Sshd:
             keygen("-t", "ed25519", "-N", "", "-C", name, "-f", str(self.folder / name))
         public = self.folder / f"{certified}.pub"
         keygen("-s", str(self.folder / "ca"), "-I", "id", "-n", certified, str(public))
-        lines = [f"{self.options(it)} {(self.folder / it).with_suffix('.pub').read_text()}" for it in keys]
+        lines = [
+            f"{self.options(it)} {(self.folder / it).with_suffix('.pub').read_text()}"
+            for it in keys
+        ]
         (self.folder / "authorized_keys").write_text("".join(lines))
         principal = f"{self.options(certified)} {certified}\n"
         (self.folder / "authorized_principals").write_text(principal)
@@ -64,9 +67,27 @@ class Sshd:
     def client(self, key: str, *options: str) -> list[str]:
         """The words of ssh with somebody's key."""
         known = "UserKnownHostsFile=/dev/null"
-        return ["ssh", "-F", "/dev/null", "-q", "-i", str(self.folder / key), "-p", str(self.port),
-                "-o", "IdentitiesOnly=yes", "-o", "BatchMode=yes", "-o", known,
-                "-o", "StrictHostKeyChecking=no", *options, f"{USER}@127.0.0.1", "--"]
+        return [
+            "ssh",
+            "-F",
+            "/dev/null",
+            "-q",
+            "-i",
+            str(self.folder / key),
+            "-p",
+            str(self.port),
+            "-o",
+            "IdentitiesOnly=yes",
+            "-o",
+            "BatchMode=yes",
+            "-o",
+            known,
+            "-o",
+            "StrictHostKeyChecking=no",
+            *options,
+            f"{USER}@127.0.0.1",
+            "--",
+        ]
 
     def ssh(
         self, key: str, *words: str, given: str = "", options: tuple[str, ...] = ()

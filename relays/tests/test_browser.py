@@ -30,16 +30,23 @@ const behind = e => { for (; e; e = e.parentElement) {
 return [...document.querySelectorAll('body *')].filter(e => !e.closest('svg') && e.offsetWidth > 1
   && [...e.childNodes].some(n => n.nodeType == 3 && n.data.trim())).map(e => {
   const a = light(rgb(getComputedStyle(e).color)), b = light(behind(e));
-  return [(Math.max(a, b) + .05) / (Math.min(a, b) + .05), e.tagName + ' ' + e.textContent.trim()]; });
+  return [(Math.max(a, b) + .05) / (Math.min(a, b) + .05), e.tagName + e.textContent.trim()]; });
 """
 
 
 def browser(folder: Path, with_scripts: bool = False) -> webdriver.Chrome:
     options = webdriver.ChromeOptions()
     options.binary_location = "/usr/bin/chromium"
-    for word in ("--headless=new", "--no-sandbox", "--disable-gpu", "--disable-dev-shm-usage",
-                 "--window-size=1100,1400", "--no-first-run", "--disable-background-networking",
-                 f"--user-data-dir={folder}"):
+    for word in (
+        "--headless=new",
+        "--no-sandbox",
+        "--disable-gpu",
+        "--disable-dev-shm-usage",
+        "--window-size=1100,1400",
+        "--no-first-run",
+        "--disable-background-networking",
+        f"--user-data-dir={folder}",
+    ):
         options.add_argument(word)
     if not with_scripts:
         blocked = {"profile.managed_default_content_settings.javascript": 2}
@@ -197,9 +204,7 @@ def test_labels_and_headings(
     assert all(it.accessible_name for it in ann.find_elements(By.TAG_NAME, "svg"))
 
 
-def test_contrast(
-    fronted: tuple[Site, Front], tmp_path: Path
-) -> None:
+def test_contrast(fronted: tuple[Site, Front], tmp_path: Path) -> None:
     _, front = fronted
     dave = browser(tmp_path, with_scripts=True)
     try:

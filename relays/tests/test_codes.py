@@ -18,7 +18,11 @@ def test_each_sentence_is_the_documents() -> None:
 
 
 def test_each_code_of_a_message_is_there() -> None:
-    assert [it[:2] for it in sorted(SENTENCES)] == [f"A{n}" for n in range(1, 9)] + ["M1", "M2", "M3"]
+    assert [it[:2] for it in sorted(SENTENCES)] == [f"A{n}" for n in range(1, 9)] + [
+        "M1",
+        "M2",
+        "M3",
+    ]
 
 
 def test_a_person_reads_what_to_do() -> None:

@@ -100,13 +100,17 @@ def test_the_page_is_killed(site: Site) -> None:
             data = {"token": token(shown.text), "what": "request"}
             timer = threading.Timer(chance.uniform(0, 0.6), page.kill)
             timer.start()
-            first = requests.post(f"{front.url('ann')}/send", data, timeout=60, allow_redirects=False)
+            first = requests.post(
+                f"{front.url('ann')}/send", data, timeout=60, allow_redirects=False
+            )
             sent += first.status_code == 303
             timer.join()
             page.wait(timeout=20)
             page = site.start("page")
             wait_for_port(site.page)
-            again = requests.post(f"{front.url('ann')}/send", data, timeout=60, allow_redirects=False)
+            again = requests.post(
+                f"{front.url('ann')}/send", data, timeout=60, allow_redirects=False
+            )
             assert again.status_code == 303
             if first.status_code == 303:
                 assert first.headers["Location"] == again.headers["Location"]

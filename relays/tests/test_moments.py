@@ -29,8 +29,21 @@ def test_a_time_is_one_moment(text: str, wanted: str) -> None:
     assert stamp(moment_of(text, BERLIN, NOON)) == wanted
 
 
-NO_TIMES = ["", "noon", "25:00", "12:60", "9", "09:00", "2026-02-30 09:00", "20260230090000Z",
-            "2026-03-29 02:30", "2026-10-25 02:30", "yesterday 09:00", "2101-01-01 09:00", "-2h"]
+NO_TIMES = [
+    "",
+    "noon",
+    "25:00",
+    "12:60",
+    "9",
+    "09:00",
+    "2026-02-30 09:00",
+    "20260230090000Z",
+    "2026-03-29 02:30",
+    "2026-10-25 02:30",
+    "yesterday 09:00",
+    "2101-01-01 09:00",
+    "-2h",
+]
 
 
 @pytest.mark.parametrize("text", NO_TIMES)
@@ -48,7 +61,11 @@ def test_an_hour_that_is_there_twice_or_never_is_named() -> None:
 
 def test_lengths() -> None:
     assert [length_of(it).total_seconds() for it in ("2h", "1h30m", "1d", "45s")] == [
-        7200, 5400, 86400, 45]
+        7200,
+        5400,
+        86400,
+        45,
+    ]
     for text in ("2", "h", "2 h", "0m", "-2h", "2w", "1.5h"):
         with pytest.raises(BadTime):
             length_of(text)

@@ -15,9 +15,7 @@ from relays.outbox import Outbox, OutOfNumbers
 from relays.posting import post_kept
 from relays.tests.site import Site
 
-WISH = Wish.of(
-    "db-care", ["db1"], "root", ["/usr/bin/id"], ("20260105090000Z", "20260105100000Z")
-)
+WISH = Wish.of("db-care", ["db1"], "root", ["/usr/bin/id"], ("20260105090000Z", "20260105100000Z"))
 AT = "20260105080000Z"
 
 

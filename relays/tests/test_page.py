@@ -76,7 +76,9 @@ def test_who_is_calling_is_the_certificates_name(fronted: tuple[Site, Front]) ->
     assert called("stranger").status_code == 400
     joined = called("joined")
     assert joined.status_code == 403 and "does not say who you are" in joined.text
-    bare = requests.get(f"https://127.0.0.1:{front.tls}/", verify=front.path("people.pem"), timeout=60)
+    bare = requests.get(
+        f"https://127.0.0.1:{front.tls}/", verify=front.path("people.pem"), timeout=60
+    )
     assert bare.status_code == 400 and "You are" not in bare.text
 
 
@@ -95,7 +97,9 @@ HEADERS = [
 
 
 @pytest.mark.parametrize("headers", HEADERS)
-def test_a_header_from_beside_the_front(fronted: tuple[Site, Front], headers: dict[str, str]) -> None:
+def test_a_header_from_beside_the_front(
+    fronted: tuple[Site, Front], headers: dict[str, str]
+) -> None:
     site, _ = fronted
     for path in ("/", "/verdict?kind=approve&of=ann&no=1", "/static/page.css", "/nothing"):
         reply = get(f"http://127.0.0.1:{site.page}{path}", **headers)
@@ -155,13 +159,23 @@ def forged(front: Front, name: str) -> dict[str, str]:
         "no token of ours": {"what": "request", "token": "e30.aaaa.bbbb"},
         "a changed token": {"what": "request", "token": "x" + mine},
         "a token of eve's": {"what": "verdict", "token": token(page)},
-        "the token of another form": {"what": "request", "token": token(get(front.url("ann")).text)},
+        "the token of another form": {
+            "what": "request",
+            "token": token(get(front.url("ann")).text),
+        },
         "a token of another kind": {"what": "verdict", "token": mine},
     }[name]
 
 
-FORGED = ["no token", "an empty token", "no token of ours", "a changed token", "a token of eve's",
-          "the token of another form", "a token of another kind"]
+FORGED = [
+    "no token",
+    "an empty token",
+    "no token of ours",
+    "a changed token",
+    "a token of eve's",
+    "the token of another form",
+    "a token of another kind",
+]
 
 
 @pytest.mark.parametrize("name", FORGED)
@@ -185,7 +199,7 @@ def test_a_form_from_another_site(fronted: tuple[Site, Front]) -> None:
 
 
 ODD = [
-    {"hosts": '<script>alert(1)</script>'},
+    {"hosts": "<script>alert(1)</script>"},
     {"hosts": ""},
     {"runas": "root ALL=(ALL) ALL"},
     {"commands": "id"},
@@ -226,7 +240,11 @@ def test_each_reply_is_guarded(fronted: tuple[Site, Front]) -> None:
         assert policy.startswith("default-src 'none'; ") and "unsafe" not in policy
         assert "script-src" not in policy and "frame-ancestors 'none'" in policy
         assert reply.headers["X-Content-Type-Options"] == "nosniff"
-        assert "<script" not in reply.text and "style=" not in reply.text and " on" + "click" not in reply.text
+        assert (
+            "<script" not in reply.text
+            and "style=" not in reply.text
+            and " on" + "click" not in reply.text
+        )
 
 
 def test_findings_are_for_auditors(fronted: tuple[Site, Front]) -> None:

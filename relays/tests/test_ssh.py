@@ -1,4 +1,4 @@
-"""The relay by ssh, through a real sshd: a grant's life, and attempts to speak for somebody else."""
+"""The relay by ssh, through a real sshd: a grant's life, and attempts to speak for others."""
 
 import json
 import re
@@ -138,10 +138,13 @@ ODD = [
     ("ask db-care --on db1 --as root --for 2h id", "whole path"),
     ("ask db-care --on db1 --as root /usr/bin/id", "--for"),
     ("ask db-care --on db1 --as root --for 2h --until 17:00 /usr/bin/id", "not allowed with"),
-    ("ask db-care --on 'db1\",\"by\":\"bob' --as root --for 2h /usr/bin/id", "is no host"),
+    ('ask db-care --on \'db1","by":"bob\' --as root --for 2h /usr/bin/id', "is no host"),
     ("ask db-care --on ../db1 --as root --for 2h /usr/bin/id", "is no host"),
     ("ask db-care --on '' --as root --for 2h /usr/bin/id", "is no host"),
-    ("ask db-care --on db1 --as 'root ALL=(ALL) NOPASSWD: ALL' --for 2h /usr/bin/id", "is no target"),
+    (
+        "ask db-care --on db1 --as 'root ALL=(ALL) NOPASSWD: ALL' --for 2h /usr/bin/id",
+        "is no target",
+    ),
     ("ask 'db-care\\nx' --on db1 --as root --for 2h /usr/bin/id", "is no ceiling"),
     ("ask db-care --on db1 --as root --for 2h /usr/bin/id '; rm -rf /'", "is no argument"),
     ("ask db-care --on db1 --as root --for 2h /usr/bin/id '\x1b]0;x\x07'", "is no argument"),
@@ -223,15 +226,21 @@ def test_the_same_is_asked_once(both: tuple[Site, Sshd]) -> None:
 
 def test_at_a_terminal(both: tuple[Site, Sshd]) -> None:
     _, sshd = both
-    ran = sshd.ssh("bob", "ask db-care --on db1 --as root --for 1h /usr/bin/w", options=("-tt",), given="n\n")
-    assert ran.returncode == 1 and "Send it? [y/N]" in ran.stdout and "Nothing was sent." in ran.stdout
+    ran = sshd.ssh(
+        "bob", "ask db-care --on db1 --as root --for 1h /usr/bin/w", options=("-tt",), given="n\n"
+    )
+    assert (
+        ran.returncode == 1 and "Send it? [y/N]" in ran.stdout and "Nothing was sent." in ran.stdout
+    )
 
 
 def test_times_without_quotes(both: tuple[Site, Sshd]) -> None:
     _, sshd = both
     words = ["ask", "db-care", "--on", "db1", "--as", "root", "--from", "tomorrow 09:00"]
     ran = sshd.ssh("ann", *words, "--until", "tomorrow 10:30", "/usr/bin/w", given="n\n")
-    assert ran.returncode == 1 and "09:00:00 CE" in ran.stdout and "1 hour 30 minutes" in ran.stdout, ran
+    assert (
+        ran.returncode == 1 and "09:00:00 CE" in ran.stdout and "1 hour 30 minutes" in ran.stdout
+    ), ran
 
 
 def test_who_audits_reads_the_findings(both: tuple[Site, Sshd]) -> None:
