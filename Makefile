@@ -62,7 +62,7 @@ relays-test:
 
 # A grant's life by ssh: ann asks, bob approves, ann revokes.
 relays-demo:
-	bash relays/demo.sh
+	/usr/bin/python3 relays/demo.py
 
 clean:
 	rm -rf build crates/*/out

@@ -91,7 +91,7 @@ def ask(call: Call) -> int:
     standing = call.knowledge().standing(kept)
     call.say(telling.fate(standing, call.zone, call.roster, now()))
     if kept.state == "acked":
-        call.say(f"They write: approve {name}")
+        call.say(f"To approve it they write: approve {name}")
     call.give_data(telling.as_data(standing))
     return status_of(kept)
 

@@ -72,7 +72,7 @@ def test_killed_between_a_word_and_the_ack(site: Site) -> None:
         found = re.search(r"Kept as ([a-z]+) ([0-9]+)\.", said)
         if found:
             confirmed.append((found[1], int(found[2])))
-            after += "They write" not in said
+            after += "To approve it" not in said
         if number % 10 == 5:
             poster.kill()
             poster.wait(timeout=20)
