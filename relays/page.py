@@ -19,7 +19,7 @@ from relays import telling
 from relays.config import Config
 from relays.desk import Silent
 from relays.messages import PERSON, VERDICTS, BadWord, Verdict, Wish, checked, command_of, number_of
-from relays.moments import BadTime, now, of_stamp, shown, stamp, zone_of
+from relays.moments import BadTime, now, of_stamp, shown, stamp
 from relays.outbox import Kept, Outbox, OutOfNumbers
 from relays.posting import post_one
 from relays.roster import BadRoster
@@ -178,22 +178,15 @@ def told(visit: Visit, kept: Kept) -> str:
     return f"{standing.name}: {telling.fate(standing, visit.zone, visit.roster, visit.now)}"
 
 
-def show_wish() -> str:
+def show_wish() -> str | tuple[str, int]:
     """Shows what a person asks for, in UTC and local time, before anything is sent."""
     visit: Visit = flask.g.visit
     visit.said("ask")
-    form = {name: value.strip() for name, value in flask.request.form.items()}
-    lines = [line for line in form.get("commands", "").splitlines() if line.strip()]
-    if not lines:
-        raise BadWord("name a command by its whole path, such as /usr/bin/id")
-    commands = [command_of(split(line)) for line in lines]
-    hosts = re.split(r"[\s,]+", form.get("hosts", ""))
-    if form.get("length") and form.get("ends"):
-        raise BadWord("say how long, or until when, and not both")
-    zone = zone_of(form.get("zone") or "UTC") if form.get("zone") else visit.zone
-    begins = form.get("begins") or "now"
-    window = window_of(begins, form.get("length"), form.get("ends"), zone, visit.now)
-    wish = Wish.of(form.get("ceiling", ""), hosts, form.get("runas", ""), commands, window)
+    words = {name: value.strip() for name, value in flask.request.form.items()}
+    try:
+        wish = wish_of_form(visit, words)
+    except (BadWord, BadWords, BadTime) as fault:
+        return show_again(visit, words, str(fault)), 400
     return flask.render_template(
         "confirm.html",
         title="Ask for this?",
@@ -203,6 +196,33 @@ def show_wish() -> str:
         note="",
         button="Yes, ask",
         token=visit.token("send-request", wish=vars(wish), at=stamp(visit.now)),
+    )
+
+
+def wish_of_form(visit: Visit, words: dict[str, str]) -> Wish:
+    """What the form's words ask for."""
+    lines = [line for line in words.get("commands", "").splitlines() if line.strip()]
+    if not lines:
+        raise BadWord("name a command by its whole path, such as /usr/bin/id")
+    if words.get("length") and words.get("ends"):
+        raise BadWord("say for how long, or until when, and not both")
+    begins = words.get("begins") or "now"
+    length, ends = words.get("length"), words.get("ends")
+    window = window_of(begins, length, ends, visit.zone, visit.now)
+    hosts = re.split(r"[\s,]+", words.get("hosts", ""))
+    commands = [command_of(split(line)) for line in lines]
+    return Wish.of(words.get("ceiling", ""), hosts, words.get("runas", ""), commands, window)
+
+
+def show_again(visit: Visit, words: dict[str, str], text: str) -> str:
+    """The form with the words that were given, and what is wrong with them."""
+    return flask.render_template(
+        "ask.html",
+        person=visit.person,
+        text=text,
+        ceilings=visit.roster.may_ask(visit.person, visit.now),
+        words=words,
+        token=visit.token("ask"),
     )
 
 

@@ -135,7 +135,9 @@ def window_of(
             return stamp(first), stamp(first + length_of(length))
         except OverflowError:
             raise BadWord(f"{length!r} is too long") from None
-    last = moment_of(ends or "", zone, at)
+    if not ends:
+        raise BadWord("say for how long, or until when")
+    last = moment_of(ends, zone, at)
     if last <= first:
         raise BadWord(f"the window would end at {ends!r}, before it begins")
     return stamp(first), stamp(last)

@@ -58,6 +58,10 @@ class Front:
             self.certificate(person, "people", f"/CN={person}")
         self.certificate("stranger", "others", "/CN=bob")
         self.certificate("joined", "people", "/O=site/CN=bob")
+        # (a certificate for bob that ann makes with hers, and brings hers along)
+        self.certificate("minted", people[0], "/CN=bob")
+        with open(self.path("minted.pem"), "a", encoding="ascii") as file:
+            file.write((self.folder / f"{people[0]}.pem").read_text())
         values = {"folder": self.folder, "page": site.page, "secret": SECRET}
         (self.folder / "page.front").write_text(f"proxy_set_header X-Desk-Front {SECRET};\n")
         shipped = EXAMPLE.read_text().replace("8443", f"127.0.0.1:{self.tls}")
@@ -86,7 +90,14 @@ class Front:
     def certificate(self, name: str, by: str, subject: str, extension: str = "") -> None:
         new = ["req", "-x509", "-newkey", "ec", "-pkeyopt", "ec_paramgen_curve:P-256", "-nodes"]
         pair = ["-keyout", self.path(f"{name}.key"), "-out", self.path(f"{name}.pem")]
-        signer = ["-CA", self.path(f"{by}.pem"), "-CAkey", self.path(f"{by}.key")]
+        signer = [
+            "-extensions",
+            "usr_cert",
+            "-CA",
+            self.path(f"{by}.pem"),
+            "-CAkey",
+            self.path(f"{by}.key"),
+        ]
         more = ["-addext", extension] if extension else []
         openssl(*new, *pair, *signer, "-days", "2", "-subj", subject, *more)
 

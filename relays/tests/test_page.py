@@ -74,6 +74,7 @@ def test_who_is_calling_is_the_certificates_name(fronted: tuple[Site, Front]) ->
 
     assert "You are <strong>ann</strong>" in called("ann").text
     assert called("stranger").status_code == 400
+    assert called("minted").status_code == 400
     joined = called("joined")
     assert joined.status_code == 403 and "does not say who you are" in joined.text
     bare = requests.get(
@@ -132,6 +133,18 @@ def test_asking_on_the_page(fronted: tuple[Site, Front]) -> None:
     assert len(site.kept()) == before + 1
     again = post(f"{front.url('ann')}/send", data)
     assert again.url == first.url and len(site.kept()) == before + 1
+
+
+def test_a_grant_to_come_is_in_the_picture(fronted: tuple[Site, Front]) -> None:
+    site, front = fronted
+    told = ask(front, hosts="db2", begins="+30m")
+    found = re.search(r"ann ([0-9]+): It needs", told)
+    assert found
+    assert site.run("bob", f"approve ann {found[1]} --yes").returncode == 0
+    page = get(front.url("bob")).text
+    assert 'class="bar later"' in page and f"ann {found[1]} on db2</text>" in page
+    assert site.run("bob", f"revoke ann {found[1]} --yes").returncode == 0
+    assert f"ann {found[1]} on db2</text>" not in get(front.url("bob")).text
 
 
 def test_past_a_ceiling_on_the_page(fronted: tuple[Site, Front]) -> None:
@@ -218,6 +231,7 @@ def test_odd_words_on_the_page(fronted: tuple[Site, Front], words: dict[str, str
     before = site.kept()
     reply = confirmation(front, **words)
     assert reply.status_code == 400 and "That did not work" in reply.text
+    assert "Nothing was sent" in reply.text and 'value="root' in reply.text
     for markup in ("<script", "<img", "<b>"):
         assert markup not in reply.text
     assert site.kept() == before

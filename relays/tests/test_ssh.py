@@ -82,6 +82,32 @@ def test_an_approval_that_does_not_count_is_named(both: tuple[Site, Sshd]) -> No
     assert "nobody approves what they asked for themselves" in told
 
 
+def test_two_approvals(both: tuple[Site, Sshd]) -> None:
+    _, sshd = both
+    line = "ask db-emergency --on db1 --as root --for 15m --yes --json ALL"
+    ran = sshd.ssh("ann", line)
+    no = json.loads(ran.stdout)["no"]
+    assert "approvals of 2 people" in ran.stderr
+    ran = sshd.ssh("bob", f"approve ann {no} --yes")
+    assert "approved so far by bob; carol may approve it" in ran.stdout, ran
+    assert f"ann {no}" not in sshd.ssh("bob", "waiting").stdout
+    assert f"ann {no}" in sshd.ssh("carol", "waiting").stdout
+    assert "It is in force" in sshd.ssh("carol", f"approve ann {no} --yes").stdout
+    assert sshd.ssh("carol", f"revoke ann {no} --yes").returncode == 0
+
+
+def test_a_grant_to_come(both: tuple[Site, Sshd]) -> None:
+    _, sshd = both
+    line = "ask db-care --on db2 --as root --from +30m --for 1h --yes --json /usr/bin/w"
+    no = json.loads(sshd.ssh("ann", line).stdout)["no"]
+    assert "It is granted from" in sshd.ssh("bob", f"approve ann {no} --yes").stdout
+    assert f"ann {no}" not in sshd.ssh("bob", "live").stdout
+    assert f"ann {no}" in sshd.ssh("bob", "live --at +45m").stdout
+    found = [it for it in json.loads(sshd.ssh("ann", "mine --json").stdout) if it["no"] == no]
+    assert found[0]["state"] == "coming" and found[0]["grant"]["until"] == found[0]["until"]
+    assert "revoked it" in sshd.ssh("ann", f"revoke ann {no} --yes").stdout
+
+
 # What somebody with ann's key tries, to be bob: the words, ssh's options and its environment.
 OTHERS = [
     ["--person", "bob", "approve", "ann", "1"],
