@@ -191,7 +191,7 @@ def review(call: Call) -> int:
         raise BadWord("the findings are for auditors: your name has not that duty in the roster")
     found = call.desk.review(at)
     for part, rows in found.parts.items():
-        call.say(f"{part}: {len(rows) or 'none'}")
+        call.say(f"{telling.finding(part)}: {len(rows) or 'none'}")
         for row in rows:
             call.say("  " + "  ".join(row))
     call.give_data({"at": stamp(at), "parts": found.parts})

@@ -15,7 +15,19 @@ BARS = {
     "duty": "the duty to approve was not held then",
     "conflict": "a duty that conflicts with approving was held then",
 }
+FINDINGS = {
+    "LIVE": "grants in force, and whether each is needed",
+    "BARRED": "approvals that do not count",
+    "CONFLICTS": "people who hold duties that conflict",
+    "BROAD": "grants of ALL or of a directory",
+    "PARKED": "verdicts whose request has not come",
+}
 Lines = list[tuple[str, str]]
+
+
+def finding(part: str) -> str:
+    """A heading of the report, with what stands below it."""
+    return f"{part}, {FINDINGS[part]}" if part in FINDINGS else part
 
 
 def wish_lines(wish: Wish, zone: tzinfo) -> Lines:

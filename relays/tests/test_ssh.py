@@ -271,7 +271,7 @@ def test_times_without_quotes(both: tuple[Site, Sshd]) -> None:
 
 def test_who_audits_reads_the_findings(both: tuple[Site, Sshd]) -> None:
     _, sshd = both
-    assert "CONFLICTS: 1" in sshd.ssh("dave", "review").stdout
+    assert "CONFLICTS, people who hold duties that conflict: 1" in sshd.ssh("dave", "review").stdout
     ran = sshd.ssh("ann", "review")
     assert ran.returncode == 2 and "for auditors" in ran.stderr
 
