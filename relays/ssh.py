@@ -43,6 +43,10 @@ class Call:
     def say(self, text: str = "") -> None:
         print(text, file=self.talk(), flush=True)
 
+    def say_strong(self, text: str) -> None:
+        """A line that stands out at a terminal."""
+        self.say(f"\033[1m{text}\033[0m" if self.talk().isatty() else text)
+
     def say_lines(self, lines: telling.Lines) -> None:
         last = None
         for label, text in lines:
@@ -75,7 +79,7 @@ def ask(call: Call) -> int:
     """Asks for rights: shows what is asked for, keeps it, posts it, and says what became of it."""
     at = now()
     wish = wish_of(call.said, call.zone, at)
-    call.say(f"{call.person} asks")
+    call.say_strong(f"{call.person} asks")
     call.say_lines(telling.wish_lines(wish, call.zone))
     if not call.said.once and not call.said.again and (old := same_wish(call, wish)):
         call.say(f"You asked for the same just now, as {old.name}.")
@@ -86,7 +90,7 @@ def ask(call: Call) -> int:
         return NOT_SENT
     kept = call.outbox.keep_request(call.person, wish, stamp(at), call.said.once)
     name = f"{call.person} {kept.request.no}"
-    call.say(f"Kept as {name}.")
+    call.say_strong(f"Kept as {name}.")
     kept = post_one(call.outbox, call.desk, kept)
     standing = call.knowledge().standing(kept)
     call.say(telling.fate(standing, call.zone, call.roster, now()))
@@ -113,7 +117,7 @@ def give_verdict(call: Call) -> int:
     request = call.outbox.request(of, no)
     if request:
         standing = knowledge.standing(request)
-        call.say(f"{of} {no}")
+        call.say_strong(f"{of} {no}")
         call.say_lines(telling.wish_lines(standing.request.wish, call.zone))
         call.say(telling.fate(standing, call.zone, call.roster, now()))
     else:
@@ -139,7 +143,7 @@ def give_verdict(call: Call) -> int:
 def show(call: Call, standings: list[Standing], knowledge: Knowledge, none: str) -> int:
     """Requests, each with what it asks for, who said what, and what became of it."""
     for standing in standings:
-        call.say(f"{standing.name}  [{standing.state.value}]")
+        call.say_strong(f"{standing.name}  [{standing.state.value}]")
         call.say_lines(telling.wish_lines(standing.request.wish, call.zone))
         for said in standing.said:
             call.say(f"  {telling.said_line(said, call.zone)}")
@@ -227,6 +231,9 @@ def answer(config: Config, person: str, line: str) -> int:
     except (BadWords, BadWord, BadTime, BadRoster, OutOfNumbers) as fault:
         print(f"Nothing was sent: {fault}.\nWrite 'help' for the commands.", file=sys.stderr)
         return REFUSED
+    except KeyboardInterrupt:
+        print("\nInterrupted. 'mine' shows what was kept before.", file=sys.stderr)
+        return NOT_SENT
     except Silent as why:
         print(f"The desk does not answer: {why}. Ask again in a while.", file=sys.stderr)
         return KEPT

@@ -189,6 +189,28 @@ def test_by_keyboard_alone(
     see(ann, "It needs 1 approval; nobody approved it yet")
 
 
+def test_a_form_of_another_site(
+    fronted: tuple[Site, Front], browsers: dict[str, webdriver.Chrome], tmp_path: Path
+) -> None:
+    site, front = fronted
+    ann, before = browsers["ann"], site.kept()
+    for path in ("send", "ask"):
+        trap = tmp_path / "trap.html"
+        fields = '<input name="what" value="request"><input name="token" value="x">'
+        action = f'<form method="post" action="{front.url("ann")}/{path}">'
+        trap.write_text(f"{action}{fields}<button>Win</button></form>")
+        ann.get(f"file://{trap}")
+        press(ann, "button")
+        see(ann, "The form came from another site.")
+    frame = tmp_path / "frame.html"
+    frame.write_text(f'<iframe id="inner" src="{front.url("ann")}/"></iframe>')
+    ann.get(f"file://{frame}")
+    ann.switch_to.frame("inner")
+    assert not ann.find_elements(By.ID, "main")
+    ann.switch_to.default_content()
+    assert site.kept() == before
+
+
 def test_labels_and_headings(
     fronted: tuple[Site, Front], browsers: dict[str, webdriver.Chrome]
 ) -> None:

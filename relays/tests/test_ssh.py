@@ -1,7 +1,9 @@
 """The relay by ssh, through a real sshd: a grant's life, and attempts to speak for others."""
 
 import json
+import os
 import re
+import subprocess
 from collections.abc import Iterator
 
 import pytest
@@ -250,14 +252,30 @@ def test_the_same_is_asked_once(both: tuple[Site, Sshd]) -> None:
     assert ran.returncode == 1 and "already" in ran.stdout
 
 
+def at_terminal(sshd: Sshd, key: str) -> str:
+    """Asks at a terminal, gives the key when it is asked for, and returns what was shown."""
+    line = "ask db-care --on db1 --as root --for 1h /usr/bin/w"
+    words = [*sshd.client("bob", "-tt"), line]
+    shown = b""
+    with subprocess.Popen(words, stdin=subprocess.PIPE, stdout=subprocess.PIPE) as call:
+        assert call.stdin and call.stdout
+        while b"[y/N]" not in shown and (some := os.read(call.stdout.fileno(), 4096)):
+            shown += some
+        call.stdin.write(key.encode("ascii"))
+        call.stdin.flush()
+        shown += call.stdout.read()
+        assert call.wait(timeout=60) == 1, shown
+    return shown.decode("utf-8")
+
+
 def test_at_a_terminal(both: tuple[Site, Sshd]) -> None:
-    _, sshd = both
-    ran = sshd.ssh(
-        "bob", "ask db-care --on db1 --as root --for 1h /usr/bin/w", options=("-tt",), given="n\n"
-    )
-    assert (
-        ran.returncode == 1 and "Send it? [y/N]" in ran.stdout and "Nothing was sent." in ran.stdout
-    )
+    site, sshd = both
+    before = messages(site)
+    shown = at_terminal(sshd, "n\n")
+    assert "\x1b[1mbob asks\x1b[0m" in shown and "Nothing was sent." in shown
+    shown = at_terminal(sshd, "\x03")
+    assert "Interrupted." in shown and "Traceback" not in shown
+    assert messages(site) == before
 
 
 def test_times_without_quotes(both: tuple[Site, Sshd]) -> None:
