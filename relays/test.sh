@@ -10,7 +10,8 @@ export DESK="${DESK:-$PWD/build/desk}"
 packages=(
     openssh-server openssh-client openssl nginx-light tzdata sudo faketime util-linux
     chromium chromium-driver fonts-dejavu-core
-    python3-flask python3-requests python3-waitress python3-pytest python3-selenium
+    python3-flask python3-requests python3-waitress
+    python3-pytest python3-pytest-xdist python3-selenium
 )
 lacking() {
     dpkg-query -W -f '${db:Status-Status} ${Package}\n' "${packages[@]}" 2>/dev/null |
@@ -33,8 +34,9 @@ fi
 log=$(mktemp)
 trap 'rm -f "$there" "$log"' EXIT
 status=0
-/usr/bin/python3 -m pytest -p no:cacheprovider -q --durations=5 relays/tests "$@" | tee "$log" ||
-    status=$?
+# (each file of tests has sites of its own, so they go side by side)
+/usr/bin/python3 -m pytest -p no:cacheprovider -q -n "$(nproc)" --dist loadfile --durations=5 \
+    relays/tests "$@" | tee "$log" || status=$?
 count() {
     tail -n 1 "$log" | grep -oE "[0-9]+ $1" | cut -d ' ' -f 1 || echo 0
 }

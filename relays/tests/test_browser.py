@@ -59,13 +59,15 @@ def browser(folder: Path, with_scripts: bool = False) -> webdriver.Chrome:
 @pytest.fixture(scope="module")
 def fronted(tmp_path_factory: pytest.TempPathFactory) -> Iterator[tuple[Site, Front]]:
     site = Site(tmp_path_factory.mktemp("browser"))
-    site.start_desk()
-    site.start("page")
-    wait_for_port(site.page)
-    front = Front(site, ["ann", "bob", "dave"])
-    yield site, front
-    front.stop()
-    site.close()
+    try:
+        site.start_desk()
+        site.start("page")
+        wait_for_port(site.page)
+        front = Front(site, ["ann", "bob", "dave"])
+        yield site, front
+        front.stop()
+    finally:
+        site.close()
 
 
 @pytest.fixture(scope="module")

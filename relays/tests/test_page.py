@@ -23,13 +23,15 @@ ASKED = {
 @pytest.fixture(scope="module")
 def fronted(tmp_path_factory: pytest.TempPathFactory) -> Iterator[tuple[Site, Front]]:
     site = Site(tmp_path_factory.mktemp("page"))
-    site.start_desk()
-    site.start("page")
-    wait_for_port(site.page)
-    front = Front(site, ["ann", "bob", "dave", "eve"])
-    yield site, front
-    front.stop()
-    site.close()
+    try:
+        site.start_desk()
+        site.start("page")
+        wait_for_port(site.page)
+        front = Front(site, ["ann", "bob", "dave", "eve"])
+        yield site, front
+        front.stop()
+    finally:
+        site.close()
 
 
 def token(page: str) -> str:

@@ -18,11 +18,13 @@ ASK = "ask db-care --on db1 --as root --for 2h /usr/bin/id".split()
 @pytest.fixture(scope="module")
 def both(tmp_path_factory: pytest.TempPathFactory) -> Iterator[tuple[Site, Sshd]]:
     site = Site(tmp_path_factory.mktemp("ssh"))
-    site.start_desk()
-    sshd = Sshd(site, ["ann", "bob", "carol", "dave"], "eve")
-    yield site, sshd
-    sshd.stop()
-    site.close()
+    try:
+        site.start_desk()
+        sshd = Sshd(site, ["ann", "bob", "carol", "dave"], "eve")
+        yield site, sshd
+        sshd.stop()
+    finally:
+        site.close()
 
 
 def asked(sshd: Sshd) -> int:
