@@ -4,7 +4,7 @@ import json
 import re
 from collections.abc import Mapping, Sequence
 from dataclasses import dataclass, replace
-from datetime import timedelta
+from datetime import datetime, timedelta
 from typing import Any
 
 from relays.moments import of_stamp
@@ -91,6 +91,12 @@ class Wish:
             tuple(sorted(set(commands))),
             *window,
         )
+
+    def ahead_of(self, at: datetime) -> "Wish":
+        """The same, refused where its window is over by now: a person may be slow to say yes."""
+        if of_stamp(self.ends) < at:
+            raise BadWord("the window that was shown is over: ask again")
+        return self
 
     def is_like(self, other: "Wish") -> bool:
         """Whether both ask for the same, until the same moment or for as long."""

@@ -266,9 +266,7 @@ def keep(visit: Visit, said: dict[str, Any]) -> Kept:
         verdict = Verdict(visit.person, said["kind"], said["of"], said["no"], stamp(visit.now))
         return visit.outbox.keep_verdict(verdict, said["once"])
     words = {name: tuple(it) if isinstance(it, list) else it for name, it in said["wish"].items()}
-    wish = Wish(**words)
-    if of_stamp(wish.ends) < visit.now:
-        raise BadWord("the window that you were shown is over: ask again")
+    wish = Wish(**words).ahead_of(visit.now)
     return visit.outbox.keep_request(visit.person, wish, said["at"], said["once"])
 
 

@@ -88,6 +88,7 @@ def ask(call: Call) -> int:
         return NOT_SENT
     if not call.is_agreed("Send it?"):
         return NOT_SENT
+    wish = wish.ahead_of(now())
     kept = call.outbox.keep_request(call.person, wish, stamp(at), call.said.once)
     name = f"{call.person} {kept.request.no}"
     call.say_strong(f"Kept as {name}.")

@@ -13,8 +13,9 @@ packages=(
     python3-flask python3-requests python3-waitress
     python3-pytest python3-pytest-xdist python3-selenium
 )
+# The packages of the list that are not installed. (dpkg-query fails where it knows none of a name.)
 lacking() {
-    dpkg-query -W -f '${db:Status-Status} ${Package}\n' "${packages[@]}" 2>/dev/null |
+    { dpkg-query -W -f '${db:Status-Status} ${Package}\n' "${packages[@]}" 2>/dev/null || true; } |
         awk '$1 == "installed" {print $2}' | sort > "$1"
     printf '%s\n' "${packages[@]}" | sort | comm -23 - "$1"
 }

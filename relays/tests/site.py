@@ -34,7 +34,7 @@ def free_port() -> int:
         return int(listener.getsockname()[1])
 
 
-def wait_for_port(port: int, seconds: float = 30.0) -> None:
+def wait_for_port(port: int, seconds: float = 120.0) -> None:
     """Waits until something listens."""
     until = time.monotonic() + seconds
     while time.monotonic() < until:
@@ -110,7 +110,7 @@ class Site:
             capture_output=True,
             text=True,
             env=environment,
-            timeout=60,
+            timeout=180,
             check=False,
         )
 
@@ -131,7 +131,7 @@ class Site:
         with sqlite3.connect(self.folder / "outbox.db") as base:
             return list(base.execute("SELECT body, state FROM messages ORDER BY id"))
 
-    def wait_until_posted(self, seconds: float = 60.0) -> None:
+    def wait_until_posted(self, seconds: float = 180.0) -> None:
         until = time.monotonic() + seconds
         while time.monotonic() < until:
             if all(state != "kept" for _, state in self.kept()):

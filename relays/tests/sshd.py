@@ -98,6 +98,6 @@ class Sshd:
             input=given,
             capture_output=True,
             text=True,
-            timeout=90,
+            timeout=180,
             check=False,
         )

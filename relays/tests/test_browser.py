@@ -52,7 +52,7 @@ def browser(folder: Path, with_scripts: bool = False) -> webdriver.Chrome:
         blocked = {"profile.managed_default_content_settings.javascript": 2}
         options.add_experimental_option("prefs", blocked)
     found = webdriver.Chrome(service=Service("/usr/bin/chromedriver"), options=options)
-    found.set_page_load_timeout(90)
+    found.set_page_load_timeout(180)
     return found
 
 
@@ -95,7 +95,7 @@ def see(driver: webdriver.Chrome, *pieces: str) -> None:
         return all(piece in text for piece in pieces)
 
     faults = [NoSuchElementException, StaleElementReferenceException]
-    WebDriverWait(driver, 30, ignored_exceptions=faults).until(is_there, str(pieces))
+    WebDriverWait(driver, 90, ignored_exceptions=faults).until(is_there, str(pieces))
 
 
 def press(driver: webdriver.Chrome, selector: str) -> None:

@@ -22,7 +22,7 @@ def test_a_new_reader_follows_it(tmp_path: Path) -> None:
         stderr=subprocess.STDOUT,
         stdin=subprocess.DEVNULL,
         text=True,
-        timeout=180,
+        timeout=300,
         check=False,
     )
     said = ran.stdout

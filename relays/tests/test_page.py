@@ -6,6 +6,7 @@ from collections.abc import Iterator
 
 import pytest
 import requests
+from itsdangerous import URLSafeTimedSerializer
 
 from relays.tests.front import Front
 from relays.tests.site import SECRET, Site, wait_for_port
@@ -162,6 +163,18 @@ def test_what_is_confirmed_is_what_is_sent(fronted: tuple[Site, Front]) -> None:
     post(f"{front.url('ann')}/send", data)
     body = site.kept()[-1][0]
     assert '"hosts":["db2"]' in body and '"by":"ann"' in body
+
+
+def test_a_yes_that_comes_too_late(fronted: tuple[Site, Front]) -> None:
+    site, front = fronted
+    before, signer = site.kept(), URLSafeTimedSerializer(SECRET, salt="desk-relay page")
+    window = {"begins": "20260105090000Z", "ends": "20260105100000Z"}
+    wish = {"ceiling": "db-care", "hosts": ["db1"], "runas": "root", "commands": ["/usr/bin/id"]}
+    said = {"by": "ann", "what": "send-request", "once": "late", "wish": wish | window}
+    data = {"what": "request", "token": str(signer.dumps(said | {"at": "20260105080000Z"}))}
+    reply = post(f"{front.url('ann')}/send", data)
+    assert reply.status_code == 400 and "is over: ask again" in reply.text
+    assert site.kept() == before
 
 
 def forged(front: Front, name: str) -> dict[str, str]:
