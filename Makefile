@@ -1,6 +1,6 @@
 # The commands of the repository. `rt` is the toolchain's command.
 
-.PHONY: all desk demo test quick cases gate-times edits peers bench faults clean
+.PHONY: all desk demo test quick cases gate-times edits peers bench faults relays-test relays-demo clean
 
 all: desk
 
@@ -56,6 +56,15 @@ bench: desk
 # The program with each request for memory refused in turn.
 faults: desk
 	python3 scripts/faults.py
+
+# The relays (docs/RELAYS.md): a real sshd, a real browser behind nginx, and relays that are killed, over build/desk or the program that DESK names. What
+# it needs of Debian is installed where this is root.
+relays-test:
+	bash relays/test.sh
+
+# A grant's life by ssh: ann asks, bob approves, ann revokes.
+relays-demo:
+	/usr/bin/python3 relays/demo.py
 
 clean:
 	rm -rf build crates/*/out

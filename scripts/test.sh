@@ -76,5 +76,6 @@ part demo demo
 part_with cases setpriv -- cases
 part_with peers root sudo visudo cvtsudoers faketime unshare curl nc sqlite3 -- peers
 part_with faults cc -- python3 scripts/faults.py
+part_with relays-test root apt-get -- bash relays/test.sh
 echo "$passed passed, $failed failed"
 [ "$failed" = 0 ]

@@ -1,0 +1,131 @@
+"""The desk's HTTP interface, as a relay asks it."""
+
+import re
+from dataclasses import dataclass
+from datetime import datetime
+
+import requests
+
+from relays.moments import of_stamp, stamp
+
+# (a connection may wait for others, which the desk serves one after the other)
+LIMITS = (5, 20)
+REFUSAL = re.compile(r"([A-Z][0-9]{1,2}) ([A-Za-z]+)\n")
+# What the desk says of a person's message and stays so. Other codes are this relay's own fault, or
+# the desk's trouble: the message is kept.
+STAYS = re.compile(r"[AM][0-9]")
+# How often a line of the report is split, where its last column has blanks.
+SPLITS = {"BROAD": 2, "PARKED": 0}
+
+
+class Silent(Exception):
+    """The desk gave no answer that can be used; the text says why, and whether anything came."""
+
+    def __init__(self, why: str, is_reached: bool = False) -> None:
+        super().__init__(why)
+        self.is_reached = is_reached
+
+
+@dataclass(frozen=True)
+class Answer:
+    """What the desk answered a message: `ack` or a refusal that stays."""
+
+    is_ack: bool
+    refusal: str = ""
+
+
+@dataclass(frozen=True)
+class Grant:
+    """A grant in force, as the desk tells it."""
+
+    who: str
+    no: int
+    ceiling: str
+    begins: datetime
+    ends: datetime
+
+
+@dataclass(frozen=True)
+class Review:
+    """The report of a moment: the words of each line below its heading."""
+
+    at: datetime
+    parts: dict[str, list[list[str]]]
+
+    def rows(self, part: str) -> list[list[str]]:
+        return self.parts.get(part, [])
+
+    def barred(self) -> dict[tuple[str, int, str], str]:
+        """Whose approvals do not count, by asker, number and person, and why."""
+        return {(who, int(no), person): why for who, no, person, why in self.rows("BARRED")}
+
+
+class Desk:
+    def __init__(self, url: str, relay: str, certificate: tuple[str, str] | None, ca: str | None):
+        self.url, self.relay = url.rstrip("/"), relay
+        self.session = requests.Session()
+        # (a proxy or a .netrc of the environment has no say in where messages go)
+        self.session.trust_env = False
+        self.session.cert = certificate
+        self.session.verify = ca or True
+
+    def exchange(self, method: str, path: str, body: bytes | None = None) -> requests.Response:
+        try:
+            return self.session.request(
+                method, self.url + path, data=body, timeout=LIMITS, allow_redirects=False
+            )
+        except requests.RequestException as fault:
+            raise Silent(f"the desk cannot be reached ({in_short(fault)})") from None
+
+    def post(self, body: str) -> Answer:
+        """Posts a message. `Silent` where it is to be posted again."""
+        path = f"/v1/relays/{self.relay}/messages"
+        reply = self.exchange("POST", path, body.encode("utf-8"))
+        if reply.status_code == 200 and reply.text == "ack\n":
+            return Answer(True)
+        found = REFUSAL.fullmatch(reply.text)
+        if found and STAYS.fullmatch(found[1]) and reply.status_code in (400, 403, 413):
+            return Answer(False, f"{found[1]} {found[2]}")
+        raise Silent(unusable(reply), True)
+
+    def get(self, path: str) -> list[str]:
+        reply = self.exchange("GET", path)
+        if reply.status_code != 200:
+            raise Silent(unusable(reply), True)
+        return str(reply.text).splitlines()
+
+    def grants(self, at: datetime) -> list[Grant]:
+        """The grants in force at a moment."""
+        rows = [line.split(" ") for line in self.get(f"/v1/grants/{stamp(at)}")]
+        return [
+            Grant(who, int(no), ceiling, of_stamp(first), of_stamp(last))
+            for who, no, ceiling, first, last in rows
+        ]
+
+    def review(self, at: datetime) -> Review:
+        heading, *lines = self.get(f"/v1/reviews/{stamp(at)}")
+        parts: dict[str, list[list[str]]] = {}
+        part = heading
+        for line in lines:
+            if re.fullmatch("[A-Z]+", line):
+                part = line
+                parts[part] = []
+            else:
+                parts[part].append(line.split(None, SPLITS.get(part, -1)))
+        return Review(at, parts)
+
+
+def unusable(reply: requests.Response) -> str:
+    """What came in place of an answer: of the desk, or of something before it."""
+    found = REFUSAL.fullmatch(reply.text)
+    said = f"{found[1]} {found[2]}" if found else "and no word of the desk's"
+    return f"the desk's address answers {reply.status_code}, {said}"
+
+
+def in_short(fault: Exception) -> str:
+    """A connection's fault without the library's objects in it."""
+    text = str(fault)
+    for word in ("refused", "timed out", "reset", "certificate"):
+        if word in text:
+            return {"refused": "connection refused", "reset": "connection reset"}.get(word, word)
+    return type(fault).__name__

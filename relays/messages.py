@@ -1,0 +1,164 @@
+"""The messages that a relay writes: requests and verdicts, each as its one canonical text."""
+
+import json
+import re
+from collections.abc import Mapping, Sequence
+from dataclasses import dataclass, replace
+from datetime import datetime, timedelta
+from typing import Any
+
+from relays.moments import of_stamp
+
+PERSON = r"[a-z_][a-z0-9._-]{0,31}"
+LABEL = r"[a-z][a-z0-9-]{0,31}"
+FORMS = {
+    "person": (PERSON, "a name such as ann"),
+    "target": (PERSON, "a user's name such as root"),
+    "host": (LABEL, "a host's name such as db1"),
+    "ceiling": (LABEL, "a label such as db-care"),
+}
+FILE = r"(/[A-Za-z0-9._+-]+)+/?"
+ARGUMENT = r"[A-Za-z0-9._/+@%,:=-]{1,64}"
+VERDICTS = ("approve", "refuse", "revoke")
+
+
+class BadWord(ValueError):
+    """A word that no message can hold."""
+
+
+def canonical(message: Mapping[str, Any]) -> str:
+    """The one text of a message: members in order, no blanks, and no escape that is not needed."""
+    return json.dumps(message, sort_keys=True, separators=(",", ":"), ensure_ascii=False)
+
+
+def checked(kind: str, word: str) -> str:
+    """The word, which has the form of its kind. Whether the roster knows it, the desk says."""
+    form, example = FORMS[kind]
+    if not re.fullmatch(form, word):
+        raise BadWord(f"{word!r} is no {kind}: write {example}")
+    return word
+
+
+def number_of(word: str) -> int:
+    if not re.fullmatch(r"0|[1-9][0-9]{0,8}", word):
+        raise BadWord(f"{word!r} is no request's number: write it as 7")
+    return int(word)
+
+
+def command_of(words: Sequence[str]) -> str:
+    """A command as a policy writes it, from the words that a person would type."""
+    file, *arguments = words
+    if file != "ALL" and not re.fullmatch(FILE, file):
+        raise BadWord(f"{file!r} is no command: write its whole path, such as /usr/bin/id")
+    if arguments == [""]:
+        return f'{file} ""'
+    if arguments and (file == "ALL" or file.endswith("/")):
+        raise BadWord(f"{file!r} takes no arguments: name a file")
+    for word in arguments:
+        if not re.fullmatch(ARGUMENT, word):
+            raise BadWord(f"{word!r} is no argument that the desk can grant: {ARGUMENT_HELP}")
+    escaped = [re.sub(r"([,:=])", r"\\\1", word) for word in arguments]
+    return " ".join([file, *escaped])
+
+
+ARGUMENT_HELP = "letters, digits and . _ / + - @ % , : = only, and at most 64 of them"
+
+
+@dataclass(frozen=True)
+class Wish:
+    """What somebody asks for, before it has a number and a moment. Times are the desk's texts."""
+
+    ceiling: str
+    hosts: tuple[str, ...]
+    runas: str
+    commands: tuple[str, ...]
+    begins: str
+    ends: str
+
+    @staticmethod
+    def of(
+        ceiling: str,
+        hosts: Sequence[str],
+        runas: str,
+        commands: Sequence[str],
+        window: tuple[str, str],
+    ) -> "Wish":
+        """A wish of words that were checked; lists in the order that a message wants."""
+        return Wish(
+            checked("ceiling", ceiling),
+            tuple(sorted({checked("host", host) for host in hosts})),
+            checked("target", runas),
+            tuple(sorted(set(commands))),
+            *window,
+        )
+
+    def ahead_of(self, at: datetime) -> "Wish":
+        """The same, refused where its window is over by now: a person may be slow to say yes."""
+        if of_stamp(self.ends) < at:
+            raise BadWord("the window that was shown is over: ask again")
+        return self
+
+    def is_like(self, other: "Wish") -> bool:
+        """Whether both ask for the same, until the same moment or for as long."""
+        is_same = replace(self, begins="", ends="") == replace(other, begins="", ends="")
+        return is_same and (self.ends == other.ends or self.length() == other.length())
+
+    def length(self) -> timedelta:
+        return of_stamp(self.ends) - of_stamp(self.begins)
+
+
+@dataclass(frozen=True)
+class Request:
+    """A request for rights."""
+
+    by: str
+    no: int
+    at: str
+    wish: Wish
+
+    def text(self) -> str:
+        wish = self.wish
+        return canonical(
+            {
+                "at": self.at,
+                "by": self.by,
+                "ceiling": wish.ceiling,
+                "cmnds": list(wish.commands),
+                "from": wish.begins,
+                "hosts": list(wish.hosts),
+                "kind": "request",
+                "no": self.no,
+                "runas": wish.runas,
+                "until": wish.ends,
+            }
+        )
+
+
+@dataclass(frozen=True)
+class Verdict:
+    """An approval, a refusal or a revocation of a request."""
+
+    by: str
+    kind: str
+    of: str
+    no: int
+    at: str
+
+    def text(self) -> str:
+        return canonical(vars(self))
+
+
+def read(text: str) -> Request | Verdict:
+    """A message from the text that this relay wrote."""
+    found = json.loads(text)
+    if found["kind"] != "request":
+        return Verdict(**found)
+    wish = Wish(
+        found["ceiling"],
+        tuple(found["hosts"]),
+        found["runas"],
+        tuple(found["cmnds"]),
+        found["from"],
+        found["until"],
+    )
+    return Request(found["by"], found["no"], found["at"], wish)

@@ -1,0 +1,66 @@
+"""Posts what the outbox keeps, until the desk has answered each message."""
+
+import logging
+import threading
+from contextlib import suppress
+
+from relays.desk import Desk, Silent
+from relays.messages import Request
+from relays.outbox import Kept, Outbox
+
+log = logging.getLogger("desk-relay")
+
+
+def post_one(outbox: Outbox, desk: Desk, kept: Kept) -> Kept:
+    """Posts a message once. Where the desk does not answer it stays kept, with the reason."""
+    with suppress(Silent):
+        try_to_post(outbox, desk, kept)
+    return outbox.entry(kept.id)
+
+
+def try_to_post(outbox: Outbox, desk: Desk, kept: Kept) -> None:
+    """Posts a message and notes the answer. `Silent` where nothing can be reached."""
+    if kept.state != "kept":
+        return
+    try:
+        answer = desk.post(kept.message.text())
+    except Silent as why:
+        outbox.answered(kept.id, "kept", str(why))
+        if not why.is_reached:
+            raise
+    else:
+        outbox.answered(kept.id, "acked" if answer.is_ack else "refused", answer.refusal)
+
+
+def post_kept(outbox: Outbox, desk: Desk) -> list[Kept]:
+    """Posts all that is kept, oldest first, while anything answers. One message that something
+    before the desk does not let through holds up no other."""
+    tried: list[Kept] = []
+    with suppress(Silent):
+        for kept in outbox.unposted():
+            tried.append(kept)
+            try_to_post(outbox, desk, kept)
+    return [outbox.entry(kept.id) for kept in tried]
+
+
+def keep_posting(outbox: Outbox, desk: Desk, every: float, ended: threading.Event) -> None:
+    """Posts what is kept, again and again, and says what changed."""
+    trouble = ""
+    while not ended.is_set():
+        posted = post_kept(outbox, desk)
+        for kept in posted:
+            if kept.state != "kept":
+                trouble = ""
+                log.info("%s: %s", name_of(kept), kept.answer or "ack")
+            elif kept.answer != trouble:
+                trouble = kept.answer
+                log.warning("%s; %d messages wait here", trouble, len(outbox.unposted()))
+        ended.wait(every)
+
+
+def name_of(kept: Kept) -> str:
+    """What a message is, in a log's line."""
+    message = kept.message
+    if isinstance(message, Request):
+        return f"{message.by} asks, {message.by} {message.no}"
+    return f"{message.by}: {message.kind} {message.of} {message.no}"

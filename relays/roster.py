@@ -1,0 +1,79 @@
+"""The roster as a relay reads it: to show who may approve what. What counts, the desk decides."""
+
+import tomllib
+from dataclasses import dataclass
+from datetime import datetime
+from typing import Any
+
+
+class BadRoster(ValueError):
+    """The roster's file cannot be read here."""
+
+
+@dataclass(frozen=True)
+class Ceiling:
+    label: str
+    ask: str
+    approve: str
+    needs: int
+    hosts: tuple[str, ...]
+    runas: tuple[str, ...]
+    commands: tuple[str, ...]
+    longest: int
+
+
+class Roster:
+    def __init__(self, document: dict[str, Any]) -> None:
+        self.people: dict[str, list[Any]] = document["people"]
+        self.conflicts = [set(pair) for pair in document["conflicts"]]
+        self.hosts = sorted(set(document["hosts"]))
+        self.ceilings = {
+            label: Ceiling(
+                label,
+                each["ask"],
+                each["approve"],
+                each["needs"],
+                tuple(sorted(set(each["hosts"]))),
+                tuple(sorted(set(each["runas"]))),
+                tuple(each["commands"]),
+                each["longest"],
+            )
+            for label, each in sorted(document["ceilings"].items())
+        }
+
+    @staticmethod
+    def read(path: str) -> "Roster":
+        try:
+            with open(path, "rb") as file:
+                return Roster(tomllib.load(file))
+        except (OSError, tomllib.TOMLDecodeError, KeyError, TypeError, AttributeError) as fault:
+            raise BadRoster(f"the roster {path} cannot be read: {fault!r}") from None
+
+    def duties(self, person: str, at: datetime) -> set[str]:
+        """The duties that a person holds at a moment."""
+        day = at.strftime("%Y%m%d")
+        entries = self.people.get(person, [])
+        held = [entry for entry in entries if isinstance(entry, str)]
+        dated = [entry for entry in entries if isinstance(entry, dict)]
+        return set(held) | {it["duty"] for it in dated if it["from"] <= day <= it["until"]}
+
+    def holds(self, person: str, duty: str, at: datetime) -> bool:
+        return duty in self.duties(person, at)
+
+    def may_ask(self, person: str, at: datetime) -> list[Ceiling]:
+        duties = self.duties(person, at)
+        return [it for it in self.ceilings.values() if it.ask in duties]
+
+    def may_approve(self, person: str, asker: str, label: str, at: datetime) -> bool:
+        """Whether a person may approve what the asker asks for under a ceiling, at a moment."""
+        ceiling, duties = self.ceilings.get(label), self.duties(person, at)
+        if ceiling is None or person == asker or ceiling.approve not in duties:
+            return False
+        return not any(ceiling.approve in pair and pair <= duties for pair in self.conflicts)
+
+    def approvers(self, asker: str, label: str, at: datetime) -> list[str]:
+        return [it for it in sorted(self.people) if self.may_approve(it, asker, label, at)]
+
+    def may_revoke(self, person: str, asker: str, label: str, at: datetime) -> bool:
+        ceiling = self.ceilings.get(label)
+        return person == asker or bool(ceiling and ceiling.approve in self.duties(person, at))

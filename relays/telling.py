@@ -1,0 +1,164 @@
+"""How a request and what became of it are told, in plain words."""
+
+from datetime import datetime, timedelta, tzinfo
+
+from relays.desk import Grant
+from relays.messages import BadWord, Request, Verdict, Wish
+from relays.moments import of_stamp, shown, spoken, stamp
+from relays.refusals import in_words
+from relays.roster import Ceiling, Roster
+from relays.standing import Said, Standing, State
+
+DONE = {"approve": "approved", "refuse": "refused", "revoke": "revoked"}
+BARS = {
+    "asker": "nobody approves what they asked for themselves",
+    "duty": "the duty to approve was not held then",
+    "conflict": "a duty that conflicts with approving was held then",
+}
+FINDINGS = {
+    "LIVE": "grants in force, and whether each is needed",
+    "BARRED": "approvals that do not count",
+    "CONFLICTS": "people who hold duties that conflict",
+    "BROAD": "grants of ALL or of a directory",
+    "PARKED": "verdicts whose request has not come",
+}
+Lines = list[tuple[str, str]]
+
+
+def finding(part: str) -> str:
+    """A heading of the report, with what stands below it."""
+    return f"{part}, {FINDINGS[part]}" if part in FINDINGS else part
+
+
+def wish_lines(wish: Wish, zone: tzinfo) -> Lines:
+    """Everything that is asked for."""
+    first, last = of_stamp(wish.begins), of_stamp(wish.ends)
+    return [
+        ("under", wish.ceiling),
+        ("on", ", ".join(wish.hosts)),
+        ("as", wish.runas),
+        *(("may run", command) for command in wish.commands),
+        ("from", shown(first, zone)),
+        ("until", shown(last, zone)),
+        ("how long", spoken(last - first)),
+    ]
+
+
+def ceiling_lines(ceiling: Ceiling) -> Lines:
+    """The most that a ceiling gives."""
+    return [
+        ("needs", approvals(ceiling.needs)),
+        ("at most", spoken(timedelta(seconds=ceiling.longest))),
+        ("on", ", ".join(ceiling.hosts)),
+        ("as", ", ".join(ceiling.runas)),
+        ("running", ", ".join(ceiling.commands)),
+    ]
+
+
+def approvals(count: int) -> str:
+    return "1 approval" if count == 1 else f"approvals of {count} people"
+
+
+def said_line(said: Said, zone: tzinfo) -> str:
+    """A verdict, when it was given, and what is known of it."""
+    verdict = said.verdict
+    text = f"{verdict.by} {DONE[verdict.kind]} it, {shown(of_stamp(verdict.at), zone)}"
+    if said.kept.state == "kept":
+        return f"{text}; kept here, not yet at the desk"
+    if said.kept.state == "refused":
+        return f"{text}; {in_words(said.kept.answer)}"
+    return (
+        f"{text}; it does not count: {BARS.get(said.barred, said.barred)}" if said.barred else text
+    )
+
+
+def fate(standing: Standing, zone: tzinfo, roster: Roster, now: datetime) -> str:
+    """What became of a request, in one sentence."""
+    state, grant = standing.state, standing.grant
+    if grant:
+        first, last = shown(grant.begins, zone), shown(grant.ends, zone)
+        early = "; it was revoked, so it ends before what was asked for" if standing.is_cut else ""
+        told = {State.IN_FORCE: "is in force", State.OVER: "was in force"}.get(state, "is granted")
+        return f"It {told} from {first} until {last}{early}."
+    if state is State.KEPT:
+        why = f": {standing.kept.answer}" if standing.kept.answer else ""
+        return f"It is kept here and not yet at the desk{why}. It is posted again by itself."
+    if state is State.REFUSED:
+        return f"The desk refused it. {in_words(standing.kept.answer)}"
+    if state is State.UNKNOWN:
+        return "It is at the desk. What became of it is not known now: the desk does not answer."
+    if state is State.OBJECTED:
+        by = ", ".join(
+            f"{it.verdict.by} {DONE[it.verdict.kind]} it" for it in standing.objections()
+        )
+        return f"The desk grants nothing of it: {by}."
+    if state is State.LAPSED:
+        return "Its window is over, and the desk granted nothing of it."
+    return waits_for(standing, roster, now)
+
+
+def waits_for(standing: Standing, roster: Roster, now: datetime) -> str:
+    """What a request without a grant still needs, as far as this relay knows."""
+    wish, asker = standing.request.wish, standing.request.by
+    given = sorted({it.verdict.by for it in standing.approvals()})
+    ceiling = roster.ceilings.get(wish.ceiling)
+    needed = f"It needs {approvals(ceiling.needs)}" if ceiling else "It waits for approvals"
+    left = [it for it in roster.approvers(asker, wish.ceiling, now) if it not in given]
+    so_far = f"approved so far by {', '.join(given)}" if given else "nobody approved it yet"
+    may = f"{', '.join(left)} may approve it" if left else "by the roster nobody may now"
+    return f"{needed}; {so_far}; {may}."
+
+
+def verdict_fate(kind: str, state: str, answer: str) -> str:
+    """What became of a verdict when it was posted."""
+    if state == "acked":
+        return f"The desk acknowledged that you {DONE[kind]} it."
+    if state == "refused":
+        return f"The desk refused that. {in_words(answer)}"
+    return f"It is kept here and not yet at the desk: {answer}. It is posted again by itself."
+
+
+def unseen(kind: str, of: str, no: int) -> str:
+    """What to say of a verdict on a request that this relay did not bring. Nobody approves what
+    they cannot see: an approval may come before its request, which could then ask for anything."""
+    text = f"this relay brought no request {of} {no}, so it cannot show what it asks for"
+    if kind == "approve":
+        raise BadWord(f"{text}: approve it through the relay that brought it")
+    return f"{text[0].upper()}{text[1:]}."
+
+
+def as_data(standing: Standing) -> dict[str, object]:
+    """A request and what became of it, for scripts."""
+    request, grant = standing.request, standing.grant
+    return {
+        "who": request.by,
+        "no": request.no,
+        "state": standing.state.name.lower().replace("_", "-"),
+        "refusal": standing.kept.answer if standing.kept.state == "refused" else None,
+        "trouble": standing.kept.answer if standing.kept.state == "kept" else None,
+        "at": request.at,
+        "ceiling": request.wish.ceiling,
+        "hosts": list(request.wish.hosts),
+        "runas": request.wish.runas,
+        "commands": list(request.wish.commands),
+        "from": request.wish.begins,
+        "until": request.wish.ends,
+        "grant": {"from": stamp(grant.begins), "until": stamp(grant.ends)} if grant else None,
+        "verdicts": [verdict_data(it) for it in standing.said],
+    }
+
+
+def verdict_data(said: Said) -> dict[str, object]:
+    verdict: Verdict = said.verdict
+    data: dict[str, object] = {"by": verdict.by, "kind": verdict.kind, "at": verdict.at}
+    return data | {"state": said.kept.state, "barred": said.barred or None}
+
+
+def grant_data(grant: Grant, request: Request | None) -> dict[str, object]:
+    """A grant in force, for scripts; what is granted where this relay brought the request."""
+    data: dict[str, object] = {"who": grant.who, "no": grant.no, "ceiling": grant.ceiling}
+    data |= {"from": stamp(grant.begins), "until": stamp(grant.ends)}
+    if request:
+        wish = request.wish
+        data |= {"hosts": list(wish.hosts), "runas": wish.runas, "commands": list(wish.commands)}
+    return data

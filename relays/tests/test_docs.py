@@ -1,0 +1,41 @@
+"""docs/RELAYS.md, typed line by line on a machine of its own."""
+
+import os
+import re
+import subprocess
+from pathlib import Path
+
+import pytest
+
+from relays.tests.site import DESK, ROOT
+from relays.words import USAGE
+
+SPACES = ["unshare", "--mount", "--net", "--pid", "--fork", "--kill-child", "--mount-proc"]
+
+
+@pytest.mark.skipif(os.geteuid() != 0, reason="it makes a machine of its own, as root")
+def test_a_new_reader_follows_it(tmp_path: Path) -> None:
+    words = [*SPACES, "bash", str(ROOT / "relays" / "tests" / "follow.sh"), str(tmp_path), DESK]
+    ran = subprocess.run(
+        words,
+        stdout=subprocess.PIPE,
+        stderr=subprocess.STDOUT,
+        stdin=subprocess.DEVNULL,
+        text=True,
+        timeout=300,
+        check=False,
+    )
+    said = ran.stdout
+    assert ran.returncode == 0, said
+    counts = re.search(r"lines: ([0-9]+) ([0-9]+)", said)
+    assert counts and int(counts[1]) <= 10 and int(counts[2]) <= 20, said
+    assert "Kept as ann 1." in said and "It is in force from" in said
+    assert "You are <strong>bob</strong>" in said and "through its front alone" in said
+    for secret in ("page.secret", "page.front", "people-ca.key", "outbox.db", "outbox.db-wal"):
+        assert re.search(rf"^-rw------- .* {re.escape(secret)}$", said, re.MULTILINE), said
+
+
+def test_the_document_has_each_word() -> None:
+    text = (ROOT / "docs" / "RELAYS.md").read_text(encoding="utf-8")
+    for word in re.findall(r"--[a-z]+|^  ([a-z]+)", USAGE, re.MULTILINE):
+        assert word in text

@@ -1,0 +1,72 @@
+"""A picture of windows: who, where, from when to when. SVG, with the same told in words beside."""
+
+from dataclasses import dataclass
+from datetime import datetime, timedelta, tzinfo
+
+from relays.desk import Grant
+from relays.messages import Request
+
+LEFT, RIGHT, ROW, TOP = 250, 30, 30, 34
+WIDTH = 960
+
+
+@dataclass(frozen=True)
+class Bar:
+    """A window's bar, and its label."""
+
+    y: int
+    x: float
+    width: float
+    label: str
+    is_now: bool
+
+
+@dataclass(frozen=True)
+class Picture:
+    width: int
+    height: int
+    left: int
+    bars: list[Bar]
+    ticks: list[tuple[float, str]]
+    now: float
+
+
+def timeline(
+    rows: list[tuple[Grant, Request | None]], now: datetime, zone: tzinfo
+) -> Picture | None:
+    """The windows of grants on one axis, with a line for now."""
+    if not rows:
+        return None
+    first = min([now, *(grant.begins for grant, _ in rows)])
+    last = max([now, *(grant.ends for grant, _ in rows)])
+    whole = max((last - first).total_seconds(), 60.0)
+
+    def place(at: datetime) -> float:
+        share = (at - first).total_seconds() / whole
+        return round(LEFT + share * (WIDTH - LEFT - RIGHT), 1)
+
+    bars = []
+    for number, (grant, request) in enumerate(rows):
+        x, end = place(grant.begins), place(grant.ends)
+        where = ", ".join(request.wish.hosts) if request else grant.ceiling
+        label = (
+            f"{grant.who} {grant.no} on {where}" if request else f"{grant.who} {grant.no}: {where}"
+        )
+        is_now = grant.begins <= now <= grant.ends
+        bars.append(Bar(TOP + number * ROW, x, max(end - x, 3.0), clipped(label), is_now))
+    ticks = [(place(at), in_short(at, zone, whole)) for at in marks(first, whole)]
+    return Picture(WIDTH, TOP + len(rows) * ROW + 26, LEFT, bars, ticks, place(now))
+
+
+def clipped(label: str) -> str:
+    return label if len(label) <= 32 else label[:31] + "…"
+
+
+def marks(first: datetime, whole: float) -> list[datetime]:
+    """Five moments along the axis."""
+    return [first + timedelta(seconds=whole * part / 4) for part in range(5)]
+
+
+def in_short(at: datetime, zone: tzinfo, whole: float) -> str:
+    local = at.astimezone(zone)
+    return f"{local:%H:%M}" if whole < 86400 else f"{local:%m-%d %H:%M}"
