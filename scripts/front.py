@@ -98,9 +98,10 @@ def pour(source: socket.socket, target: socket.socket) -> None:
 
 
 def placed(text: str, folder: str, port: int, address: str) -> str:
-    """A configuration of examples/ with its files, its port and the desk's address put in place."""
+    """A configuration of examples/ with its files, its port and the desk's address put in place, and less patience with a body that stops."""
     text = text.replace("/etc/desk/front", os.path.join(folder, "ca")).replace("/var/log/nginx", folder)
     text = re.sub(r"(listen|bind) \S*443 ", rf"\1 127.0.0.1:{port} ", text)
+    text = re.sub(r"(client_body_timeout +)10s", r"\g<1>2s", text)
     return text.replace("127.0.0.1:8080", address)
 
 
@@ -166,6 +167,8 @@ def exchange(client: ssl.SSLContext, port: int, given: bytes, pause: float = 0, 
                     time.sleep(pause)
                 while piece := peer.recv(65536):
                     whole += piece
+                    # (a front that keeps the connection says no more)
+                    peer.settimeout(1)
     return whole
 
 

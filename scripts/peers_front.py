@@ -7,9 +7,9 @@ what the log says was acknowledged, and nothing else. `peers_front.py WORDS..` r
 """
 
 import collections
+import concurrent.futures
 import os
 import re
-import ssl
 import subprocess
 import sys
 import tempfile
@@ -247,12 +247,14 @@ def rows() -> list[tuple[str, bytes, set[str]]]:
 
 
 def smuggle(folder: str, port: int) -> tuple[int, int]:
+    """Each row gets a right status, and none shows what only an auditor may read."""
     client, wrong, given = front.context(folder, "relay-mail"), 0, rows()
-    for what, sent, right in given:
-        reply = front.exchange(client, port, sent, patience=12)
-        if status(reply) not in right or SMUGGLED in sent and b"\n\n" in reply.replace(b"\r", b"") and b'"kind"' in reply:
-            wrong += 1
-            print(f"{what}: {reply[:300]!r}")
+    with concurrent.futures.ThreadPoolExecutor(8) as pool:
+        replies = pool.map(lambda row: front.exchange(client, port, row[1]), given)
+        for (what, _, right), reply in zip(given, replies, strict=True):
+            if status(reply) not in right or b'"kind"' in reply:
+                wrong += 1
+                print(f"{what}: {reply[:300]!r}")
     return len(given), wrong
 
 
