@@ -245,21 +245,25 @@ def wrong_clocks(trial: Trial) -> None:
     ):
         ended, said = fetch(trial, ["faketime", "-f", shift])
         trial.check(what, status in (None, ended) and re.search(says, said) is not None, f"{ended}: {said}")
-    trial.run("nginx", "-s", "stop")
-    time.sleep(0.5)
-    trial.run("sh", "-c", "faketime -f -1d nginx")
-    said = by_curl(trial, "relay-chat", "/v1/relays/chat/messages", "--data-binary", "{}")
-    log = trial.read("/var/log/nginx/desk.log") + trial.read("/var/log/nginx/desk.error.log")
-    trial.check("the front's clock, a day early", said.endswith(" 403") and "not yet valid" in log, said)
+    early = {f"{name}={time.strftime('%Y%m%d%H%M%SZ', time.gmtime(time.time() + days * 86_400))}" for name, days in (("FROM", 1), ("UNTIL", 2))}
+    trial.does("a certificate from tomorrow on", "env", *early, "sh", f"{DOC}/examples/front-ca.sh", "/etc/desk/front", "host", "db1")
+    for kind in ("pem", "key"):
+        shutil.copy(trial.path(f"/etc/desk/front/host-db1.{kind}"), trial.path(f"/etc/desk/host.{kind}"))
     ended, said = fetch(trial)
-    trial.check("a host whose certificate the front finds too early", ended == 1 and "in its dates by the front's clock" in said, said)
+    is_told = "FAILED:certificate is not yet valid" in trial.read("/var/log/nginx/desk.log")
+    trial.check("a front whose clock is a day early", ended == 1 and is_told and "in its dates by the front's clock" in said, f"{ended}: {said}")
     trial.run("nginx", "-s", "stop")
+
+
+def the_deb() -> str:
+    """The desk's package."""
+    return next(f"/tmp/{name}" for name in sorted(os.listdir(DEBS)) if name.startswith("steelnewt_") and name.endswith(".deb"))
 
 
 def remade(trial: Trial) -> str:
     """The package again, with a later version and another text in its configuration."""
     folder = trial.path("/tmp/remade")
-    deb = next(name for name in sorted(os.listdir(DEBS)) if name.startswith("steelnewt_"))
+    deb = os.path.basename(the_deb())
     subprocess.run(["dpkg-deb", "-R", os.path.join(DEBS, deb), folder], check=True)
     for name, old, new in (("DEBIAN/control", "\nVersion: ", "\nVersion: 9."), ("etc/desk/serve.conf", "# What", "# This is what")):
         with open(os.path.join(folder, name), encoding="utf-8") as file:
@@ -276,7 +280,7 @@ def answer(trial: Trial) -> str:
 
 def later_on(trial: Trial) -> None:
     """Upgraded, removed, installed again and purged: what was acknowledged is there after each."""
-    was, deb = answer(trial), f"/tmp/{next(name for name in sorted(os.listdir(DEBS)) if name.startswith('steelnewt_'))}"
+    was, deb = answer(trial), the_deb()
     trial.check("what was acknowledged", "NOTAFTER=20260105110000Z /usr/bin/id\n" in was, was)
     trial.write("/etc/desk/serve.conf", trial.read("/etc/desk/serve.conf") + "# ours\n")
     for what, words, is_there in (
@@ -348,7 +352,9 @@ def inside(fresh: str) -> None:
         trial = Trial(furnish(folder, fresh))
         try:
             for part in (install, tour, bad_starts, served, later_on):
+                began = time.monotonic()
                 part(trial)
+                print(f"{part.__name__}: {time.monotonic() - began:.1f} s", flush=True)
         finally:
             subprocess.run(["umount", "--lazy", folder], check=True)
     print(f"the packages in a root of their own: {trial.checks} checks, {trial.wrong} wrong")

@@ -46,7 +46,7 @@ def start(root: str, name: str, instance: str = "", before: list[str] | None = N
         settings = unit(file.read())
     held = environment(root, settings) | (extra or {})
     writable = [*(f"/var/lib/{each}" for each in settings.get("StateDirectory", [])), *settings.get("ReadWritePaths", [])]
-    mounts = "".join(f"mount --bind {each} {each} && " for each in writable)
+    mounts = "".join(f"mount --rbind {each} {each} && " for each in writable)
     user = settings.get("User", ["root"])[0]
     bare = "mount -o remount,bind,ro / && mount -t tmpfs tmpfs /tmp && cd / && "
     drop = f"exec setpriv --reuid {user} --regid {user} --clear-groups --no-new-privs --bounding-set=-all --inh-caps=-all"
