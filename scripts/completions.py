@@ -1,5 +1,7 @@
 """The completions of bash and zsh, of the table of commands."""
 
+import shlex
+
 
 def bash(commands: list[dict], files: list[str]) -> str:
     """A function that needs nothing but bash itself."""
@@ -62,7 +64,7 @@ def zsh_case(command: dict, files: list[str]) -> str:
 
 
 def zsh(commands: list[dict], files: list[str]) -> str:
-    names = "\n".join(f"        '{command['name']}:{command['about']}'" for command in commands)
+    names = "\n".join("        " + shlex.quote(f"{command['name']}:{command['about']}") for command in commands)
     cases = "\n".join(zsh_case(command, files) for command in commands)
     return ZSH.replace("@NAMES@", names).replace("@CASES@", cases)
 
