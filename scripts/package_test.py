@@ -21,6 +21,7 @@ DEBS = os.path.join(ROOT, "build", "deb")
 NEEDED = "adduser,ca-certificates,curl,faketime,iproute2,nginx-light,openssl,sqlite3,sudo,systemd"
 DOC = "/usr/share/doc/steelnewt"
 STORE = "/var/lib/desk/desk.db"
+DPKG = ["dpkg", "--force-unsafe-io", "--no-triggers"]  # quick: the root is thrown away
 DESK = ["setpriv", "--reuid", "desk", "--regid", "desk", "--clear-groups", "desk"]
 FILES = [f"{DOC}/examples/roster.toml", f"{DOC}/examples/site.sudo"]
 # who may run what on db1 as root at a moment, with the grant of the examples
@@ -77,7 +78,7 @@ def install(trial: Trial) -> None:
     debs = sorted(name for name in os.listdir(DEBS) if name.endswith(".deb"))
     for name in debs:
         shutil.copy(os.path.join(DEBS, name), trial.path("/tmp"))
-    trial.does("dpkg -i", "dpkg", "-i", *(f"/tmp/{name}" for name in debs))
+    trial.does("dpkg -i", *DPKG, "-i", *(f"/tmp/{name}" for name in debs))
     trial.does("what is installed is what the package has", "dpkg", "-V", "steelnewt", "steelnewt-host", says="^$")
     trial.does("the account's folder", "stat", "-c", "%U:%G %a", "/var/lib/desk", says="^desk:desk 700$")
     trial.does("conffiles", "dpkg-query", "-W", "-f", "${Conffiles}", "steelnewt", "steelnewt-host", says="serve.conf(.|\n)*fetch.conf")
@@ -290,7 +291,7 @@ def later_on(trial: Trial) -> None:
         ("purge", ["-P", "steelnewt"], False),
         ("install once more", ["-i", deb], True),
     ):
-        said = trial.does(what, "dpkg", *words)
+        said = trial.does(what, *DPKG, *words)
         kept = os.path.exists(trial.path(STORE)) and os.stat(trial.path("/var/lib/desk")).st_mode & 0o777 == 0o700
         trial.check(f"{what}: the store stands", kept, said)
         if is_there:
@@ -302,7 +303,7 @@ def later_on(trial: Trial) -> None:
     os.unlink(trial.path(STORE))
     for name in os.listdir(trial.path("/var/lib/desk")):
         os.unlink(trial.path(f"/var/lib/desk/{name}"))
-    trial.does("purge of a desk without messages", "dpkg", "-P", "steelnewt", "steelnewt-host")
+    trial.does("purge of a desk without messages", *DPKG, "-P", "steelnewt", "steelnewt-host")
     trial.check("its folder is gone", not os.path.exists(trial.path("/var/lib/desk")))
 
 
