@@ -78,6 +78,7 @@ pages: build/desk
 
 package-test: build/desk
 	bash scripts/deb.sh
+	bash scripts/package_lint.sh
 	python3 scripts/package_test.py
 
 clean:
