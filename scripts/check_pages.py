@@ -32,15 +32,28 @@ TYPED = [
 
 
 def help_of(*words: str) -> str:
-    return subprocess.run([*DESK, *words, "--help"], stdout=subprocess.PIPE, check=True, text=True).stdout
+    return subprocess.run(
+        [*DESK, *words, "--help"], stdout=subprocess.PIPE, check=True, text=True
+    ).stdout
 
 
 def check_pages() -> tuple[int, list[str]]:
     """Each page by `mandoc -Tlint`. Pages that are not installed yet refer to each other."""
     names, wrong = sorted(name for name in os.listdir(PAGES) if re.search(r"\.[1-8]$", name)), []
     for name in names:
-        ran = subprocess.run(["mandoc", "-Tlint", name], cwd=PAGES, stdout=subprocess.PIPE, stderr=subprocess.DEVNULL, text=True, check=False)
-        lines = [line for line in ran.stdout.splitlines() if not re.search(r"referenced manual not found: Xr (desk|sudo|visudo)", line)]
+        ran = subprocess.run(
+            ["mandoc", "-Tlint", name],
+            cwd=PAGES,
+            stdout=subprocess.PIPE,
+            stderr=subprocess.DEVNULL,
+            text=True,
+            check=False,
+        )
+        lines = [
+            line
+            for line in ran.stdout.splitlines()
+            if not re.search(r"referenced manual not found: Xr (desk|sudo|visudo)", line)
+        ]
         wrong += [f"mandoc: {line}" for line in lines]
     return len(names), wrong
 
@@ -49,18 +62,30 @@ def check_screen(what: str, text: str) -> list[str]:
     """A help fits a screen."""
     lines = text.splitlines()
     wide = [line for line in lines if len(line) > WIDTH]
-    return [f"{what}: it is no screen of {WIDTH} by {LINES}: {wide or len(lines)}"] if wide or len(lines) > LINES else []
+    return (
+        [f"{what}: it is no screen of {WIDTH} by {LINES}: {wide or len(lines)}"]
+        if wide or len(lines) > LINES
+        else []
+    )
 
 
 def usage(command: dict) -> str:
     words = [word if word.startswith("[") else f"<{word}>" for word in command["words"]]
-    return " ".join(["Usage: desk", command["name"], *(["[OPTIONS]"] if command.get("options") else []), *words])
+    return " ".join(
+        ["Usage: desk", command["name"], *(["[OPTIONS]"] if command.get("options") else []), *words]
+    )
 
 
 def check_help(commands: list[dict]) -> tuple[int, list[str]]:
     """The table of commands beside what the program says of itself."""
     whole, wrong = help_of(), []
-    said = dict(re.findall(r"^  ([a-z]+) +(\S.*)$", whole.partition("Commands:")[2].partition("Options:")[0], re.MULTILINE))
+    said = dict(
+        re.findall(
+            r"^  ([a-z]+) +(\S.*)$",
+            whole.partition("Commands:")[2].partition("Options:")[0],
+            re.MULTILINE,
+        )
+    )
     said.pop("help", None)
     wrong += check_screen("desk --help", whole)
     if said != {command["name"]: command["about"] for command in commands}:
@@ -69,8 +94,12 @@ def check_help(commands: list[dict]) -> tuple[int, list[str]]:
         text = help_of(command["name"])
         wrong += check_screen(f"desk {command['name']} --help", text)
         options = re.findall(r"^      (--[a-z]+) <([A-Z]+)>", text, re.MULTILINE)
-        if usage(command) not in text or options != [tuple(option) for option in command.get("options", [])]:
-            wrong.append(f"packaging/commands.toml: {command['name']} is another than the program's: {text}")
+        if usage(command) not in text or options != [
+            tuple(option) for option in command.get("options", [])
+        ]:
+            wrong.append(
+                f"packaging/commands.toml: {command['name']} is another than the program's: {text}"
+            )
     return 1 + 2 * len(commands), wrong
 
 
@@ -85,7 +114,15 @@ def check_examples(commands: list[dict]) -> tuple[int, list[str]]:
         env = dict(os.environ, PATH=f"{folder}/bin:{os.environ['PATH']}")
         for example in (each for command in commands for each in command.get("examples", [])):
             count += 1
-            ran = subprocess.run(["sh", "-c", example["run"]], cwd=folder, stdout=subprocess.PIPE, stderr=subprocess.STDOUT, text=True, check=False, env=env)
+            ran = subprocess.run(
+                ["sh", "-c", example["run"]],
+                cwd=folder,
+                stdout=subprocess.PIPE,
+                stderr=subprocess.STDOUT,
+                text=True,
+                check=False,
+                env=env,
+            )
             if (ran.stdout, ran.returncode) != (example["prints"], example.get("status", 0)):
                 wrong.append(f"{example['run']}: status {ran.returncode}: {ran.stdout}")
     return count, wrong
@@ -108,7 +145,14 @@ printf '%s\\n' "${{COMPREPLY[@]}}"
 
 
 def by_bash(folder: str, words: list[str]) -> set[str]:
-    ran = subprocess.run(["bash", "-c", BASH.format(pages=PAGES), "bash", *words], cwd=folder, stdout=subprocess.PIPE, stderr=subprocess.DEVNULL, text=True, check=False)
+    ran = subprocess.run(
+        ["bash", "-c", BASH.format(pages=PAGES), "bash", *words],
+        cwd=folder,
+        stdout=subprocess.PIPE,
+        stderr=subprocess.DEVNULL,
+        text=True,
+        check=False,
+    )
     return set(ran.stdout.split())
 
 
@@ -118,7 +162,15 @@ def by_zsh(folder: str, words: list[str]) -> set[str]:
     with open(script, "w", encoding="utf-8") as file:
         file.write(CAPTURE)
     line = " ".join(words)
-    ran = subprocess.run(["zsh", "-f", script, PAGES, line], cwd=folder, stdout=subprocess.PIPE, stderr=subprocess.DEVNULL, text=True, check=False, timeout=60)
+    ran = subprocess.run(
+        ["zsh", "-f", script, PAGES, line],
+        cwd=folder,
+        stdout=subprocess.PIPE,
+        stderr=subprocess.DEVNULL,
+        text=True,
+        check=False,
+        timeout=60,
+    )
     return {word for word in ran.stdout.split() if word}
 
 
@@ -158,7 +210,14 @@ def main() -> None:
         commands = tomllib.load(file)["command"]
     parts = [check_pages(), check_help(commands), check_examples(commands), check_completions()]
     wrong = [line for _, lines in parts for line in lines]
-    print("\n".join([*wrong, f"manual pages, help, examples and completions: {sum(count for count, _ in parts)} checks, {len(wrong)} wrong"]))
+    print(
+        "\n".join(
+            [
+                *wrong,
+                f"manual pages, help, examples and completions: {sum(count for count, _ in parts)} checks, {len(wrong)} wrong",
+            ]
+        )
+    )
     sys.exit(1 if wrong else 0)
 
 

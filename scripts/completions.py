@@ -64,7 +64,9 @@ def zsh_case(command: dict, files: list[str]) -> str:
 
 
 def zsh(commands: list[dict], files: list[str]) -> str:
-    names = "\n".join("        " + shlex.quote(f"{command['name']}:{command['about']}") for command in commands)
+    names = "\n".join(
+        "        " + shlex.quote(f"{command['name']}:{command['about']}") for command in commands
+    )
     cases = "\n".join(zsh_case(command, files) for command in commands)
     return ZSH.replace("@NAMES@", names).replace("@CASES@", cases)
 

@@ -78,7 +78,9 @@ class Recorder:
     def carry(self, peer: socket.socket) -> None:
         """One connection: what comes goes to the desk, and the reply back."""
         given = bytearray()
-        with contextlib.suppress(OSError), peer, socket.create_connection(self.desk, timeout=60) as server:
+        with contextlib.suppress(OSError), peer, socket.create_connection(
+            self.desk, timeout=60
+        ) as server:
             back = threading.Thread(target=pour, args=(server, peer), daemon=True)
             back.start()
             with contextlib.suppress(OSError):
@@ -99,7 +101,9 @@ def pour(source: socket.socket, target: socket.socket) -> None:
 
 def placed(text: str, folder: str, port: int, address: str) -> str:
     """A configuration of examples/ with its files, its port and the desk's address put in place, and less patience with a body that stops."""
-    text = text.replace("/etc/desk/front", os.path.join(folder, "ca")).replace("/var/log/nginx", folder)
+    text = text.replace("/etc/desk/front", os.path.join(folder, "ca")).replace(
+        "/var/log/nginx", folder
+    )
     text = re.sub(r"(listen|bind) \S*443 ", rf"\1 127.0.0.1:{port} ", text)
     text = re.sub(r"(client_body_timeout +)10s", r"\g<1>2s", text)
     return text.replace("127.0.0.1:8080", address)
@@ -107,13 +111,24 @@ def placed(text: str, folder: str, port: int, address: str) -> str:
 
 def nginx_words(folder: str, port: int, address: str) -> list[str]:
     """Writes the whole configuration of an nginx that has the example's."""
-    temp = "".join(f"{name}_temp_path {folder}/{name};" for name in ("client_body", "proxy", "fastcgi", "uwsgi", "scgi"))
+    temp = "".join(
+        f"{name}_temp_path {folder}/{name};"
+        for name in ("client_body", "proxy", "fastcgi", "uwsgi", "scgi")
+    )
     with open(NGINX, encoding="utf-8") as file:
         example = placed(file.read(), folder, port, address)
     head = f"user root; worker_processes 2; daemon off; pid {folder}/pid; error_log {folder}/error.log;"
     with open(os.path.join(folder, "nginx.conf"), "w", encoding="utf-8") as file:
-        file.write(f"{head}\nevents {{ worker_connections 1024; }}\nhttp {{ {temp}\n{example}\n}}\n")
-    return [tool("nginx"), "-c", os.path.join(folder, "nginx.conf"), "-e", os.path.join(folder, "error.log")]
+        file.write(
+            f"{head}\nevents {{ worker_connections 1024; }}\nhttp {{ {temp}\n{example}\n}}\n"
+        )
+    return [
+        tool("nginx"),
+        "-c",
+        os.path.join(folder, "nginx.conf"),
+        "-e",
+        os.path.join(folder, "error.log"),
+    ]
 
 
 def haproxy_words(folder: str, port: int, address: str) -> list[str]:
@@ -133,10 +148,14 @@ def haproxy_words(folder: str, port: int, address: str) -> list[str]:
 @contextlib.contextmanager
 def front(words: list[str], port: int) -> Iterator[None]:
     """A front that answers at the port."""
-    with subprocess.Popen(words, stdout=subprocess.DEVNULL, stderr=subprocess.PIPE, text=True) as server:
+    with subprocess.Popen(
+        words, stdout=subprocess.DEVNULL, stderr=subprocess.PIPE, text=True
+    ) as server:
         try:
             for _ in range(100):
-                with contextlib.suppress(OSError), socket.create_connection(("127.0.0.1", port), timeout=1):
+                with contextlib.suppress(OSError), socket.create_connection(
+                    ("127.0.0.1", port), timeout=1
+                ):
                     break
                 if server.poll() is not None:
                     sys.exit(f"the front does not start: {server.stderr.read()}")
@@ -156,7 +175,9 @@ def context(folder: str, name: str | None) -> ssl.SSLContext:
     return made
 
 
-def exchange(client: ssl.SSLContext, port: int, given: bytes, pause: float = 0, patience: float = 20) -> bytes:
+def exchange(
+    client: ssl.SSLContext, port: int, given: bytes, pause: float = 0, patience: float = 20
+) -> bytes:
     """The bytes that come back for these bytes, which are sent at once or, with a pause, one after the other."""
     whole = b""
     with contextlib.suppress(ConnectionError, ssl.SSLError, TimeoutError):

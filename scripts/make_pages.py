@@ -42,7 +42,9 @@ def synopsis(command: dict) -> list[str]:
 
 def told(command: dict) -> list[str]:
     """A command's part of the page."""
-    lines = [f".It Cm {command['name']} {' '.join(word.strip('[]').replace(']...', ' ...') for word in command['words'])}"]
+    lines = [
+        f".It Cm {command['name']} {' '.join(word.strip('[]').replace(']...', ' ...') for word in command['words'])}"
+    ]
     lines += sentences(command["says"], DOC)
     lines += [".Pp", "Exit status:"]
     ends = [f"{status} where {said}" for status, said in command["exits"].items()]
@@ -54,7 +56,11 @@ def examples(commands: list[dict]) -> list[str]:
     for command in commands:
         for example in command.get("examples", []):
             shown = [f"$ {example['run']}", *example["prints"].strip("\n").split("\n")]
-            lines += [".Bd -literal -offset indent", *(guarded(escaped(line)) for line in shown), ".Ed"]
+            lines += [
+                ".Bd -literal -offset indent",
+                *(guarded(escaped(line)) for line in shown),
+                ".Ed",
+            ]
     return lines
 
 

@@ -111,7 +111,9 @@ def blocks(text: str) -> Iterator[tuple[str, list[str]]]:
     lines, held = iter(text.splitlines()), []
     for line in lines:
         starts = line.startswith(("```", "#")) or not line.strip()
-        starts = starts or (line.startswith(("- ", "|")) and held and not held[0].startswith(line[0]))
+        starts = starts or (
+            line.startswith(("- ", "|")) and held and not held[0].startswith(line[0])
+        )
         if starts and held:
             yield "text", held
             held = []
@@ -149,5 +151,12 @@ def page(name: str, section: int, about: str, text: str, doc: str) -> str:
     others = sorted({each for each in [*PAGES.values(), "desk(1)"] if each != f"{name}({section})"})
     others.sort(key=lambda each: (each[-2], each))
     see = [f".Xr {each[:-3]} {each[-2]}{' ,' if each is not others[-1] else ''}" for each in others]
-    head = [".Dd $Mdocdate$", f".Dt {name.upper()} {section}", ".Os", ".Sh NAME", f".Nm {name}", f".Nd {about}"]
+    head = [
+        ".Dd $Mdocdate$",
+        f".Dt {name.upper()} {section}",
+        ".Os",
+        ".Sh NAME",
+        f".Nm {name}",
+        f".Nd {about}",
+    ]
     return "\n".join([*head, *body(rest, doc), ".Sh SEE ALSO", *see]) + "\n"

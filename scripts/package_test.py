@@ -6,12 +6,14 @@ network; with FRESH=1 it is a new one of debootstrap's. The service runs as its 
 Needs root, and Debian's packages sudo, faketime, nginx-light, openssl, curl and sqlite3.
 """
 
+import contextlib
 import os
 import re
 import shutil
 import subprocess
 import sys
 import tempfile
+import threading
 import time
 
 import service
@@ -20,6 +22,7 @@ ROOT = os.path.dirname(os.path.dirname(os.path.abspath(__file__)))
 DEBS = os.path.join(ROOT, "build", "deb")
 NEEDED = "adduser,ca-certificates,curl,faketime,iproute2,nginx-light,openssl,sqlite3,sudo,systemd"
 DOC = "/usr/share/doc/steelnewt"
+PATIENCE = 120  # the seconds after which something hangs
 STORE = "/var/lib/desk/desk.db"
 DPKG = ["dpkg", "--force-unsafe-io", "--no-triggers"]  # quick: the root is thrown away
 DESK = ["setpriv", "--reuid", "desk", "--regid", "desk", "--clear-groups", "desk"]
@@ -52,13 +55,31 @@ class Trial:
 
     def run(self, *words: str, given: str | None = None) -> subprocess.CompletedProcess[str]:
         """Runs words in the root."""
-        env = {"PATH": "/usr/sbin:/usr/bin:/sbin:/bin", "LC_ALL": "C", "TZ": "UTC", "DEBIAN_FRONTEND": "noninteractive"}
-        return subprocess.run(["chroot", self.root, *words], input=given if given is not None else "", stdout=subprocess.PIPE,
-                              stderr=subprocess.STDOUT, text=True, check=False, env=env)
+        env = {
+            "PATH": "/usr/sbin:/usr/bin:/sbin:/bin",
+            "LC_ALL": "C",
+            "TZ": "UTC",
+            "DEBIAN_FRONTEND": "noninteractive",
+        }
+        return subprocess.run(
+            ["chroot", self.root, *words],
+            input=given if given is not None else "",
+            stdout=subprocess.PIPE,
+            stderr=subprocess.STDOUT,
+            text=True,
+            check=False,
+            env=env,
+        )
 
-    def does(self, what: str, *words: str, given: str | None = None, status: int = 0, says: str = "") -> str:
+    def does(
+        self, what: str, *words: str, given: str | None = None, status: int = 0, says: str = ""
+    ) -> str:
         ran = self.run(*words, given=given)
-        self.check(what, ran.returncode == status and re.search(says, ran.stdout) is not None, f"status {ran.returncode}: {ran.stdout}")
+        self.check(
+            what,
+            ran.returncode == status and re.search(says, ran.stdout) is not None,
+            f"status {ran.returncode}: {ran.stdout}",
+        )
         return ran.stdout
 
     def path(self, name: str) -> str:
@@ -79,54 +100,111 @@ def install(trial: Trial) -> None:
     for name in debs:
         shutil.copy(os.path.join(DEBS, name), trial.path("/tmp"))
     trial.does("dpkg -i", *DPKG, "-i", *(f"/tmp/{name}" for name in debs))
-    trial.does("what is installed is what the package has", "dpkg", "-V", "steelnewt", "steelnewt-host", says="^$")
-    trial.does("the account's folder", "stat", "-c", "%U:%G %a", "/var/lib/desk", says="^desk:desk 700$")
-    trial.does("conffiles", "dpkg-query", "-W", "-f", "${Conffiles}", "steelnewt", "steelnewt-host", says="serve.conf(.|\n)*fetch.conf")
+    trial.does(
+        "what is installed is what the package has",
+        "dpkg",
+        "-V",
+        "steelnewt",
+        "steelnewt-host",
+        says="^$",
+    )
+    trial.does(
+        "the account's folder", "stat", "-c", "%U:%G %a", "/var/lib/desk", says="^desk:desk 700$"
+    )
+    trial.does(
+        "conffiles",
+        "dpkg-query",
+        "-W",
+        "-f",
+        "${Conffiles}",
+        "steelnewt",
+        "steelnewt-host",
+        says="serve.conf(.|\n)*fetch.conf",
+    )
     trial.does("the account has no shell", "getent", "passwd", "desk", says="nologin$")
 
 
 def tour(trial: Trial) -> None:
     """The commands on a desk, as the unprivileged account."""
     messages = trial.read(f"{DOC}/examples/approved.messages")
-    trial.does("deliver", *DESK, "deliver", *FILES, "/var/lib/desk/tour.db", "chat", given=messages, says="^ack\nack\n$")
-    trial.does("print", *DESK, "print", *FILES, "/var/lib/desk/tour.db", "db1", says="NOTAFTER=20260105110000Z /usr/bin/id\n")
-    trial.does("review", *DESK, "review", *FILES, "/var/lib/desk/tour.db", "20260105093000Z", says="^REVIEW 20260105093000Z\nLIVE\nann")
+    trial.does(
+        "deliver",
+        *DESK,
+        "deliver",
+        *FILES,
+        "/var/lib/desk/tour.db",
+        "chat",
+        given=messages,
+        says="^ack\nack\n$",
+    )
+    trial.does(
+        "print",
+        *DESK,
+        "print",
+        *FILES,
+        "/var/lib/desk/tour.db",
+        "db1",
+        says="NOTAFTER=20260105110000Z /usr/bin/id\n",
+    )
+    trial.does(
+        "review",
+        *DESK,
+        "review",
+        *FILES,
+        "/var/lib/desk/tour.db",
+        "20260105093000Z",
+        says="^REVIEW 20260105093000Z\nLIVE\nann",
+    )
     for name in os.listdir(trial.path("/var/lib/desk")):
         os.unlink(trial.path(f"/var/lib/desk/{name}"))
 
 
 class Service:
-    """The desk's unit, started: what it logged."""
+    """The desk's unit, started: what it logged, and what it told systemd."""
 
-    def __init__(self, trial: Trial, extra: dict[str, str] | None = None, before: list[str] | None = None) -> None:
-        self.ready = service.listen(trial.root)
-        told = {"NOTIFY_SOCKET": "/run/notify"} | (extra or {})
-        self.process = service.start(trial.root, "desk.service", before=before, extra=told)
+    def __init__(self, trial: Trial, extra: dict[str, str] | None = None) -> None:
+        self.socket = service.listen(trial.root)
+        self.told: list[bytes] = []
+        self.is_ready = threading.Event()
+        threading.Thread(target=self.hear, daemon=True).start()
+        self.process = service.start(
+            trial.root, "desk.service", extra={"NOTIFY_SOCKET": "/run/notify"} | (extra or {})
+        )
+
+    def hear(self) -> None:
+        """Takes what systemd-notify says: it waits until that is taken."""
+        with contextlib.suppress(OSError):
+            while said := self.socket.recv(4096):
+                self.told.append(said)
+                self.is_ready.set()
 
     def wait_ready(self) -> bytes:
-        try:
-            return self.ready.recv(4096)
-        except TimeoutError:
-            return b""
+        self.is_ready.wait(PATIENCE)
+        return b"".join(self.told)
 
     def stop(self) -> tuple[int, str]:
         self.process.terminate()
         return self.end()
 
     def end(self) -> tuple[int, str]:
+        """The status, and what it logged; one that does not end is ended."""
         try:
-            said, _ = self.process.communicate(timeout=20)
+            said, _ = self.process.communicate(timeout=PATIENCE)
         except subprocess.TimeoutExpired:
-            self.process.kill()
+            self.process.terminate()
             said, _ = self.process.communicate()
-        self.ready.close()
+            said += "(it did not end by itself)"
         return self.process.returncode, said
 
 
 def refused(trial: Trial, what: str, says: str, extra: dict[str, str] | None = None) -> None:
     """The service does not start: status 2, which systemd does not try again, and a line that says what to do."""
     status, said = Service(trial, extra).end()
-    trial.check(what, status == 2 and re.search(says, said) is not None and "not started again" in said, f"status {status}: {said}")
+    trial.check(
+        what,
+        status == 2 and re.search(says, said) is not None and "not started again" in said,
+        f"status {status}: {said}",
+    )
 
 
 def bad_starts(trial: Trial) -> None:
@@ -136,8 +214,18 @@ def bad_starts(trial: Trial) -> None:
         trial.write(f"/etc/desk/{name}", trial.read(source))
     trial.write("/etc/desk/bad.toml", trial.read(FILES[0]) + "\nrelay = 1\n")
     trial.write("/etc/desk/bad.sudo", "%wheel ALL = ALL\n")
-    refused(trial, "a roster that is refused", "O2 UnknownKey: the roster /etc/desk/bad.toml is refused", {"ROSTER": "/etc/desk/bad.toml"})
-    refused(trial, "a base that is refused", "S9 LeftOut line 1: the base /etc/desk/bad.sudo is refused", {"BASE": "/etc/desk/bad.sudo"})
+    refused(
+        trial,
+        "a roster that is refused",
+        "O2 UnknownKey: the roster /etc/desk/bad.toml is refused",
+        {"ROSTER": "/etc/desk/bad.toml"},
+    )
+    refused(
+        trial,
+        "a base that is refused",
+        "S9 LeftOut line 1: the base /etc/desk/bad.sudo is refused",
+        {"BASE": "/etc/desk/bad.sudo"},
+    )
     refused(trial, "an address of another machine", "F1 .*ADDR", {"ADDR": "192.0.2.1:8080"})
     for name in os.listdir(trial.path("/var/lib/desk")):
         os.unlink(trial.path(f"/var/lib/desk/{name}"))
@@ -145,12 +233,27 @@ def bad_starts(trial: Trial) -> None:
 
 def bad_stores(trial: Trial) -> None:
     """Stores that are no desk of this roster's; run beside a desk that serves."""
-    refused(trial, "the address is taken", "F1 .*127.0.0.1:8080 is taken", {"STORE": "/var/lib/desk/second.db"})
-    refused(trial, "the store is in use", f"F1 .*another program has {STORE}", {"ADDR": "127.0.0.1:8081"})
+    refused(
+        trial,
+        "the address is taken",
+        "F1 .*127.0.0.1:8080 is taken",
+        {"STORE": "/var/lib/desk/second.db"},
+    )
+    refused(
+        trial,
+        "the store is in use",
+        f"F1 .*another program has {STORE}",
+        {"ADDR": "127.0.0.1:8081"},
+    )
     other = {"ADDR": "127.0.0.1:8081", "STORE": "/var/lib/desk/second.db"}
     trial.write("/etc/desk/other.toml", trial.read(FILES[0]) + "# another\n")
     trial.run(*DESK, "print", *FILES, other["STORE"], "db1")
-    refused(trial, "the store of another roster", "K1 .*another roster than /etc/desk/other.toml", other | {"ROSTER": "/etc/desk/other.toml"})
+    refused(
+        trial,
+        "the store of another roster",
+        "K1 .*another roster than /etc/desk/other.toml",
+        other | {"ROSTER": "/etc/desk/other.toml"},
+    )
     trial.run("sqlite3", other["STORE"], "UPDATE desk SET schema = 9")
     refused(trial, "a store of another schema", "K2 .*another schema", other)
     trial.write("/var/lib/desk/second.db", "no database at all" * 300)
@@ -185,30 +288,58 @@ def full_disk(trial: Trial) -> None:
 def certify(trial: Trial) -> None:
     """The front's authority, and certificates; the front's own, and nginx with the example's configuration."""
     ca = f"{DOC}/examples/front-ca.sh"
-    for words in (["init"], ["server", "desk.example", "127.0.0.1"], ["relay", "chat"], ["host", "db1"], ["auditor", "carol"]):
+    for words in (
+        ["init"],
+        ["server", "desk.example", "127.0.0.1"],
+        ["relay", "chat"],
+        ["host", "db1"],
+        ["auditor", "carol"],
+    ):
         trial.does(f"a certificate: {' '.join(words)}", "sh", ca, "/etc/desk/front", *words)
     trial.write("/etc/nginx/conf.d/desk.conf", trial.read(f"{DOC}/examples/nginx/desk.conf"))
     for kind, source in (("pem", "host-db1.pem"), ("key", "host-db1.key")):
         shutil.copy(trial.path(f"/etc/desk/front/{source}"), trial.path(f"/etc/desk/host.{kind}"))
     shutil.copy(trial.path("/etc/desk/front/ca.pem"), trial.path("/etc/desk/ca.pem"))
-    text = trial.read("/etc/desk/fetch.conf").replace("https://desk.example", "https://127.0.0.1:1 https://127.0.0.1")
+    text = trial.read("/etc/desk/fetch.conf").replace(
+        "https://desk.example", "https://127.0.0.1:1 https://127.0.0.1"
+    )
     trial.write("/etc/desk/fetch.conf", text)
     os.chmod(trial.path("/etc/desk/front/server.key"), 0o000)
     os.rename(trial.path("/etc/desk/front/server.key"), trial.path("/etc/desk/front/kept.key"))
-    trial.does("a front without its key", "nginx", "-t", status=1, says="cannot load certificate key .*/etc/desk/front/server.key")
+    trial.does(
+        "a front without its key",
+        "nginx",
+        "-t",
+        status=1,
+        says="cannot load certificate key .*/etc/desk/front/server.key",
+    )
     os.rename(trial.path("/etc/desk/front/kept.key"), trial.path("/etc/desk/front/server.key"))
 
 
 def by_curl(trial: Trial, name: str, route: str, *more: str) -> str:
     front = "/etc/desk/front"
-    return trial.run("curl", "-sS", "-m", "20", "--cert", f"{front}/{name}.pem", "--key", f"{front}/{name}.key", "--cacert", f"{front}/ca.pem",
-                     "-w", " %{http_code}", *more, f"https://127.0.0.1{route}").stdout
+    return trial.run(
+        "curl",
+        "-sS",
+        "-m",
+        "60",
+        "--cert",
+        f"{front}/{name}.pem",
+        "--key",
+        f"{front}/{name}.key",
+        "--cacert",
+        f"{front}/ca.pem",
+        "-w",
+        " %{http_code}",
+        *more,
+        f"https://127.0.0.1{route}",
+    ).stdout
 
 
 def fetch(trial: Trial, before: list[str] | None = None) -> tuple[int, str]:
     """The unit that fetches the file of db1."""
     process = service.start(trial.root, "desk-fetch@.service", "db1", before)
-    said, _ = process.communicate(timeout=60)
+    said, _ = process.communicate(timeout=PATIENCE)
     return process.returncode, said
 
 
@@ -219,14 +350,42 @@ def through_the_front(trial: Trial) -> None:
     said = by_curl(trial, "host-db1", "/v1/relays/chat/messages", "--data-binary", "{}")
     trial.check("a host does not", said.endswith(" 403"), said)
     status, said = fetch(trial)
-    trial.check("a host fetches, from the second desk", status == 0 and "127.0.0.1:1 did not answer" in said, f"{status}: {said}")
-    trial.does("the file's owner", "stat", "-c", "%U:%G %a", "/etc/sudoers.d/desk", says="^root:root 440$")
+    trial.check(
+        "a host fetches, from the second desk",
+        status == 0 and "127.0.0.1:1 did not answer" in said,
+        f"{status}: {said}",
+    )
+    trial.does(
+        "the file's owner", "stat", "-c", "%U:%G %a", "/etc/sudoers.d/desk", says="^root:root 440$"
+    )
     trial.does("visudo", "visudo", "-c", says="/etc/sudoers.d/desk: parsed OK")
     said = by_curl(trial, "auditor-carol", "/v1/grants/20260105093000Z")
-    trial.check("an auditor reads", said == "ann 7 db-care 20260105091500Z 20260105110000Z\n 200", said)
-    found = trial.run("python3", "/usr/lib/nagios/plugins/check_desk", "--desk", "https://127.0.0.1", "--ca", "/etc/desk/ca.pem", "--store", STORE, "--cert",
-                      "/etc/desk/front/auditor-carol.pem", "--key", "/etc/desk/front/auditor-carol.key", "--file", "/etc/sudoers.d/desk")
-    trial.check("the check", found.returncode == 1 and "1 conflicting duties" in found.stdout and "desk_store_bytes=" in found.stdout, found.stdout)
+    trial.check(
+        "an auditor reads", said == "ann 7 db-care 20260105091500Z 20260105110000Z\n 200", said
+    )
+    found = trial.run(
+        "python3",
+        "/usr/lib/nagios/plugins/check_desk",
+        "--desk",
+        "https://127.0.0.1",
+        "--ca",
+        "/etc/desk/ca.pem",
+        "--store",
+        STORE,
+        "--cert",
+        "/etc/desk/front/auditor-carol.pem",
+        "--key",
+        "/etc/desk/front/auditor-carol.key",
+        "--file",
+        "/etc/sudoers.d/desk",
+    )
+    trial.check(
+        "the check",
+        found.returncode == 1
+        and "1 conflicting duties" in found.stdout
+        and "desk_store_bytes=" in found.stdout,
+        found.stdout,
+    )
 
 
 def rights(trial: Trial) -> None:
@@ -234,31 +393,79 @@ def rights(trial: Trial) -> None:
     for name in ("ann", "bob"):
         trial.run("useradd", name)
     for moment, user, command, is_right in RIGHTS:
-        ran = trial.run("faketime", "-f", moment, "sudo", "-n", "-l", "-U", user, "-h", "db1", "-u", "root", "--", *command)
-        trial.check(f"sudo, {moment} {user} {command}", (ran.returncode == 0) == is_right and ran.returncode in (0, 1), ran.stdout)
+        ran = trial.run(
+            "faketime",
+            "-f",
+            moment,
+            "sudo",
+            "-n",
+            "-l",
+            "-U",
+            user,
+            "-h",
+            "db1",
+            "-u",
+            "root",
+            "--",
+            *command,
+        )
+        trial.check(
+            f"sudo, {moment} {user} {command}",
+            (ran.returncode == 0) == is_right and ran.returncode in (0, 1),
+            ran.stdout,
+        )
 
 
 def wrong_clocks(trial: Trial) -> None:
     """The host's clock a day off: the fetch succeeds and says so; years off: it is refused, and the line names the clock."""
     for what, shift, status, says in (
-        ("a host's clock, a day early", "-1d", None, "(clock is -86[0-9]+ seconds from|clock is wrong: this host's says)"),
+        (
+            "a host's clock, a day early",
+            "-1d",
+            None,
+            "(clock is -86[0-9]+ seconds from|clock is wrong: this host's says)",
+        ),
         ("a host's clock, years late", "+9y", 1, "clock is wrong: this host's says"),
     ):
         ended, said = fetch(trial, ["faketime", "-f", shift])
-        trial.check(what, status in (None, ended) and re.search(says, said) is not None, f"{ended}: {said}")
-    early = {f"{name}={time.strftime('%Y%m%d%H%M%SZ', time.gmtime(time.time() + days * 86_400))}" for name, days in (("FROM", 1), ("UNTIL", 2))}
-    trial.does("a certificate from tomorrow on", "env", *early, "sh", f"{DOC}/examples/front-ca.sh", "/etc/desk/front", "host", "db1")
+        trial.check(
+            what, status in (None, ended) and re.search(says, said) is not None, f"{ended}: {said}"
+        )
+    early = {
+        f"{name}={time.strftime('%Y%m%d%H%M%SZ', time.gmtime(time.time() + days * 86_400))}"
+        for name, days in (("FROM", 1), ("UNTIL", 2))
+    }
+    trial.does(
+        "a certificate from tomorrow on",
+        "env",
+        *early,
+        "sh",
+        f"{DOC}/examples/front-ca.sh",
+        "/etc/desk/front",
+        "host",
+        "db1",
+    )
     for kind in ("pem", "key"):
-        shutil.copy(trial.path(f"/etc/desk/front/host-db1.{kind}"), trial.path(f"/etc/desk/host.{kind}"))
+        shutil.copy(
+            trial.path(f"/etc/desk/front/host-db1.{kind}"), trial.path(f"/etc/desk/host.{kind}")
+        )
     ended, said = fetch(trial)
     is_told = "FAILED:certificate is not yet valid" in trial.read("/var/log/nginx/desk.log")
-    trial.check("a front whose clock is a day early", ended == 1 and is_told and "in its dates by the front's clock" in said, f"{ended}: {said}")
+    trial.check(
+        "a front whose clock is a day early",
+        ended == 1 and is_told and "in its dates by the front's clock" in said,
+        f"{ended}: {said}",
+    )
     trial.run("nginx", "-s", "stop")
 
 
 def the_deb() -> str:
     """The desk's package."""
-    return next(f"/tmp/{name}" for name in sorted(os.listdir(DEBS)) if name.startswith("steelnewt_") and name.endswith(".deb"))
+    return next(
+        f"/tmp/{name}"
+        for name in sorted(os.listdir(DEBS))
+        if name.startswith("steelnewt_") and name.endswith(".deb")
+    )
 
 
 def remade(trial: Trial) -> str:
@@ -266,17 +473,34 @@ def remade(trial: Trial) -> str:
     folder = trial.path("/tmp/remade")
     deb = os.path.basename(the_deb())
     subprocess.run(["dpkg-deb", "-R", os.path.join(DEBS, deb), folder], check=True)
-    for name, old, new in (("DEBIAN/control", "\nVersion: ", "\nVersion: 9."), ("etc/desk/serve.conf", "# What", "# This is what")):
+    for name, old, new in (
+        ("DEBIAN/control", "\nVersion: ", "\nVersion: 9."),
+        ("etc/desk/serve.conf", "# What", "# This is what"),
+    ):
         with open(os.path.join(folder, name), encoding="utf-8") as file:
             text = file.read()
         with open(os.path.join(folder, name), "w", encoding="utf-8") as file:
             file.write(text.replace(old, new, 1))
-    subprocess.run(["dpkg-deb", "--root-owner-group", "-Z", "none", "-b", folder, trial.path("/tmp/later.deb")], check=True, stdout=subprocess.DEVNULL)
+    subprocess.run(
+        [
+            "dpkg-deb",
+            "--root-owner-group",
+            "-Z",
+            "none",
+            "-b",
+            folder,
+            trial.path("/tmp/later.deb"),
+        ],
+        check=True,
+        stdout=subprocess.DEVNULL,
+    )
     return "/tmp/later.deb"
 
 
 def answer(trial: Trial) -> str:
-    return trial.run(*DESK, "print", "/etc/desk/roster.toml", "/etc/desk/base.sudo", STORE, "db1").stdout
+    return trial.run(
+        *DESK, "print", "/etc/desk/roster.toml", "/etc/desk/base.sudo", STORE, "db1"
+    ).stdout
 
 
 def later_on(trial: Trial) -> None:
@@ -292,14 +516,24 @@ def later_on(trial: Trial) -> None:
         ("install once more", ["-i", deb], True),
     ):
         said = trial.does(what, *DPKG, *words)
-        kept = os.path.exists(trial.path(STORE)) and os.stat(trial.path("/var/lib/desk")).st_mode & 0o777 == 0o700
+        kept = (
+            os.path.exists(trial.path(STORE))
+            and os.stat(trial.path("/var/lib/desk")).st_mode & 0o777 == 0o700
+        )
         trial.check(f"{what}: the store stands", kept, said)
         if is_there:
             trial.check(f"{what}: the same answer", answer(trial) == was, answer(trial))
         if what in ("upgrade", "remove", "install again"):
-            trial.check(f"{what}: our configuration stays", "# ours" in trial.read("/etc/desk/serve.conf"))
+            trial.check(
+                f"{what}: our configuration stays", "# ours" in trial.read("/etc/desk/serve.conf")
+            )
         if what == "purge":
-            trial.check("purge says what stays", "stay in /var/lib/desk" in said and not os.path.exists(trial.path("/etc/desk/serve.conf")), said)
+            trial.check(
+                "purge says what stays",
+                "stay in /var/lib/desk" in said
+                and not os.path.exists(trial.path("/etc/desk/serve.conf")),
+                said,
+            )
     os.unlink(trial.path(STORE))
     for name in os.listdir(trial.path("/var/lib/desk")):
         os.unlink(trial.path(f"/var/lib/desk/{name}"))
@@ -311,7 +545,11 @@ def served(trial: Trial) -> None:
     """A start, what is asked meanwhile, and the end, with what the log says of them."""
     running = Service(trial)
     ready = running.wait_ready()
-    trial.check("ready when it listens", b"READY=1" in ready and b"listening at 127.0.0.1:8080" in ready, repr(ready))
+    trial.check(
+        "ready when it listens",
+        b"READY=1" in ready and b"listening at 127.0.0.1:8080" in ready,
+        repr(ready),
+    )
     certify(trial)
     trial.does("nginx", "nginx")
     through_the_front(trial)
@@ -320,7 +558,11 @@ def served(trial: Trial) -> None:
     wrong_clocks(trial)
     status, said = running.stop()
     log = r"starting over roster /etc/desk/roster.toml \(sha256 [0-9a-f]{16}\), .* a new store(.|\n)*listening at(.|\n)*ended, as it was asked to: 2 messages"
-    trial.check("the log", status == 0 and re.search(log, said) is not None, f"{status}: {said}")
+    trial.check(
+        "the log",
+        status == 0 and re.search(log, said) is not None and "was not told" not in said,
+        f"{status}: {said}",
+    )
     again = Service(trial)
     again.wait_ready()
     status, said = again.stop()
@@ -368,10 +610,29 @@ def main() -> None:
     with tempfile.TemporaryDirectory() as fresh:
         root = ""
         if os.environ.get("FRESH"):
-            subprocess.run(["debootstrap", "--variant=minbase", f"--include={NEEDED}", "stable", fresh], check=True, stdout=subprocess.DEVNULL)
+            subprocess.run(
+                ["debootstrap", "--variant=minbase", f"--include={NEEDED}", "stable", fresh],
+                check=True,
+                stdout=subprocess.DEVNULL,
+            )
             root = fresh
-        words = ["unshare", "--mount", "--net", "--pid", "--ipc", "--fork", "--kill-child", "--propagation", "private", sys.executable]
-        sys.exit(subprocess.run([*words, os.path.abspath(__file__), "--inside", root], check=False).returncode)
+        words = [
+            "unshare",
+            "--mount",
+            "--net",
+            "--pid",
+            "--ipc",
+            "--fork",
+            "--kill-child",
+            "--propagation",
+            "private",
+            sys.executable,
+        ]
+        sys.exit(
+            subprocess.run(
+                [*words, os.path.abspath(__file__), "--inside", root], check=False
+            ).returncode
+        )
 
 
 if __name__ == "__main__":

@@ -31,7 +31,12 @@ def message(number: int) -> bytes:
 def request(method: str, target: str, body: bytes | None = None, extra: bytes = b"") -> bytes:
     length = b"" if body is None else b"Content-Length: %d\r\n" % len(body)
     return b"%s %s HTTP/1.1\r\nHost: desk\r\nConnection: close\r\n%s%s\r\n%s" % (
-        method.encode(), target.encode(), length, extra, body or b"")
+        method.encode(),
+        target.encode(),
+        length,
+        extra,
+        body or b"",
+    )
 
 
 def status(reply: bytes) -> str:
@@ -40,8 +45,14 @@ def status(reply: bytes) -> str:
 
 
 # Each certificate: its name, and what it may do where it is sound.
-SOUND = {"relay-chat": ("relay", "chat"), "relay-mail": ("relay", "mail"), "host-db1": ("host", "db1"),
-         "host-chat": ("host", "chat"), "relay-db1": ("relay", "db1"), "auditor-carol": ("auditor", "carol")}
+SOUND = {
+    "relay-chat": ("relay", "chat"),
+    "relay-mail": ("relay", "mail"),
+    "host-db1": ("host", "db1"),
+    "host-chat": ("host", "chat"),
+    "relay-db1": ("relay", "db1"),
+    "auditor-carol": ("auditor", "carol"),
+}
 UNSOUND = ["old/relay-chat", "early/relay-chat", "other/relay-chat", "gone/host-db1", "bare", None]
 # The method, the target, a body or None, and whose it is.
 ROUTES = [
@@ -81,7 +92,10 @@ def make_certificates(folder: str) -> None:
         front.certify(ca, "host", f"h{number}")
     front.certify(ca, "host", "db9")
     front.certify(ca, "relay", "slow")
-    for kept, dates in (("old", ("20200101000000Z", "20200102000000Z")), ("early", ("20900101000000Z", "20900102000000Z"))):
+    for kept, dates in (
+        ("old", ("20200101000000Z", "20200102000000Z")),
+        ("early", ("20900101000000Z", "20900102000000Z")),
+    ):
         keep(ca, folder, kept, "relay", "chat2", dates, "chat")
     keep(ca, folder, "gone", "host", "db1b", None, "db1")
     front.certify(ca, "revoke", "../gone/host-db1")
@@ -91,7 +105,9 @@ def make_certificates(folder: str) -> None:
     make_bare(ca)
 
 
-def keep(ca: str, folder: str, kept: str, kind: str, held: str, dates: tuple[str, str] | None, name: str) -> None:
+def keep(
+    ca: str, folder: str, kept: str, kind: str, held: str, dates: tuple[str, str] | None, name: str
+) -> None:
     """A second certificate of a name, put into a folder of its own."""
     safe = [os.path.join(ca, f"{kind}-{name}.{end}") for end in ("pem", "key")]
     for path in safe:
@@ -105,9 +121,35 @@ def keep(ca: str, folder: str, kept: str, kind: str, held: str, dates: tuple[str
 
 def make_bare(ca: str) -> None:
     """A certificate of the right authority whose subject has no kind."""
-    conf = ["openssl", "req", "-newkey", "ec", "-pkeyopt", "ec_paramgen_curve:P-256", "-nodes", "-subj", "/CN=chat",
-            "-keyout", "bare.key", "-out", "bare.csr"]
-    sign = ["openssl", "ca", "-config", "ca.conf", "-batch", "-notext", "-days", "9", "-in", "bare.csr", "-out", "bare.pem"]
+    conf = [
+        "openssl",
+        "req",
+        "-newkey",
+        "ec",
+        "-pkeyopt",
+        "ec_paramgen_curve:P-256",
+        "-nodes",
+        "-subj",
+        "/CN=chat",
+        "-keyout",
+        "bare.key",
+        "-out",
+        "bare.csr",
+    ]
+    sign = [
+        "openssl",
+        "ca",
+        "-config",
+        "ca.conf",
+        "-batch",
+        "-notext",
+        "-days",
+        "9",
+        "-in",
+        "bare.csr",
+        "-out",
+        "bare.pem",
+    ]
     for words in (conf, sign):
         subprocess.run(words, cwd=ca, check=True, capture_output=True)
 
@@ -119,7 +161,12 @@ def ask_routes(folder: str, port: int) -> tuple[int, int]:
         client = front.context(folder, name)
         for method, target, body, whose in ROUTES:
             mine = SOUND.get(name or "")
-            is_right = mine is not None and whose is not None and mine[0] == whose[0] and whose[1] in (None, mine[1])
+            is_right = (
+                mine is not None
+                and whose is not None
+                and mine[0] == whose[0]
+                and whose[1] in (None, mine[1])
+            )
             got = status(front.exchange(client, port, request(method, target, body)))
             asked += 1
             if got != ("200" if is_right else "403"):
@@ -134,7 +181,9 @@ def stand_beside(folder: str, port: int) -> tuple[int, int]:
     given = request("POST", "/v1/relays/slow/messages", message(4))
 
     def dawdle() -> None:
-        reply = front.exchange(front.context(folder, "relay-slow"), port, given, pause=0.05, patience=60)
+        reply = front.exchange(
+            front.context(folder, "relay-slow"), port, given, pause=0.05, patience=60
+        )
         slow.append((time.monotonic(), reply))
 
     dawdler = threading.Thread(target=dawdle)
@@ -145,7 +194,13 @@ def stand_beside(folder: str, port: int) -> tuple[int, int]:
 
     def fetch(number: int) -> None:
         target = f"/v1/hosts/h{number % FETCHERS}/sudoers"
-        replies.append(status(front.exchange(clients[number % FETCHERS], port, request("GET", target), patience=60)))
+        replies.append(
+            status(
+                front.exchange(
+                    clients[number % FETCHERS], port, request("GET", target), patience=60
+                )
+            )
+        )
 
     threads = [threading.Thread(target=fetch, args=(number,)) for number in range(OTHERS)]
     for thread in threads:
@@ -156,9 +211,15 @@ def stand_beside(folder: str, port: int) -> tuple[int, int]:
     dawdler.join()
     # (the roster has neither these hosts nor this relay, so the desk's answers are its own 404 and 403)
     counts = collections.Counter(replies)
-    is_right = counts == {"404": OTHERS} and slow[0][0] > done and slow[0][1].endswith(b"P1 UnknownRelay\n")
+    is_right = (
+        counts == {"404": OTHERS}
+        and slow[0][0] > done
+        and slow[0][1].endswith(b"P1 UnknownRelay\n")
+    )
     if not is_right:
-        print(f"beside a slow client: {counts}, and the slow one {slow[0][0] - done:.1f} s later: {slow[0][1]!r}")
+        print(
+            f"beside a slow client: {counts}, and the slow one {slow[0][0] - done:.1f} s later: {slow[0][1]!r}"
+        )
     return OTHERS + 1, 0 if is_right else 1
 
 
@@ -167,14 +228,26 @@ def crowd(folder: str, port: int) -> tuple[int, int]:
     client = front.context(folder, "host-db9")
     replies: list[str] = []
     given = request("GET", "/v1/hosts/db9/sudoers")
-    threads = [threading.Thread(target=lambda: replies.append(status(front.exchange(client, port, given)))) for _ in range(CROWD)]
+    threads = [
+        threading.Thread(target=lambda: replies.append(status(front.exchange(client, port, given))))
+        for _ in range(CROWD)
+    ]
     for thread in threads:
         thread.start()
-    other = status(front.exchange(front.context(folder, "host-db1"), port, request("GET", "/v1/hosts/db1/sudoers")))
+    other = status(
+        front.exchange(
+            front.context(folder, "host-db1"), port, request("GET", "/v1/hosts/db1/sudoers")
+        )
+    )
     for thread in threads:
         thread.join()
     counts = collections.Counter(replies)
-    is_right = other == "200" and counts["429"] >= 10 and counts["404"] >= 50 and counts["404"] + counts["429"] == CROWD
+    is_right = (
+        other == "200"
+        and counts["429"] >= 10
+        and counts["404"] >= 50
+        and counts["404"] + counts["429"] == CROWD
+    )
     if not is_right:
         print(f"a crowd: {counts}, and another {other}")
     return CROWD + 1, 0 if is_right else 1
@@ -207,8 +280,21 @@ def rows() -> list[tuple[str, bytes, set[str]]]:
     a, b, c, d, e, f = (next_text() for _ in range(6))
     refused = {"400", "none", "501", "413"}
     return [
-        ("CL and TE, the length first", POST + length(chunked(a)) + b"Transfer-Encoding: chunked\r\n\r\n" + chunked(a), refused),
-        ("TE and CL, a request in the rest", POST + b"Transfer-Encoding: chunked\r\n" + length(b, b"4") + b"\r\n" + chunked(b) + SMUGGLED, refused),
+        (
+            "CL and TE, the length first",
+            POST + length(chunked(a)) + b"Transfer-Encoding: chunked\r\n\r\n" + chunked(a),
+            refused,
+        ),
+        (
+            "TE and CL, a request in the rest",
+            POST
+            + b"Transfer-Encoding: chunked\r\n"
+            + length(b, b"4")
+            + b"\r\n"
+            + chunked(b)
+            + SMUGGLED,
+            refused,
+        ),
         ("two lengths that differ", POST + length(c) + length(c, b"4") + b"\r\n" + c, refused),
         ("two lengths alike", POST + length(d) * 2 + b"\r\n" + d, refused),
         ("a list of lengths", with_length(b"70, 70"), refused),
@@ -218,30 +304,82 @@ def rows() -> list[tuple[str, bytes, set[str]]]:
         ("a length past 64 bits", with_length(b"18446744073709551686"), refused),
         ("a length past the body", POST + length(e, b"16000") + b"\r\n" + e, refused),
         ("bare newlines", (POST + length(f)).replace(b"\r\n", b"\n") + b"\n" + f, {"200", "400"}),
-        ("a bare newline before a field of chunks", POST[:-2] + b"\n" + b"Transfer-Encoding: chunked\n\r\n" + chunked(next_text()), {"200", "400"}),
+        (
+            "a bare newline before a field of chunks",
+            POST[:-2] + b"\n" + b"Transfer-Encoding: chunked\n\r\n" + chunked(next_text()),
+            {"200", "400"},
+        ),
         ("chunks", coded(b"Transfer-Encoding: chunked\r\n"), {"200"}),
         ("chunks, in capitals", coded(b"TRANSFER-ENCODING: CHUNKED\r\n"), {"200"}),
         ("chunks behind a tab", coded(b"Transfer-Encoding:\tchunked\r\n"), {"200", "400", "501"}),
         ("a blank before the colon", coded(b"Transfer-Encoding : chunked\r\n"), refused | {"411"}),
         ("another coding", coded(b"Transfer-Encoding: xchunked\r\n"), refused),
         ("two codings", coded(b"Transfer-Encoding: chunked, identity\r\n"), refused),
-        ("chunks twice", coded(b"Transfer-Encoding: chunked\r\nTransfer-Encoding: chunked\r\n"), refused),
-        ("a chunk of a wrong size", POST + b"Transfer-Encoding: chunked\r\n\r\n" + chunked(next_text(), b"47zz"), refused),
-        ("a chunk past the limit", POST + b"Transfer-Encoding: chunked\r\n\r\n" + chunked(b"x" * 16385), {"413"}),
+        (
+            "chunks twice",
+            coded(b"Transfer-Encoding: chunked\r\nTransfer-Encoding: chunked\r\n"),
+            refused,
+        ),
+        (
+            "a chunk of a wrong size",
+            POST + b"Transfer-Encoding: chunked\r\n\r\n" + chunked(next_text(), b"47zz"),
+            refused,
+        ),
+        (
+            "a chunk past the limit",
+            POST + b"Transfer-Encoding: chunked\r\n\r\n" + chunked(b"x" * 16385),
+            {"413"},
+        ),
         ("a body past the limit", POST + length(b"x" * 16385) + b"\r\n" + b"x" * 16385, {"413"}),
-        ("a second request behind the body", POST + length(texts[30]) + b"\r\n" + texts[30] + SMUGGLED, {"200"}),
+        (
+            "a second request behind the body",
+            POST + length(texts[30]) + b"\r\n" + texts[30] + SMUGGLED,
+            {"200"},
+        ),
         ("two requests of its own", (POST + length(texts[31]) + b"\r\n" + texts[31]) * 2, {"200"}),
-        ("a folded field", POST + b"X: y\r\n z: " + length(texts[32]) + b"\r\n" + texts[32], {"200", "400"}),
-        ("a NUL in a field", POST + b"X: \x00\r\n" + length(texts[33]) + b"\r\n" + texts[33], refused),
-        ("two Host fields", POST + b"Host: other\r\n" + length(texts[34]) + b"\r\n" + texts[34], refused),
-        ("an absolute target", request("POST", "https://desk/v1/relays/mail/messages", texts[35]), {"200", "403", "400"}),
+        (
+            "a folded field",
+            POST + b"X: y\r\n z: " + length(texts[32]) + b"\r\n" + texts[32],
+            {"200", "400"},
+        ),
+        (
+            "a NUL in a field",
+            POST + b"X: \x00\r\n" + length(texts[33]) + b"\r\n" + texts[33],
+            refused,
+        ),
+        (
+            "two Host fields",
+            POST + b"Host: other\r\n" + length(texts[34]) + b"\r\n" + texts[34],
+            refused,
+        ),
+        (
+            "an absolute target",
+            request("POST", "https://desk/v1/relays/mail/messages", texts[35]),
+            {"200", "403", "400"},
+        ),
         ("no version", b"GET /v1/parked\r\n\r\n", {"403", "400", "none"}),
-        ("the preface of HTTP/2", b"PRI * HTTP/2.0\r\n\r\nSM\r\n\r\n", {"403", "400", "405", "505", "none"}),
+        (
+            "the preface of HTTP/2",
+            b"PRI * HTTP/2.0\r\n\r\nSM\r\n\r\n",
+            {"403", "400", "405", "505", "none"},
+        ),
         ("CONNECT", b"CONNECT desk:8080 HTTP/1.1\r\nHost: desk\r\n\r\n", {"403", "400", "405"}),
         ("TRACE", b"TRACE / HTTP/1.1\r\nHost: desk\r\n\r\n", {"403", "405"}),
-        ("forty fields", request("POST", "/v1/relays/mail/messages", texts[36], b"X: y\r\n" * 40), {"200"}),
-        ("Expect", request("POST", "/v1/relays/mail/messages", texts[37], b"Expect: 100-continue\r\n"), {"100", "200"}),
-        ("bytes past ASCII in the body", request("POST", "/v1/relays/mail/messages", b'{"by":"\xff\xe9"}'), {"400"}),
+        (
+            "forty fields",
+            request("POST", "/v1/relays/mail/messages", texts[36], b"X: y\r\n" * 40),
+            {"200"},
+        ),
+        (
+            "Expect",
+            request("POST", "/v1/relays/mail/messages", texts[37], b"Expect: 100-continue\r\n"),
+            {"100", "200"},
+        ),
+        (
+            "bytes past ASCII in the body",
+            request("POST", "/v1/relays/mail/messages", b'{"by":"\xff\xe9"}'),
+            {"400"},
+        ),
         ("an empty body", request("POST", "/v1/relays/mail/messages", b""), {"400", "411"}),
     ]
 
@@ -262,9 +400,16 @@ def as_asked(whole: bytes) -> tuple[str, str] | None:
     """A request as the desk got it: its first line, less the version, and its body, where the length is the body's."""
     head, _, body = whole.partition(b"\r\n\r\n")
     lengths = re.findall(rb"(?im)^content-length: ([0-9]+)\r?$", head)
-    if re.search(rb"(?im)^transfer-encoding", head) or lengths not in ([], [b"%d" % len(body)]) or body and not lengths:
+    if (
+        re.search(rb"(?im)^transfer-encoding", head)
+        or lengths not in ([], [b"%d" % len(body)])
+        or body
+        and not lengths
+    ):
         return None
-    return " ".join(head.split(b"\r\n")[0].decode("latin-1").split()[:2]), body.decode("utf-8", "surrogateescape")
+    return " ".join(head.split(b"\r\n")[0].decode("latin-1").split()[:2]), body.decode(
+        "utf-8", "surrogateescape"
+    )
 
 
 def compare_log(folder: str, recorder: front.Recorder, store: str) -> tuple[int, int]:
@@ -277,8 +422,17 @@ def compare_log(folder: str, recorder: front.Recorder, store: str) -> tuple[int,
     for each in (told - got) + (got - told):
         wrong += 1
         print(f"front and desk disagree: {each}: {told[each]} in the log, {got[each]} at the desk")
-    acked = {line["posted"] for line in lines if line["status"] == line["desk"] == "200" and line["request"].startswith("POST")}
-    held = subprocess.run(["sqlite3", store, "SELECT body FROM messages"], stdout=subprocess.PIPE, check=True, text=True)
+    acked = {
+        line["posted"]
+        for line in lines
+        if line["status"] == line["desk"] == "200" and line["request"].startswith("POST")
+    }
+    held = subprocess.run(
+        ["sqlite3", store, "SELECT body FROM messages"],
+        stdout=subprocess.PIPE,
+        check=True,
+        text=True,
+    )
     if set(held.stdout.splitlines()) != acked or not acked:
         wrong += 1
         print(f"the log acknowledged {sorted(acked)}, and the store has {held.stdout}")
@@ -298,13 +452,20 @@ def under_nginx(folder: str) -> list[tuple[int, int]]:
     with front.desk(DESK, store) as address:
         recorder = front.Recorder(address)
         with front.front(front.nginx_words(folder, port, recorder.address), port):
-            parts = [ask_routes(folder, port), stand_beside(folder, port), crowd(folder, port), smuggle(folder, port)]
+            parts = [
+                ask_routes(folder, port),
+                stand_beside(folder, port),
+                crowd(folder, port),
+                smuggle(folder, port),
+            ]
     return [*parts, compare_log(folder, recorder, store)]
 
 
 def under_haproxy(folder: str) -> list[tuple[int, int]]:
     port = front.free_port()
-    with front.desk(DESK, "-") as address, front.front(front.haproxy_words(folder, port, address), port):
+    with front.desk(DESK, "-") as address, front.front(
+        front.haproxy_words(folder, port, address), port
+    ):
         return [ask_routes(folder, port)]
 
 

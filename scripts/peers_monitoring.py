@@ -37,8 +37,20 @@ def approval(at: int, number: int = 7) -> str:
 
 
 def request(command: str) -> str:
-    return canonical({"at": stamp(NOW - HOUR), "by": "ann", "ceiling": "db-care", "cmnds": [command], "from": stamp(NOW - HOUR), "hosts": ["db1"],
-                      "kind": "request", "no": 7, "runas": "root", "until": stamp(NOW + HOUR // 2)})
+    return canonical(
+        {
+            "at": stamp(NOW - HOUR),
+            "by": "ann",
+            "ceiling": "db-care",
+            "cmnds": [command],
+            "from": stamp(NOW - HOUR),
+            "hosts": ["db1"],
+            "kind": "request",
+            "no": 7,
+            "runas": "root",
+            "until": stamp(NOW + HOUR // 2),
+        }
+    )
 
 
 def examples(name: str) -> str:
@@ -56,18 +68,28 @@ def serving(folder: str, roster: str, base: str, messages: list[str]) -> Iterato
     for end in ("", "-wal"):
         with contextlib.suppress(FileNotFoundError):
             os.unlink(places[2] + end)
-    with subprocess.Popen([*DESK, "serve", *places, "127.0.0.1:0"], stdout=subprocess.PIPE, text=True) as server:
+    with subprocess.Popen(
+        [*DESK, "serve", *places, "127.0.0.1:0"], stdout=subprocess.PIPE, text=True
+    ) as server:
         try:
             address = server.stdout.readline().split()[1]
             for line in messages:
-                urllib.request.urlopen(f"http://{address}/v1/relays/chat/messages", line.encode(), timeout=20).read()
+                urllib.request.urlopen(
+                    f"http://{address}/v1/relays/chat/messages", line.encode(), timeout=20
+                ).read()
             yield f"http://{address}"
         finally:
             server.send_signal(signal.SIGTERM)
 
 
 def check(*words: str) -> tuple[int, str]:
-    ran = subprocess.run([sys.executable, CHECK, *words], stdout=subprocess.PIPE, stderr=subprocess.STDOUT, text=True, check=False)
+    ran = subprocess.run(
+        [sys.executable, CHECK, *words],
+        stdout=subprocess.PIPE,
+        stderr=subprocess.STDOUT,
+        text=True,
+        check=False,
+    )
     return ran.returncode, ran.stdout
 
 
@@ -77,12 +99,54 @@ def desk_rows() -> list[tuple[str, str, str, list[str], int, str]]:
     calm = roster.replace('eve = ["approve-db", "audit"]', 'eve = ["audit"]')
     granted = [request("/usr/bin/id"), approval(NOW - HOUR)]
     return [
-        ("all is well", calm, base, granted, 0, "DESK OK | desk_up=1 desk_grants=1 desk_grants_needless=0 desk_conflicts=0 desk_broad=0 desk_parked=0 "),
-        ("conflicting duties", roster, base, [], 1, "DESK WARNING - 1 conflicting duties held by one person |"),
-        ("a verdict that has waited for two days", calm, base, [approval(NOW - 2 * DAY)], 1, "DESK WARNING - 1 verdicts waiting for more than a day |"),
-        ("a verdict that has waited for an hour", calm, base, [approval(NOW - HOUR)], 0, "desk_parked=1 desk_parked_old=0"),
-        ("a needless grant", calm, base + "ann db1 = ALL\n", granted, 1, "DESK WARNING - 1 needless grants |"),
-        ("a broad grant", calm, base, [request("/usr/bin/"), approval(NOW - HOUR)], 1, "DESK WARNING - 1 broad commands in force |"),
+        (
+            "all is well",
+            calm,
+            base,
+            granted,
+            0,
+            "DESK OK | desk_up=1 desk_grants=1 desk_grants_needless=0 desk_conflicts=0 desk_broad=0 desk_parked=0 ",
+        ),
+        (
+            "conflicting duties",
+            roster,
+            base,
+            [],
+            1,
+            "DESK WARNING - 1 conflicting duties held by one person |",
+        ),
+        (
+            "a verdict that has waited for two days",
+            calm,
+            base,
+            [approval(NOW - 2 * DAY)],
+            1,
+            "DESK WARNING - 1 verdicts waiting for more than a day |",
+        ),
+        (
+            "a verdict that has waited for an hour",
+            calm,
+            base,
+            [approval(NOW - HOUR)],
+            0,
+            "desk_parked=1 desk_parked_old=0",
+        ),
+        (
+            "a needless grant",
+            calm,
+            base + "ann db1 = ALL\n",
+            granted,
+            1,
+            "DESK WARNING - 1 needless grants |",
+        ),
+        (
+            "a broad grant",
+            calm,
+            base,
+            [request("/usr/bin/"), approval(NOW - HOUR)],
+            1,
+            "DESK WARNING - 1 broad commands in force |",
+        ),
     ]
 
 
@@ -90,7 +154,11 @@ def is_textfile(path: str) -> bool:
     """Whether each line is one of Prometheus's text format."""
     with open(path, encoding="utf-8") as file:
         lines = file.read().splitlines()
-    return len(lines) >= 3 and all(LINE.fullmatch(line) for line in lines) and os.stat(path).st_mode & 0o777 == 0o644
+    return (
+        len(lines) >= 3
+        and all(LINE.fullmatch(line) for line in lines)
+        and os.stat(path).st_mode & 0o777 == 0o644
+    )
 
 
 def desks(folder: str) -> Iterator[tuple[str, bool, str]]:
@@ -100,11 +168,25 @@ def desks(folder: str) -> Iterator[tuple[str, bool, str]]:
             got, said = check("--desk", address, "--textfile", text)
         yield what, got == status and says in said and is_textfile(text), f"{got}: {said}"
     store = os.path.join(folder, "desk.db")
-    yield "a desk that is down", *is_said(check("--desk", "http://127.0.0.1:1"), 2, "DESK CRITICAL - http://127.0.0.1:1 does not answer")
-    yield "a store", *is_said(check("--desk", "http://127.0.0.1:1", "--store", store), 2, f"desk_store_bytes={size(store)}")
+    yield "a desk that is down", *is_said(
+        check("--desk", "http://127.0.0.1:1"),
+        2,
+        "DESK CRITICAL - http://127.0.0.1:1 does not answer",
+    )
+    yield "a store", *is_said(
+        check("--desk", "http://127.0.0.1:1", "--store", store),
+        2,
+        f"desk_store_bytes={size(store)}",
+    )
     with serving(folder, desk_rows()[0][1], "", []) as address:
-        yield "a large store", *is_said(check("--desk", address, "--store", store, "--store-most", "100"), 1, "WARNING - the store has ")
-        yield "no store", *is_said(check("--desk", address, "--store", "/nowhere.db"), 2, "there is no store /nowhere.db")
+        yield "a large store", *is_said(
+            check("--desk", address, "--store", store, "--store-most", "100"),
+            1,
+            "WARNING - the store has ",
+        )
+        yield "no store", *is_said(
+            check("--desk", address, "--store", "/nowhere.db"), 2, "there is no store /nowhere.db"
+        )
 
 
 def size(store: str) -> int:
@@ -123,7 +205,9 @@ def files(folder: str) -> Iterator[tuple[str, bool, str]]:
     yield "a new file", *is_said(check("--file", file), 0, "DESK OK | desk_host_file_age_seconds=")
     os.utime(file, (NOW - 2 * HOUR, NOW - 2 * HOUR))
     yield "an old file", *is_said(check("--file", file), 2, "look at desk-fetch on this host")
-    yield "a file that may be old", *is_said(check("--file", file, "--file-age", "86400"), 0, "DESK OK")
+    yield "a file that may be old", *is_said(
+        check("--file", file, "--file-age", "86400"), 0, "DESK OK"
+    )
     yield "nothing to look at", *is_said(check(), 2, "name a desk, a host's file, or both")
 
 

@@ -23,7 +23,11 @@ def environment(root: str, settings: dict[str, list[str]]) -> dict[str, str]:
         path = root + name.lstrip("-")
         if os.path.exists(path):
             with open(path, encoding="utf-8") as file:
-                held |= dict(line.strip().split("=", 1) for line in file if "=" in line and not line.startswith("#"))
+                held |= dict(
+                    line.strip().split("=", 1)
+                    for line in file
+                    if "=" in line and not line.startswith("#")
+                )
     return held
 
 
@@ -40,12 +44,21 @@ def words(settings: dict[str, list[str]], held: dict[str, str], instance: str) -
     return made
 
 
-def start(root: str, name: str, instance: str = "", before: list[str] | None = None, extra: dict[str, str] | None = None) -> subprocess.Popen[str]:
+def start(
+    root: str,
+    name: str,
+    instance: str = "",
+    before: list[str] | None = None,
+    extra: dict[str, str] | None = None,
+) -> subprocess.Popen[str]:
     """Starts the unit's program in the root: its standard output and error are one stream."""
     with open(os.path.join(root, "lib/systemd/system", name), encoding="utf-8") as file:
         settings = unit(file.read())
     held = environment(root, settings) | (extra or {})
-    writable = [*(f"/var/lib/{each}" for each in settings.get("StateDirectory", [])), *settings.get("ReadWritePaths", [])]
+    writable = [
+        *(f"/var/lib/{each}" for each in settings.get("StateDirectory", [])),
+        *settings.get("ReadWritePaths", []),
+    ]
     mounts = "".join(f"mount --rbind {each} {each} && " for each in writable)
     user = settings.get("User", ["root"])[0]
     bare = "mount -o remount,bind,ro / && mount -t tmpfs tmpfs /tmp && cd / && "
@@ -54,7 +67,10 @@ def start(root: str, name: str, instance: str = "", before: list[str] | None = N
     script = f"umask 077 && {mounts}{bare}{drop} env -i {shlex.join(f'{key}={value}' for key, value in held.items())} {shlex.join(asked)}"
     return subprocess.Popen(
         ["unshare", "--mount", "--propagation", "private", "chroot", root, "sh", "-c", script],
-        stdout=subprocess.PIPE, stderr=subprocess.STDOUT, text=True)
+        stdout=subprocess.PIPE,
+        stderr=subprocess.STDOUT,
+        text=True,
+    )
 
 
 def listen(root: str) -> socket.socket:
@@ -65,5 +81,4 @@ def listen(root: str) -> socket.socket:
     made = socket.socket(socket.AF_UNIX, socket.SOCK_DGRAM)
     made.bind(path)
     os.chmod(path, 0o777)
-    made.settimeout(20)
     return made

@@ -44,10 +44,20 @@ def words() -> argparse.Namespace:
     parser.add_argument("--key", help="its key")
     parser.add_argument("--ca", help="the authority of the front's certificate")
     parser.add_argument("--store", help="the store, where this runs beside the desk")
-    parser.add_argument("--store-most", type=int, default=1 << 30, help="bytes of the store that are too many (1 GiB)")
+    parser.add_argument(
+        "--store-most",
+        type=int,
+        default=1 << 30,
+        help="bytes of the store that are too many (1 GiB)",
+    )
     parser.add_argument("--file", help="a host's sudoers file")
-    parser.add_argument("--file-age", type=int, default=3600, help="seconds after which the file is too old (3600)")
-    parser.add_argument("--textfile", help="a file of Prometheus's node exporter, as /var/lib/node_exporter/desk.prom")
+    parser.add_argument(
+        "--file-age", type=int, default=3600, help="seconds after which the file is too old (3600)"
+    )
+    parser.add_argument(
+        "--textfile",
+        help="a file of Prometheus's node exporter, as /var/lib/node_exporter/desk.prom",
+    )
     given = parser.parse_args()
     if not (given.desk or given.file):
         parser.error("name a desk, a host's file, or both")
@@ -122,12 +132,16 @@ def gather(given: argparse.Namespace, now: float) -> tuple[dict[str, int], list[
     return figures, faults
 
 
-def verdict(given: argparse.Namespace, figures: dict[str, int], faults: list[str]) -> tuple[int, str]:
+def verdict(
+    given: argparse.Namespace, figures: dict[str, int], faults: list[str]
+) -> tuple[int, str]:
     """The status, and the line that says why."""
     critical, warning = list(faults), []
     age = figures.get("desk_host_file_age_seconds", 0)
     if age > given.file_age:
-        critical.append(f"{given.file} was fetched {age} seconds ago: look at desk-fetch on this host")
+        critical.append(
+            f"{given.file} was fetched {age} seconds ago: look at desk-fetch on this host"
+        )
     if figures.get("desk_store_bytes", 0) > given.store_most:
         warning.append(f"the store has {figures['desk_store_bytes']} bytes")
     for name, said in (
