@@ -1,16 +1,17 @@
 #!/bin/sh
-# Fetches this host's sudoers file from a desk, checks it, and puts it in place. On any fault the old file
-# stays, and the status is 1. For a timer, as root:
+# Fetches this host's sudoers file from a desk, checks it, and puts it in place. On any fault the
+# old file stays, and the status is 1. For a timer, as root:
 #
 #   fetch-sudoers.sh http://127.0.0.1:8080 db1 /etc/sudoers.d/desk
-#   fetch-sudoers.sh --cert host.pem --key host.key --ca ca.pem https://desk.example db1 /etc/sudoers.d/desk
+#   fetch-sudoers.sh --cert host.pem --key host.key --ca ca.pem https://desk.example db1
+#   /etc/sudoers.d/desk
 #
-# Several desks are asked in turn: the first that answers with a file that visudo accepts is taken, and each
-# before it is named on the standard error.
+# Several desks are asked in turn: the first that answers with a file that visudo accepts is taken,
+# and each before it is named on the standard error.
 #
-# What the file grants ends by its own dates, so an old file gives nobody a right past its window; but a
-# revocation, and a new grant, wait for the next fetch. The file's time of change is that of the last fetch
-# that succeeded, whether the file was another or the same.
+# What the file grants ends by its own dates, so an old file gives nobody a right past its window;
+# but a revocation, and a new grant, wait for the next fetch. The file's time of change is that of
+# the last fetch that succeeded, whether the file was another or the same.
 set -eu
 umask 077
 
@@ -28,10 +29,11 @@ fault() {
     exit 1
 }
 
-# A certificate, a key or a CA that cannot be read is the fault itself, and not that a desk does not answer.
+# A certificate, a key or a CA that cannot be read is the fault itself, and not that a desk does not
+# answer.
 readable() {
     [ -r "$2" ] || {
-        say "cannot read the $1 $2: look whether it is there, and run this as root; the old file stays"
+        say "cannot read the $1 $2: is it there, and is this run as root? The old file stays"
         exit 1
     }
 }
@@ -67,19 +69,23 @@ trap 'exit 1' HUP INT TERM
 hint() {
     case $(cat "$new.said") in
         *expired* | *'not yet valid'*)
-            echo "; a certificate is out of its dates, or a clock is wrong: this host's says $(date -u +%Y-%m-%dT%H:%M:%SZ)" ;;
-        *' 403'*) echo "; the front refuses this certificate: it has to be that of the host $host, and in its dates by the front's clock" ;;
+            echo "; a certificate is out of its dates, or a clock is wrong:" \
+                "this host's says $(date -u +%Y-%m-%dT%H:%M:%SZ)" ;;
+        *' 403'*)
+            echo "; the front refuses this certificate: it has to be that of the host $host," \
+                "and in its dates by the front's clock" ;;
         *' 404'*) echo "; the desk's roster has no host $host" ;;
     esac
 }
 
-# The front's clock beside this host's: windows are tested by the host's. The desk alone sends no Date.
+# The front's clock beside this host's: windows are tested by the host's. The desk alone sends no
+# Date.
 compare_clocks() {
     there=$(sed -n 's/^[Dd][Aa][Tt][Ee]: *//p' "$new.head" | tr -d '\r' | tail -n 1)
     [ -n "$there" ] && there=$(date -d "$there" +%s 2>/dev/null) || return 0
     apart=$(($(date +%s) - there))
     if [ "$apart" -gt 300 ] || [ "$apart" -lt -300 ]; then
-        say "this host's clock is $apart seconds from that of $1: grants begin and end by it, so set it right"
+        say "this host's clock is $apart seconds from that of $1: grants go by it, so set it right"
     fi
 }
 

@@ -1,6 +1,7 @@
 #!/usr/bin/env python3
-"""Checks build/pages (`make pages`): the manual pages by mandoc, packaging/commands.toml by the program's own help, the examples of
-desk(1) by running them, and the completions in a real bash and a real zsh. `check_pages.py WORDS..` runs another program than build/desk.
+"""Checks build/pages (`make pages`): the manual pages by mandoc, packaging/commands.toml by the
+program's own help, the examples of desk(1) by running them, and the completions in a real bash and
+a real zsh. `check_pages.py WORDS..` runs another program than build/desk.
 """
 
 import os
@@ -178,8 +179,11 @@ CAPTURE = r"""
 zmodload zsh/zpty
 zpty z zsh -f -i
 zpty -w z "PROMPT= fpath=($1 \$fpath); autoload -Uz compinit; compinit -u -D; setopt rcquotes"
-zpty -w z 'zstyle ":completion:*" list-grouped false; zstyle ":completion:*" verbose false; bindkey "^I" complete-word'
-zpty -w z 'compadd() { if [[ ${@[1,(i)(-|--)]} == *-(O|A|D)\ * ]]; then builtin compadd "$@"; return $?; fi; typeset -a hits; builtin compadd -A hits "$@"; print -r -- "<hits> $hits <end>" }'
+zpty -w z 'zstyle ":completion:*" list-grouped false; bindkey "^I" complete-word'
+zpty -w z 'zstyle ":completion:*" verbose false'
+zpty -w z 'is_asked() { [[ ${@[1,(i)(-|--)]} == *-(O|A|D)\ * ]] }'
+zpty -w z 'tell() { typeset -a hits; builtin compadd -A hits "$@"; print -r "<hits> $hits <end>" }'
+zpty -w z 'compadd() { if is_asked "$@"; then builtin compadd "$@"; else tell "$@"; fi }'
 zpty -w z 'print ready-$((1 + 1))'
 while zpty -r z line; do [[ $line == *ready-2* ]] && break; done
 zpty -w -n z "$2"$'\t\x15'
@@ -210,14 +214,9 @@ def main() -> None:
         commands = tomllib.load(file)["command"]
     parts = [check_pages(), check_help(commands), check_examples(commands), check_completions()]
     wrong = [line for _, lines in parts for line in lines]
-    print(
-        "\n".join(
-            [
-                *wrong,
-                f"manual pages, help, examples and completions: {sum(count for count, _ in parts)} checks, {len(wrong)} wrong",
-            ]
-        )
-    )
+    checks = sum(count for count, _ in parts)
+    print("".join(f"{line}\n" for line in wrong), end="")
+    print(f"manual pages, help, examples and completions: {checks} checks, {len(wrong)} wrong")
     sys.exit(1 if wrong else 0)
 
 

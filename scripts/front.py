@@ -1,4 +1,5 @@
-"""What the tests of the front stand on: certificates, a desk, what was said between the two, and nginx or haproxy before it."""
+"""What the tests of the front stand on: certificates, a desk, what was said between the two, and
+nginx or haproxy before it."""
 
 import contextlib
 import json
@@ -58,7 +59,8 @@ def desk(words: list[str], store: str) -> Iterator[str]:
 
 
 class Recorder:
-    """Stands between front and desk, and keeps the bytes that each connection brought to the desk."""
+    """Stands between front and desk, and keeps the bytes that each connection brought to the
+    desk."""
 
     def __init__(self, desk_address: str) -> None:
         host, _, port = desk_address.rpartition(":")
@@ -100,7 +102,8 @@ def pour(source: socket.socket, target: socket.socket) -> None:
 
 
 def placed(text: str, folder: str, port: int, address: str) -> str:
-    """A configuration of examples/ with its files, its port and the desk's address put in place, and less patience with a body that stops."""
+    """A configuration of examples/ with its files, its port and the desk's address put in place,
+    and less patience with a body that stops."""
     text = text.replace("/etc/desk/front", os.path.join(folder, "ca")).replace(
         "/var/log/nginx", folder
     )
@@ -117,7 +120,8 @@ def nginx_words(folder: str, port: int, address: str) -> list[str]:
     )
     with open(NGINX, encoding="utf-8") as file:
         example = placed(file.read(), folder, port, address)
-    head = f"user root; worker_processes 2; daemon off; pid {folder}/pid; error_log {folder}/error.log;"
+    head = f"user root; worker_processes 2; daemon off; pid {folder}/pid;"
+    head += f" error_log {folder}/error.log;"
     with open(os.path.join(folder, "nginx.conf"), "w", encoding="utf-8") as file:
         file.write(
             f"{head}\nevents {{ worker_connections 1024; }}\nhttp {{ {temp}\n{example}\n}}\n"
@@ -178,7 +182,8 @@ def context(folder: str, name: str | None) -> ssl.SSLContext:
 def exchange(
     client: ssl.SSLContext, port: int, given: bytes, pause: float = 0, patience: float = 20
 ) -> bytes:
-    """The bytes that come back for these bytes, which are sent at once or, with a pause, one after the other."""
+    """The bytes that come back for these bytes, which are sent at once or, with a pause, one after
+    the other."""
     whole = b""
     with contextlib.suppress(ConnectionError, ssl.SSLError, TimeoutError):
         with socket.create_connection(("127.0.0.1", port), timeout=patience) as plain:

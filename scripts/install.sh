@@ -1,14 +1,16 @@
 #!/usr/bin/env bash
-# Installs the program build/desk and what belongs to it below $DESTDIR$PREFIX (/usr/local where PREFIX is not
-# given): the program, its manual pages, the completions, the units, the configuration, the documents and the
-# examples. A configuration file that is there already stays as it is.
+# Installs the program build/desk and what belongs to it below $DESTDIR$PREFIX (/usr/local where
+# PREFIX is not given): the program, its manual pages, the completions, the units, the
+# configuration, the documents and the examples. A configuration file that is there already stays as
+# it is.
 set -euo pipefail
 cd "$(dirname "$0")/.."
 PREFIX=${PREFIX:-/usr/local}
 root=${DESTDIR:-}
 libexec=$PREFIX/libexec/steelnewt
 doc=$PREFIX/share/doc/steelnewt
-# Below /usr it is Debian's package: configuration in /etc and units in /lib. Elsewhere they stay an administrator's.
+# Below /usr it is Debian's package: configuration in /etc and units in /lib. Elsewhere they stay an
+# administrator's.
 case $PREFIX in
     /usr) units=/lib/systemd/system ;;
     *) units=/etc/systemd/system ;;
@@ -45,7 +47,8 @@ done
 for text in README.md CHANGELOG.md docs/OPERATING.md docs/HTTP.md docs/AUDITING.md; do
     put 0644 "$text" "$doc/$(basename "$text")"
 done
-(cd examples && find . -type f ! -path './peers/*' ! -name 'demo.expected' ! -name '*.pyc') | while read -r file; do
+files=$(cd examples && find . -type f ! -path './peers/*' ! -name 'demo.expected' ! -name '*.pyc')
+printf '%s\n' "$files" | while read -r file; do
     mode=0644
     [ ! -x "examples/$file" ] || mode=0755
     put "$mode" "examples/$file" "$doc/examples/${file#./}"

@@ -1,8 +1,8 @@
 #!/usr/bin/env python3
 """Makes the manual pages and the completions of both shells, in the folder that is named.
 
-desk(1) and the completions are made of packaging/commands.toml, the other pages of docs/: no fact stands twice.
-PREFIX in the environment is where the program is installed (/usr/local).
+desk(1) and the completions are made of packaging/commands.toml, the other pages of docs/: no fact
+stands twice. PREFIX in the environment is where the program is installed (/usr/local).
 """
 
 import os
@@ -42,9 +42,8 @@ def synopsis(command: dict) -> list[str]:
 
 def told(command: dict) -> list[str]:
     """A command's part of the page."""
-    lines = [
-        f".It Cm {command['name']} {' '.join(word.strip('[]').replace(']...', ' ...') for word in command['words'])}"
-    ]
+    words = " ".join(word.strip("[]").replace("]...", " ...") for word in command["words"])
+    lines = [f".It Cm {command['name']} {words}"]
     lines += sentences(command["says"], DOC)
     lines += [".Pp", "Exit status:"]
     ends = [f"{status} where {said}" for status, said in command["exits"].items()]

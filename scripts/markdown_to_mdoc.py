@@ -1,4 +1,5 @@
-"""The part of Markdown that docs/ is written in, as mdoc: headings, paragraphs, lists, tables and code."""
+"""The part of Markdown that docs/ is written in, as mdoc: headings, paragraphs, lists, tables and
+code."""
 
 import re
 import textwrap

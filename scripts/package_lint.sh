@@ -1,6 +1,6 @@
 #!/usr/bin/env bash
-# What can be said of the packages of build/deb without installing them: lintian finds nothing that is not
-# explained, the units are sound, and systemd rates what they leave open at most 2.0.
+# What can be said of the packages of build/deb without installing them: lintian finds nothing that
+# is not explained, the units are sound, and systemd rates what they leave open at most 2.0.
 set -euo pipefail
 cd "$(dirname "$0")/.."
 MOST=2.0
@@ -29,18 +29,19 @@ sed -i "s,=/usr/libexec,=$room/usr/libexec,; /^Documentation=/d" ./*.service
 cp desk-fetch@.service desk-fetch@db1.service
 cp desk-fetch@.timer desk-fetch@db1.timer
 for unit in desk.service desk-fetch@db1.service desk-fetch@db1.timer; do
-    said=$(SYSTEMD_LOG_LEVEL=warning systemd-analyze verify --man=no "./$unit" 2>&1) && status=0 || status=1
+    status=0
+    said=$(SYSTEMD_LOG_LEVEL=warning systemd-analyze verify --man=no "./$unit" 2>&1) || status=1
     # what the machine's own units say is not ours
     said=$(printf '%s\n' "$said" | grep desk || true)
     [ -z "$said" ] || { echo "$said"; status=1; }
     verdict "systemd-analyze verify $unit" $status
 done
 for unit in desk.service desk-fetch@db1.service; do
-    line=$(systemd-analyze security --offline=yes --no-pager "./$unit" | grep 'Overall exposure level')
+    line=$(systemd-analyze security --offline=yes --no-pager "./$unit" | grep 'Overall exposure')
     echo "$line" | sed 's/[^ -~]//g; s/^ *//'
     figure=$(printf '%s\n' "$line" | sed 's/.*: \([0-9.]*\) .*/\1/')
     status=0
-    awk -v figure="$figure" -v most="$MOST" 'BEGIN { exit !(figure != "" && figure + 0 <= most + 0) }' || status=1
+    awk -v it="$figure" -v most="$MOST" 'BEGIN { exit !(it != "" && it + 0 <= most) }' || status=1
     verdict "systemd-analyze security $unit" $status
 done
 echo "lintian and systemd on the packages: $checks checks, $wrong wrong"

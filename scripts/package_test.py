@@ -1,9 +1,11 @@
 #!/usr/bin/env python3
-"""Tries Debian's packages of build/deb in a root of their own: installed, served, asked by certificates, upgraded, removed.
+"""Tries Debian's packages of build/deb in a root of their own: installed, served, asked by
+certificates, upgraded, removed.
 
-The root is this machine's, under an overlay that is thrown away, with namespaces of its own for mounts, processes and
-network; with FRESH=1 it is a new one of debootstrap's. The service runs as its unit says, without systemd (scripts/service.py).
-Needs root, and Debian's packages sudo, faketime, nginx-light, openssl, curl and sqlite3.
+The root is this machine's, under an overlay that is thrown away, with namespaces of its own for
+mounts, processes and network; with FRESH=1 it is a new one of debootstrap's. The service runs as
+its unit says, without systemd (scripts/service.py). Needs root, and Debian's packages sudo,
+faketime, nginx-light, openssl, curl and sqlite3.
 """
 
 import contextlib
@@ -198,7 +200,8 @@ class Service:
 
 
 def refused(trial: Trial, what: str, says: str, extra: dict[str, str] | None = None) -> None:
-    """The service does not start: status 2, which systemd does not try again, and a line that says what to do."""
+    """The service does not start: status 2, which systemd does not try again, and a line that says
+    what to do."""
     status, said = Service(trial, extra).end()
     trial.check(
         what,
@@ -286,7 +289,8 @@ def full_disk(trial: Trial) -> None:
 
 
 def certify(trial: Trial) -> None:
-    """The front's authority, and certificates; the front's own, and nginx with the example's configuration."""
+    """The front's authority, and certificates; the front's own, and nginx with the example's
+    configuration."""
     ca = f"{DOC}/examples/front-ca.sh"
     for words in (
         ["init"],
@@ -417,7 +421,8 @@ def rights(trial: Trial) -> None:
 
 
 def wrong_clocks(trial: Trial) -> None:
-    """The host's clock a day off: the fetch succeeds and says so; years off: it is refused, and the line names the clock."""
+    """The host's clock a day off: the fetch succeeds and says so; years off: it is refused, and the
+    line names the clock."""
     for what, shift, status, says in (
         (
             "a host's clock, a day early",
@@ -557,7 +562,8 @@ def served(trial: Trial) -> None:
     bad_stores(trial)
     wrong_clocks(trial)
     status, said = running.stop()
-    log = r"starting over roster /etc/desk/roster.toml \(sha256 [0-9a-f]{16}\), .* a new store(.|\n)*listening at(.|\n)*ended, as it was asked to: 2 messages"
+    log = r"starting over roster /etc/desk/roster.toml \(sha256 [0-9a-f]{16}\), .* a new store"
+    log += r"(.|\n)*listening at(.|\n)*ended, as it was asked to: 2 messages"
     trial.check(
         "the log",
         status == 0 and re.search(log, said) is not None and "was not told" not in said,

@@ -1,9 +1,11 @@
 #!/usr/bin/env python3
-"""Asks a desk through the fronts of examples/, with real certificates: each right and each wrong one on each route.
+"""Asks a desk through the fronts of examples/, with real certificates: each right and each wrong
+one on each route.
 
-Then a slow client beside 200 others, chunks, a rate that is too high, and requests whose end two readers may see in
-different places: what the desk got, byte for byte, has to be what the front's log says, and the store has to hold
-what the log says was acknowledged, and nothing else. `peers_front.py WORDS..` runs another program than build/desk.
+Then a slow client beside 200 others, chunks, a rate that is too high, and requests whose end two
+readers may see in different places: what the desk got, byte for byte, has to be what the front's
+log says, and the store has to hold what the log says was acknowledged, and nothing else.
+`peers_front.py WORDS..` runs another program than build/desk.
 """
 
 import collections
@@ -176,7 +178,8 @@ def ask_routes(folder: str, port: int) -> tuple[int, int]:
 
 
 def stand_beside(folder: str, port: int) -> tuple[int, int]:
-    """A client that sends a byte at a time, and 200 fetches beside it: these are done long before that."""
+    """A client that sends a byte at a time, and 200 fetches beside it: these are done long before
+    that."""
     slow: list[tuple[float, bytes]] = []
     given = request("POST", "/v1/relays/slow/messages", message(4))
 
@@ -209,7 +212,8 @@ def stand_beside(folder: str, port: int) -> tuple[int, int]:
         thread.join()
     done = time.monotonic()
     dawdler.join()
-    # (the roster has neither these hosts nor this relay, so the desk's answers are its own 404 and 403)
+    # (the roster has neither these hosts nor this relay, so the desk's answers are its own 404 and
+    # 403)
     counts = collections.Counter(replies)
     is_right = (
         counts == {"404": OTHERS}
@@ -218,7 +222,7 @@ def stand_beside(folder: str, port: int) -> tuple[int, int]:
     )
     if not is_right:
         print(
-            f"beside a slow client: {counts}, and the slow one {slow[0][0] - done:.1f} s later: {slow[0][1]!r}"
+            f"beside a slow client: {counts}; it is {slow[0][0] - done:.1f} s later: {slow[0][1]!r}"
         )
     return OTHERS + 1, 0 if is_right else 1
 
@@ -397,7 +401,8 @@ def smuggle(folder: str, port: int) -> tuple[int, int]:
 
 
 def as_asked(whole: bytes) -> tuple[str, str] | None:
-    """A request as the desk got it: its first line, less the version, and its body, where the length is the body's."""
+    """A request as the desk got it: its first line, less the version, and its body, where the
+    length is the body's."""
     head, _, body = whole.partition(b"\r\n\r\n")
     lengths = re.findall(rb"(?im)^content-length: ([0-9]+)\r?$", head)
     if (

@@ -1,5 +1,6 @@
 #!/usr/bin/env python3
-"""Tries examples/monitoring/check_desk.py beside real desks: each thing that it looks at, well and not well.
+"""Tries examples/monitoring/check_desk.py beside real desks: each thing that it looks at, well and
+not well.
 
 `peers_monitoring.py WORDS..` runs another program than build/desk.
 """
@@ -94,7 +95,8 @@ def check(*words: str) -> tuple[int, str]:
 
 
 def desk_rows() -> list[tuple[str, str, str, list[str], int, str]]:
-    """What it is about, the roster, the base, the messages, and the status and the line of the check."""
+    """What it is about, the roster, the base, the messages, and the status and the line of the
+    check."""
     roster, base = examples("roster.toml"), examples("site.sudo")
     calm = roster.replace('eve = ["approve-db", "audit"]', 'eve = ["audit"]')
     granted = [request("/usr/bin/id"), approval(NOW - HOUR)]
@@ -105,7 +107,7 @@ def desk_rows() -> list[tuple[str, str, str, list[str], int, str]]:
             base,
             granted,
             0,
-            "DESK OK | desk_up=1 desk_grants=1 desk_grants_needless=0 desk_conflicts=0 desk_broad=0 desk_parked=0 ",
+            "DESK OK | desk_up=1 desk_grants=1 desk_grants_needless=0 desk_conflicts=0 ",
         ),
         (
             "conflicting duties",

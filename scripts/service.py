@@ -1,4 +1,5 @@
-"""Runs a unit's program where systemd is not: as its user, without capabilities, over files that are read only but for its folder."""
+"""Runs a unit's program where systemd is not: as its user, without capabilities, over files that
+are read only but for its folder."""
 
 import os
 import shlex
@@ -62,9 +63,11 @@ def start(
     mounts = "".join(f"mount --rbind {each} {each} && " for each in writable)
     user = settings.get("User", ["root"])[0]
     bare = "mount -o remount,bind,ro / && mount -t tmpfs tmpfs /tmp && cd / && "
-    drop = f"exec setpriv --reuid {user} --regid {user} --clear-groups --no-new-privs --bounding-set=-all --inh-caps=-all"
+    drop = f"exec setpriv --reuid {user} --regid {user} --clear-groups"
+    drop += " --no-new-privs --bounding-set=-all --inh-caps=-all"
+    given = shlex.join(f"{key}={value}" for key, value in held.items())
     asked = [*(before or []), *words(settings, held, instance)]
-    script = f"umask 077 && {mounts}{bare}{drop} env -i {shlex.join(f'{key}={value}' for key, value in held.items())} {shlex.join(asked)}"
+    script = f"umask 077 && {mounts}{bare}{drop} env -i {given} {shlex.join(asked)}"
     return subprocess.Popen(
         ["unshare", "--mount", "--propagation", "private", "chroot", root, "sh", "-c", script],
         stdout=subprocess.PIPE,

@@ -1,12 +1,13 @@
 #!/usr/bin/env python3
 """Looks after a desk and a host's file: for Nagios and its like, and as a text file for Prometheus.
 
-    check_desk.py --desk https://desk.example --cert auditor.pem --key auditor.key --ca ca.pem --store /var/lib/desk/desk.db
-    check_desk.py --file /etc/sudoers.d/desk                    (on a host: how old its file is)
+    check_desk.py --desk https://desk.example --cert auditor.pem --key auditor.key --ca ca.pem
+    --store /var/lib/desk/desk.db check_desk.py --file /etc/sudoers.d/desk                    (on a
+    host: how old its file is)
 
-One line on the output, and the status 0 (all is well), 1 (somebody has to look) or 2 (the desk does not answer, or a
-host's file is too old). With --textfile the figures are written there as well, in one step. It asks only what an
-auditor's certificate may: /v1/parked and /v1/reviews/NOW.
+One line on the output, and the status 0 (all is well), 1 (somebody has to look) or 2 (the desk does
+not answer, or a host's file is too old). With --textfile the figures are written there as well, in
+one step. It asks only what an auditor's certificate may: /v1/parked and /v1/reviews/NOW.
 """
 
 import argparse
