@@ -3,15 +3,16 @@
 certificates, upgraded, removed.
 
 The root is this machine's, under an overlay that is thrown away, with namespaces of its own for
-mounts, processes and network; with FRESH=1 it is a new one of debootstrap's. The service runs as
-its unit says, without systemd (scripts/service.py). Needs root, and Debian's packages sudo,
-faketime, nginx-light, openssl, curl and sqlite3.
+mounts, processes and network; with FRESH=FOLDER it is debootstrap's, made there where the folder
+is empty. The service runs as its unit says, without systemd (scripts/service.py). Needs root, and
+Debian's packages sudo, faketime, nginx-light, openssl, curl, sqlite3, strace and iproute2.
 """
 
 import contextlib
 import os
 import re
 import shutil
+import signal
 import subprocess
 import sys
 import tempfile
@@ -19,10 +20,12 @@ import threading
 import time
 
 import service
+import syscalls
 
 ROOT = os.path.dirname(os.path.dirname(os.path.abspath(__file__)))
 DEBS = os.path.join(ROOT, "build", "deb")
-NEEDED = "adduser,ca-certificates,curl,faketime,iproute2,nginx-light,openssl,sqlite3,sudo,systemd"
+NEEDED = "adduser,ca-certificates,curl,faketime,nginx-light,openssl,python3,sqlite3"
+NEEDED += ",strace,sudo,systemd"
 DOC = "/usr/share/doc/steelnewt"
 PATIENCE = 120  # the seconds after which something hangs
 STORE = "/var/lib/desk/desk.db"
@@ -157,21 +160,24 @@ def tour(trial: Trial) -> None:
         "20260105093000Z",
         says="^REVIEW 20260105093000Z\nLIVE\nann",
     )
-    for name in os.listdir(trial.path("/var/lib/desk")):
-        os.unlink(trial.path(f"/var/lib/desk/{name}"))
+    empty(trial)
 
 
 class Service:
     """The desk's unit, started: what it logged, and what it told systemd."""
 
-    def __init__(self, trial: Trial, extra: dict[str, str] | None = None) -> None:
+    def __init__(
+        self,
+        trial: Trial,
+        extra: dict[str, str] | None = None,
+        before: list[str] | None = None,
+    ) -> None:
         self.socket = service.listen(trial.root)
         self.told: list[bytes] = []
         self.is_ready = threading.Event()
         threading.Thread(target=self.hear, daemon=True).start()
-        self.process = service.start(
-            trial.root, "desk.service", extra={"NOTIFY_SOCKET": "/run/notify"} | (extra or {})
-        )
+        told = {"NOTIFY_SOCKET": "/run/notify"} | (extra or {})
+        self.process = service.start(trial.root, "desk.service", "", before, told)
 
     def hear(self) -> None:
         """Takes what systemd-notify says: it waits until that is taken."""
@@ -210,6 +216,33 @@ def refused(trial: Trial, what: str, says: str, extra: dict[str, str] | None = N
     )
 
 
+def child(process: subprocess.Popen[str]) -> int:
+    """The first child of a process."""
+    with open(f"/proc/{process.pid}/task/{process.pid}/children", encoding="utf-8") as file:
+        return int(file.read().split()[0])
+
+
+def traced(trial: Trial) -> None:
+    """The service makes no system call that its unit does not let through."""
+    trace = "/var/lib/desk/trace"
+    running = Service(trial, before=["strace", "-f", "-qq", "-o", trace])
+    trial.check("it starts, traced", b"READY=1" in running.wait_ready())
+    os.kill(child(running.process), signal.SIGTERM)
+    status, said = running.end()
+    trial.check("it ends, traced", status == 0 and "ended, as it was asked to" in said, said)
+    settings = service.unit(trial.read("/lib/systemd/system/desk.service"))
+    made = syscalls.traced(trial.path(trace))
+    beyond = made - syscalls.allowed(settings["SystemCallFilter"])
+    trial.check("its system calls", not beyond and "accept4" in made, f"not let through: {beyond}")
+    empty(trial)
+
+
+def empty(trial: Trial) -> None:
+    """Takes away what a part left in the desk's folder."""
+    for name in os.listdir(trial.path("/var/lib/desk")):
+        os.unlink(trial.path(f"/var/lib/desk/{name}"))
+
+
 def bad_starts(trial: Trial) -> None:
     """Each way in which a start fails, with its line."""
     refused(trial, "no roster", "F1 .*cannot read /etc/desk/roster.toml: write it")
@@ -230,8 +263,7 @@ def bad_starts(trial: Trial) -> None:
         {"BASE": "/etc/desk/bad.sudo"},
     )
     refused(trial, "an address of another machine", "F1 .*ADDR", {"ADDR": "192.0.2.1:8080"})
-    for name in os.listdir(trial.path("/var/lib/desk")):
-        os.unlink(trial.path(f"/var/lib/desk/{name}"))
+    empty(trial)
 
 
 def bad_stores(trial: Trial) -> None:
@@ -539,9 +571,7 @@ def later_on(trial: Trial) -> None:
                 and not os.path.exists(trial.path("/etc/desk/serve.conf")),
                 said,
             )
-    os.unlink(trial.path(STORE))
-    for name in os.listdir(trial.path("/var/lib/desk")):
-        os.unlink(trial.path(f"/var/lib/desk/{name}"))
+    empty(trial)
     trial.does("purge of a desk without messages", *DPKG, "-P", "steelnewt", "steelnewt-host")
     trial.check("its folder is gone", not os.path.exists(trial.path("/var/lib/desk")))
 
@@ -600,7 +630,7 @@ def inside(fresh: str) -> None:
     with tempfile.TemporaryDirectory() as folder:
         trial = Trial(furnish(folder, fresh))
         try:
-            for part in (install, tour, bad_starts, served, later_on):
+            for part in (install, tour, bad_starts, traced, served, later_on):
                 began = time.monotonic()
                 part(trial)
                 print(f"{part.__name__}: {time.monotonic() - began:.1f} s", flush=True)
@@ -610,35 +640,21 @@ def inside(fresh: str) -> None:
     sys.exit(1 if trial.wrong else 0)
 
 
+def fresh_root() -> str:
+    """The folder that FRESH names, with a root of debootstrap's; nothing where it names none."""
+    folder = os.environ.get("FRESH", "")
+    if folder and not os.path.exists(os.path.join(folder, "etc", "debian_version")):
+        words = ["debootstrap", "--variant=minbase", f"--include={NEEDED}", "stable", folder]
+        subprocess.run(words, check=True, stdout=subprocess.DEVNULL)
+    return folder
+
+
 def main() -> None:
     if os.geteuid() != 0:
         sys.exit("package-test needs root: it installs packages in a root of its own")
-    with tempfile.TemporaryDirectory() as fresh:
-        root = ""
-        if os.environ.get("FRESH"):
-            subprocess.run(
-                ["debootstrap", "--variant=minbase", f"--include={NEEDED}", "stable", fresh],
-                check=True,
-                stdout=subprocess.DEVNULL,
-            )
-            root = fresh
-        words = [
-            "unshare",
-            "--mount",
-            "--net",
-            "--pid",
-            "--ipc",
-            "--fork",
-            "--kill-child",
-            "--propagation",
-            "private",
-            sys.executable,
-        ]
-        sys.exit(
-            subprocess.run(
-                [*words, os.path.abspath(__file__), "--inside", root], check=False
-            ).returncode
-        )
+    words = ["unshare", "--mount", "--net", "--pid", "--ipc", "--fork", "--kill-child"]
+    words += ["--propagation", "private", sys.executable, os.path.abspath(__file__)]
+    sys.exit(subprocess.run([*words, "--inside", fresh_root()], check=False).returncode)
 
 
 if __name__ == "__main__":

@@ -90,6 +90,6 @@ part_with peers root sudo visudo faketime unshare curl nc sqlite3 -- peers
 part_with faults cc -- python3 scripts/faults.py
 part_with pages mandoc zsh -- pages
 part_with peers nginx haproxy openssl sqlite3 -- front
-part_with package-test root dpkg-buildpackage dh lintian systemd-analyze sudo faketime unshare ip nginx openssl -- package_test
+part_with package-test root dpkg-buildpackage dh lintian systemd-analyze sudo faketime unshare ip nginx openssl strace -- package_test
 echo "$passed passed, $failed failed"
 [ "$failed" = 0 ]
