@@ -101,9 +101,11 @@ def block(lines: list[str], doc: str) -> Iterator[str]:
         yield from sentences(" ".join(lines), doc)
 
 
-def code(lines: list[str], doc: str) -> Iterator[str]:
+def code(lines: list[str]) -> Iterator[str]:
+    """Code as it stands, but for the folders of a clone: its reader has the files of examples/."""
     yield ".Bd -literal -offset indent"
-    yield from (guarded(escaped(renamed(line, doc))) for line in lines)
+    for line in lines:
+        yield guarded(escaped(re.sub(r"(?<![\w/])(build|examples)/(?=[\w.-])", "", line)))
     yield ".Ed"
 
 
@@ -134,10 +136,10 @@ def body(text: str, doc: str) -> Iterator[str]:
     is_first = True
     for kind, lines in blocks(text):
         if kind == "heading":
-            marks, _, name = lines[0].partition(" ")
+            marks, _, name = re.sub(r" \(docs/\w+\.md\)", "", lines[0]).partition(" ")
             yield f".Sh {escaped(name).upper()}" if marks == "##" else f".Ss {escaped(name)}"
         elif kind == "code":
-            yield from code(lines, doc)
+            yield from code(lines)
         else:
             is_list = lines[0].startswith(("|", "- "))
             if not is_first and not is_list:
