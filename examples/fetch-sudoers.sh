@@ -30,9 +30,9 @@ fault() {
 }
 
 # A certificate, a key or a CA that cannot be read is the fault itself, and not that a desk does not
-# answer.
+# answer. An empty word names none.
 readable() {
-    [ -r "$2" ] || {
+    [ -z "$2" ] || [ -r "$2" ] || {
         say "cannot read the $1 $2: is it there, and is this run as root? The old file stays"
         exit 1
     }

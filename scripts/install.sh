@@ -12,8 +12,8 @@ doc=$PREFIX/share/doc/steelnewt
 # Below /usr it is Debian's package: configuration in /etc and units in /lib. Elsewhere they stay an
 # administrator's.
 case $PREFIX in
-    /usr) units=/lib/systemd/system ;;
-    *) units=/etc/systemd/system ;;
+    /usr) units=/lib/systemd/system zsh=vendor-completions ;;
+    *) units=/etc/systemd/system zsh=site-functions ;;
 esac
 
 # Puts a file in place: its mode, the file, the target below the root.
@@ -37,14 +37,14 @@ for page in build/pages/*.[1-8]; do
     put 0644 "$page" "$PREFIX/share/man/man${page##*.}/$(basename "$page")"
 done
 put 0644 build/pages/desk.bash "$PREFIX/share/bash-completion/completions/desk"
-put 0644 build/pages/_desk "$PREFIX/share/zsh/vendor-completions/_desk"
+put 0644 build/pages/_desk "$PREFIX/share/zsh/$zsh/_desk"
 for unit in packaging/units/*; do
     fill "$unit" 0644 "$units/$(basename "$unit")"
 done
 for conf in serve.conf fetch.conf; do
     [ -e "$root/etc/desk/$conf" ] || put 0644 "packaging/$conf" "/etc/desk/$conf"
 done
-for text in README.md CHANGELOG.md docs/OPERATING.md docs/HTTP.md docs/AUDITING.md; do
+for text in README.md CHANGELOG.md docs/{OPERATING,HTTP,AUDITING,ROSTER,SUDOERS,MESSAGES,STORE,CODES}.md; do
     put 0644 "$text" "$doc/$(basename "$text")"
 done
 files=$(cd examples && find . -type f ! -path './peers/*' ! -name 'demo.expected' ! -name '*.pyc')

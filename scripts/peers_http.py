@@ -477,6 +477,7 @@ def fetch_rows(address):
         ("a clock that differs", [f"http://{answer_once(long_ago)}", "db1"], 0, "seconds from that of http://127.0.0.1:"),
         ("the file again", [desk, "db1"], 0, None),
         ("no certificate", ["--cert", "/nowhere.pem", desk, "db1"], 1, "cannot read the certificate /nowhere.pem"),
+        ("empty words in their places", ["--cert", "", "--key", "", "--ca", "", desk, "db1"], 0, None),
         ("no key", ["--key", "/nowhere.key", desk, "db1"], 1, "cannot read the key /nowhere.key"),
         ("no authority", ["--ca", "/nowhere.pem", desk, "db1"], 1, "cannot read the CA certificate /nowhere.pem"),
         ("an option that it has not", ["--no", "x", desk, "db1"], 2, "usage: "),
