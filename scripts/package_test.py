@@ -216,10 +216,9 @@ def refused(trial: Trial, what: str, says: str, extra: dict[str, str] | None = N
     )
 
 
-def child(process: subprocess.Popen[str]) -> int:
+def child(trial: Trial, process: subprocess.Popen[str]) -> int:
     """The first child of a process."""
-    with open(f"/proc/{process.pid}/task/{process.pid}/children", encoding="utf-8") as file:
-        return int(file.read().split()[0])
+    return int(trial.read(f"/proc/{process.pid}/task/{process.pid}/children").split()[0])
 
 
 def traced(trial: Trial) -> None:
@@ -227,7 +226,7 @@ def traced(trial: Trial) -> None:
     trace = "/var/lib/desk/trace"
     running = Service(trial, before=["strace", "-f", "-qq", "-o", trace])
     trial.check("it starts, traced", b"READY=1" in running.wait_ready())
-    os.kill(child(running.process), signal.SIGTERM)
+    os.kill(child(trial, running.process), signal.SIGTERM)
     status, said = running.end()
     trial.check("it ends, traced", status == 0 and "ended, as it was asked to" in said, said)
     settings = service.unit(trial.read("/lib/systemd/system/desk.service"))
