@@ -175,22 +175,22 @@ def by_zsh(folder: str, words: list[str]) -> set[str]:
     return {word for word in ran.stdout.split() if word}
 
 
+# A tab completes, and then says that it is over: what is typed behind it could stop it.
 CAPTURE = r"""
 zmodload zsh/zpty
 zpty z zsh -f -i
 zpty -w z "PROMPT= fpath=($1 \$fpath); autoload -Uz compinit; compinit -u -D; setopt rcquotes"
-zpty -w z 'zstyle ":completion:*" list-grouped false; bindkey "^I" complete-word'
-zpty -w z 'zstyle ":completion:*" verbose false'
+zpty -w z 'zstyle ":completion:*" list-grouped false; zstyle ":completion:*" verbose false'
 zpty -w z 'is_asked() { [[ ${@[1,(i)(-|--)]} == *-(O|A|D)\ * ]] }'
 zpty -w z 'tell() { typeset -a hits; builtin compadd -A hits "$@"; print -r "<hits> $hits <end>" }'
 zpty -w z 'compadd() { if is_asked "$@"; then builtin compadd "$@"; else tell "$@"; fi }'
-zpty -w z 'print ready-$((1 + 1))'
+zpty -w z 'finish() { zle complete-word; print; print -r "<over>" }; zle -N finish'
+zpty -w z 'bindkey "^I" finish; print ready-$((1 + 1))'
 while zpty -r z line; do [[ $line == *ready-2* ]] && break; done
-zpty -w -n z "$2"$'\t\x15'
-zpty -w z 'print done-$((1 + 1))'
+zpty -w -n z "$2"$'\t'
 while zpty -r z line; do
-    [[ $line == *done-2* ]] && break
-    [[ $line == *'<hits>'* && $line == *'<end>'* ]] && print -r -- ${${line##*<hits>}%%<end>*}
+    [[ $line == *'<hits>'*'<end>'* ]] && print -r -- ${${line##*<hits>}%%<end>*}
+    [[ $line == *'<over>'* ]] && break
 done
 zpty -d z
 """
