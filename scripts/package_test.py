@@ -398,29 +398,24 @@ def through_the_front(trial: Trial) -> None:
     trial.check(
         "an auditor reads", said == "ann 7 db-care 20260105091500Z 20260105110000Z\n 200", said
     )
-    found = trial.run(
-        "python3",
-        "/usr/lib/nagios/plugins/check_desk",
-        "--desk",
-        "https://127.0.0.1",
-        "--ca",
-        "/etc/desk/ca.pem",
-        "--store",
-        STORE,
+    monitored(trial)
+
+
+def monitored(trial: Trial) -> None:
+    """The check of the package, by an auditor's certificate."""
+    auditor = "/etc/desk/front/auditor-carol"
+    words = ["--desk", "https://127.0.0.1", "--ca", "/etc/desk/ca.pem", "--store", STORE]
+    words += [
         "--cert",
-        "/etc/desk/front/auditor-carol.pem",
+        f"{auditor}.pem",
         "--key",
-        "/etc/desk/front/auditor-carol.key",
+        f"{auditor}.key",
         "--file",
         "/etc/sudoers.d/desk",
-    )
-    trial.check(
-        "the check",
-        found.returncode == 1
-        and "1 conflicting duties" in found.stdout
-        and "desk_store_bytes=" in found.stdout,
-        found.stdout,
-    )
+    ]
+    found = trial.run("python3", "/usr/lib/nagios/plugins/check_desk", *words).stdout
+    is_right = "1 conflicting duties" in found and "desk_store_bytes=" in found
+    trial.check("the check", is_right and found.startswith("DESK WARNING"), found)
 
 
 def rights(trial: Trial) -> None:
@@ -467,20 +462,17 @@ def wrong_clocks(trial: Trial) -> None:
         trial.check(
             what, status in (None, ended) and re.search(says, said) is not None, f"{ended}: {said}"
         )
+    early_certificate(trial)
+
+
+def early_certificate(trial: Trial) -> None:
+    """A certificate from tomorrow on: to the front it is as if its own clock were a day early."""
     early = {
         f"{name}={time.strftime('%Y%m%d%H%M%SZ', time.gmtime(time.time() + days * 86_400))}"
         for name, days in (("FROM", 1), ("UNTIL", 2))
     }
-    trial.does(
-        "a certificate from tomorrow on",
-        "env",
-        *early,
-        "sh",
-        f"{DOC}/examples/front-ca.sh",
-        "/etc/desk/front",
-        "host",
-        "db1",
-    )
+    words = ["sh", f"{DOC}/examples/front-ca.sh", "/etc/desk/front", "host", "db1"]
+    trial.does("a certificate from tomorrow on", "env", *early, *words)
     for kind in ("pem", "key"):
         shutil.copy(
             trial.path(f"/etc/desk/front/host-db1.{kind}"), trial.path(f"/etc/desk/host.{kind}")

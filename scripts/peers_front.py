@@ -177,6 +177,23 @@ def ask_routes(folder: str, port: int) -> tuple[int, int]:
     return asked, wrong
 
 
+def fetch_all(folder: str, port: int) -> list[str]:
+    """The statuses of 200 fetches at once, by twenty hosts."""
+    clients = [front.context(folder, f"host-h{number}") for number in range(FETCHERS)]
+    replies: list[str] = []
+
+    def fetch(number: int) -> None:
+        given = request("GET", f"/v1/hosts/h{number}/sudoers")
+        replies.append(status(front.exchange(clients[number], port, given, patience=60)))
+
+    threads = [threading.Thread(target=fetch, args=(n % FETCHERS,)) for n in range(OTHERS)]
+    for thread in threads:
+        thread.start()
+    for thread in threads:
+        thread.join()
+    return replies
+
+
 def stand_beside(folder: str, port: int) -> tuple[int, int]:
     """A client that sends a byte at a time, and 200 fetches beside it: these are done long before
     that."""
@@ -192,24 +209,7 @@ def stand_beside(folder: str, port: int) -> tuple[int, int]:
     dawdler = threading.Thread(target=dawdle)
     dawdler.start()
     time.sleep(0.5)
-    clients = [front.context(folder, f"host-h{number}") for number in range(FETCHERS)]
-    replies: list[str] = []
-
-    def fetch(number: int) -> None:
-        target = f"/v1/hosts/h{number % FETCHERS}/sudoers"
-        replies.append(
-            status(
-                front.exchange(
-                    clients[number % FETCHERS], port, request("GET", target), patience=60
-                )
-            )
-        )
-
-    threads = [threading.Thread(target=fetch, args=(number,)) for number in range(OTHERS)]
-    for thread in threads:
-        thread.start()
-    for thread in threads:
-        thread.join()
+    replies = fetch_all(folder, port)
     done = time.monotonic()
     dawdler.join()
     # (the roster has neither these hosts nor this relay, so the desk's answers are its own 404 and
