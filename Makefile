@@ -1,6 +1,6 @@
 # The commands of the repository. `rt` is the toolchain's command.
 
-.PHONY: all desk demo test quick cases gate-times edits peers bench faults relays-test relays-demo clean
+.PHONY: all desk demo test quick cases gate-times edits peers bench faults relays-test relays-demo several install deb pages package-test clean
 
 all: desk
 
@@ -44,6 +44,8 @@ peers: desk
 	python3 scripts/peers_requests.py
 	python3 scripts/peers_http.py
 	python3 scripts/peers_store.py
+	python3 scripts/peers_front.py
+	python3 scripts/peers_monitoring.py
 
 # Time and memory: `check` and `decide` beside visudo (Debian's package sudo) on up to 16,001 rules, on 8,000 aliases with 8,000 rules, and on
 # the greatest weight; `print` on 800 and 8,000 requests; `beyond` on 1,000,000 cases; `serve` beside nginx (Debian's package nginx-light) and, over a file, beside `deliver`; `deliver` to a
@@ -65,6 +67,30 @@ relays-test:
 # A grant's life by ssh: ann asks, bob approves, ann revokes.
 relays-demo:
 	/usr/bin/python3 relays/demo.py
+
+# The program, its manual pages, completions, units and examples below $(DESTDIR)$(PREFIX); the manual pages and completions alone; Debian's packages
+# in build/deb (dpkg-dev and debhelper); and these packages tried in a root of their own (as root, at most three minutes). None of them proves anything
+# where build/desk is there.
+PREFIX ?= /usr/local
+export PREFIX DESTDIR
+
+build/desk:
+	bash scripts/build.sh
+
+install: build/desk
+	bash scripts/install.sh
+
+deb: build/desk
+	bash scripts/deb.sh
+
+pages: build/desk
+	python3 scripts/make_pages.py build/pages
+	python3 scripts/check_pages.py
+
+package-test: build/desk
+	bash scripts/deb.sh
+	bash scripts/package_lint.sh
+	python3 scripts/package_test.py
 
 clean:
 	rm -rf build crates/*/out

@@ -445,34 +445,62 @@ def answer_once(whole):
     return "127.0.0.1:%d" % listener.getsockname()[1]
 
 
-def fetch(address, host, file):
+def fetch(words, file):
+    """The status of examples/fetch-sudoers.sh, and what it says."""
     path = os.environ["PATH"] + ":/usr/sbin:/sbin"
-    words = ["sh", FETCH, f"http://{address}", host, file]
-    return subprocess.run(words, stdout=subprocess.PIPE, stderr=subprocess.STDOUT, check=False, env=dict(os.environ, PATH=path)).returncode
+    ran = subprocess.run(
+        ["sh", FETCH, *words, file], stdout=subprocess.PIPE, stderr=subprocess.STDOUT, check=False, env=dict(os.environ, PATH=path, LC_ALL="C")
+    )
+    return ran.returncode, ran.stdout.decode()
+
+
+def fetch_rows(address):
+    """What fetch-sudoers.sh is given, its status, and a part of what it says; None is silence. A server that is no desk answers once."""
+    desk, nobody = f"http://{address}", "http://127.0.0.1:1"
+    no_sudoers = b"HTTP/1.1 200 OK\r\nContent-Length: 12\r\n\r\nann db1 = (\n"
+    cut_short = b"HTTP/1.1 200 OK\r\nContent-Length: 99\r\n\r\nann db1 = /bin/ls\n"
+    long_ago = b"HTTP/1.1 200 OK\r\nDate: Mon, 05 Jan 2026 09:00:00 GMT\r\nContent-Length: %d\r\n\r\n%s" % (len(LINE), LINE)
+    bad = lambda: f"http://{answer_once(no_sudoers)}"
+    return [
+        ("a host's file", [desk, "db1"], 0, None),
+        ("the same again", [desk, "db1"], 0, None),
+        ("a host that the roster lacks", [desk, "db9"], 1, "the desk's roster has no host db9"),
+        ("what is no sudoers file", [bad(), "db1"], 1, "db1: visudo refuses what came from http://127.0.0.1:"),
+        ("and visudo's fault", [bad(), "db1"], 1, ":1:12: syntax error"),
+        ("and once more", [bad(), "db1"], 1, "db1: visudo refuses what came from http://127.0.0.1:"),
+        ("a file that is cut short", [f"http://{answer_once(cut_short)}", "db1"], 1, "did not answer with a file: curl: (18)"),
+        ("no server", [nobody, "db1"], 1, f"{nobody} did not answer with a file: curl: (7)"),
+        ("no server, then a desk", [nobody, desk, "db1"], 0, f"{nobody} did not answer with a file: curl: (7)"),
+        ("what is no sudoers file, then a desk", [bad(), desk, "db1"], 0, "visudo refuses what came from"),
+        ("a desk, then none", [desk, nobody, "db1"], 0, None),
+        ("none twice", [nobody, nobody, "db1"], 1, "no desk answered with a file for db1 that visudo accepts"),
+        ("a clock that differs", [f"http://{answer_once(long_ago)}", "db1"], 0, "seconds from that of http://127.0.0.1:"),
+        ("the file again", [desk, "db1"], 0, None),
+        ("no certificate", ["--cert", "/nowhere.pem", desk, "db1"], 1, "cannot read the certificate /nowhere.pem"),
+        ("empty words in their places", ["--cert", "", "--key", "", "--ca", "", desk, "db1"], 0, None),
+        ("no key", ["--key", "/nowhere.key", desk, "db1"], 1, "cannot read the key /nowhere.key"),
+        ("no authority", ["--ca", "/nowhere.pem", desk, "db1"], 1, "cannot read the CA certificate /nowhere.pem"),
+        ("an option that it has not", ["--no", "x", desk, "db1"], 2, "usage: "),
+        ("no desk", ["db1"], 2, "usage: "),
+    ]
 
 
 def fetch_files(address):
     """examples/fetch-sudoers.sh puts the host's file in place, and on any fault keeps the old one and leaves nothing else."""
-    wrong = 0
+    wrong, rows = 0, fetch_rows(address)
     with tempfile.TemporaryDirectory() as folder:
         file = os.path.join(folder, "desk")
-        no_sudoers = answer_once(b"HTTP/1.1 200 OK\r\nContent-Length: 12\r\n\r\nann db1 = (\n")
-        cut_short = answer_once(b"HTTP/1.1 200 OK\r\nContent-Length: 99\r\n\r\nann db1 = /bin/ls\n")
-        rows = [
-            ("a host's file", address, "db1", 0),
-            ("the same again", address, "db1", 0),
-            ("a host that the roster lacks", address, "db9", 1),
-            ("what is no sudoers file", no_sudoers, "db1", 1),
-            ("a file that is cut short", cut_short, "db1", 1),
-            ("no server", "127.0.0.1:1", "db1", 1),
-        ]
-        for what, server, host, status in rows:
-            ended = fetch(server, host, file)
+        for what, words, status, says in rows:
+            if os.path.exists(file):
+                os.utime(file, (0, 0))
+            ended, said = fetch(words, file)
             with open(file, "rb") as found:
-                is_whole = found.read().endswith(LINE)
-            if ended != status or not is_whole or os.listdir(folder) != ["desk"] or os.stat(file).st_mode & 0o777 != 0o440:
+                is_right = found.read().endswith(LINE) and os.listdir(folder) == ["desk"] and os.stat(file).st_mode & 0o777 == 0o440
+            # (the file's time is that of the last fetch that succeeded)
+            is_right = is_right and (os.stat(file).st_mtime > 0) == (status == 0)
+            if ended != status or not is_right or (says or "") not in said or says is None and said:
                 wrong += 1
-                print(f"fetch-sudoers.sh, {what}: status {ended}, {os.listdir(folder)}")
+                print(f"fetch-sudoers.sh, {what}: status {ended}, {os.listdir(folder)}: {said}")
     return len(rows), wrong
 
 

@@ -52,7 +52,20 @@ cases() {
 }
 
 peers() {
-    python3 scripts/peers.py && python3 scripts/peers_policies.py && python3 scripts/peers_requests.py && python3 scripts/peers_http.py && python3 scripts/peers_store.py
+    python3 scripts/peers.py && python3 scripts/peers_policies.py && python3 scripts/peers_requests.py && python3 scripts/peers_http.py &&
+        python3 scripts/peers_store.py && python3 scripts/peers_monitoring.py
+}
+
+front() {
+    python3 scripts/peers_front.py
+}
+
+pages() {
+    python3 scripts/make_pages.py build/pages && python3 scripts/check_pages.py
+}
+
+package_test() {
+    bash scripts/deb.sh && bash scripts/package_lint.sh && python3 scripts/package_test.py
 }
 
 bash scripts/tools.sh
@@ -77,5 +90,8 @@ part_with cases setpriv -- cases
 part_with peers root sudo visudo cvtsudoers faketime unshare curl nc sqlite3 -- peers
 part_with faults cc -- python3 scripts/faults.py
 part_with relays-test root apt-get -- bash relays/test.sh
+part_with pages mandoc zsh -- pages
+part_with peers nginx haproxy openssl sqlite3 -- front
+part_with package-test root dpkg-buildpackage dh lintian systemd-analyze sudo faketime unshare ip nginx openssl strace -- package_test
 echo "$passed passed, $failed failed"
 [ "$failed" = 0 ]

@@ -1,6 +1,6 @@
 #!/usr/bin/env bash
 # Installs what the gate asks beside the toolchain, where it is not there: sudo, with visudo, and a clock that stands still, curl, nc and sqlite3 for
-# `make peers`, and a C compiler for `make faults`. Where this is not root, or there is no apt-get, nothing is installed.
+# `make peers`, a C compiler for `make faults`, and what the packages, their front and their pages are made and tried with. Where this is not root, or there is no apt-get, nothing is installed.
 set -euo pipefail
 export PATH="$PATH:/usr/sbin:/sbin"
 wanted=()
@@ -11,6 +11,18 @@ command -v nc >/dev/null || wanted+=(netcat-openbsd)
 command -v cc >/dev/null || wanted+=(gcc libc6-dev)
 command -v sqlite3 >/dev/null || wanted+=(sqlite3)
 command -v unshare >/dev/null && command -v setpriv >/dev/null || wanted+=(util-linux)
+# The packages, the front and the manual pages: `make package-test`, `make deb`, `make pages` and `make peers`.
+command -v nginx >/dev/null || wanted+=(nginx-light)
+command -v haproxy >/dev/null || wanted+=(haproxy)
+command -v openssl >/dev/null || wanted+=(openssl)
+command -v dpkg-buildpackage >/dev/null && command -v dh >/dev/null || wanted+=(dpkg-dev debhelper)
+command -v lintian >/dev/null || wanted+=(lintian)
+command -v mandoc >/dev/null || wanted+=(mandoc)
+command -v strace >/dev/null || wanted+=(strace)
+command -v zsh >/dev/null || wanted+=(zsh)
+command -v ip >/dev/null || wanted+=(iproute2)
+command -v systemd-analyze >/dev/null || wanted+=(systemd)
+command -v adduser >/dev/null || wanted+=(adduser)
 if [ "${#wanted[@]}" -gt 0 ] && [ "$(id -u)" = 0 ] && command -v apt-get >/dev/null; then
     apt-get update -qq
     DEBIAN_FRONTEND=noninteractive apt-get install -y -qq --no-install-recommends "${wanted[@]}"

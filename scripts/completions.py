@@ -1,0 +1,94 @@
+"""The completions of bash and zsh, of the table of commands."""
+
+import shlex
+
+
+def bash(commands: list[dict], files: list[str]) -> str:
+    """A function that needs nothing but bash itself."""
+    names = " ".join(command["name"] for command in commands)
+    rows = []
+    for command in commands:
+        options = " ".join(["--help", *(name for name, _ in command.get("options", []))])
+        places = " ".join("file" if word in files else "other" for word in command["words"])
+        rows.append(f"        {command['name']}) options='{options}' places=({places}) ;;")
+    return BASH.replace("@NAMES@", names).replace("@ROWS@", "\n".join(rows))
+
+
+BASH = """\
+# What bash completes behind `desk`: commands, options and files.
+_desk() {
+    local current=${COMP_WORDS[COMP_CWORD]} before=${COMP_WORDS[COMP_CWORD - 1]} place=0 at
+    local options places
+    COMPREPLY=()
+    if [ "$COMP_CWORD" -eq 1 ]; then
+        mapfile -t COMPREPLY < <(compgen -W '@NAMES@ --help' -- "$current")
+        return
+    fi
+    case ${COMP_WORDS[1]} in
+@ROWS@
+        *) return ;;
+    esac
+    case $before in
+        --help) ;;
+        --*) return ;;
+    esac
+    case $current in
+        -*)
+            mapfile -t COMPREPLY < <(compgen -W "$options" -- "$current")
+            return
+            ;;
+    esac
+    # which place the word has: options and their values take none
+    for ((at = 2; at < COMP_CWORD; at++)); do
+        case ${COMP_WORDS[at]} in
+            --*) at=$((at + 1)) ;;
+            *) place=$((place + 1)) ;;
+        esac
+    done
+    if [ "${places[place]:-other}" = file ]; then
+        compopt -o filenames 2> /dev/null
+        mapfile -t COMPREPLY < <(compgen -f -- "$current")
+    fi
+}
+complete -F _desk desk
+"""
+
+
+def zsh_case(command: dict, files: list[str]) -> str:
+    words = []
+    for word in command["words"]:
+        action = "_files" if word in files else " "
+        words.append(f"'*:{word[1:-4]}: '" if word.startswith("[") else f"':{word}:{action}'")
+    options = [f"'{name}[{value}]:{value}: '" for name, value in command.get("options", [])]
+    return f"        {command['name']}) _arguments --help {' '.join([*options, *words])} ;;"
+
+
+def zsh(commands: list[dict], files: list[str]) -> str:
+    names = "\n".join(
+        "        " + shlex.quote(f"{command['name']}:{command['about']}") for command in commands
+    )
+    cases = "\n".join(zsh_case(command, files) for command in commands)
+    return ZSH.replace("@NAMES@", names).replace("@CASES@", cases)
+
+
+ZSH = """\
+#compdef desk
+# What zsh completes behind `desk`: commands, options and files.
+_desk() {
+    local -a commands
+    commands=(
+@NAMES@
+    )
+    if (( CURRENT == 2 )); then
+        _describe command commands
+        return
+    fi
+    local command=$words[2]
+    shift words
+    (( CURRENT -= 1 ))
+    case $command in
+@CASES@
+    esac
+}
+_desk "$@"
+"""

@@ -1,0 +1,26 @@
+#!/usr/bin/env bash
+# Makes Debian's packages of what `make install` installs, in build/deb: steelnewt (the desk) and
+# steelnewt-host (what fetches a host's file). Nothing is proved or built: the program is
+# build/desk, byte for byte.
+set -euo pipefail
+cd "$(dirname "$0")/.."
+for tool in dpkg-buildpackage dh; do
+    command -v "$tool" > /dev/null || {
+        echo "make deb needs $tool: install Debian's packages dpkg-dev and debhelper" >&2
+        exit 1
+    }
+done
+rm -rf build/deb
+mkdir -p build/deb/steelnewt
+cp -r packaging/debian build/deb/steelnewt/debian
+PREFIX=/usr DESTDIR=$PWD/build/deb/steelnewt/tree bash scripts/install.sh
+(
+    cd build/deb/steelnewt
+    # What stood in the environment of an outer make means nothing here.
+    env -u MAKEFLAGS -u MAKELEVEL dpkg-buildpackage --build=binary \
+        --unsigned-source --unsigned-changes --no-check-builddeps
+) > build/deb/log 2>&1 || {
+    cat build/deb/log >&2
+    exit 1
+}
+ls build/deb/*.deb

@@ -1,0 +1,55 @@
+#!/usr/bin/env bash
+# Installs the program build/desk and what belongs to it below $DESTDIR$PREFIX (/usr/local where
+# PREFIX is not given): the program, its manual pages, the completions, the units, the
+# configuration, the documents and the examples. A configuration file that is there already stays as
+# it is.
+set -euo pipefail
+cd "$(dirname "$0")/.."
+PREFIX=${PREFIX:-/usr/local}
+root=${DESTDIR:-}
+libexec=$PREFIX/libexec/steelnewt
+doc=$PREFIX/share/doc/steelnewt
+# Below /usr it is Debian's package: configuration in /etc and units in /lib. Elsewhere they stay an
+# administrator's.
+case $PREFIX in
+    /usr) units=/lib/systemd/system zsh=vendor-completions ;;
+    *) units=/etc/systemd/system zsh=site-functions ;;
+esac
+
+# Puts a file in place: its mode, the file, the target below the root.
+put() {
+    install -D -m "$1" "$2" "$root$3"
+}
+
+# A text in which the places of programs are written in.
+fill() {
+    sed "s,@LIBEXECDIR@,$libexec,g" "$1" > build/filled
+    put "$2" build/filled "$3"
+    rm -f build/filled
+}
+
+python3 scripts/make_pages.py build/pages
+put 0755 build/desk "$PREFIX/bin/desk"
+put 0755 packaging/desk-serve "$libexec/desk-serve"
+put 0755 examples/fetch-sudoers.sh "$libexec/fetch-sudoers"
+put 0755 examples/monitoring/check_desk.py "$PREFIX/lib/nagios/plugins/check_desk"
+for page in build/pages/*.[1-8]; do
+    put 0644 "$page" "$PREFIX/share/man/man${page##*.}/$(basename "$page")"
+done
+put 0644 build/pages/desk.bash "$PREFIX/share/bash-completion/completions/desk"
+put 0644 build/pages/_desk "$PREFIX/share/zsh/$zsh/_desk"
+for unit in packaging/units/*; do
+    fill "$unit" 0644 "$units/$(basename "$unit")"
+done
+for conf in serve.conf fetch.conf; do
+    [ -e "$root/etc/desk/$conf" ] || put 0644 "packaging/$conf" "/etc/desk/$conf"
+done
+for text in README.md CHANGELOG.md docs/{OPERATING,HTTP,AUDITING,ROSTER,SUDOERS,MESSAGES,STORE,CODES}.md; do
+    put 0644 "$text" "$doc/$(basename "$text")"
+done
+files=$(cd examples && find . -type f ! -path './peers/*' ! -name 'demo.expected' ! -name '*.pyc')
+printf '%s\n' "$files" | while read -r file; do
+    mode=0644
+    [ ! -x "examples/$file" ] || mode=0755
+    put "$mode" "examples/$file" "$doc/examples/${file#./}"
+done

@@ -1,0 +1,171 @@
+#!/usr/bin/env python3
+"""Makes the manual pages and the completions of both shells, in the folder that is named.
+
+desk(1) and the completions are made of packaging/commands.toml, the other pages of docs/: no fact
+stands twice. PREFIX in the environment is where the program is installed (/usr/local).
+"""
+
+import os
+import sys
+import tomllib
+
+import completions
+import markdown_to_mdoc
+from markdown_to_mdoc import escaped, guarded, sentences
+
+ROOT = os.path.dirname(os.path.dirname(os.path.abspath(__file__)))
+DOC = os.path.join(os.environ.get("PREFIX") or "/usr/local", "share", "doc", "steelnewt")
+DATE = "January 5, 2026"
+# each page, its section, the document that it is made of, and what it is about
+DOCUMENTS = [
+    ("desk-roster", 5, "ROSTER.md", "who may ask a desk for what, and who approves it"),
+    ("desk-policy", 5, "SUDOERS.md", "the part of sudoers that a desk reads"),
+    ("desk-message", 5, "MESSAGES.md", "requests to a desk, and verdicts on them"),
+    ("desk-store", 5, "STORE.md", "the database in which a desk keeps its messages"),
+    ("desk-codes", 7, "CODES.md", "what a desk says when it refuses, and what to do"),
+]
+
+
+def read(*path: str) -> str:
+    with open(os.path.join(ROOT, *path), encoding="utf-8") as file:
+        return file.read()
+
+
+def synopsis(command: dict) -> list[str]:
+    """A command's line, as macros."""
+    words = []
+    for word in command["words"]:
+        words.append(f".Op Ar {word[1:-4]} ..." if word.startswith("[") else f".Ar {word}")
+    options = [f".Op Fl \\-{name[2:]} Ar {value}" for name, value in command.get("options", [])]
+    return [".Nm desk", f".Cm {command['name']}", *words, *options]
+
+
+def told(command: dict) -> list[str]:
+    """A command's part of the page."""
+    words = " ".join(word.strip("[]").replace("]...", " ...") for word in command["words"])
+    lines = [f".It Cm {command['name']} {words}"]
+    lines += sentences(command["says"], DOC)
+    lines += [".Pp", "Exit status:"]
+    ends = [f"{status} where {said}" for status, said in command["exits"].items()]
+    return [*lines, *sentences("; ".join(ends) + ".", DOC)]
+
+
+def examples(commands: list[dict]) -> list[str]:
+    lines = []
+    for command in commands:
+        for example in command.get("examples", []):
+            shown = [f"$ {example['run']}", *example["prints"].strip("\n").split("\n")]
+            lines += [
+                ".Bd -literal -offset indent",
+                *(guarded(escaped(line)) for line in shown),
+                ".Ed",
+            ]
+    return lines
+
+
+FRAME = """\
+.Dd {date}
+.Dt DESK 1
+.Os
+.Sh NAME
+.Nm desk
+.Nd privileged access desk
+.Sh SYNOPSIS
+{synopsis}
+.Sh DESCRIPTION
+Administrators ask for root, or another target user, on named hosts for a
+while, and others approve.
+.Nm
+writes each host's sudoers file and a report for auditors.
+Its decisions are proved, and it authenticates nobody: a relay vouches for its
+authors.
+.Pp
+A desk is made of a roster
+.Pq Xr desk-roster 5 ,
+a base policy
+.Pq Xr desk-policy 5
+and messages
+.Pq Xr desk-message 5 ,
+which are kept in a store
+.Pq Xr desk-store 5 .
+A moment is yyyymmddhhmmssZ, in UTC.
+.Bl -tag -width Ds
+{commands}
+.El
+.Pp
+.Nm
+.Fl \\-help
+prints the commands, and
+.Nm
+.Ar COMMAND
+.Fl \\-help
+the words and options of one.
+.Sh FILES
+.Bl -tag -width Ds -compact
+.It Pa /etc/desk/roster.toml
+the roster of the desk that
+.Pa desk.service
+serves
+.It Pa /etc/desk/base.sudo
+its base policy
+.It Pa /etc/desk/serve.conf
+where it finds these, and where it listens
+.It Pa /var/lib/desk/desk.db
+its store
+.El
+.Sh EXIT STATUS
+.Bl -tag -width Ds -compact
+.It 0
+It is done, and what was asked for is allowed.
+.It 1
+It is done: a run is denied, or what was looked for is found.
+.It 2
+It is refused, or a line of the input is.
+The standard error has a code
+.Pq Xr desk-codes 7 ;
+nothing stands on the output unless the command says so.
+.El
+.Sh EXAMPLES
+In a folder with the files of
+.Pa {doc}/examples :
+{examples}
+.Sh SEE ALSO
+.Xr desk-message 5 ,
+.Xr desk-policy 5 ,
+.Xr desk-roster 5 ,
+.Xr desk-store 5 ,
+.Xr sudoers 5 ,
+.Xr desk-codes 7 ,
+.Xr sudo 8 ,
+.Xr visudo 8
+"""
+
+
+def desk_page(commands: list[dict]) -> str:
+    parts = {
+        "date": DATE,
+        "doc": DOC,
+        "synopsis": "\n".join(line for command in commands for line in synopsis(command)),
+        "commands": "\n".join(line for command in commands for line in told(command)),
+        "examples": "\n".join(examples(commands)),
+    }
+    return FRAME.format(**parts)
+
+
+def main() -> None:
+    folder = sys.argv[1]
+    table = tomllib.loads(read("packaging", "commands.toml"))
+    made = {"desk.1": desk_page(table["command"])}
+    for name, section, source, about in DOCUMENTS:
+        text = markdown_to_mdoc.page(name, section, about, read("docs", source), DOC)
+        made[f"{name}.{section}"] = text.replace("$Mdocdate$", DATE)
+    made["desk.bash"] = completions.bash(table["command"], table["files"])
+    made["_desk"] = completions.zsh(table["command"], table["files"])
+    os.makedirs(folder, exist_ok=True)
+    for name, text in made.items():
+        with open(os.path.join(folder, name), "w", encoding="utf-8") as file:
+            file.write(text)
+
+
+if __name__ == "__main__":
+    main()
