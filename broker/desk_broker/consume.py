@@ -54,10 +54,10 @@ class Delivery:
 class Consumer:
     """The consumer of one desk; `run` returns when it was asked to stop."""
 
-    def __init__(self, name: str, desk: Desk, broker: Broker) -> None:
+    def __init__(self, name: str, desk: Desk, broker: Broker, tell_every: float = 30.0) -> None:
         self._name, self._desk, self._broker = name, desk, broker
         self._stopping = False
-        self.tally = Tally(name)
+        self.tally = Tally(name, tell_every)
 
     def stop(self, *_: int | FrameType | None) -> None:
         """Asks it to end after the message at hand; a handler of signals."""
@@ -192,7 +192,8 @@ def read(environment: Mapping[str, str]) -> Consumer:
     except ValueError as error:
         raise BadSettings(f"DESK_NAME: {error}") from error
     broker = Broker.read(environment, names.DESK_USER + name)
-    return Consumer(name, Desk(required(environment, "DESK_URL")), broker)
+    desk = Desk(required(environment, "DESK_URL"))
+    return Consumer(name, desk, broker, float(environment.get("TELL_EVERY", "30")))
 
 
 def main() -> int:
