@@ -70,11 +70,14 @@ class Desk:
         self._session.close()
 
 
-def reason(error: Exception) -> str:
-    """The innermost cause, in a few words: `ConnectionRefusedError`, `Read timed out`."""
+def reason(error: requests.RequestException) -> str:
+    """The innermost cause that is an error of the system's: `ConnectionRefusedError`."""
     if isinstance(error, requests.Timeout):
         return "timed out"
-    cause: BaseException = error
-    while cause.__context__ is not None:
+    found: BaseException = error
+    cause: BaseException | None = error
+    while cause is not None:
+        if isinstance(cause, OSError):
+            found = cause
         cause = cause.__context__
-    return type(cause).__name__
+    return type(found).__name__

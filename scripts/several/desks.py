@@ -72,7 +72,7 @@ class Desk:
             self.start()
 
     def lose_store(self) -> None:
-        """The desk is killed, and what it kept is gone."""
+        """The desk is killed, and what it kept is gone; it starts with nothing."""
         with self.lock:
             self.program.end(signal.SIGKILL)
             for path in self.folder.iterdir():

@@ -77,6 +77,10 @@ class Site:
         self._chance.shuffle(made)
         return made
 
+    def accepted(self, count: int) -> list[Post]:
+        """So many that no desk refuses, all different but by chance."""
+        return [Post(self._relay(), canonical(self._message())) for _ in range(count)]
+
     def moments(self, count: int) -> list[str]:
         return [stamp(self._chance.randint(0, MINUTES)) for _ in range(count)]
 

@@ -1,0 +1,111 @@
+"""What goes wrong while messages are published. Every kill is by a process id."""
+
+from __future__ import annotations
+
+import os
+import random
+import signal
+import time
+
+from several.bench import Bench
+from several.programs import wait_until
+
+SIZE = "96m"  # of the small disk
+
+
+def pause(chance: random.Random, least: float, most: float) -> None:
+    time.sleep(chance.uniform(least, most))
+
+
+def kill_nodes(bench: Bench, _: random.Random) -> None:
+    """A node that leads no desk's queue, then the leaders of some."""
+    time.sleep(3)
+    leaders = {bench.cluster.leader(f"desk.{name}") for name in bench.desks}
+    follower = next((n for n in range(3) if n not in leaders), bench.cluster.leader("desk.refused"))
+    kill_node(bench, follower, "a node")
+    for name in list(bench.desks)[: bench.plan.leader_kills]:
+        kill_node(bench, bench.cluster.leader(f"desk.{name}"), f"the leader of desk.{name}")
+
+
+def kill_node(bench: Bench, number: int, what: str) -> None:
+    bench.tell(f"{what} is killed: b{number + 1}")
+    bench.cluster.kill(number)
+    time.sleep(bench.plan.down)
+    bench.cluster.restart(number)
+    # the next one must not take the majority away
+    wait_until("all nodes have every queue", lambda: is_whole(bench), 90, 1.0)
+    bench.tell(f"b{number + 1} is back, and has every queue")
+
+
+def is_whole(bench: Bench) -> bool:
+    return all(len(list(queue["online"])) == 3 for queue in bench.cluster.queues().values())
+
+
+def kill_desks(bench: Bench, chance: random.Random) -> None:
+    """Each desk and each consumer, at random moments."""
+    victims = [desk for desk in bench.desks.values() for _ in range(bench.plan.desk_kills)]
+    victims += [one for one in bench.consumers.values() for _ in range(bench.plan.consumer_kills)]
+    chance.shuffle(victims)
+    for victim in victims:
+        pause(chance, 0.5, 2.5)
+        victim.restart(signal.SIGKILL, chance.uniform(0.0, 1.5))
+    bench.tell(f"{len(victims)} kills of desks and consumers are done")
+
+
+def fill_disk(bench: Bench, chance: random.Random) -> None:
+    """The disk of desk b is full for a while."""
+    consumer, path = bench.consumers["b"], bench.desks["b"].folder / "filler"
+    pause(chance, 1, 3)
+    before = consumer.program.text().count("503 K4 Storage")
+    bench.tell("the disk of desk b is full")
+    until = time.monotonic() + bench.plan.full
+    with open(path, "wb", buffering=0) as filler:
+        while time.monotonic() < until:
+            try:
+                filler.write(bytes(4096))
+            except OSError:
+                time.sleep(0.05)
+    path.unlink()
+    seen = consumer.program.text().count("503 K4 Storage") - before
+    bench.checks.same("the consumer of desk b saw the full disk", seen > 0, True)
+    bench.tell(f"the disk of desk b has room; its consumer saw {seen} refusals with K4")
+
+
+def hold_queue(bench: Bench, _: random.Random) -> None:
+    """The queue of desk c is held: its consumer ends, and comes back later."""
+    consumer = bench.consumers["c"]
+    with consumer.lock:
+        status = consumer.program.end(signal.SIGTERM)
+        bench.checks.same("a consumer ends cleanly by SIGTERM", status, 0)
+        said = consumer.program.text().splitlines()[-1]
+        bench.checks.same("its last line", said, "INFO desk c: ended")
+        bench.tell("the queue of desk c is held")
+        time.sleep(bench.plan.held)
+        told(bench, "while a queue is held", 1)
+        consumer.start()
+    bench.tell("the queue of desk c is delivered")
+
+
+def told(bench: Bench, when: str, wanted: int) -> None:
+    """What the check that compares desks finds of their messages."""
+    pairs = [f"{name}={bench.listing(name)}" for name in bench.desks]
+    status, said = bench.compare("messages", *pairs)
+    bench.checks.same(f"compare-desks.py {when}: {said}", status, wanted)
+
+
+def lose_disk(bench: Bench, _: random.Random) -> None:
+    """Desk a loses its disk, and is filled from desk b's store while messages go on."""
+    desk = bench.desks["a"]
+    before = len(desk.held())
+    desk.lose_store()
+    bench.tell(f"desk a lost its disk, with {before} messages")
+    bench.tell(f"desk a is filled from desk b: {bench.fill('a', bench.listing('b').read_bytes())}")
+
+
+def mount_small_disk(bench: Bench) -> None:
+    """Puts desk b's store onto a small disk, in the mount namespace of the test alone."""
+    folder = bench.folder / "b"
+    folder.mkdir()
+    words = ["mount", "-t", "tmpfs", "-o", f"size={SIZE},mode=0700", "tmpfs", str(folder)]
+    if os.spawnvp(os.P_WAIT, "mount", words) != 0:
+        raise SystemExit("the small disk of desk b cannot be mounted: this needs root")

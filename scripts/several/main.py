@@ -1,0 +1,153 @@
+"""Three brokers, three desks, and messages that go on while things are killed.
+
+    bash scripts/several.sh [--short] [--seed N] [--keep] [DESK ..]
+
+runs this in namespaces of its own; DESK are the words of the program, build/desk without them.
+"""
+
+from __future__ import annotations
+
+import argparse
+import concurrent.futures
+import os
+import pathlib
+import random
+import shutil
+import signal
+import sys
+import tempfile
+import time
+
+from several import faults, rates, verdict
+from several.bench import Bench
+from several.desks import Desk, wait_for_stores
+from several.nodes import ROOT
+from several.plan import SHORT, WHOLE
+from several.programs import Failure, Programs, programs
+from several.relays import Traffic
+from several.sites import GHOST, RELAYS, Post
+
+
+def start(bench: Bench) -> None:
+    bench.cluster.start()
+    # the account that a new broker makes by itself
+    bench.cluster.control("delete_user", "guest")
+    faults.mount_small_disk(bench)
+    bench.tell("three brokers make a cluster")
+
+
+def join_late(bench: Bench) -> None:
+    """Desks b and c began later than a: they get what a held before, while messages go on."""
+    lines = bench.listing("a").read_bytes()
+    for name in ("b", "c"):
+        bench.tell(f"desk {name}, which joined later, is filled from a: {bench.fill(name, lines)}")
+
+
+def disturb(bench: Bench, seed: int) -> None:
+    """All faults, some at the same time; what a thread raises is raised here."""
+    join_late(bench)
+    alone = (faults.kill_nodes, faults.kill_desks, faults.hold_queue)
+    with concurrent.futures.ThreadPoolExecutor(len(alone) + 1) as pool:
+        running = [pool.submit(one, bench, random.Random(f"{seed} {one}")) for one in alone]
+        running.append(pool.submit(disks, bench, seed))
+        for each in running:
+            each.result()
+
+
+def disks(bench: Bench, seed: int) -> None:
+    faults.fill_disk(bench, random.Random(seed))
+    faults.lose_disk(bench, random.Random(seed))
+
+
+def publish(bench: Bench, posts: list[Post], seed: int) -> list[Post]:
+    """Publishes them at their pace while things go wrong; those that the broker confirmed."""
+    accounts = {relay: bench.account(f"relay-{relay}") for relay in [*RELAYS, GHOST]}
+    traffic = Traffic(posts, bench.plan.pace, accounts, bench.folder)
+    traffic.start()
+    disturb(bench, seed)
+    bench.tell("all faults are over" + (", messages go on" if traffic.is_going() else ""))
+    traffic.join(240)
+    bench.tell(f"{len(posts)} messages are published")
+    denied = sum(relay.not_confirmed for relay in traffic.relays)
+    bench.tell(f"{denied} were not confirmed in time, and published again")
+    return traffic.confirmed()
+
+
+def drain(bench: Bench, wanted: verdict.Wanted) -> None:
+    """Waits for what is on its way; desk a is filled again, when b has caught up."""
+    b, c = bench.desks["b"], bench.desks["c"]
+    wait_for_stores([b, c], wanted.kept, 150)
+    pairs = [f"{name}={bench.listing(name)}" for name in bench.desks]
+    _, lacking = bench.compare("messages", *pairs, "--lacking", "a")
+    said = bench.fill("a", lacking.encode())
+    bench.tell(f"what desk a lacks after it lost its disk comes from the others: {said}")
+    verdict.wait_for_queues(bench)
+    wait_for_stores(list(bench.desks.values()), wanted.kept, 20)
+    bench.tell("the queues are empty")
+
+
+def judge(bench: Bench, confirmed: list[Post], oracle: Desk, wanted: verdict.Wanted) -> None:
+    verdict.check_kinds(bench, wanted)
+    lost = verdict.check_stores(bench, confirmed, wanted)
+    verdict.check_answers(bench, oracle)
+    twice = verdict.check_refused(bench, wanted)
+    faults.told(bench, "at the end", 0)
+    for desk in bench.desks.values():
+        bench.checks.same(f"desk {desk.name} ends", desk.program.end(signal.SIGTERM), -15)
+        verdict.check_integrity(desk)
+    kills = sum(node.kills for node in bench.cluster.nodes)
+    more = [*bench.desks.values(), *bench.consumers.values()]
+    bench.tell(f"killed: brokers {kills}, desks and consumers {sum(it.program.kills for it in more)}")
+    for name, consumer in bench.consumers.items():
+        bench.tell(f"desk {name}: the longest lag that its consumer told: {consumer.longest_lag()} s")
+    bench.tell(f"{twice} refusals came twice; confirmed by the broker and lost: {lost}")
+
+
+def run(words: argparse.Namespace, folder: pathlib.Path, started: Programs) -> int:
+    plan, program = SHORT if words.short else WHOLE, words.desk or [str(ROOT / "build" / "desk")]
+    bench = Bench(plan, words.seed, program, folder, started)
+    bench.tell(f"seed {words.seed}")
+    with concurrent.futures.ThreadPoolExecutor(1) as pool:
+        posts = bench.site.messages(plan.messages)
+        starting = pool.submit(start, bench)
+        rated = bench.site.accepted(3 * plan.rated)
+        oracle, wanted = verdict.by_one_deliver(bench, [*rated, *posts])
+        starting.result()
+    rates.measure(bench, rated)
+    confirmed = publish(bench, posts, words.seed)
+    drain(bench, wanted)
+    judge(bench, confirmed, oracle, wanted)
+    print(f"{bench.checks.made} checks, {bench.checks.wrong} wrong")
+    return 1 if bench.checks.wrong else 0
+
+
+def arguments() -> argparse.Namespace:
+    parser = argparse.ArgumentParser(description="Several desks behind a broker, tested.")
+    parser.add_argument("--short", action="store_true", help="one kill of each kind")
+    parser.add_argument("--seed", type=int, default=int(time.time()) % 1_000_000)
+    parser.add_argument("--keep", action="store_true", help="leave the folder with all logs")
+    parser.add_argument("desk", nargs="*", help="the words of the program, in place of build/desk")
+    return parser.parse_args()
+
+
+def main() -> int:
+    words = arguments()
+    words.desk = words.desk or os.environ.get("DESK", "").split()
+    (ROOT / "build").mkdir(exist_ok=True)
+    folder = pathlib.Path(tempfile.mkdtemp(prefix="several-", dir=ROOT / "build"))
+    status = 1
+    try:
+        with programs() as started:
+            status = run(words, folder, started)
+    except Failure as error:
+        print(f"FAILED: {error}")
+    finally:
+        if words.keep or status:
+            print(f"the logs are in {folder}")
+        else:
+            shutil.rmtree(folder, ignore_errors=True)
+    return status
+
+
+if __name__ == "__main__":
+    sys.exit(main())

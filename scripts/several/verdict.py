@@ -1,0 +1,140 @@
+"""What has to hold when all messages have arrived."""
+
+from __future__ import annotations
+
+import dataclasses
+import sqlite3
+from collections import Counter
+
+import pika
+
+from desk_broker import names
+from desk_broker.settings import Broker
+from several.bench import Bench
+from several.desks import Desk, deliver
+from several.programs import Failure, wait_until
+from several.sites import GHOST, Post
+
+
+@dataclasses.dataclass(frozen=True)
+class Refusal:
+    """A message as the queue of refused ones has it."""
+
+    desk: str
+    relay: str
+    code: str
+    body: bytes
+
+
+@dataclasses.dataclass
+class Wanted:
+    """What one `deliver` of all messages answers: which are kept, and why the others are not."""
+
+    kept: set[bytes]
+    codes: dict[Post, str]
+
+
+def by_one_deliver(bench: Bench, posts: list[Post]) -> tuple[Desk, Wanted]:
+    """A desk that is given the whole set by one `deliver`, and what it answers."""
+    oracle = Desk("oracle", bench.files, bench.folder, bench.started, bench.plain)
+    known = [post for post in posts if post.relay != GHOST]
+    bodies = [post.body for post in known]
+    answers = deliver(bench.files, oracle.store, bodies, bench.plain)
+    codes = {post: said for post, said in zip(known, answers) if said != "ack"}
+    kept = {post.body for post, said in zip(known, answers) if said == "ack"}
+    codes |= {post: "P1 UnknownRelay" for post in posts if post.relay == GHOST}
+    return oracle, Wanted(kept, codes)
+
+
+def read_refused(bench: Bench) -> Counter[Refusal]:
+    """Empties the queue of refused messages, by the account that may."""
+    password = (bench.passwords / names.READER).read_text().strip()
+    nodes = [("127.0.0.1", port) for port in bench.cluster.ports]
+    broker = Broker(nodes, names.READER, password)
+    connection = pika.BlockingConnection(broker.parameters(0, 60))
+    channel = connection.channel()
+    channel.basic_qos(prefetch_count=1_000)
+    found: Counter[Refusal] = Counter()
+    for method, properties, body in channel.consume(names.REFUSED, inactivity_timeout=3):
+        if method is None:
+            break
+        told = properties.headers
+        found[Refusal(told["desk"], told["relay"], told["code"], body)] += 1
+        channel.basic_ack(method.delivery_tag)
+    connection.close()
+    return found
+
+
+def check_refused(bench: Bench, wanted: Wanted) -> int:
+    """The queue of refused messages has each exactly by each desk; how many came twice."""
+    found = read_refused(bench)
+    expected = {
+        Refusal(desk, post.relay, code, post.body)
+        for desk in bench.desks
+        for post, code in wanted.codes.items()
+    }
+    bench.checks.same("refused and not expected", sorted_few(set(found) - expected), [])
+    bench.checks.same("expected and not refused", sorted_few(expected - set(found)), [])
+    codes = sorted({refusal.code.split()[0] for refusal in expected})
+    bench.tell(f"{len(expected)} refusals, of the codes {' '.join(codes)}, are where they belong")
+    return sum(found.values()) - len(found)
+
+
+def sorted_few(refusals: set[Refusal]) -> list[str]:
+    return sorted(map(str, refusals))[:3]
+
+
+def check_stores(bench: Bench, confirmed: list[Post], wanted: Wanted) -> int:
+    """Each store holds exactly what is to be kept; how many confirmed messages are lost."""
+    lost = 0
+    for name, desk in bench.desks.items():
+        held = desk.held()
+        missing = {post.body for post in confirmed if post not in wanted.codes} - held
+        lost += len(missing)
+        bench.checks.same(f"confirmed and not in the store of {name}", list(missing)[:3], [])
+        bench.checks.same(f"desk {name} holds the set", held == wanted.kept, True)
+    return lost
+
+
+def check_answers(bench: Bench, oracle: Desk) -> None:
+    """Every host's file and every report, on all desks and on the one of one `deliver`."""
+    oracle.start()
+    moments = bench.site.moments(bench.plan.moments)
+    expected = oracle.digests(bench.site.hosts, moments)
+    for name, desk in bench.desks.items():
+        found = desk.digests(bench.site.hosts, moments)
+        for target, digest in expected.items():
+            bench.checks.same(f"desk {name}: {target}", found[target], digest)
+    words = [word for moment in moments for word in ("--at", moment)]
+    status, said = bench.compare("answers", str(bench.files.roster), *bench.addresses(), *words)
+    bench.checks.same(f"compare-desks.py answers: {said}", status, 0)
+    bytes_of = sum(len(oracle.get(f"/v1/hosts/{host}/sudoers")) for host in bench.site.hosts)
+    bench.tell(
+        f"{len(bench.site.hosts)} files of {bytes_of:,} bytes and {len(moments)} reports are the"
+        f" same on all desks: {said.splitlines()[0].split()[-1]}"
+    )
+
+
+def wait_for_queues(bench: Bench) -> None:
+    """Waits until no desk's queue has a message."""
+
+    def are_empty() -> bool:
+        queues = bench.cluster.queues()
+        return not any(queues[f"desk.{name}"]["messages"] for name in bench.desks)
+
+    wait_until("the queues of all desks are empty", are_empty, 120, 0.5)
+
+
+def check_kinds(bench: Bench, wanted: Wanted) -> None:
+    """The random messages have refusals of every kind, or the test says little."""
+    kinds = {code.split()[0] for code in wanted.codes.values()}
+    every = {f"A{n}" for n in range(1, 9)} | {"M1", "M2", "M3", "P1"}
+    bench.checks.same("codes that no message meets", sorted(every - kinds), [])
+
+
+def check_integrity(desk: Desk) -> None:
+    """`sqlite3` finds the file whole, once the desk has ended."""
+    with sqlite3.connect(desk.store) as connection:
+        [[said]] = connection.execute("PRAGMA integrity_check")
+    if said != "ok":
+        raise Failure(f"desk {desk.name}: {said}")
