@@ -18,12 +18,12 @@ from types import FrameType
 
 import pika
 from pika.adapters.blocking_connection import BlockingChannel, BlockingConnection
-from pika.exceptions import AMQPError, NackError, UnroutableError
+from pika.exceptions import NackError, UnroutableError
 
 from desk_broker import names
 from desk_broker.backoff import Backoff
 from desk_broker.desk import Answer, Desk, Kind
-from desk_broker.settings import BadSettings, Broker, required
+from desk_broker.settings import AWAY, BadSettings, Broker, required
 from desk_broker.tally import Tally
 
 LOG = logging.getLogger("desk-consume")
@@ -69,7 +69,7 @@ class Consumer:
             before = self.tally.taken + self.tally.refused
             try:
                 self._consume(turn)
-            except AMQPError as error:
+            except AWAY as error:
                 LOG.warning("desk %s: the broker is away: %s", self._name, told(error))
             if self.tally.taken + self.tally.refused > before:
                 backoff.reset()
@@ -181,7 +181,7 @@ def close(connection: BlockingConnection) -> None:
     try:
         if connection.is_open:
             connection.close()
-    except AMQPError:
+    except AWAY:
         pass
 
 

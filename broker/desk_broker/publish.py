@@ -91,7 +91,12 @@ class Publisher:
             with self._lock:
                 self._connection = connection
             self._go_on()
-            connection.ioloop.start()
+            try:
+                connection.ioloop.start()
+            except Exception:
+                # (the next connection sends again what this one left)
+                LOG.exception("the connection failed")
+                self._channel = None
             with self._lock:
                 self._connection = None
             connection.ioloop.close()

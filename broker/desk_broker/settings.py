@@ -8,6 +8,11 @@ import ssl
 from collections.abc import Mapping
 
 import pika
+from pika.adapters.utils.connection_workflow import AMQPConnectorException
+from pika.exceptions import AMQPError
+
+# What pika raises where a broker cannot be reached, does not speak, or goes away.
+AWAY = (AMQPError, AMQPConnectorException, OSError)
 
 
 class BadSettings(Exception):
@@ -47,6 +52,7 @@ class Broker:
     user: str
     password: str
     ca_file: str | None = None
+    patience: float = 15.0  # seconds that a node may take to let it in
 
     @classmethod
     def read(cls, environment: Mapping[str, str], user: str) -> Broker:
@@ -68,7 +74,7 @@ class Broker:
             heartbeat=heartbeat,
             blocked_connection_timeout=60,
             socket_timeout=5,
-            stack_timeout=15,
+            stack_timeout=self.patience,
             connection_attempts=1,
             ssl_options=options,
         )
