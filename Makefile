@@ -1,6 +1,6 @@
 # The commands of the repository. `rt` is the toolchain's command.
 
-.PHONY: all desk demo test quick cases gate-times edits peers bench faults clean
+.PHONY: all desk demo test quick cases gate-times edits peers bench faults several clean
 
 all: desk
 
@@ -54,6 +54,11 @@ bench: desk
 # The program with each request for memory refused in turn.
 faults: desk
 	python3 scripts/faults.py
+
+# Several desks behind a broker (docs/SEVERAL.md): the broker's package by its own tests, then three nodes of RabbitMQ and three desks on loopback while
+# messages go on and each is killed (as root; what it needs of Debian is installed). At most six minutes; `bash scripts/several.sh --short` takes two.
+several: desk
+	bash scripts/several.sh
 
 clean:
 	rm -rf build crates/*/out

@@ -76,5 +76,6 @@ part demo demo
 part_with cases setpriv -- cases
 part_with peers root sudo visudo faketime unshare curl nc sqlite3 -- peers
 part_with faults cc -- python3 scripts/faults.py
+part_with several root unshare mount -- bash scripts/several.sh --short
 echo "$passed passed, $failed failed"
 [ "$failed" = 0 ]

@@ -69,7 +69,7 @@ def rights(user: str, write: str, read: str) -> Json:
 
 
 def permissions(desks: list[str], relays: list[str]) -> list[Json]:
-    """A relay publishes, and no more; a desk's consumer reads its own queue and puts refusals by."""
+    """A relay publishes, and a desk's consumer reads its own queue and puts refusals by."""
     return [
         *(rights(names.RELAY_USER + relay, names.MESSAGES, "") for relay in relays),
         *(rights(names.DESK_USER + desk, names.REFUSED, names.queue(desk)) for desk in desks),

@@ -178,7 +178,7 @@ def wait_for(confirmed: concurrent.futures.Future[None], patience: float) -> Non
 def publish_all(
     publisher: Publisher, bodies: Iterable[bytes], patience: float
 ) -> Iterator[NotConfirmed | None]:
-    """Publishes many, some of them on their way at once; for each in order: what failed, or None."""
+    """Publishes many, some of them at once; for each in order: what failed, or None."""
     waiting: queue.Queue[concurrent.futures.Future[None] | None] = queue.Queue(WINDOW)
 
     def give() -> None:

@@ -61,7 +61,7 @@ class Broker:
         return cls(nodes, user, read_password(environment), ca_file)
 
     def parameters(self, turn: int, heartbeat: int) -> pika.ConnectionParameters:
-        """How to connect to a node: to each in its turn. A silent peer is given up after so long."""
+        """How to connect to a node, to each in its turn; a silent one is given up after so long."""
         host, port = self.nodes[turn % len(self.nodes)]
         options = None
         if self.ca_file is not None:

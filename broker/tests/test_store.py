@@ -97,7 +97,8 @@ def test_no_store(tmp_path, monkeypatch):
 
 
 def test_fill_tries_again_and_tells_what_is_refused(scripted):
-    scripted.replies = [(200, "ack\n"), (503, "K4 Storage\n"), (200, "ack\n"), (403, "A1 UnknownPerson\n")]
+    ack = (200, "ack\n")
+    scripted.replies = [ack, (503, "K4 Storage\n"), ack, (403, "A1 UnknownPerson\n")]
     taken, refused = fill(Desk(scripted.address), "web", [b"1", b"2", b"3"])
     assert (taken, refused) == (2, ["A1 UnknownPerson: 3"])
     assert [body for _, body in scripted.seen] == [b"1", b"2", b"2", b"3"]

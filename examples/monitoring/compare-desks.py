@@ -3,16 +3,18 @@
 
     compare-desks.py answers ROSTER URL URL.. [--at MOMENT].. [--patience SECONDS]
 
-asks each desk for every host's file, for the verdicts that wait, and for the report at each moment,
-and compares the digests. Messages that are still in a desk's queue make it differ: it is asked again
-until all agree, or the patience is over. Status 0: they agree; 1: they differ; 2: one did not answer.
+asks each desk for every host's file, for the verdicts that wait, and for the report at each
+moment, and compares the digests. Messages that are still in a desk's queue make it differ: it is
+asked again until all agree, or the patience is over. Status 0: they agree; 1: they differ; 2: one
+did not answer.
 
     compare-desks.py messages NAME=FILE NAME=FILE.. [--since NAME=FILE..] [--lacking NAME]
 
 compares the desks' messages: each FILE has those of one desk's store, one a line, as
-`python3 -m desk_broker.snapshot STORE` prints them. With `--since` only those count that some desk had
-in these older files: take them a minute before, and what is merely on its way is not found lacking.
-`--lacking NAME` prints those that this desk lacks and nothing else, for `desk_broker.fill`.
+`python3 -m desk_broker.snapshot STORE` prints them. With `--since` only those count that some desk
+had in these older files: take them a minute before, and what is merely on its way is not found
+lacking. `--lacking NAME` prints those that this desk lacks and nothing else, for
+`desk_broker.fill`.
 """
 
 from __future__ import annotations

@@ -126,7 +126,9 @@ class Consumer:
         return max(map(float, LAG.findall(self.program.text())), default=0.0)
 
 
-def deliver(files: Files, store: pathlib.Path, bodies: list[bytes], environment: dict[str, str]) -> list[str]:
+def deliver(
+    files: Files, store: pathlib.Path, bodies: list[bytes], environment: dict[str, str]
+) -> list[str]:
     """What one `deliver` of all bodies answers to each."""
     words = [*files.program, "deliver", str(files.roster), str(files.base), str(store), RELAYS[0]]
     given = b"".join(body + b"\n" for body in bodies)

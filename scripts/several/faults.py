@@ -18,13 +18,13 @@ def pause(chance: random.Random, least: float, most: float) -> None:
 
 
 def kill_nodes(bench: Bench, _: random.Random) -> None:
-    """A node that leads no desk's queue, then the leaders of some."""
-    time.sleep(3)
-    leaders = {bench.cluster.leader(f"desk.{name}") for name in bench.desks}
-    follower = next((n for n in range(3) if n not in leaders), bench.cluster.leader("desk.refused"))
-    kill_node(bench, follower, "a node")
+    """One that leads few or none of the desks' queues, then the leaders of some."""
+    leaders = bench.cluster.leaders()
+    leading = [leaders[f"desk.{name}"] for name in bench.desks]
+    kill_node(bench, min(range(3), key=leading.count), "the node that leads fewest queues")
     for name in list(bench.desks)[: bench.plan.leader_kills]:
-        kill_node(bench, bench.cluster.leader(f"desk.{name}"), f"the leader of desk.{name}")
+        queue = f"desk.{name}"
+        kill_node(bench, bench.cluster.leaders()[queue], f"the leader of {queue}")
 
 
 def kill_node(bench: Bench, number: int, what: str) -> None:
@@ -41,7 +41,7 @@ def is_whole(bench: Bench) -> bool:
     return all(len(list(queue["online"])) == 3 for queue in bench.cluster.queues().values())
 
 
-def kill_desks(bench: Bench, chance: random.Random) -> None:
+def kill_programs(bench: Bench, chance: random.Random) -> None:
     """Each desk and each consumer, at random moments."""
     victims = [desk for desk in bench.desks.values() for _ in range(bench.plan.desk_kills)]
     victims += [one for one in bench.consumers.values() for _ in range(bench.plan.consumer_kills)]
@@ -50,6 +50,20 @@ def kill_desks(bench: Bench, chance: random.Random) -> None:
         pause(chance, 0.5, 2.5)
         victim.restart(signal.SIGKILL, chance.uniform(0.0, 1.5))
     bench.tell(f"{len(victims)} kills of desks and consumers are done")
+
+
+def harm_stores(bench: Bench, chance: random.Random) -> None:
+    """Two desks that joined late are filled; a disk is full; a disk is lost."""
+    join_late(bench)
+    fill_disk(bench, chance)
+    lose_disk(bench)
+
+
+def join_late(bench: Bench) -> None:
+    """Desks b and c began later than a: they get what a held before, while messages go on."""
+    lines = bench.listing("a").read_bytes()
+    for name in ("b", "c"):
+        bench.tell(f"desk {name}, which joined later, is filled from a: {bench.fill(name, lines)}")
 
 
 def fill_disk(bench: Bench, chance: random.Random) -> None:
@@ -93,7 +107,7 @@ def told(bench: Bench, when: str, wanted: int) -> None:
     bench.checks.same(f"compare-desks.py {when}: {said}", status, wanted)
 
 
-def lose_disk(bench: Bench, _: random.Random) -> None:
+def lose_disk(bench: Bench) -> None:
     """Desk a loses its disk, and is filled from desk b's store while messages go on."""
     desk = bench.desks["a"]
     before = len(desk.held())

@@ -36,27 +36,14 @@ def start(bench: Bench) -> None:
     bench.tell("three brokers make a cluster")
 
 
-def join_late(bench: Bench) -> None:
-    """Desks b and c began later than a: they get what a held before, while messages go on."""
-    lines = bench.listing("a").read_bytes()
-    for name in ("b", "c"):
-        bench.tell(f"desk {name}, which joined later, is filled from a: {bench.fill(name, lines)}")
-
-
 def disturb(bench: Bench, seed: int) -> None:
     """All faults, some at the same time; what a thread raises is raised here."""
-    join_late(bench)
-    alone = (faults.kill_nodes, faults.kill_desks, faults.hold_queue)
-    with concurrent.futures.ThreadPoolExecutor(len(alone) + 1) as pool:
-        running = [pool.submit(one, bench, random.Random(f"{seed} {one}")) for one in alone]
-        running.append(pool.submit(disks, bench, seed))
+    kinds = (faults.kill_nodes, faults.kill_programs, faults.hold_queue, faults.harm_stores)
+    with concurrent.futures.ThreadPoolExecutor(len(kinds)) as pool:
+        chances = [random.Random(f"{seed} {kind.__name__}") for kind in kinds]
+        running = [pool.submit(kind, bench, chance) for kind, chance in zip(kinds, chances)]
         for each in running:
             each.result()
-
-
-def disks(bench: Bench, seed: int) -> None:
-    faults.fill_disk(bench, random.Random(seed))
-    faults.lose_disk(bench, random.Random(seed))
 
 
 def publish(bench: Bench, posts: list[Post], seed: int) -> list[Post]:
@@ -86,21 +73,25 @@ def drain(bench: Bench, wanted: verdict.Wanted) -> None:
     bench.tell("the queues are empty")
 
 
-def judge(bench: Bench, confirmed: list[Post], oracle: Desk, wanted: verdict.Wanted) -> None:
+def judge(
+    bench: Bench, posts: list[Post], confirmed: list[Post], oracle: Desk, wanted: verdict.Wanted
+) -> None:
     verdict.check_kinds(bench, wanted)
     lost = verdict.check_stores(bench, confirmed, wanted)
     verdict.check_answers(bench, oracle)
-    twice = verdict.check_refused(bench, wanted)
+    twice = verdict.check_refused(bench, posts, wanted)
     faults.told(bench, "at the end", 0)
     for desk in bench.desks.values():
         bench.checks.same(f"desk {desk.name} ends", desk.program.end(signal.SIGTERM), -15)
         verdict.check_integrity(desk)
     kills = sum(node.kills for node in bench.cluster.nodes)
     more = [*bench.desks.values(), *bench.consumers.values()]
-    bench.tell(f"killed: brokers {kills}, desks and consumers {sum(it.program.kills for it in more)}")
+    others = sum(one.program.kills for one in more)
+    bench.tell(f"killed: brokers {kills}, desks and consumers {others}")
     for name, consumer in bench.consumers.items():
-        bench.tell(f"desk {name}: the longest lag that its consumer told: {consumer.longest_lag()} s")
-    bench.tell(f"{twice} refusals came twice; confirmed by the broker and lost: {lost}")
+        bench.tell(f"desk {name}: its consumer's longest lag was {consumer.longest_lag()} s")
+    bench.tell(f"{twice} refusals were put by once more after a kill")
+    bench.tell(f"confirmed by the broker, and lost: {lost}")
 
 
 def run(words: argparse.Namespace, folder: pathlib.Path, started: Programs) -> int:
@@ -116,7 +107,7 @@ def run(words: argparse.Namespace, folder: pathlib.Path, started: Programs) -> i
     rates.measure(bench, rated)
     confirmed = publish(bench, posts, words.seed)
     drain(bench, wanted)
-    judge(bench, confirmed, oracle, wanted)
+    judge(bench, posts, confirmed, oracle, wanted)
     print(f"{bench.checks.made} checks, {bench.checks.wrong} wrong")
     return 1 if bench.checks.wrong else 0
 

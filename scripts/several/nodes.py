@@ -135,9 +135,9 @@ class Cluster:
         rows = json.loads(self.control("list_queues", *columns, "--formatter", "json"))
         return {str(row["name"]): row for row in rows}
 
-    def leader(self, queue: str) -> int:
-        """The number of the node that leads the queue."""
-        return int(str(self.queues()[queue]["leader"])[1]) - 1
+    def leaders(self) -> dict[str, int]:
+        """For each queue the number of the node that leads it."""
+        return {name: int(str(row["leader"])[1]) - 1 for name, row in self.queues().items()}
 
     def addresses(self) -> str:
         return ",".join(f"127.0.0.1:{port}" for port in self.ports)

@@ -20,7 +20,8 @@ class Relay(threading.Thread):
     """Publishes its messages, one a line, and again what was not confirmed."""
 
     def __init__(
-        self, name: str, posts: list[Post], pace: float, environment: dict[str, str], log: pathlib.Path
+        self, name: str, posts: list[Post], pace: float, environment: dict[str, str],
+        log: pathlib.Path,
     ) -> None:
         super().__init__(name=f"relay {name}", daemon=True)
         self.relay, self._posts, self._pace = name, posts, pace

@@ -65,22 +65,23 @@ def read_refused(bench: Bench) -> Counter[Refusal]:
     return found
 
 
-def check_refused(bench: Bench, wanted: Wanted) -> int:
-    """The queue of refused messages has each exactly by each desk; how many came twice."""
+def check_refused(bench: Bench, posts: list[Post], wanted: Wanted) -> int:
+    """What each desk refused is there, no less often than it was published; how much more is."""
     found = read_refused(bench)
-    expected = {
-        Refusal(desk, post.relay, code, post.body)
+    expected = Counter(
+        Refusal(desk, post.relay, wanted.codes[post], post.body)
         for desk in bench.desks
-        for post, code in wanted.codes.items()
-    }
-    bench.checks.same("refused and not expected", sorted_few(set(found) - expected), [])
-    bench.checks.same("expected and not refused", sorted_few(expected - set(found)), [])
+        for post in posts
+        if post in wanted.codes
+    )
+    bench.checks.same("refused and not expected", few(set(found) - set(expected)), [])
+    bench.checks.same("expected and not refused", few(set(expected - found)), [])
     codes = sorted({refusal.code.split()[0] for refusal in expected})
     bench.tell(f"{len(expected)} refusals, of the codes {' '.join(codes)}, are where they belong")
-    return sum(found.values()) - len(found)
+    return (found - expected).total()
 
 
-def sorted_few(refusals: set[Refusal]) -> list[str]:
+def few(refusals: set[Refusal]) -> list[str]:
     return sorted(map(str, refusals))[:3]
 
 
