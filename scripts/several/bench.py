@@ -17,6 +17,8 @@ from several.relays import environment
 from several.sites import BASE, GHOST, RELAYS, Site
 
 COMPARE = ROOT / "examples" / "monitoring" / "compare-desks.py"
+CHECK_QUEUES = ROOT / "examples" / "monitoring" / "check-queues.py"
+COLUMNS = ("name", "messages", "consumers", "online")
 
 
 class Checks:
@@ -107,6 +109,11 @@ class Bench:
     def compare(self, *words: str) -> tuple[int, str]:
         ran = self.run(str(COMPARE), *words)
         return ran.returncode, (ran.stdout + ran.stderr).decode()
+
+    def check_queues(self) -> list[str]:
+        """What the check of the queues says."""
+        rows = self.cluster.control("list_queues", *COLUMNS, "--formatter", "json")
+        return self.run(str(CHECK_QUEUES), given=rows.encode()).stdout.decode().splitlines()
 
     def addresses(self) -> list[str]:
         return [desk.address for desk in self.desks.values()]

@@ -96,6 +96,8 @@ def hold_queue(bench: Bench, _: random.Random) -> None:
         bench.tell("the queue of desk c is held")
         time.sleep(bench.plan.held)
         told(bench, "while a queue is held", 1)
+        found = "desk.c: no consumer: its desk gets nothing" in bench.check_queues()
+        bench.checks.same("check-queues.py finds the held queue", found, True)
         consumer.start()
     bench.tell("the queue of desk c is delivered")
 

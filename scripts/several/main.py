@@ -79,6 +79,7 @@ def judge(
     verdict.check_kinds(bench, wanted)
     lost = verdict.check_stores(bench, confirmed, wanted)
     verdict.check_answers(bench, oracle)
+    verdict.check_queues(bench)
     twice = verdict.check_refused(bench, posts, wanted)
     faults.told(bench, "at the end", 0)
     for desk in bench.desks.values():

@@ -126,6 +126,12 @@ def wait_for_queues(bench: Bench) -> None:
     wait_until("the queues of all desks are empty", are_empty, 120, 0.5)
 
 
+def check_queues(bench: Bench) -> None:
+    """At the end the check of the queues finds the refused messages, and nothing else."""
+    found = bench.check_queues()
+    bench.checks.same("check-queues.py", [line.split()[0] for line in found], ["desk.refused:"])
+
+
 def check_kinds(bench: Bench, wanted: Wanted) -> None:
     """The random messages have refusals of every kind, or the test says little."""
     kinds = {code.split()[0] for code in wanted.codes.values()}
