@@ -19,4 +19,8 @@ if [ "${#wanted[@]}" -gt 0 ] && [ "$(id -u)" = 0 ] && command -v apt-get >/dev/n
     fi
     apt-get update -qq
     DEBIAN_FRONTEND=noninteractive apt-get install -y -qq --no-install-recommends python3 "${wanted[@]}"
+    # nor at the next start of the machine
+    if command -v systemctl >/dev/null; then
+        systemctl disable --quiet rabbitmq-server 2>/dev/null || true
+    fi
 fi

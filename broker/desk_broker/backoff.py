@@ -18,7 +18,7 @@ class Backoff:
 
     def next(self) -> float:
         """The seconds to wait now; the next wait is longer."""
-        whole = min(self._most, self._first * 2 ** min(self.tries, 30))
+        whole = min(self._most, self._first * 2.0 ** min(self.tries, 30))
         self.tries += 1
         return whole * (0.5 + self._chance.random() / 2)
 

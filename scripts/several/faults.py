@@ -8,6 +8,8 @@ import signal
 import time
 
 from several.bench import Bench
+from several.desks import Consumer, Desk
+from several.nodes import COUNT
 from several.programs import wait_until
 
 SIZE = "96m"  # of the small disk
@@ -19,12 +21,12 @@ def pause(chance: random.Random, least: float, most: float) -> None:
 
 def kill_nodes(bench: Bench, _: random.Random) -> None:
     """One that leads few or none of the desks' queues, then the leaders of some."""
-    leaders = bench.cluster.leaders()
-    leading = [leaders[f"desk.{name}"] for name in bench.desks]
-    kill_node(bench, min(range(3), key=leading.count), "the node that leads fewest queues")
+    queues = bench.cluster.queues()
+    leading = [queues[f"desk.{name}"].leader for name in bench.desks]
+    kill_node(bench, min(range(COUNT), key=leading.count), "the node that leads fewest queues")
     for name in list(bench.desks)[: bench.plan.leader_kills]:
         queue = f"desk.{name}"
-        kill_node(bench, bench.cluster.leaders()[queue], f"the leader of {queue}")
+        kill_node(bench, bench.cluster.queues()[queue].leader, f"the leader of {queue}")
 
 
 def kill_node(bench: Bench, number: int, what: str) -> None:
@@ -38,13 +40,15 @@ def kill_node(bench: Bench, number: int, what: str) -> None:
 
 
 def is_whole(bench: Bench) -> bool:
-    return all(len(list(queue["online"])) == 3 for queue in bench.cluster.queues().values())
+    return all(queue.replicas == COUNT for queue in bench.cluster.queues().values())
 
 
 def kill_programs(bench: Bench, chance: random.Random) -> None:
     """Each desk and each consumer, at random moments."""
-    victims = [desk for desk in bench.desks.values() for _ in range(bench.plan.desk_kills)]
-    victims += [one for one in bench.consumers.values() for _ in range(bench.plan.consumer_kills)]
+    victims: list[Desk | Consumer] = []
+    for name in bench.desks:
+        victims += [bench.desks[name]] * bench.plan.desk_kills
+        victims += [bench.consumers[name]] * bench.plan.consumer_kills
     chance.shuffle(victims)
     for victim in victims:
         pause(chance, 0.5, 2.5)

@@ -86,8 +86,8 @@ def judge(
         bench.checks.same(f"desk {desk.name} ends", desk.program.end(signal.SIGTERM), -15)
         verdict.check_integrity(desk)
     kills = sum(node.kills for node in bench.cluster.nodes)
-    more = [*bench.desks.values(), *bench.consumers.values()]
-    others = sum(one.program.kills for one in more)
+    others = sum(desk.program.kills for desk in bench.desks.values())
+    others += sum(consumer.program.kills for consumer in bench.consumers.values())
     bench.tell(f"killed: brokers {kills}, desks and consumers {others}")
     for name, consumer in bench.consumers.items():
         bench.tell(f"desk {name}: its consumer's longest lag was {consumer.longest_lag()} s")

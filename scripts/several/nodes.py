@@ -2,6 +2,7 @@
 
 from __future__ import annotations
 
+import dataclasses
 import glob
 import json
 import os
@@ -10,6 +11,7 @@ import secrets
 import shutil
 import signal
 import subprocess
+import typing
 
 from several.programs import Failure, Program, Programs, free_ports, is_listening, wait_until
 
@@ -34,6 +36,21 @@ def scripts() -> str:
     if not found:
         raise Failure("rabbitmq-server is missing: install Debian's package of that name")
     return found[-1]
+
+
+@dataclasses.dataclass(frozen=True)
+class Queue:
+    """What the broker tells of a queue: its leader's number, and how many replicas are there."""
+
+    leader: int
+    replicas: int
+    messages: int
+
+    @classmethod
+    def of(cls, row: dict[str, typing.Any]) -> Queue:
+        # without a leader the columns are empty texts
+        leader = int(row["leader"][1]) - 1 if row["leader"] else -1
+        return cls(leader, len(row["online"]), int(row["messages"] or 0))
 
 
 class Cluster:
@@ -129,15 +146,10 @@ class Cluster:
             raise Failure(f"rabbitmqctl {words[0]}: {ran.stdout[-300:]} {ran.stderr[-300:]}")
         return ran.stdout
 
-    def queues(self) -> dict[str, dict[str, object]]:
-        """What is known of each queue: where its leader is, its members, and its messages."""
-        columns = ("name", "leader", "online", "messages", "type")
+    def queues(self) -> dict[str, Queue]:
+        columns = ("name", "leader", "online", "messages")
         rows = json.loads(self.control("list_queues", *columns, "--formatter", "json"))
-        return {str(row["name"]): row for row in rows}
-
-    def leaders(self) -> dict[str, int]:
-        """For each queue the number of the node that leads it."""
-        return {name: int(str(row["leader"])[1]) - 1 for name, row in self.queues().items()}
+        return {row["name"]: Queue.of(row) for row in rows}
 
     def addresses(self) -> str:
         return ",".join(f"127.0.0.1:{port}" for port in self.ports)

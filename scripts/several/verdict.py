@@ -121,7 +121,7 @@ def wait_for_queues(bench: Bench) -> None:
 
     def are_empty() -> bool:
         queues = bench.cluster.queues()
-        return not any(queues[f"desk.{name}"]["messages"] for name in bench.desks)
+        return not any(queues[f"desk.{name}"].messages for name in bench.desks)
 
     wait_until("the queues of all desks are empty", are_empty, 120, 0.5)
 
