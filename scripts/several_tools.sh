@@ -1,11 +1,11 @@
 #!/usr/bin/env bash
-# Installs what `make several` asks of Debian, where it is not there: RabbitMQ, and pika, requests and pytest for Debian's own Python. The broker of
+# Installs what `make several` asks of Debian, where it is not there: RabbitMQ, and pika and pytest for Debian's own Python. The broker of
 # the system is not started: the test runs brokers of its own. Where this is not root, or there is no apt-get, nothing is installed.
 set -euo pipefail
 export PATH="$PATH:/usr/sbin:/sbin"
 wanted=()
 [ -d /usr/lib/rabbitmq ] || wanted+=(rabbitmq-server)
-for package in pika requests pytest; do
+for package in pika pytest; do
     /usr/bin/python3 -c "import $package" 2>/dev/null || wanted+=("python3-$package")
 done
 command -v unshare >/dev/null && command -v mount >/dev/null || wanted+=(util-linux mount)

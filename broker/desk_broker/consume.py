@@ -189,11 +189,11 @@ def read(environment: Mapping[str, str]) -> Consumer:
     """The consumer that the environment describes (examples/broker/consume.env)."""
     try:
         name = names.label(required(environment, "DESK_NAME"))
+        desk = Desk(required(environment, "DESK_URL"))
+        tell_every = float(environment.get("TELL_EVERY", "30"))
     except ValueError as error:
-        raise BadSettings(f"DESK_NAME: {error}") from error
-    broker = Broker.read(environment, names.DESK_USER + name)
-    desk = Desk(required(environment, "DESK_URL"))
-    return Consumer(name, desk, broker, float(environment.get("TELL_EVERY", "30")))
+        raise BadSettings(f"DESK_NAME, DESK_URL or TELL_EVERY: {error}") from error
+    return Consumer(name, desk, Broker.read(environment, names.DESK_USER + name), tell_every)
 
 
 def main() -> int:

@@ -4,15 +4,16 @@ from __future__ import annotations
 
 import dataclasses
 import enum
+import http.client
 import re
-
-import requests
+import urllib.parse
 
 # What a desk says when it refuses: a code and a name (docs/CODES.md).
 CODE = re.compile(r"[A-Z][0-9]{1,2} [A-Za-z]+")
 # The request was cut on its way: this says nothing of the message.
 CUT_SHORT = "T7 ShortBody"
 MOST_BYTES = 16_384
+MOST_REPLY = 1_024  # bytes of a reply that are looked at
 TOO_LONG = "M1 TooLong"
 
 
@@ -41,43 +42,35 @@ def judge(status: int, text: str) -> Answer:
     return Answer(Kind.WAITS, f"{status} {short}")
 
 
+class BadAddress(ValueError):
+    """The text is not `http://HOST:PORT`."""
+
+
 class Desk:
-    """A desk at its address, as `http://127.0.0.1:8080`."""
+    """A desk at its address, as `http://127.0.0.1:8080`.
+
+    Each post has a connection of its own: the desk closes it after its reply.
+    """
 
     def __init__(self, address: str, patience: float = 20.0) -> None:
-        self._address = address.rstrip("/")
-        self._patience = patience
-        self._session = requests.Session()
-        # no proxy of the environment stands between
-        self._session.trust_env = False
-        self._session.headers = requests.structures.CaseInsensitiveDict({"Connection": "close"})
+        parts = urllib.parse.urlsplit(address)
+        if parts.scheme != "http" or not parts.hostname or parts.path not in ("", "/"):
+            raise BadAddress(f"{address!r} is not http://HOST:PORT")
+        self._host, self._port, self._patience = parts.hostname, parts.port or 80, patience
 
     def post(self, relay: str, body: bytes) -> Answer:
         """Posts a message as the relay's."""
         if len(body) > MOST_BYTES:
             # the desk says so by the length alone, and need not be sent the bytes
             return Answer(Kind.REFUSED, TOO_LONG)
-        target = f"{self._address}/v1/relays/{relay}/messages"
+        client = http.client.HTTPConnection(self._host, self._port, timeout=self._patience)
         try:
-            reply = self._session.post(
-                target, data=body, timeout=(5.0, self._patience), allow_redirects=False
-            )
-        except requests.RequestException as error:
-            return Answer(Kind.WAITS, f"no reply: {reason(error)}")
-        return judge(reply.status_code, reply.content.decode("utf-8", "replace"))
-
-    def close(self) -> None:
-        self._session.close()
-
-
-def reason(error: requests.RequestException) -> str:
-    """The innermost cause that is an error of the system's: `ConnectionRefusedError`."""
-    if isinstance(error, requests.Timeout):
-        return "timed out"
-    found: BaseException = error
-    cause: BaseException | None = error
-    while cause is not None:
-        if isinstance(cause, OSError):
-            found = cause
-        cause = cause.__context__
-    return type(found).__name__
+            client.request("POST", f"/v1/relays/{relay}/messages", body)
+            reply = client.getresponse()
+            return judge(reply.status, reply.read(MOST_REPLY).decode("utf-8", "replace"))
+        except TimeoutError:
+            return Answer(Kind.WAITS, "no reply: timed out")
+        except (OSError, http.client.HTTPException) as error:
+            return Answer(Kind.WAITS, f"no reply: {type(error).__name__}")
+        finally:
+            client.close()

@@ -14,7 +14,7 @@ import time
 from collections.abc import Iterable
 
 from desk_broker.backoff import Backoff
-from desk_broker.desk import Desk, Kind
+from desk_broker.desk import BadAddress, Desk, Kind
 
 PATIENCE = 120.0
 
@@ -42,7 +42,7 @@ def main() -> int:
     lines = (line.rstrip(b"\n") for line in sys.stdin.buffer)
     try:
         taken, refused = fill(Desk(sys.argv[1]), sys.argv[2], lines)
-    except TimeoutError as error:
+    except (TimeoutError, BadAddress) as error:
         print(f"fill: {error}", file=sys.stderr)
         return 1
     print(*refused, sep="\n", end="\n" if refused else "", file=sys.stderr)

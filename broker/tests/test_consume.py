@@ -152,6 +152,6 @@ def test_it_reads_its_settings(tmp_path):
     for name in environment:
         with pytest.raises(BadSettings, match=name):
             consume.read({**environment, name: ""})
-    for name, value in (("DESK_NAME", "A b"), ("BROKERS", "b1"), ("BROKERS", "b1:x")):
+    for name, value in (("DESK_NAME", "A b"), ("DESK_URL", "desk"), ("BROKERS", "b1"), ("BROKERS", "b1:x")):
         with pytest.raises(BadSettings, match=name):
             consume.read({**environment, name: value})

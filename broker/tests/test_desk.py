@@ -73,3 +73,11 @@ def test_nobody_listens():
         address = f"http://127.0.0.1:{server.getsockname()[1]}"
     answer = Desk(address).post("web", b"{}")
     assert (answer.kind, answer.said) == (Kind.WAITS, "no reply: ConnectionRefusedError")
+
+
+@pytest.mark.parametrize(
+    "address", ["", "127.0.0.1:80", "https://desk", "http://", "http://desk/v1", "http://desk:x"]
+)
+def test_no_address(address):
+    with pytest.raises(ValueError, match="."):
+        Desk(address)
