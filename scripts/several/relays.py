@@ -28,6 +28,7 @@ class Relay(threading.Thread):
         self._environment, self._log = environment, log
         self.confirmed: list[Post] = []
         self.not_confirmed = 0
+        self.first_at = float("inf")  # when the first was confirmed
         self.fault: str | None = None
         self._waiting: deque[Post] = deque()
         self._again: deque[Post] = deque()
@@ -73,6 +74,7 @@ class Relay(threading.Thread):
         assert process.stdout is not None
         for line in process.stdout:
             post = self._waiting.popleft()
+            self.first_at = min(self.first_at, time.monotonic())
             if line == b"confirmed\n":
                 self.confirmed.append(post)
             else:

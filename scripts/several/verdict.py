@@ -4,6 +4,7 @@ from __future__ import annotations
 
 import dataclasses
 import sqlite3
+import time
 from collections import Counter
 
 import pika
@@ -109,7 +110,10 @@ def check_answers(bench: Bench, oracle: Desk) -> None:
     words = [word for moment in moments for word in ("--at", moment)]
     status, said = bench.compare("answers", str(bench.files.roster), *bench.addresses(), *words)
     bench.checks.same(f"compare-desks.py answers: {said}", status, 0)
+    begun = time.monotonic()
     bytes_of = sum(len(oracle.get(f"/v1/hosts/{host}/sudoers")) for host in bench.site.hosts)
+    each = (time.monotonic() - begun) / len(bench.site.hosts)
+    bench.tell(f"a host's file takes {each * 1000:.1f} ms of a desk that holds this set")
     bench.tell(
         f"{len(bench.site.hosts)} files of {bytes_of:,} bytes and {len(moments)} reports are the"
         f" same on all desks: {said.splitlines()[0].split()[-1]}"
