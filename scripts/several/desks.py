@@ -148,5 +148,8 @@ def wait_for_stores(desks: list[Desk], wanted: set[bytes], seconds: float) -> fl
             left.pop(0)
         return not left
 
-    names = " and ".join(desk.name for desk in desks)
-    return wait_until(f"desk {names} holds what was confirmed", is_done, seconds, 0.05)
+    try:
+        return wait_until("each desk holds what was confirmed", is_done, seconds, 0.05)
+    except Failure as error:
+        lacking = ", ".join(f"{desk.name} {len(wanted - desk.held())}" for desk in left)
+        raise Failure(f"{error}; lacking: {lacking}") from error

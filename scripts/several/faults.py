@@ -2,10 +2,12 @@
 
 from __future__ import annotations
 
+import contextlib
 import os
 import random
 import signal
 import time
+import typing
 
 from several.bench import Bench
 from several.desks import Consumer, Desk
@@ -71,22 +73,32 @@ def join_late(bench: Bench) -> None:
 
 
 def fill_disk(bench: Bench, chance: random.Random) -> None:
-    """The disk of desk b is full for a while."""
+    """The disk of desk b is full for a while.
+
+    Its consumer is killed meanwhile, each time with a message at hand that the desk did not take.
+    """
     consumer, path = bench.consumers["b"], bench.desks["b"].folder / "filler"
     pause(chance, 1, 3)
-    before = consumer.program.text().count("503 K4 Storage")
     bench.tell("the disk of desk b is full")
     until = time.monotonic() + bench.plan.full
+    seen = 0
     with open(path, "wb", buffering=0) as filler:
         while time.monotonic() < until:
-            try:
-                filler.write(bytes(4096))
-            except OSError:
-                time.sleep(0.05)
+            write_all(filler)
+            time.sleep(0.05)
+            if (now := consumer.program.text().count("503 K4 Storage")) > seen + 2:
+                consumer.restart(signal.SIGKILL, 0.0)
+                seen = now
     path.unlink()
-    seen = consumer.program.text().count("503 K4 Storage") - before
     bench.checks.same("the consumer of desk b saw the full disk", seen > 0, True)
     bench.tell(f"the disk of desk b has room; its consumer saw {seen} refusals with K4")
+
+
+def write_all(filler: typing.BinaryIO) -> None:
+    """Writes until the disk is full."""
+    with contextlib.suppress(OSError):
+        while True:
+            filler.write(bytes(4096))
 
 
 def hold_queue(bench: Bench, _: random.Random) -> None:
