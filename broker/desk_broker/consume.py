@@ -64,7 +64,7 @@ class Consumer:
         self._stopping = True
 
     def run(self) -> None:
-        turn, backoff = 0, Backoff(0.2, 10.0)
+        turn, backoff = self._broker.first_turn(), Backoff(0.2, 10.0)
         while not self._stopping:
             before = self.tally.taken + self.tally.refused
             try:

@@ -41,7 +41,7 @@ class Publisher:
 
     def __init__(self, broker: Broker) -> None:
         self._broker = broker
-        self._outbox = Outbox(WINDOW)
+        self._outbox, self._backoff = Outbox(WINDOW), Backoff(0.1, 5.0)
         self._channel: Channel | None = None
         self._connection: pika.SelectConnection | None = None
         self._lock = threading.Lock()  # of the connection, which other threads wake
@@ -80,7 +80,7 @@ class Publisher:
     # All below runs in the thread of the connection.
 
     def _run(self) -> None:
-        turn, backoff = 0, Backoff(0.1, 5.0)
+        turn = self._broker.first_turn()
         while not self._closing.is_set():
             connection = pika.SelectConnection(
                 self._broker.parameters(turn, HEARTBEAT),
@@ -101,7 +101,7 @@ class Publisher:
                 self._connection = None
             connection.ioloop.close()
             turn += 1
-            self._closing.wait(backoff.next())
+            self._closing.wait(self._backoff.next())
 
     def _channel_opened(self, channel: Channel) -> None:
         channel.add_on_close_callback(self._channel_closed)
@@ -110,6 +110,7 @@ class Publisher:
 
     def _ready(self, channel: Channel) -> None:
         self._channel = channel
+        self._backoff.reset()
         self._outbox.begin()
         self._go_on()
 

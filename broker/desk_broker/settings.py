@@ -4,6 +4,7 @@ from __future__ import annotations
 
 import dataclasses
 import pathlib
+import random
 import ssl
 from collections.abc import Mapping
 
@@ -59,6 +60,10 @@ class Broker:
         nodes = read_nodes(required(environment, "BROKERS"))
         ca_file = environment.get("BROKER_CA") or None
         return cls(nodes, user, read_password(environment), ca_file)
+
+    def first_turn(self) -> int:
+        """A node to begin with, by chance: so all nodes have clients."""
+        return random.randrange(len(self.nodes))
 
     def parameters(self, turn: int, heartbeat: int) -> pika.ConnectionParameters:
         """How to connect to a node, to each in its turn; a silent one is given up after so long."""
