@@ -129,22 +129,23 @@ class Cluster:
     def kill(self, number: int) -> None:
         self.nodes[number].end(signal.SIGKILL)
 
-    def control(self, *words: str, given: str | None = None) -> str:
-        """What `rabbitmqctl` answers, asked of a node that runs."""
-        number = next(at for at, node in enumerate(self.nodes) if node.is_running())
-        whole = [os.path.join(self._scripts, "rabbitmqctl"), "-q", *words]
-        ran = subprocess.run(
-            whole,
-            env=self._environment(number),
-            input=given,
-            capture_output=True,
-            text=True,
-            timeout=60,
-            check=False,
-        )
-        if ran.returncode != 0:
-            raise Failure(f"rabbitmqctl {words[0]}: {ran.stdout[-300:]} {ran.stderr[-300:]}")
-        return ran.stdout
+    def control(self, *words: str) -> str:
+        """What `rabbitmqctl` answers, asked of the first node that can: one may be starting."""
+        whole, said = [os.path.join(self._scripts, "rabbitmqctl"), "-q", *words], ""
+        for number, node in enumerate(self.nodes):
+            if node.is_running():
+                ran = subprocess.run(
+                    whole,
+                    env=self._environment(number),
+                    capture_output=True,
+                    text=True,
+                    timeout=90,
+                    check=False,
+                )
+                if ran.returncode == 0:
+                    return ran.stdout
+                said = (ran.stderr or ran.stdout)[:300]
+        raise Failure(f"rabbitmqctl {words[0]}: {said}")
 
     def queues(self) -> dict[str, Queue]:
         columns = ("name", "leader", "online", "messages")
