@@ -3,14 +3,14 @@
 from __future__ import annotations
 
 import dataclasses
+import json
 import sqlite3
+import subprocess
+import sys
 import time
 from collections import Counter
 
-import pika
-
-from desk_broker import names
-from desk_broker.settings import Broker
+from desk_broker import names, refused
 from several.bench import Bench
 from several.desks import Desk, deliver
 from several.programs import Failure, wait_until
@@ -48,22 +48,16 @@ def by_one_deliver(bench: Bench, posts: list[Post]) -> tuple[Desk, Wanted]:
 
 
 def read_refused(bench: Bench) -> Counter[Refusal]:
-    """Empties the queue of refused messages, by the account that may."""
-    password = (bench.passwords / names.READER).read_text().strip()
-    nodes = [("127.0.0.1", port) for port in bench.cluster.ports]
-    broker = Broker(nodes, names.READER, password)
-    connection = pika.BlockingConnection(broker.parameters(0, 60))
-    channel = connection.channel()
-    channel.basic_qos(prefetch_count=1_000)
-    found: Counter[Refusal] = Counter()
-    for method, properties, body in channel.consume(names.REFUSED, inactivity_timeout=3):
-        if method is None:
-            break
-        told = properties.headers
-        found[Refusal(told["desk"], told["relay"], told["code"], body)] += 1
-        channel.basic_ack(method.delivery_tag)
-    connection.close()
-    return found
+    """Empties the queue of refused messages, by the program that an operator uses."""
+    words = [sys.executable, "-m", "desk_broker.refused", "--take"]
+    account = bench.account(names.READER)
+    ran = subprocess.run(words, env=account, capture_output=True, text=True, check=False)
+    if ran.returncode != 0:
+        raise Failure(f"desk_broker.refused: {ran.stderr[-300:]}")
+    told = [json.loads(line) for line in ran.stdout.splitlines()]
+    return Counter(
+        Refusal(each["desk"], each["relay"], each["code"], refused.body_of(each)) for each in told
+    )
 
 
 def check_refused(bench: Bench, posts: list[Post], wanted: Wanted) -> int:
