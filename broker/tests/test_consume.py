@@ -152,6 +152,7 @@ def test_it_reads_its_settings(tmp_path):
     for name in environment:
         with pytest.raises(BadSettings, match=name):
             consume.read({**environment, name: ""})
-    for name, value in (("DESK_NAME", "A b"), ("DESK_URL", "desk"), ("BROKERS", "b1"), ("BROKERS", "b1:x")):
+    bad = {"DESK_NAME": "A b", "DESK_URL": "desk", "BROKERS": "b1:x"}
+    for name, value in bad.items():
         with pytest.raises(BadSettings, match=name):
             consume.read({**environment, name: value})

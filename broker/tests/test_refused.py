@@ -7,7 +7,10 @@ import pytest
 from desk_broker.refused import body_of, line
 
 
-@pytest.mark.parametrize("body", [b"", b'{"a":1}', b"\xff\xfe\n\x00", "é".encode(), b"\xed\xb3\xbf"])
+BODIES = [b"", b'{"a":1}', b"\xff\xfe\n\x00", "é".encode(), b"\xed\xb3\xbf"]
+
+
+@pytest.mark.parametrize("body", BODIES)
 def test_the_bytes_come_back(body):
     headers = {"code": "M2 NotCanonical", "relay": "web", "desk": "a"}
     printed = line(pika.BasicProperties(headers=headers), body)

@@ -3,8 +3,8 @@
 
     rabbitmqctl -q list_queues name messages consumers online --formatter json | check-queues.py
 
-Put it on a timer at one broker. Status 0: nothing is wrong; 1: a line for each thing that is. What is
-refused (desk.refused) is told as well where there is any: somebody should read it.
+Put it on a timer at one broker. Status 0: nothing is wrong; 1: a line for each thing that is.
+What is refused (desk.refused) is told as well where there is any: somebody should read it.
 """
 
 from __future__ import annotations
