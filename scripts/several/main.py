@@ -27,6 +27,8 @@ from several.programs import Failure, Programs, programs
 from several.relays import Traffic
 from several.sites import GHOST, RELAYS, Post
 
+PATIENCE = 600.0  # seconds: a slow machine takes longer, and is not wrong
+
 
 def start(bench: Bench) -> None:
     bench.cluster.start()
@@ -53,7 +55,7 @@ def publish(bench: Bench, posts: list[Post], seed: int) -> list[Post]:
     traffic.start()
     disturb(bench, seed)
     bench.tell("all faults are over" + (", messages go on" if traffic.is_going() else ""))
-    traffic.join(240)
+    traffic.join(PATIENCE)
     bench.tell(f"{len(posts)} messages are published")
     denied = sum(relay.not_confirmed for relay in traffic.relays)
     bench.tell(f"{denied} were not confirmed in time, and published again")
@@ -63,7 +65,7 @@ def publish(bench: Bench, posts: list[Post], seed: int) -> list[Post]:
 def drain(bench: Bench, wanted: verdict.Wanted) -> None:
     """Waits for what is on its way; desk a is filled again, when b has caught up."""
     b, c = bench.desks["b"], bench.desks["c"]
-    wait_for_stores([b, c], wanted.kept, 150)
+    wait_for_stores([b, c], wanted.kept, PATIENCE)
     pairs = [f"{name}={bench.listing(name)}" for name in bench.desks]
     _, lacking = bench.compare("messages", *pairs, "--lacking", "a")
     said = bench.fill("a", lacking.encode())
