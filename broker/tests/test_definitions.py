@@ -9,6 +9,7 @@ import re
 import pytest
 from desk_broker import definitions, names
 
+OWN = ("desk.a", "desk.b", "desk.messages", "desk.refused")
 EXAMPLE = pathlib.Path(__file__).resolve().parents[2] / "examples" / "broker" / "definitions.json"
 
 
@@ -39,7 +40,7 @@ def test_no_account_may_do_more_than_its_part():
         (each["user"], right, name)
         for each in granted
         for right in ("configure", "write", "read")
-        for name in ("desk.a", "desk.b", "desk.messages", "desk.refused", "deskxa", "amq.fanout")
+        for name in (*OWN, "deskxa", "deskxmessages", "amq.fanout")
         if may(granted, each["user"], right, name)
     }
     assert allowed == {
