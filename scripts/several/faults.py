@@ -12,7 +12,7 @@ import typing
 from several.bench import Bench
 from several.desks import Consumer, Desk
 from several.nodes import COUNT
-from several.programs import wait_until
+from several.programs import Failure, wait_until
 
 SIZE = "96m"  # of the small disk
 
@@ -22,27 +22,41 @@ def pause(chance: random.Random, least: float, most: float) -> None:
 
 
 def kill_nodes(bench: Bench, _: random.Random) -> None:
-    """One that leads few or none of the desks' queues, then the leaders of some."""
+    """One that leads few or none of the desks' queues, the leaders of some, and two at once."""
     queues = bench.cluster.queues()
     leading = [queues[f"desk.{name}"].leader for name in bench.desks]
-    kill_node(bench, min(range(COUNT), key=leading.count), "the node that leads fewest queues")
+    least = min(range(COUNT), key=leading.count)
+    kill_nodes_at_once(bench, [least], "the node that leads fewest queues")
     for name in list(bench.desks)[: bench.plan.leader_kills]:
         queue = f"desk.{name}"
-        kill_node(bench, bench.cluster.queues()[queue].leader, f"the leader of {queue}")
+        kill_nodes_at_once(bench, [bench.cluster.queues()[queue].leader], f"the leader of {queue}")
+    if bench.plan.majority:
+        leader = bench.cluster.queues()["desk.c"].leader
+        two = [leader, (leader + 1) % COUNT]
+        kill_nodes_at_once(bench, two, "the leader of desk.c and another, so the majority,")
 
 
-def kill_node(bench: Bench, number: int, what: str) -> None:
-    bench.tell(f"{what} is killed: b{number + 1}")
-    bench.cluster.kill(number)
+def kill_nodes_at_once(bench: Bench, numbers: list[int], what: str) -> None:
+    names = " ".join(f"b{number + 1}" for number in numbers)
+    bench.tell(f"{what} is killed: {names}")
+    for number in numbers:
+        bench.cluster.kill(number)
     time.sleep(bench.plan.down)
-    bench.cluster.restart(number)
-    # the next one must not take the majority away
-    wait_until("all nodes have every queue", lambda: is_whole(bench), 90, 1.0)
-    bench.tell(f"b{number + 1} is back, and has every queue")
+    for number in numbers:
+        bench.cluster.nodes[number].start()
+    for number in range(COUNT):
+        bench.cluster.wait_for(number)
+    # the next kill must not take the majority away
+    wait_until("all nodes have every queue", lambda: is_whole(bench), 120, 1.0)
+    bench.tell(f"{names} is back, and has every queue")
 
 
 def is_whole(bench: Bench) -> bool:
-    return all(queue.replicas == COUNT for queue in bench.cluster.queues().values())
+    try:
+        queues = bench.cluster.queues()
+    except Failure:
+        return False  # no node can say so yet
+    return all(queue.replicas == COUNT for queue in queues.values())
 
 
 def kill_programs(bench: Bench, chance: random.Random) -> None:

@@ -122,10 +122,6 @@ class Cluster:
         port = self.ports[number]
         return wait_until(f"b{number + 1} listens", lambda: is_listening(port), 90)
 
-    def restart(self, number: int) -> None:
-        self.nodes[number].start()
-        self.wait_for(number)
-
     def kill(self, number: int) -> None:
         self.nodes[number].end(signal.SIGKILL)
 

@@ -15,6 +15,7 @@ class Plan:
     desk_kills: int  # of each desk
     consumer_kills: int  # of each consumer
     leader_kills: int  # of each of so many queues' leaders
+    majority: bool  # whether two nodes are killed at once
     down: float  # how long a node is away
     full: float  # how long a disk is full
     held: float  # how long a queue is held
@@ -23,9 +24,9 @@ class Plan:
 
 WHOLE = Plan(
     messages=20_000, pace=200.0, rated=1_000, desk_kills=3, consumer_kills=3, leader_kills=2,
-    down=4.0, full=15.0, held=60.0,
+    majority=True, down=4.0, full=15.0, held=60.0,
 )
 SHORT = Plan(
     messages=3_000, pace=100.0, rated=200, desk_kills=1, consumer_kills=1, leader_kills=1,
-    down=2.0, full=6.0, held=8.0,
+    majority=False, down=2.0, full=6.0, held=8.0,
 )
