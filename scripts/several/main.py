@@ -1,8 +1,10 @@
 """Three brokers, three desks, and messages that go on while things are killed.
 
-    bash scripts/several.sh [--short] [--seed N] [--keep] [DESK ..]
+    bash scripts/several.sh [--short] [--seed N] [--keep] [--folder DIR] [DESK ..]
 
-runs this in namespaces of its own; DESK are the words of the program, build/desk without them.
+runs this in namespaces of its own; DESK are the words of the program, build/desk without them. All
+data lie below build/, on a disk, or, of the short test, in memory, where it is there: kills do not
+lose what is there either, and how long the test takes does not hang on the disk.
 """
 
 from __future__ import annotations
@@ -27,6 +29,7 @@ from several.programs import Failure, Programs, programs
 from several.relays import Traffic
 from several.sites import GHOST, RELAYS, Post
 
+MEMORY = pathlib.Path("/dev/shm")
 PATIENCE = 600.0  # seconds: a slow machine takes longer, and is not wrong
 
 
@@ -120,15 +123,25 @@ def arguments() -> argparse.Namespace:
     parser.add_argument("--short", action="store_true", help="one kill of each kind")
     parser.add_argument("--seed", type=int, default=int(time.time()) % 1_000_000)
     parser.add_argument("--keep", action="store_true", help="leave the folder with all logs")
+    parser.add_argument("--folder", type=pathlib.Path, help="where a folder for all data is made")
     parser.add_argument("desk", nargs="*", help="the words of the program, in place of build/desk")
     return parser.parse_args()
+
+
+def place(words: argparse.Namespace) -> pathlib.Path:
+    """Where the data are to lie."""
+    if words.folder is not None:
+        return pathlib.Path(words.folder)
+    if words.short and MEMORY.is_dir():
+        return MEMORY
+    (ROOT / "build").mkdir(exist_ok=True)
+    return ROOT / "build"
 
 
 def main() -> int:
     words = arguments()
     words.desk = words.desk or os.environ.get("DESK", "").split()
-    (ROOT / "build").mkdir(exist_ok=True)
-    folder = pathlib.Path(tempfile.mkdtemp(prefix="several-", dir=ROOT / "build"))
+    folder = pathlib.Path(tempfile.mkdtemp(prefix="several-", dir=place(words)))
     status = 1
     try:
         with programs() as started:
