@@ -139,6 +139,8 @@ def place(words: argparse.Namespace) -> pathlib.Path:
 
 
 def main() -> int:
+    # (the first process of a namespace gets only the signals that it has a handler for)
+    signal.signal(signal.SIGTERM, lambda *_: sys.exit(143))
     words = arguments()
     words.desk = words.desk or os.environ.get("DESK", "").split()
     folder = pathlib.Path(tempfile.mkdtemp(prefix="several-", dir=place(words)))

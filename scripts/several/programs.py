@@ -84,6 +84,14 @@ class Program:
         except subprocess.TimeoutExpired as error:
             raise Failure(f"{self.name} does not end by {how.name}") from error
 
+    def processor(self) -> float:
+        """The seconds of processor time that its process took; the machine's load is not in it."""
+        if self._process is None:
+            return 0.0
+        text = pathlib.Path(f"/proc/{self._process.pid}/stat").read_text(encoding="utf-8")
+        user, system = text.rpartition(")")[2].split()[11:13]
+        return (int(user) + int(system)) / os.sysconf("SC_CLK_TCK")
+
     def text(self) -> str:
         with contextlib.suppress(FileNotFoundError):
             return self.log.read_text(encoding="utf-8", errors="replace")

@@ -53,6 +53,15 @@ def through(bench: Bench, posts: list[Post]) -> tuple[float, float]:
     return len(posts) / confirmed, len(posts) / (time.monotonic() - begun)
 
 
+def spent(bench: Bench) -> tuple[float, float, float]:
+    """The processor time of the brokers, of the consumers and of the desks up to now."""
+    consumers = [consumer.program for consumer in bench.consumers.values()]
+    desks = [desk.program for desk in bench.desks.values()]
+    kinds = (bench.cluster.nodes, consumers, desks)
+    brokers, consuming, serving = (sum(one.processor() for one in kind) for kind in kinds)
+    return brokers, consuming, serving
+
+
 def measure(bench: Bench, posts: list[Post]) -> None:
     """Starts one desk after the other, and tells the rates, each of a third of the messages."""
     each = len(posts) // len(NAMES)
@@ -64,8 +73,14 @@ def measure(bench: Bench, posts: list[Post]) -> None:
         some = posts[(count - 1) * each : count * each]
         if count == 1:
             bench.tell(f"a desk alone: {alone(bench, some):.0f} messages a second")
+        before = spent(bench)
         confirmed, held = through(bench, some)
+        costs = [(now - old) / each * 1000 for old, now in zip(before, spent(bench))]
         bench.tell(
             f"through the broker to each of {count}: {held:.0f} messages a second;"
             f" {confirmed:.0f} a second are confirmed"
+        )
+        bench.tell(
+            f"  each took {costs[0]:.2f} ms of the brokers' processors,"
+            f" {costs[1]:.2f} of the consumers', {costs[2]:.2f} of the desks'"
         )
