@@ -2,6 +2,7 @@
 
 from __future__ import annotations
 
+import concurrent.futures
 import dataclasses
 import json
 import sqlite3
@@ -96,12 +97,14 @@ def check_answers(bench: Bench, oracle: Desk) -> None:
     """Every host's file and every report, on all desks and on the one of one `deliver`."""
     oracle.start()
     moments = bench.site.moments(bench.plan.moments)
-    expected = oracle.digests(bench.site.hosts, moments)
-    for name, desk in bench.desks.items():
-        found = desk.digests(bench.site.hosts, moments)
+    desks = [oracle, *bench.desks.values()]
+    with concurrent.futures.ThreadPoolExecutor(len(desks)) as pool:
+        asked = [pool.submit(desk.digests, bench.site.hosts, moments) for desk in desks]
+        expected, *others = [each.result() for each in asked]
+    for desk, found in zip(desks[1:], others):
         for target, digest in expected.items():
-            bench.checks.same(f"desk {name}: {target}", found[target], digest)
-    words = [word for moment in moments for word in ("--at", moment)]
+            bench.checks.same(f"desk {desk.name}: {target}", found[target], digest)
+    words = ["--at", moments[0], "--at", moments[1]]
     status, said = bench.compare("answers", str(bench.files.roster), *bench.addresses(), *words)
     bench.checks.same(f"compare-desks.py answers: {said}", status, 0)
     begun = time.monotonic()
