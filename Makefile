@@ -92,5 +92,10 @@ package-test: build/desk
 	bash scripts/package_lint.sh
 	python3 scripts/package_test.py
 
+# Several desks behind a broker (docs/SEVERAL.md): the broker's package by its own tests, then three nodes of RabbitMQ and three desks on loopback while
+# messages go on and each is killed (as root; what it needs of Debian is installed). At most six minutes; `bash scripts/several.sh --short` takes two.
+several: desk
+	bash scripts/several.sh
+
 clean:
 	rm -rf build crates/*/out

@@ -1,0 +1,125 @@
+"""Prints the broker's definitions for some desks and relays, for `rabbitmqctl import_definitions`.
+
+    python3 -m desk_broker.definitions --desks a b c --relays chat mail --passwords DIR
+
+With `--passwords` the accounts are in it: the password of each is in DIR, in a file of the
+account's name, which is made where it is not there. Without it there are no accounts. To import it
+again, with one desk more, leaves what is there as it is.
+"""
+
+from __future__ import annotations
+
+import argparse
+import base64
+import hashlib
+import json
+import os
+import pathlib
+import secrets
+import sys
+
+from desk_broker import names
+
+VHOST = "/"
+NOTHING = "^$"
+Json = dict[str, object]
+
+
+def quorum(name: str) -> Json:
+    """A queue that is replicated to three nodes, and keeps what it has on their disks."""
+    arguments = {"x-queue-type": "quorum", "x-quorum-initial-group-size": 3}
+    return {
+        "name": name, "vhost": VHOST, "durable": True, "auto_delete": False, "arguments": arguments
+    }
+
+
+def exchange(name: str) -> Json:
+    return {
+        "name": name, "vhost": VHOST, "type": "fanout", "durable": True, "auto_delete": False,
+        "internal": False, "arguments": {},
+    }
+
+
+def binding(source: str, queue: str) -> Json:
+    return {
+        "source": source, "vhost": VHOST, "destination": queue, "destination_type": "queue",
+        "routing_key": "", "arguments": {},
+    }
+
+
+def topology(desks: list[str]) -> Json:
+    """Every message goes to the queue of every desk; what is refused goes to one queue."""
+    queues = [names.queue(desk) for desk in desks]
+    return {
+        "vhosts": [{"name": VHOST}],
+        "exchanges": [exchange(names.MESSAGES), exchange(names.REFUSED)],
+        "queues": [quorum(name) for name in [*queues, names.REFUSED]],
+        "bindings": [
+            *(binding(names.MESSAGES, name) for name in queues),
+            binding(names.REFUSED, names.REFUSED),
+        ],
+    }
+
+
+def rights(user: str, write: str, read: str) -> Json:
+    return {
+        "user": user, "vhost": VHOST, "configure": NOTHING,
+        "write": f"^{write}$".replace(".", r"\."), "read": f"^{read}$".replace(".", r"\."),
+    }
+
+
+def permissions(desks: list[str], relays: list[str]) -> list[Json]:
+    """A relay publishes, and a desk's consumer reads its own queue and puts refusals by."""
+    return [
+        *(rights(names.RELAY_USER + relay, names.MESSAGES, "") for relay in relays),
+        *(rights(names.DESK_USER + desk, names.REFUSED, names.queue(desk)) for desk in desks),
+        rights(names.READER, "", names.REFUSED),
+    ]
+
+
+def password(folder: pathlib.Path, user: str) -> str:
+    """The account's password, from its file, which only its owner may read."""
+    path = folder / user
+    if not path.exists():
+        with open(os.open(path, os.O_WRONLY | os.O_CREAT | os.O_EXCL, 0o600), "w") as file:
+            file.write(secrets.token_urlsafe(32) + "\n")
+    return path.read_text(encoding="utf-8").strip()
+
+
+def hashed(secret: str, salt: bytes | None = None) -> str:
+    """The broker's own form of a password: four bytes of salt, and SHA-256 over both."""
+    salt = secrets.token_bytes(4) if salt is None else salt
+    digest = hashlib.sha256(salt + secret.encode("utf-8")).digest()
+    return base64.b64encode(salt + digest).decode("ascii")
+
+
+def account(folder: pathlib.Path, user: str) -> Json:
+    return {
+        "name": user, "password_hash": hashed(password(folder, user)), "tags": [], "limits": {},
+        "hashing_algorithm": "rabbit_password_hashing_sha256",
+    }
+
+
+def definitions(desks: list[str], relays: list[str], passwords: pathlib.Path | None) -> Json:
+    whole = topology(desks)
+    if passwords is not None:
+        granted = permissions(desks, relays)
+        whole["users"] = [account(passwords, str(each["user"])) for each in granted]
+        whole["permissions"] = granted
+    return whole
+
+
+def main() -> int:
+    parser = argparse.ArgumentParser(description="Prints the broker's definitions.")
+    parser.add_argument("--desks", nargs="+", required=True, type=names.label)
+    parser.add_argument("--relays", nargs="*", default=[], type=names.label)
+    parser.add_argument("--passwords", type=pathlib.Path, help="a folder with a file for each")
+    words = parser.parse_args()
+    made = definitions(words.desks, words.relays, words.passwords)
+    json.dump(made, sys.stdout, indent=2, sort_keys=True)
+    print()
+    return 0
+
+
+if __name__ == "__main__":
+    sys.exit(main())

@@ -1,0 +1,67 @@
+"""Prints the messages that desks refused, each as a line of JSON: body, code, desk, relay.
+
+    python3 -m desk_broker.refused          # leaves them in the queue
+    python3 -m desk_broker.refused --take   # takes each off the queue, once it is printed
+
+A byte of a body that is no UTF-8 is printed as `\\udcXX`.
+"""
+
+from __future__ import annotations
+
+import argparse
+import json
+import os
+import sys
+from collections.abc import Iterator
+
+import pika
+
+from desk_broker import names
+from desk_broker.settings import AWAY, BadSettings, Broker
+
+QUIET = 2.0  # seconds without a message: the queue is empty
+
+
+def line(properties: pika.BasicProperties, body: bytes) -> str:
+    headers = properties.headers or {}
+    told = {name: headers.get(name, "") for name in ("code", "desk", "relay")}
+    told["body"] = body.decode("utf-8", "surrogateescape")
+    return json.dumps(told, sort_keys=True)
+
+
+def body_of(told: dict[str, str]) -> bytes:
+    """The body of a line that was read, byte for byte."""
+    return told["body"].encode("utf-8", "surrogateescape")
+
+
+def lines(broker: Broker, take: bool) -> Iterator[str]:
+    """A line for each message; it is off the queue when the next one is asked for."""
+    connection = pika.BlockingConnection(broker.parameters(broker.first_turn(), 60))
+    try:
+        channel = connection.channel()
+        for method, properties, body in channel.consume(names.REFUSED, inactivity_timeout=QUIET):
+            if method is None:
+                break
+            yield line(properties, body)
+            if take:
+                channel.basic_ack(method.delivery_tag)
+    finally:
+        if connection.is_open:
+            connection.close()
+
+
+def main() -> int:
+    parser = argparse.ArgumentParser(description="Prints the messages that desks refused.")
+    parser.add_argument("--take", action="store_true", help="take them off the queue")
+    words = parser.parse_args()
+    try:
+        for each in lines(Broker.read(os.environ, names.READER), words.take):
+            print(each, flush=True)
+    except (BadSettings, *AWAY) as error:
+        print(f"refused: {type(error).__name__} {error}", file=sys.stderr)
+        return 1
+    return 0
+
+
+if __name__ == "__main__":
+    sys.exit(main())

@@ -1,0 +1,63 @@
+"""Where the package is, and a desk that answers as it was told."""
+
+from __future__ import annotations
+
+import http.server
+import pathlib
+import sys
+import threading
+from collections.abc import Iterator
+
+import pytest
+
+sys.path.insert(0, str(pathlib.Path(__file__).resolve().parent.parent))
+
+
+class Scripted(http.server.ThreadingHTTPServer):
+    """Gives each POST the next reply: a status and a body, None to hang up, or seconds to wait."""
+
+    def __init__(self) -> None:
+        super().__init__(("127.0.0.1", 0), Handler)
+        self.replies: list[tuple[int, str] | float | None] = []
+        self.seen: list[tuple[str, bytes]] = []
+        self.fields: list[dict[str, str]] = []
+        self.release = threading.Event()
+
+    @property
+    def address(self) -> str:
+        return f"http://127.0.0.1:{self.server_address[1]}"
+
+
+class Handler(http.server.BaseHTTPRequestHandler):
+    server: Scripted
+
+    def do_POST(self) -> None:
+        body = self.rfile.read(int(self.headers["Content-Length"]))
+        self.server.seen.append((self.path, body))
+        self.server.fields.append(dict(self.headers))
+        reply = self.server.replies.pop(0)
+        if reply is None:
+            self.close_connection = True
+            return
+        if isinstance(reply, float):
+            self.server.release.wait(reply)
+            return
+        status, text = reply
+        self.send_response(status)
+        self.send_header("Content-Length", str(len(text)))
+        self.end_headers()
+        self.wfile.write(text.encode())
+
+    def log_message(self, *_: object) -> None:
+        pass
+
+
+@pytest.fixture
+def scripted() -> Iterator[Scripted]:
+    server = Scripted()
+    thread = threading.Thread(target=server.serve_forever, args=(0.02,), daemon=True)
+    thread.start()
+    yield server
+    server.release.set()
+    server.shutdown()
+    server.server_close()

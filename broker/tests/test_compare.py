@@ -1,0 +1,112 @@
+"""The check that compares desks: what it says, and its status."""
+
+import http.server
+import pathlib
+import subprocess
+import sys
+import threading
+
+import pytest
+
+COMPARE = pathlib.Path(__file__).resolve().parents[2] / "examples/monitoring/compare-desks.py"
+
+
+def compare(*words):
+    ran = subprocess.run([sys.executable, COMPARE, *words], capture_output=True, text=True)
+    return ran.returncode, ran.stdout
+
+
+class Answers(http.server.ThreadingHTTPServer):
+    """A desk that answers from a table; its host h2 is behind so many times."""
+
+    def __init__(self, behind=0):
+        super().__init__(("127.0.0.1", 0), Handler)
+        self.behind, self.asked = behind, []
+        threading.Thread(target=self.serve_forever, args=(0.02,), daemon=True).start()
+
+    @property
+    def url(self):
+        return f"http://127.0.0.1:{self.server_address[1]}"
+
+
+class Handler(http.server.BaseHTTPRequestHandler):
+    def do_GET(self):
+        self.server.asked.append(self.path)
+        text = self.path.encode()
+        if "h2" in self.path and self.server.behind > 0:
+            self.server.behind -= 1
+            text = b"old"
+        status = 404 if "nine" in self.path else 200
+        self.send_response(status)
+        self.send_header("Content-Length", str(len(text)))
+        self.end_headers()
+        self.wfile.write(text)
+
+    def log_message(self, *_):
+        pass
+
+
+@pytest.fixture
+def roster(tmp_path):
+    path = tmp_path / "roster.toml"
+    path.write_text('hosts = ["h2", "h1"]\n')
+    return str(path)
+
+
+def test_desks_that_agree(roster):
+    one, other = Answers(), Answers()
+    status, said = compare("answers", roster, one.url, other.url, "--at", "20260105093000Z")
+    assert (status, said.splitlines()[-1]) == (0, "they agree")
+    assert sorted(one.asked) == [
+        "/v1/hosts/h1/sudoers", "/v1/hosts/h2/sudoers", "/v1/parked", "/v1/reviews/20260105093000Z"
+    ]
+
+
+def test_a_desk_that_lags_and_catches_up(roster):
+    status, said = compare("answers", roster, Answers().url, Answers(behind=2).url)
+    assert (status, said.splitlines()[-1]) == (0, "they agree")
+
+
+def test_a_desk_that_differs_is_named_with_what_differs(roster):
+    words = ["answers", roster, Answers().url, Answers(behind=99).url, "--patience", "0.3"]
+    status, said = compare(*words)
+    assert status == 1
+    assert "differs: /v1/hosts/h2/sudoers: " in said
+    assert said.splitlines()[-1] == "1 of 3 answers differ"
+
+
+def test_a_desk_that_does_not_answer(roster, tmp_path):
+    assert compare("answers", roster, Answers().url, "http://127.0.0.1:1")[0] == 2
+    roster_of_nine = tmp_path / "nine.toml"
+    roster_of_nine.write_text('hosts = ["nine"]\n')
+    assert compare("answers", str(roster_of_nine), Answers().url, Answers().url)[0] == 2
+
+
+def listing(folder, name, *bodies):
+    (folder / name).write_text("".join(body + "\n" for body in bodies))
+    return f"{name}={folder / name}"
+
+
+def test_messages_that_a_desk_lacks(tmp_path):
+    a, b = listing(tmp_path, "a", "1", "2", "3"), listing(tmp_path, "b", "2")
+    status, said = compare("messages", a, b)
+    assert status == 1
+    assert said.splitlines()[0].startswith("a: 3 messages, sha256 ")
+    assert said.splitlines()[2:] == ["b lacks 2:", "    1", "    3", "they differ"]
+    assert compare("messages", a, b, "--lacking", "b") == (0, "1\n3\n")
+    assert compare("messages", a, b, "--lacking", "c")[0] == 2
+
+
+def test_the_same_messages_in_another_order(tmp_path):
+    a, b = listing(tmp_path, "a", "1", "2"), listing(tmp_path, "b", "2", "1")
+    assert compare("messages", a, b)[0] == 0
+
+
+def test_what_is_on_its_way_is_not_lacking(tmp_path):
+    a, b = listing(tmp_path, "a", "1", "2", "3"), listing(tmp_path, "b", "1", "2")
+    (tmp_path / "old").mkdir()
+    old_a, old_b = listing(tmp_path / "old", "a", "1", "2"), listing(tmp_path / "old", "b", "1")
+    assert compare("messages", a, b)[0] == 1
+    assert compare("messages", a, b, "--since", old_a, old_b)[0] == 0
+    lost = listing(tmp_path, "b", "1")
+    assert compare("messages", a, lost, "--since", old_a, old_b)[0] == 1

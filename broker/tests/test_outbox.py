@@ -1,0 +1,106 @@
+"""No message leaves the outbox before it is confirmed."""
+
+import pytest
+from desk_broker.outbox import NotConfirmed, Outbox, Sent
+from desk_broker.publish import publish_all, wait_for
+
+
+def box(count, window=10):
+    outbox, sent = Outbox(window), [Sent(b"%d" % n) for n in range(count)]
+    for each in sent:
+        outbox.give(each)
+    outbox.begin()
+    return outbox, sent
+
+
+def taken(outbox):
+    found = []
+    while (each := outbox.take()) is not None:
+        found.append(each)
+    return found
+
+
+def done(sent):
+    return [each.confirmed.done() for each in sent]
+
+
+def test_numbers_from_one_and_a_bounded_window():
+    outbox, sent = box(5, window=3)
+    assert taken(outbox) == [(1, sent[0]), (2, sent[1]), (3, sent[2])]
+    outbox.confirm(2, multiple=False)
+    assert taken(outbox) == [(4, sent[3])]
+    assert done(sent) == [False, True, False, False, False]
+
+
+def test_confirms_all_up_to_one():
+    outbox, sent = box(4)
+    taken(outbox)
+    outbox.confirm(3, multiple=True)
+    assert done(sent) == [True, True, True, False]
+
+
+def test_a_new_connection_sends_again_what_is_not_confirmed_first_and_in_order():
+    outbox, sent = box(4, window=3)
+    taken(outbox)
+    outbox.confirm(2, multiple=False)
+    outbox.begin()
+    assert taken(outbox) == [(1, sent[0]), (2, sent[2]), (3, sent[3])]
+
+
+def test_a_confirmation_of_the_old_connection_says_nothing_of_the_new():
+    outbox, sent = box(2, window=1)
+    taken(outbox)
+    outbox.begin()
+    assert done(sent) == [False, False]
+
+
+def test_what_the_broker_denies_is_sent_again():
+    outbox, sent = box(2)
+    taken(outbox)
+    outbox.deny(1, multiple=False)
+    assert done(sent) == [False, False]
+    assert taken(outbox) == [(3, sent[0])]
+
+
+def test_what_no_queue_takes_is_not_confirmed():
+    outbox, sent = box(1)
+    taken(outbox)
+    outbox.unroutable(1)
+    outbox.confirm(1, multiple=False)
+    with pytest.raises(NotConfirmed):
+        wait_for(sent[0].confirmed, 0)
+
+
+def test_who_gave_up_is_not_sent():
+    outbox, sent = box(2)
+    with pytest.raises(NotConfirmed):
+        wait_for(sent[0].confirmed, 0)
+    assert taken(outbox) == [(1, sent[1])]
+
+
+def test_a_late_confirmation_of_what_was_given_up_is_passed_over():
+    outbox, sent = box(1)
+    taken(outbox)
+    with pytest.raises(NotConfirmed):
+        wait_for(sent[0].confirmed, 0)
+    outbox.confirm(1, multiple=False)
+    outbox.unroutable(1)
+
+
+class Confirms:
+    """A publisher that confirms all but the third."""
+
+    def __init__(self):
+        self.count = 0
+
+    def submit(self, body):
+        sent = Sent(body)
+        self.count += 1
+        if self.count != 3:
+            sent.settle()
+        return sent.confirmed
+
+
+def test_publish_all_answers_each_in_order():
+    answers = list(publish_all(Confirms(), [b"a", b"b", b"c", b"d"], patience=0.05))
+    assert [answer is None for answer in answers] == [True, True, False, True]

@@ -1,0 +1,46 @@
+"""The check of the queues: a line for each thing that is wrong."""
+
+import json
+import pathlib
+import subprocess
+import sys
+
+CHECK = pathlib.Path(__file__).resolve().parents[2] / "examples/monitoring/check-queues.py"
+
+
+def row(name, messages=0, consumers=1, online=3):
+    nodes = [f"b{n}@localhost" for n in range(online)]
+    return {"name": name, "messages": messages, "consumers": consumers, "online": nodes}
+
+
+def check(*rows, words=()):
+    ran = subprocess.run(
+        [sys.executable, CHECK, *words], input=json.dumps(rows), capture_output=True, text=True
+    )
+    return ran.returncode, ran.stdout.splitlines()
+
+
+def test_nothing_is_wrong():
+    assert check(row("desk.a", 1_000), row("desk.refused", consumers=0), row("other", 5, 0, 0)) == (
+        0, ["2 queues, nothing is wrong"]
+    )
+
+
+def test_each_fault_has_a_line():
+    assert check(row("desk.a", 1_001)) == (1, ["desk.a: 1001 messages wait: its desk lags"])
+    assert check(row("desk.a", consumers=0)) == (
+        1, ["desk.a: no consumer: its desk gets nothing"]
+    )
+    assert check(row("desk.a", consumers=2)) == (1, ["desk.a: 2 consumers: one is enough"])
+    assert check(row("desk.a", online=2)) == (1, ["desk.a: 2 of 3 replicas are there"])
+    assert check(row("desk.refused", 1, 0)) == (
+        1, ["desk.refused: 1 messages were refused, and nobody has read them"]
+    )
+    assert check() == (
+        1, ["the broker has no queue of a desk: were the definitions imported?"]
+    )
+    assert check(row("desk.a", 11), words=["--most", "10"])[0] == 1
+
+
+def test_a_queue_without_a_leader():
+    assert check({"name": "desk.a", "messages": "", "consumers": "", "online": ""})[0] == 1

@@ -1,0 +1,111 @@
+"""A snapshot of a store that is written meanwhile, and a desk that is filled from it."""
+
+import sqlite3
+import threading
+import time
+
+import pytest
+from desk_broker import snapshot
+from desk_broker.desk import Desk
+from desk_broker.fill import fill
+
+
+def store(path, bodies):
+    """A store in the desk's journal mode, with its connection: its log is not merged."""
+    connection = sqlite3.connect(path, isolation_level=None, check_same_thread=False)
+    connection.execute("PRAGMA journal_mode = wal")
+    connection.execute("CREATE TABLE messages (body TEXT PRIMARY KEY NOT NULL) STRICT")
+    add(connection, bodies)
+    return connection
+
+
+def add(connection, bodies):
+    connection.executemany("INSERT OR IGNORE INTO messages VALUES (?)", ((it,) for it in bodies))
+
+
+def test_it_has_what_is_in_the_log_alone(tmp_path):
+    connection = store(tmp_path / "desk.db", ["b", "a"])
+    assert snapshot.messages(tmp_path / "desk.db") == ["a", "b"]
+    connection.close()
+
+
+def test_it_has_what_was_merged(tmp_path):
+    connection = store(tmp_path / "desk.db", ["b", "a"])
+    connection.execute("PRAGMA wal_checkpoint(TRUNCATE)")
+    add(connection, ["c"])
+    assert snapshot.messages(tmp_path / "desk.db") == ["a", "b", "c"]
+    connection.close()
+
+
+def test_it_leaves_the_file_that_another_has(tmp_path):
+    connection = store(tmp_path / "desk.db", ["a"])
+    connection.execute("PRAGMA locking_mode = exclusive")
+    add(connection, ["b"])
+    assert snapshot.messages(tmp_path / "desk.db") == ["a", "b"]
+    add(connection, ["c"])
+    assert (tmp_path / "desk.db-wal").stat().st_size > 0
+    connection.close()
+
+
+def test_each_has_all_that_was_committed_before_it_began(tmp_path):
+    connection = store(tmp_path / "desk.db", [])
+    written, ending = [0], threading.Event()
+
+    def write():
+        while not ending.is_set() and written[0] < 20_000:
+            add(connection, [f"{written[0]:06}" * 20])
+            written[0] += 1
+            if written[0] % 500 == 0:
+                connection.execute("PRAGMA wal_checkpoint(TRUNCATE)")
+                time.sleep(0.3)
+
+    writer = threading.Thread(target=write)
+    writer.start()
+    for _ in range(8):
+        before = written[0]
+        found = snapshot.messages(tmp_path / "desk.db")
+        assert len(found) >= before
+        assert found == [f"{n:06}" * 20 for n in range(len(found))]
+    ending.set()
+    writer.join()
+    connection.close()
+
+
+def test_a_checkpoint_meanwhile_spoils_the_copy(tmp_path, monkeypatch):
+    connection = store(tmp_path / "desk.db", ["a"])
+    time.sleep(0.2)
+    whole = snapshot.shutil.copyfile
+
+    def copy(source, target):
+        whole(source, target)
+        if not str(source).endswith("-wal"):
+            add(connection, ["b"])
+            connection.execute("PRAGMA wal_checkpoint(TRUNCATE)")
+
+    monkeypatch.setattr(snapshot.shutil, "copyfile", copy)
+    assert not snapshot.copy_once(str(tmp_path / "desk.db"), str(tmp_path / "copy.db"))
+    connection.close()
+
+
+def test_no_store(tmp_path, monkeypatch):
+    monkeypatch.setattr(snapshot, "TRIES", 2)
+    (tmp_path / "other").write_text("no database, but longer than one byte")
+    for name in ("other", "none"):
+        with pytest.raises(snapshot.NoSnapshot):
+            snapshot.messages(tmp_path / name)
+    assert not (tmp_path / "none").exists()
+
+
+def test_fill_tries_again_and_tells_what_is_refused(scripted):
+    ack = (200, "ack\n")
+    scripted.replies = [ack, (503, "K4 Storage\n"), ack, (403, "A1 UnknownPerson\n")]
+    taken, refused = fill(Desk(scripted.address), "web", [b"1", b"2", b"3"])
+    assert (taken, refused) == (2, ["A1 UnknownPerson: 3"])
+    assert [body for _, body in scripted.seen] == [b"1", b"2", b"2", b"3"]
+
+
+def test_fill_gives_up_on_a_desk_that_is_away(scripted, monkeypatch):
+    monkeypatch.setattr("desk_broker.fill.PATIENCE", 0.0)
+    scripted.replies = [(503, "K4 Storage\n")] * 9
+    with pytest.raises(TimeoutError, match="503 K4 Storage"):
+        fill(Desk(scripted.address), "web", [b"1"])

@@ -1,0 +1,13 @@
+#!/usr/bin/env bash
+# Several desks behind a broker (docs/SEVERAL.md): the tests of the broker's package, then three brokers and three desks while things are killed.
+# All processes are in a process namespace of their own, which ends with this one, and the small disk of one desk is in a mount namespace.
+# several.sh [--short] [--seed N] [--keep] [--folder DIR] [DESK ..]; DESK are the words of the program, in place of build/desk.
+set -euo pipefail
+cd "$(dirname "$0")/.."
+export PATH="$PATH:/usr/sbin:/sbin"
+bash scripts/several_tools.sh
+# (Debian's own: another Python on the path does not see Debian's packages)
+python=/usr/bin/python3
+export PYTHONPATH=scripts:broker PYTHONDONTWRITEBYTECODE=1 PYTHONUNBUFFERED=1
+"$python" -m pytest -q -p no:cacheprovider broker/tests
+exec unshare --mount --pid --fork --kill-child --mount-proc --propagation private "$python" -m several.main "$@"

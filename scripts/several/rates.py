@@ -1,0 +1,86 @@
+"""How many messages a second go from a relay to one, two and three desks, and to a desk alone."""
+
+from __future__ import annotations
+
+import socket
+import time
+
+from several.bench import Bench
+from several.desks import Desk, wait_for_stores
+from several.programs import Failure
+from several.relays import Traffic
+from several.sites import RELAYS, Post
+
+NAMES = ["a", "b", "c"]
+
+
+def exchange(port: int, body: bytes) -> bytes:
+    """A post over a connection of its own, by nothing but a socket."""
+    head = b"POST /v1/relays/%s/messages HTTP/1.1\r\nHost: desk\r\nContent-Length: %d\r\n\r\n"
+    with socket.create_connection(("127.0.0.1", port), timeout=60) as peer:
+        peer.sendall(head % (RELAYS[0].encode(), len(body)) + body)
+        whole = b""
+        while piece := peer.recv(65_536):
+            whole += piece
+    return whole
+
+
+def alone(bench: Bench, posts: list[Post]) -> float:
+    """What a desk takes that no broker stands before, in messages a second."""
+    desk = Desk("alone", bench.files, bench.folder, bench.started, bench.plain)
+    desk.start()
+    begun = time.monotonic()
+    for post in posts:
+        if not exchange(desk.port, post.body).endswith(b"\r\n\r\nack\n"):
+            raise Failure("the desk alone does not acknowledge")
+    rate = len(posts) / (time.monotonic() - begun)
+    desk.lose_store()
+    return rate
+
+
+def through(bench: Bench, posts: list[Post]) -> tuple[float, float]:
+    """Messages a second: that are confirmed, and that all desks hold, from the first confirmed.
+
+    (A relay's program takes a while to start.)
+    """
+    accounts = {relay: bench.account(f"relay-{relay}") for relay in RELAYS}
+    traffic = Traffic(posts, 0.0, accounts, bench.folder)
+    traffic.start()
+    traffic.join(120)
+    begun = min(relay.first_at for relay in traffic.relays)
+    confirmed = time.monotonic() - begun
+    wait_for_stores(list(bench.desks.values()), {post.body for post in posts}, 120)
+    return len(posts) / confirmed, len(posts) / (time.monotonic() - begun)
+
+
+def spent(bench: Bench) -> tuple[float, float, float]:
+    """The processor time of the brokers, of the consumers and of the desks up to now."""
+    consumers = [consumer.program for consumer in bench.consumers.values()]
+    desks = [desk.program for desk in bench.desks.values()]
+    kinds = (bench.cluster.nodes, consumers, desks)
+    brokers, consuming, serving = (sum(one.processor() for one in kind) for kind in kinds)
+    return brokers, consuming, serving
+
+
+def measure(bench: Bench, posts: list[Post]) -> None:
+    """Starts one desk after the other, and tells the rates, each of a third of the messages."""
+    each = len(posts) // len(NAMES)
+    for count in range(1, len(NAMES) + 1):
+        bench.define(NAMES[:count])
+        name = NAMES[count - 1]
+        bench.new_desk(name).start()
+        bench.new_consumer(name).start()
+        some = posts[(count - 1) * each : count * each]
+        if count == 1:
+            bench.tell(f"a desk alone: {alone(bench, some):.0f} messages a second")
+        before = spent(bench)
+        confirmed, held = through(bench, some)
+        costs = [(now - old) / each * 1000 for old, now in zip(before, spent(bench))]
+        bench.tell(
+            f"through the broker to each of {count}: {held:.0f} messages a second;"
+            f" {confirmed:.0f} a second are confirmed"
+        )
+        bench.tell(
+            f"  each took {costs[0]:.2f} ms of the brokers' processors,"
+            f" {costs[1]:.2f} of the consumers', {costs[2]:.2f} of the desks'"
+        )
