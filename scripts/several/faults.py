@@ -126,10 +126,17 @@ def hold_queue(bench: Bench, _: random.Random) -> None:
         bench.tell("the queue of desk c is held")
         time.sleep(bench.plan.held)
         told(bench, "while a queue is held", 1)
-        found = "desk.c: no consumer: its desk gets nothing" in bench.check_queues()
-        bench.checks.same("check-queues.py finds the held queue", found, True)
+        wait_until("check-queues.py finds the held queue", lambda: finds_held(bench), 120, 1.0)
         consumer.start()
     bench.tell("the queue of desk c is delivered")
+
+
+def finds_held(bench: Bench) -> bool:
+    """Whether the check of the queues tells of it, as soon as a broker can be asked."""
+    try:
+        return "desk.c: no consumer: its desk gets nothing" in bench.check_queues()
+    except Failure:
+        return False
 
 
 def told(bench: Bench, when: str, wanted: int) -> None:
