@@ -4,6 +4,7 @@ from __future__ import annotations
 
 import contextlib
 import os
+import pathlib
 import random
 import signal
 import time
@@ -162,3 +163,8 @@ def mount_small_disk(bench: Bench) -> None:
     words = ["mount", "-t", "tmpfs", "-o", f"size={SIZE},mode=0700", "tmpfs", str(folder)]
     if os.spawnvp(os.P_WAIT, "mount", words) != 0:
         raise SystemExit("the small disk of desk b cannot be mounted: this needs root")
+
+
+def unmount_small_disk(folder: pathlib.Path) -> None:
+    """Takes it away again, or the folder could not be removed."""
+    os.spawnvp(os.P_WAIT, "umount", ["umount", str(folder / "b")])
