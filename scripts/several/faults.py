@@ -4,6 +4,7 @@ from __future__ import annotations
 
 import contextlib
 import os
+import pathlib
 import random
 import signal
 import time
@@ -126,10 +127,17 @@ def hold_queue(bench: Bench, _: random.Random) -> None:
         bench.tell("the queue of desk c is held")
         time.sleep(bench.plan.held)
         told(bench, "while a queue is held", 1)
-        found = "desk.c: no consumer: its desk gets nothing" in bench.check_queues()
-        bench.checks.same("check-queues.py finds the held queue", found, True)
+        wait_until("check-queues.py finds the held queue", lambda: finds_held(bench), 120, 1.0)
         consumer.start()
     bench.tell("the queue of desk c is delivered")
+
+
+def finds_held(bench: Bench) -> bool:
+    """Whether the check of the queues tells of it, as soon as a broker can be asked."""
+    try:
+        return "desk.c: no consumer: its desk gets nothing" in bench.check_queues()
+    except Failure:
+        return False
 
 
 def told(bench: Bench, when: str, wanted: int) -> None:
@@ -155,3 +163,8 @@ def mount_small_disk(bench: Bench) -> None:
     words = ["mount", "-t", "tmpfs", "-o", f"size={SIZE},mode=0700", "tmpfs", str(folder)]
     if os.spawnvp(os.P_WAIT, "mount", words) != 0:
         raise SystemExit("the small disk of desk b cannot be mounted: this needs root")
+
+
+def unmount_small_disk(folder: pathlib.Path) -> None:
+    """Takes it away again, or the folder could not be removed."""
+    os.spawnvp(os.P_WAIT, "umount", ["umount", str(folder / "b")])

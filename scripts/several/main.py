@@ -154,6 +154,7 @@ def main() -> int:
         if words.keep or status:
             print(f"the logs are in {folder}")
         else:
+            faults.unmount_small_disk(folder)
             shutil.rmtree(folder, ignore_errors=True)
     return status
 
