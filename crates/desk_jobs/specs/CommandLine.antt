@@ -100,7 +100,7 @@ on_desks = deliver ∷ print ∷ review ∷ serve ∷ []
 
 -- the program, which is run by one of its commands
 abbrev pub program : App
-program = let top = new_app (codes "desk") in record top { top = record top.top { subcommand_required = true } }
+program = let top = new_app (codes "desk") in record top { top = record top.top { subcommand_required = true; has_version = true } }
 
 -- `desk COMMAND`
 abbrev pub desk : App

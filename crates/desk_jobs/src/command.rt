@@ -12,6 +12,12 @@ use clap::error::ErrorKind;
 use clap::{Arg, ArgAction, ArgMatches, Command};
 use std::alloc::{AllocError, Global};
 
+/// The program's version, and the toolchain that it is proved with.
+const VERSION: &str = "0.11.0\nproved with rattle-kit-13f logic dac8208d650f15bf";
+
+/// What stands below each help.
+const ENDS: &str = "Exit status: 0 done or allowed; 1 denied or found; 2 refused, with a code.\nManual page: desk(1).";
+
 /// What `decide` wants.
 const DECIDE_ARGS: [(&str, &str); 6] = [
     ("FILE", "The policy"),
@@ -131,7 +137,10 @@ fn command_of<'a>(
 ) -> Result<Command<'a>, AllocError>
     ensures { (rules : List Rule) → HasRules args.entry.items rules → IfOk result (IsCommand (with_rules (new_app name.entry.now) rules)) }
 {
-    Command::new(alloc, name).about(about).args(args)
+    Command::new(alloc, name)
+        .about(about)
+        .after_help(ENDS)
+        .args(args)
 }
 
 /// The command of this name, which wants arguments and takes options, by their names and helps.
@@ -266,6 +275,8 @@ fn command<'a>(alloc: Global) -> Result<Command<'a>, AllocError>
     push_on_desks(alloc, &mut commands)?;
     Command::new(alloc, "desk")
         .about("A privileged access desk")
+        .version(VERSION)
+        .after_help(ENDS)
         .subcommand_required(true)
         .subcommands(commands)
 }
