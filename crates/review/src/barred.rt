@@ -3,18 +3,18 @@
 ghost use Rattle.std.specs.Prelude.{◌≡◌, ℕ, List, ◌++◌, IfOk, OnOk, Option, string_bytes};
 ghost use Rattle.std.specs.List.{AllByRecursion};
 ghost use Rattle.messages.specs.declared.message.Message.{Message as AnyMessage};
-ghost use Rattle.grants.specs.Summaries.{StandsFor};
 ghost use Rattle.review.specs.Barred.{barred_for, reason};
 ghost use Rattle.review.specs.declared.reason.Reason.{Reason as AnyReason};
 ghost use Rattle.sudo_beyond.specs.Cases.{AreParts};
 ghost use Rattle.review.specs.Columns.{lines_text};
 ghost use Rattle.review.specs.Report as report;
-ghost use Rattle.review.specs.private.Reporting.{AddsLines, IsOpenOf, kept_name};
+ghost use Rattle.review.specs.private.Reporting.{AddsLines, IsOpenOf, IsOutcome, outcome_name};
 ghost use Rattle.review.specs.private.Whys as spec;
 
 use crate::columns::{push_left, push_name};
+use crate::outcomes::Outcome;
 use crate::reason::{Reason, why_barred};
-use grants::{Status, Summary, status};
+use grants::Status;
 use messages::Request;
 use roster::{Ceiling, Roster};
 use std::alloc::Global;
@@ -28,20 +28,20 @@ pub(crate) struct OpenRequest<'s> {
 }
 
 /// Neither disputed nor lapsed.
-fn is_open(status: Status) -> bool
-    ensures { result ≡ report.is_open status }
+fn is_open(status: &Status) -> bool
+    ensures { result ≡ report.is_open status.now }
 {
     !matches!(status, Status::Disputed | Status::Lapsed)
 }
 
-/// The summary's request and its ceiling, where it is neither disputed nor lapsed.
-fn open_request<'s>(roster: &'s Roster, summary: &'s Summary) -> Option<OpenRequest<'s>>
-    ensures { (set : List AnyMessage) → StandsFor set summary.now → IsOpenOf roster.now.says set summary.now result }
+/// The name's request and its ceiling, where it is neither disputed nor lapsed.
+fn open_request<'s>(roster: &'s Roster, outcome: &Outcome<'s>) -> Option<OpenRequest<'s>>
+    ensures { (set : List AnyMessage) → IsOutcome roster.now.says set outcome.now → IsOpenOf roster.now.says set outcome.now.summary.now result }
 {
-    if !is_open(status(roster, summary)) {
+    if !is_open(&outcome.status) {
         return None;
     }
-    let request = summary.request()?;
+    let request = outcome.summary.request()?;
     let ceiling = roster.ceiling(request.ceiling())?;
     Some(OpenRequest { request, ceiling })
 }
@@ -132,20 +132,20 @@ fn push_barred_people(
     }
 }
 
-/// Adds those of a summary's request.
+/// Adds those of a name's request.
 fn push_barred(
     alloc: Global,
     out: &mut String,
     roster: &Roster,
-    summary: &Summary,
+    outcome: &Outcome,
 ) -> Result<(), NoMemory>
-    ensures { (set : List AnyMessage) → StandsFor set summary.now
-        → OnOk result (AddsLines (report.AreBarred roster.now.says set (kept_name summary.now)) (string_bytes out.old) (string_bytes out.new)) }
+    ensures { (set : List AnyMessage) → IsOutcome roster.now.says set outcome.now
+        → OnOk result (AddsLines (report.AreBarred roster.now.says set (outcome_name outcome.now)) (string_bytes out.old) (string_bytes out.new)) }
 {
-    let Some(open) = open_request(roster, summary) else {
+    let Some(open) = open_request(roster, outcome) else {
         return Ok(());
     };
-    let approvals = summary.approvals()?;
+    let approvals = outcome.summary.approvals()?;
     push_barred_people(alloc, out, roster, open.ceiling, open.request, &approvals)
 }
 
@@ -154,13 +154,13 @@ pub(crate) fn push_all_barred(
     alloc: Global,
     out: &mut String,
     roster: &Roster,
-    summaries: &[Summary],
+    outcomes: &[Outcome],
 ) -> Result<(), NoMemory>
-    ensures { (set : List AnyMessage) → AllByRecursion (StandsFor set) summaries.now
-        → OnOk result (AddsLines (AreParts (λ k. report.AreBarred roster.now.says set (kept_name k)) summaries.now) (string_bytes out.old) (string_bytes out.new)) }
+    ensures { (set : List AnyMessage) → AllByRecursion (IsOutcome roster.now.says set) outcomes.now
+        → OnOk result (AddsLines (AreParts (λ o. report.AreBarred roster.now.says set (outcome_name o)) outcomes.now) (string_bytes out.old) (string_bytes out.new)) }
 {
-    for summary in summaries {
-        push_barred(alloc, out, roster, summary)?;
+    for outcome in outcomes {
+        push_barred(alloc, out, roster, outcome)?;
     }
     Ok(())
 }

@@ -8,6 +8,7 @@ mod conflicts;
 mod live;
 mod need;
 mod of_desk;
+mod outcomes;
 mod reason;
 mod report_laws;
 mod reporting;

@@ -11,6 +11,7 @@ use crate::barred::push_all_barred;
 use crate::broad::push_all_broad;
 use crate::conflicts::push_all_conflicts;
 use crate::live::push_all_live;
+use crate::outcomes::outcomes_of;
 use grants::Summary;
 use roster::Roster;
 use std::alloc::Global;
@@ -53,15 +54,17 @@ pub fn report_of(
     ensures { (set : List AnyMessage) → AreSummaries set summaries.now → AreAll text_order (IsParkedText set) (map string_bytes parked.now)
         → IfOk result (λ s. IsReport roster.now.says base.now set at (string_bytes s)) }
 {
+    let list = outcomes_of(alloc, roster, summaries)?;
+    let outcomes = list.as_slice();
     let mut out = String::new(alloc);
     push_head(&mut out, at)?;
-    push_all_live(alloc, &mut out, roster, base, summaries, at)?;
+    push_all_live(alloc, &mut out, base, outcomes, at)?;
     out.push_str("BARRED\n")?;
-    push_all_barred(alloc, &mut out, roster, summaries)?;
+    push_all_barred(alloc, &mut out, roster, outcomes)?;
     out.push_str("CONFLICTS\n")?;
     push_all_conflicts(alloc, &mut out, roster, at)?;
     out.push_str("BROAD\n")?;
-    push_all_broad(alloc, &mut out, roster, summaries, at)?;
+    push_all_broad(alloc, &mut out, outcomes, at)?;
     out.push_str("PARKED\n")?;
     push_texts(&mut out, parked)?;
     Ok(out)

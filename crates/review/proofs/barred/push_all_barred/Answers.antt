@@ -1,18 +1,18 @@
 use Rattle.std.proofs.Common.{List, string_bytes}
-use Rattle.grants.specs.Summaries.{Kept, StandsFor}
+use Rattle.review.specs.declared.outcomes.Outcome.{Outcome}
 use Rattle.sudo_beyond.specs.Cases.{AreParts}
 use Rattle.review.specs.Report.{AreBarred}
-use Rattle.review.specs.private.Reporting.{AddsLines, kept_name}
+use Rattle.review.specs.private.Reporting.{AddsLines, IsOutcome, outcome_name}
 use Rattle.review.proofs.ReportLists.{at_place, more_lines, whole_list}
 use Rattle.review.proofs.barred.push_all_barred.Goals as goal
 
-pub loop-summary-preserved : goal.loop-summary-preserved
-loop-summary-preserved c = λ set all.
-    more_lines (λ k. AreBarred c.args.roster.now.says set (kept_name k)) c.args.summaries.now c.loop-summary.summary-index c.summary-item.result (string_bytes c.args.out.now) (string_bytes c.loop-summary.out) (string_bytes c.push_barred.new.out)
-    c.loop-summary-test.true c.summary-item.is (c.loop-summary.invariant set all)
-    (c.in_ok-push_barred.ensures set (at_place (StandsFor set) c.args.summaries.now c.loop-summary.summary-index c.summary-item.result c.loop-summary-test.true c.summary-item.is all))
+pub loop-outcome-preserved : goal.loop-outcome-preserved
+loop-outcome-preserved c = λ set all.
+    more_lines (λ o. AreBarred c.args.roster.now.says set (outcome_name o)) c.args.outcomes.now c.loop-outcome.outcome-index c.outcome-item.result (string_bytes c.args.out.now) (string_bytes c.loop-outcome.out) (string_bytes c.push_barred.new.out)
+    c.loop-outcome-test.true c.outcome-item.is (c.loop-outcome.invariant set all)
+    (c.in_ok-push_barred.ensures set (at_place (IsOutcome c.args.roster.now.says set) c.args.outcomes.now c.loop-outcome.outcome-index c.outcome-item.result c.loop-outcome-test.true c.outcome-item.is all))
 
 pub returns : goal.returns
 returns c = λ set all.
-    whole_list (λ (ks : List Kept). AddsLines (AreParts (λ k. AreBarred c.args.roster.now.says set (kept_name k)) ks) (string_bytes c.args.out.now) (string_bytes c.loop-summary.out)) c.args.summaries.now c.loop-summary.summary-index c.loop-summary-test.false
-    (c.loop-summary.invariant set all)
+    whole_list (λ (os : List Outcome). AddsLines (AreParts (λ o. AreBarred c.args.roster.now.says set (outcome_name o)) os) (string_bytes c.args.out.now) (string_bytes c.loop-outcome.out)) c.args.outcomes.now c.loop-outcome.outcome-index c.loop-outcome-test.false
+    (c.loop-outcome.invariant set all)
