@@ -18,21 +18,6 @@ at_place P [] k x below is all = absurd (omega (arith, below))
 at_place P (y ∷ ys) zero x below is all = subst P (sym is) all.0
 at_place P (y ∷ ys) (suc k) x below is all = at_place P ys k x (omega (arith, below)) is all.1
 
--- all of a list, and one more
-pub all_more : {X : Type 0} (P : X → Type 0) (xs : List X) (x : X) → AllByRecursion P xs → P x → AllByRecursion P (xs ++ x ∷ [])
-all_more P [] x all is = (is, tt)
-all_more P (y ∷ ys) x all is = (all.0, all_more P ys x all.1 is)
-
--- the names of a list and of what is made of it, element by element
-pub names_more : {X Y Z : Type 0} (name : X → Z) (other : Y → Z) (xs : List X) (x : X) (ys : List Y) (k : ℕ) (y : Y) → k < length ys → y ≡ get_or ys k y
-    → map name xs ≡ map other (take k ys) → name x ≡ other y → map name (xs ++ x ∷ []) ≡ map other (take (k + 1) ys)
-names_more {X} {Y} {Z} name other xs x ys k y below is before same =
-    map-append name xs (x ∷ [])
-    ∙ ap (λ (l : List Z). l ++ name x ∷ []) before
-    ∙ ap (λ (n : Z). map other (take k ys) ++ n ∷ []) same
-    ∙ sym (map-append other (take k ys) (y ∷ []))
-    ∙ ap (map other) (sym (take_next ys k y below is))
-
 -- what a loop has come to at its end
 pub whole_list : {X : Type 0} (P : List X → Type 0) (xs : List X) (k : ℕ) → length xs ≤ k → P (take k xs) → P xs
 whole_list P xs k past is = subst P (take_all k xs past) is

@@ -1,20 +1,17 @@
 //! Whose approvals do not count: a report's lines under BARRED.
 
 ghost use Rattle.std.specs.Prelude.{◌≡◌, ℕ, List, ◌++◌, IfOk, OnOk, Option, string_bytes};
-ghost use Rattle.std.specs.List.{AllByRecursion};
 ghost use Rattle.messages.specs.declared.message.Message.{Message as AnyMessage};
 ghost use Rattle.review.specs.Barred.{barred_for, reason};
 ghost use Rattle.review.specs.declared.reason.Reason.{Reason as AnyReason};
-ghost use Rattle.sudo_beyond.specs.Cases.{AreParts};
 ghost use Rattle.review.specs.Columns.{lines_text};
 ghost use Rattle.review.specs.Report as report;
-ghost use Rattle.review.specs.private.Reporting.{AddsLines, IsOpenOf, IsOutcome, outcome_name};
+ghost use Rattle.review.specs.private.Reporting.{AddsLines, IsOpenOf, IsOutcome, kept_name};
 ghost use Rattle.review.specs.private.Whys as spec;
 
 use crate::columns::{push_left, push_name};
-use crate::outcomes::Outcome;
 use crate::reason::{Reason, why_barred};
-use grants::Status;
+use grants::{Status, Summary};
 use messages::Request;
 use roster::{Ceiling, Roster};
 use std::alloc::Global;
@@ -34,14 +31,18 @@ fn is_open(status: &Status) -> bool
     !matches!(status, Status::Disputed | Status::Lapsed)
 }
 
-/// The name's request and its ceiling, where it is neither disputed nor lapsed.
-fn open_request<'s>(roster: &'s Roster, outcome: &Outcome<'s>) -> Option<OpenRequest<'s>>
-    ensures { (set : List AnyMessage) → IsOutcome roster.now.says set outcome.now → IsOpenOf roster.now.says set outcome.now.summary.now result }
+/// The summary's request and its ceiling, where its status is neither disputed nor lapsed.
+fn open_request<'s>(
+    roster: &'s Roster,
+    summary: &'s Summary,
+    status: &Status,
+) -> Option<OpenRequest<'s>>
+    ensures { (set : List AnyMessage) → IsOutcome roster.now.says set summary.now status.now → IsOpenOf roster.now.says set summary.now result }
 {
-    if !is_open(&outcome.status) {
+    if !is_open(status) {
         return None;
     }
-    let request = outcome.summary.request()?;
+    let request = summary.request()?;
     let ceiling = roster.ceiling(request.ceiling())?;
     Some(OpenRequest { request, ceiling })
 }
@@ -132,35 +133,20 @@ fn push_barred_people(
     }
 }
 
-/// Adds those of a name's request.
-fn push_barred(
+/// Adds the lines under BARRED of a summary's request, where it is open by its status.
+pub(crate) fn push_barred(
     alloc: Global,
     out: &mut String,
     roster: &Roster,
-    outcome: &Outcome,
+    summary: &Summary,
+    status: &Status,
 ) -> Result<(), NoMemory>
-    ensures { (set : List AnyMessage) → IsOutcome roster.now.says set outcome.now
-        → OnOk result (AddsLines (report.AreBarred roster.now.says set (outcome_name outcome.now)) (string_bytes out.old) (string_bytes out.new)) }
+    ensures { (set : List AnyMessage) → IsOutcome roster.now.says set summary.now status.now
+        → OnOk result (AddsLines (report.AreBarred roster.now.says set (kept_name summary.now)) (string_bytes out.old) (string_bytes out.new)) }
 {
-    let Some(open) = open_request(roster, outcome) else {
+    let Some(open) = open_request(roster, summary, status) else {
         return Ok(());
     };
-    let approvals = outcome.summary.approvals()?;
+    let approvals = summary.approvals()?;
     push_barred_people(alloc, out, roster, open.ceiling, open.request, &approvals)
-}
-
-/// Adds the lines under BARRED.
-pub(crate) fn push_all_barred(
-    alloc: Global,
-    out: &mut String,
-    roster: &Roster,
-    outcomes: &[Outcome],
-) -> Result<(), NoMemory>
-    ensures { (set : List AnyMessage) → AllByRecursion (IsOutcome roster.now.says set) outcomes.now
-        → OnOk result (AddsLines (AreParts (λ o. report.AreBarred roster.now.says set (outcome_name o)) outcomes.now) (string_bytes out.old) (string_bytes out.new)) }
-{
-    for outcome in outcomes {
-        push_barred(alloc, out, roster, outcome)?;
-    }
-    Ok(())
 }

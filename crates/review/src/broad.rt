@@ -1,19 +1,18 @@
 //! The commands of grants in force that are ALL or a directory: a report's lines under BROAD.
 
 ghost use Rattle.std.specs.Prelude.{◌≡◌, List, ◌++◌, OnOk, codes, string_bytes};
-ghost use Rattle.std.specs.List.{AllByRecursion, flat_map};
+ghost use Rattle.std.specs.List.{flat_map};
 ghost use Rattle.sudo_words.specs.declared.cmnd.Cmnd.{Cmnd as AnyCmnd};
 ghost use Rattle.messages.specs.Names.{name_of};
 ghost use Rattle.messages.specs.declared.message.Message.{Message as AnyMessage};
 ghost use Rattle.roster.specs.Fields.{RosterFields};
-ghost use Rattle.sudo_beyond.specs.Cases.{AreParts};
 ghost use Rattle.review.specs.Columns.{lines_text, name_columns};
 ghost use Rattle.review.specs.Report as report;
-ghost use Rattle.review.specs.private.Reporting.{AddsLines, IsOutcome, outcome_name};
+ghost use Rattle.review.specs.private.Reporting.{AddsLines, IsOutcome, kept_name};
 
 use crate::columns::push_name;
 use crate::live::in_force;
-use crate::outcomes::Outcome;
+use grants::{Status, Summary};
 use messages::Request;
 use std::alloc::Global;
 use sudo_words::{Cmnd, Moment, NoMemory};
@@ -59,34 +58,19 @@ fn push_broad_lines(alloc: Global, out: &mut String, request: &Request) -> Resul
     Ok(())
 }
 
-/// Adds those of a name's request, where it is in force.
-fn push_broad(
+/// Adds the lines under BROAD of a summary's request, where it is in force by its status.
+pub(crate) fn push_broad(
     alloc: Global,
     out: &mut String,
-    outcome: &Outcome,
+    summary: &Summary,
+    status: &Status,
     at: Moment,
 ) -> Result<(), NoMemory>
-    ensures { (f : RosterFields AnyCmnd) (set : List AnyMessage) → IsOutcome f set outcome.now
-        → OnOk result (AddsLines (report.AreInForce f set at report.AreBroadLines (outcome_name outcome.now)) (string_bytes out.old) (string_bytes out.new)) }
+    ensures { (f : RosterFields AnyCmnd) (set : List AnyMessage) → IsOutcome f set summary.now status.now
+        → OnOk result (AddsLines (report.AreInForce f set at report.AreBroadLines (kept_name summary.now)) (string_bytes out.old) (string_bytes out.new)) }
 {
-    let Some(grant) = in_force(outcome, at) else {
+    let Some(grant) = in_force(summary, status, at) else {
         return Ok(());
     };
     push_broad_lines(alloc, out, grant.request)
-}
-
-/// Adds the lines under BROAD.
-pub(crate) fn push_all_broad(
-    alloc: Global,
-    out: &mut String,
-    outcomes: &[Outcome],
-    at: Moment,
-) -> Result<(), NoMemory>
-    ensures { (f : RosterFields AnyCmnd) (set : List AnyMessage) → AllByRecursion (IsOutcome f set) outcomes.now
-        → OnOk result (AddsLines (AreParts (λ o. report.AreInForce f set at report.AreBroadLines (outcome_name o)) outcomes.now) (string_bytes out.old) (string_bytes out.new)) }
-{
-    for outcome in outcomes {
-        push_broad(alloc, out, outcome, at)?;
-    }
-    Ok(())
 }

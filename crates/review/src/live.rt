@@ -1,18 +1,15 @@
 //! The grants in force at a moment: a report's lines under LIVE.
 
 ghost use Rattle.std.specs.Prelude.{◌≡◌, List, [], ◌++◌, IfSome, OnOk, codes, string_bytes};
-ghost use Rattle.std.specs.List.{AllByRecursion};
 ghost use Rattle.sudo_words.specs.declared.cmnd.Cmnd.{Cmnd};
 ghost use Rattle.messages.specs.declared.message.Message.{Message as AnyMessage};
 ghost use Rattle.roster.specs.Fields.{RosterFields};
-ghost use Rattle.sudo_beyond.specs.Cases.{AreParts};
 ghost use Rattle.review.specs.Report as report;
-ghost use Rattle.review.specs.private.Reporting.{AddsLines, IsInForceOf, IsOutcome, IsSpan, outcome_name};
+ghost use Rattle.review.specs.private.Reporting.{AddsLines, IsInForceOf, IsOutcome, IsSpan, kept_name};
 
 use crate::columns::{push_left, push_name};
-use crate::need::{Need, need_of, no_policy};
-use crate::outcomes::Outcome;
-use grants::{Status, Window};
+use crate::need::{Need, need_of};
+use grants::{Status, Summary, Window};
 use messages::Request;
 use std::alloc::Global;
 use std::fmt::Write as _;
@@ -40,13 +37,13 @@ pub(crate) struct InForce<'s> {
     pub(crate) window: Window,
 }
 
-/// The name's request and its window, where it is granted and the window holds the moment.
-pub(crate) fn in_force<'s>(outcome: &Outcome<'s>, at: Moment) -> Option<InForce<'s>>
-    ensures given { (f : RosterFields Cmnd) (set : List AnyMessage) → IsOutcome f set outcome.now → IsInForceOf f set at outcome.now.summary.now result }
+/// The summary's request and its window, where its status is that it is granted, and the window holds the moment.
+pub(crate) fn in_force<'s>(summary: &'s Summary, status: &Status, at: Moment) -> Option<InForce<'s>>
+    ensures given { (f : RosterFields Cmnd) (set : List AnyMessage) → IsOutcome f set summary.now status.now → IsInForceOf f set at summary.now result }
     ensures span { IfSome result (λ grant. IsSpan grant.window) }
 {
-    let window = holding(&outcome.status, at)?;
-    let request = outcome.summary.request()?;
+    let window = holding(status, at)?;
+    let request = summary.request()?;
     Some(InForce { request, window })
 }
 
@@ -85,40 +82,23 @@ fn push_live_line(
     Ok(())
 }
 
-/// Adds the line of a name's request under LIVE, where it is in force.
-fn push_live(
+/// Adds the line under LIVE of a summary's request, where it is in force by its status.
+pub(crate) fn push_live(
     alloc: Global,
     out: &mut String,
     base: &Policy,
     empty: &Policy,
-    outcome: &Outcome,
+    summary: &Summary,
+    status: &Status,
     at: Moment,
 ) -> Result<(), NoMemory>
     requires { empty.now ≡ [] }
-    ensures { (f : RosterFields Cmnd) (set : List AnyMessage) → IsOutcome f set outcome.now
-        → OnOk result (AddsLines (report.AreInForce f set at (report.IsLiveLine base.now) (outcome_name outcome.now)) (string_bytes out.old) (string_bytes out.new)) }
+    ensures { (f : RosterFields Cmnd) (set : List AnyMessage) → IsOutcome f set summary.now status.now
+        → OnOk result (AddsLines (report.AreInForce f set at (report.IsLiveLine base.now) (kept_name summary.now)) (string_bytes out.old) (string_bytes out.new)) }
 {
-    let Some(grant) = in_force(outcome, at) else {
+    let Some(grant) = in_force(summary, status, at) else {
         return Ok(());
     };
     let need = need_of(alloc, base, empty, grant.request, &grant.window)?;
     push_live_line(alloc, out, grant.request, &grant.window, need)
-}
-
-/// Adds the lines under LIVE.
-pub(crate) fn push_all_live(
-    alloc: Global,
-    out: &mut String,
-    base: &Policy,
-    outcomes: &[Outcome],
-    at: Moment,
-) -> Result<(), NoMemory>
-    ensures { (f : RosterFields Cmnd) (set : List AnyMessage) → AllByRecursion (IsOutcome f set) outcomes.now
-        → OnOk result (AddsLines (AreParts (λ o. report.AreInForce f set at (report.IsLiveLine base.now) (outcome_name o)) outcomes.now) (string_bytes out.old) (string_bytes out.new)) }
-{
-    let empty = no_policy(alloc);
-    for outcome in outcomes {
-        push_live(alloc, out, base, &empty, outcome, at)?;
-    }
-    Ok(())
 }

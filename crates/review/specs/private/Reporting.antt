@@ -14,7 +14,6 @@ use Rattle.review.specs.declared.barred.OpenRequest.{OpenRequest}
 use Rattle.review.specs.declared.live.InForce.{InForce}
 use Rattle.review.specs.declared.need.Need.{Need}
 use Rattle.review.specs.declared.need.Need.TheVariants.{Needed, Needless, Unknown}
-use Rattle.review.specs.declared.outcomes.Outcome.{Outcome}
 use Rattle.review.specs.Columns.{lines_text}
 use Rattle.review.specs.Report.{IsOnlyRequest, is_open, window_at}
 
@@ -29,14 +28,10 @@ kept_name k = name_of k.request
 abbrev pub IsSpan : Window → Type 0
 IsSpan w = IsMoment w.start × IsMoment w.end
 
--- the name that an outcome is of
-abbrev pub outcome_name : Outcome → RequestName
-outcome_name o = kept_name o.summary.now
-
 -- The summary stands for the set, and the status is what the set's messages about its name come to.
-pub record IsOutcome (f : RosterFields Cmnd) (messages : List Message) (o : Outcome) : Type 0 where
-  pub stands : StandsFor messages o.summary.now
-  pub status_is : IsStatus f messages (outcome_name o) o.status
+pub record IsOutcome (f : RosterFields Cmnd) (messages : List Message) (k : Kept) (status : Status) : Type 0 where
+  pub stands : StandsFor messages k
+  pub status_is : IsStatus f messages (kept_name k) status
 
 -- a summary's request and its window, where it is granted and the window holds the moment
 abbrev pub IsInForceOf : RosterFields Cmnd → List Message → ℕ → Kept → Option InForce → Type 0

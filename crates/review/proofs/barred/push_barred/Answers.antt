@@ -5,7 +5,7 @@ use Rattle.grants.specs.Summaries.{AreApprovals}
 use Rattle.review.specs.declared.reason.Reason.{Reason}
 use Rattle.review.specs.Barred.{barred_for, reason}
 use Rattle.review.specs.Report.{AreBarred}
-use Rattle.review.specs.private.Reporting.{AddsLines, outcome_name}
+use Rattle.review.specs.private.Reporting.{AddsLines, kept_name}
 use Rattle.review.specs.private.Whys.{whys, with_lines}
 use Rattle.sudo_beyond.proofs.Lists.{on_ok}
 use Rattle.review.proofs.Approvers.{approvers_are, barred_are}
@@ -16,12 +16,12 @@ pub returns-in_default : goal.returns-in_default
 returns-in_default c = λ set is.
     let found = c.in_default.ensures set is in
     let old = string_bytes c.args.out.now in
-    none_barred c.args.roster.now.says set (outcome_name c.args.outcome.now) old old found.0 found.1 found.2
+    none_barred c.args.roster.now.says set (kept_name c.args.summary.now) old old found.0 found.1 found.2
 
 pub returns : goal.returns
 returns c = λ set is.
     let f = c.args.roster.now.says in
-    let name = outcome_name c.args.outcome.now in
+    let name = kept_name c.args.summary.now in
     let q = c.in-Some.open.request.now in
     let ceiling = c.in-Some.open.ceiling.now in
     let list = c.in_ok-approvals.approvals.items in

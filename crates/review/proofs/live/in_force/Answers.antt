@@ -7,20 +7,17 @@ use Rattle.review.proofs.live.in_force.Goals as goal
 
 pub returns-in_err-window-clause-given : goal.returns-in_err-window-clause-given
 returns-in_err-window-clause-given c = λ f set is.
-    let o = c.args.outcome.now in
-    subst (λ (r : Option InForce). IsInForceOf f set c.args.at o.summary.now r) (sym c.from_residual.ensures) (o.status, is.status_is, sym c.in_err-window.ensures.window)
+    subst (λ (r : Option InForce). IsInForceOf f set c.args.at c.args.summary.now r) (sym c.from_residual.ensures) (c.args.status.now, is.status_is, sym c.in_err-window.ensures.window)
 
 pub returns-in_err-request-clause-given : goal.returns-in_err-request-clause-given
 returns-in_err-request-clause-given c = λ f set is.
-    let o = c.args.outcome.now in
-    subst (λ (r : Option InForce). IsInForceOf f set c.args.at o.summary.now r) (sym c.from_residual-2.ensures) (Disputed, c.in_err-request.ensures.disputed set is.stands, refl)
+    subst (λ (r : Option InForce). IsInForceOf f set c.args.at c.args.summary.now r) (sym c.from_residual-2.ensures) (Disputed, c.in_err-request.ensures.disputed set is.stands, refl)
 
 pub returns-clause-given : goal.returns-clause-given
 returns-clause-given c = λ f set is.
-    let o = c.args.outcome.now in
     let q = c.in_ok-request.request.now in (
-      o.status,
+      c.args.status.now,
       is.status_is,
       sym c.in_ok-window.ensures.window,
-      own_request set o.summary.now.request q c.in_ok-request.ensures.value (c.in_ok-request.ensures.alone set is.stands),
+      own_request set c.args.summary.now.request q c.in_ok-request.ensures.value (c.in_ok-request.ensures.alone set is.stands),
     )

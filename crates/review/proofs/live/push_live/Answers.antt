@@ -1,7 +1,7 @@
 use Rattle.std.proofs.Common.{◌≡◌, ◌++◌, string_bytes, refl, [], ◌∷◌}
 use Rattle.std.specs.Prelude.{codes}
 use Rattle.review.specs.Report.{AreInForce, IsLiveLine, live_line}
-use Rattle.review.specs.private.Reporting.{AddsLines, outcome_name}
+use Rattle.review.specs.private.Reporting.{AddsLines, kept_name}
 use Rattle.sudo_beyond.proofs.Lists.{on_ok}
 use Rattle.review.proofs.ReportLists.{one_line}
 use Rattle.review.proofs.ReportParts.{none_in_force, one_in_force}
@@ -11,11 +11,11 @@ pub returns-in_default : goal.returns-in_default
 returns-in_default c = λ f set is.
     let found = c.in_default.ensures.given f set is in
     let old = string_bytes c.args.out.now in
-    none_in_force f set (outcome_name c.args.outcome.now) old old c.args.at (IsLiveLine c.args.base.now) found.0 found.1 found.2
+    none_in_force f set (kept_name c.args.summary.now) old old c.args.at (IsLiveLine c.args.base.now) found.0 found.1 found.2
 
 pub returns : goal.returns
 returns c = λ f set is.
-    let name = outcome_name c.args.outcome.now in
+    let name = kept_name c.args.summary.now in
     let found = c.in-Some.ensures.given f set is in
     let q = c.in-Some.grant.request.now in
     let w = c.in-Some.grant.window in
