@@ -25,7 +25,7 @@ pub(crate) struct Parts {
 }
 
 /// Adds the lines of a summary's name to each part. What the name has come to is worked out once, for all of them.
-fn push_name(
+fn push_parts(
     alloc: Global,
     parts: &mut Parts,
     roster: &Roster,
@@ -65,7 +65,7 @@ pub(crate) fn parts_of(
         broad,
     };
     for summary in summaries {
-        push_name(alloc, &mut parts, roster, base, &empty, summary, at)?;
+        push_parts(alloc, &mut parts, roster, base, &empty, summary, at)?;
     }
     Ok(parts)
 }

@@ -21,8 +21,8 @@ loop-summary-preserved c = λ set all.
     let l = c.loop-summary in
     let kept = c.args.summaries.now in
     let k = c.summary-item.result in
-    one_more_name c.args.roster.now.says c.args.base.now set c.args.at kept l.summary-index k l.parts c.push_name.new.parts c.loop-summary-test.true c.summary-item.is (l.invariant set all)
-    (c.in_ok-push_name.ensures set (at_place (StandsFor set) kept l.summary-index k c.loop-summary-test.true c.summary-item.is all))
+    one_more_name c.args.roster.now.says c.args.base.now set c.args.at kept l.summary-index k l.parts c.push_parts.new.parts c.loop-summary-test.true c.summary-item.is (l.invariant set all)
+    (c.in_ok-push_parts.ensures set (at_place (StandsFor set) kept l.summary-index k c.loop-summary-test.true c.summary-item.is all))
 
 pub returns : goal.returns
 returns c = λ set all.

@@ -3,7 +3,7 @@ use Rattle.review.specs.declared.names.Parts.{Parts}
 use Rattle.review.specs.private.Names.{AddsName, AreBroadOf}
 use Rattle.review.specs.private.Reporting.{AddsLines, IsOutcome}
 use Rattle.sudo_beyond.proofs.Lists.{on_ok}
-use Rattle.review.proofs.names.push_name.Goals as goal
+use Rattle.review.proofs.names.push_parts.Goals as goal
 
 pub returns : goal.returns
 returns c = λ set s.
