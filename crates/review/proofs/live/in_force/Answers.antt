@@ -11,7 +11,7 @@ returns-in_err-window-clause-given c = λ f set is.
 
 pub returns-in_err-request-clause-given : goal.returns-in_err-request-clause-given
 returns-in_err-request-clause-given c = λ f set is.
-    subst (λ (r : Option InForce). IsInForceOf f set c.args.at c.args.summary.now r) (sym c.from_residual-2.ensures) (Disputed, c.in_err-request.ensures.disputed set is.stands, refl)
+    subst (λ (r : Option InForce). IsInForceOf f set c.args.at c.args.summary.now r) (sym c.from_residual-in_err-request.ensures) (Disputed, c.in_err-request.ensures.disputed set is.stands, refl)
 
 pub returns-clause-given : goal.returns-clause-given
 returns-clause-given c = λ f set is.
