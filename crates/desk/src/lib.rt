@@ -6,6 +6,7 @@ mod ack;
 mod answer_laws;
 mod delivery;
 mod desk;
+mod holdings;
 mod loading;
 mod opening;
 mod queries;
@@ -22,6 +23,7 @@ pub use desk_outcomes::{
     revocation_ends, who_changes_nothing,
 };
 pub use desk_store::{Keeper, MemoryKeeper};
+pub use holdings::Holdings;
 pub use refusal::Refusal;
 pub use reopening::{restart, restart_over};
 pub use run_laws::{one_answer, run_free};

@@ -15,6 +15,7 @@ ghost use Rattle.desk_outcomes.specs.Summaries.{AreSummaries};
 ghost use Rattle.desk.specs.declared.refusal.Refusal.TheVariants as refusal;
 
 use crate::desk::Desk;
+use crate::holdings::{Holdings, holdings_in};
 use crate::loading::{known_of, load};
 use crate::refusal::Refusal;
 use desk_outcomes::{Live, RequestName, host_file_in, live_in, parked_in, status_in, summaries_in};
@@ -104,6 +105,28 @@ impl<K: Keeper> Desk<K> {
         load(&mut self.keeper, &self.known)?;
         let set = self.keeper.messages();
         Ok(summaries_in(self.alloc, set)?)
+    }
+
+    /// The summaries and the parked texts, of the messages as they are brought once: what a report is made from.
+    pub fn holdings(&mut self) -> Result<Holdings, Refusal>
+        ensures summaries { (set : List AnyMessage) → K.is_up self.new.keeper → Lists (K.holds self.old.keeper) set
+            → IfOk result (λ held. AreSummaries set held.summaries.items) }
+        ensures parked { (set : List AnyMessage) → K.is_up self.new.keeper → Lists (K.holds self.old.keeper) set
+            → IfOk result (λ held. AreParked set (map string_bytes held.parked.items)) }
+        ensures err { IfErr result IsWant }
+        ensures unchanged { K.is_up self.new.keeper → K.is_same self.old.keeper self.new.keeper }
+        ensures roster { self.new.roster ≡ self.old.roster }
+        ensures base { self.new.base ≡ self.old.base }
+        ensures was_up { K.is_up self.new.keeper → K.is_up self.old.keeper }
+        ensures was_clean { K.is_clean self.new.keeper → K.is_clean self.old.keeper }
+        ensures shuts { K.is_up self.old.keeper → K.is_clean self.new.keeper
+            → K.is_up self.new.keeper ⊎ HasFailed (K.failures self.old.keeper) (K.failures self.new.keeper) }
+        ensures counts { K.failures self.old.keeper ≤ K.failures self.new.keeper }
+        ensures cause { result ≡ Err refusal.Storage → HasFailed (K.failures self.old.keeper) (K.failures self.new.keeper) }
+    {
+        load(&mut self.keeper, &self.known)?;
+        let set = self.keeper.messages();
+        Ok(holdings_in(self.alloc, set)?)
     }
 
     /// The text of the host's sudoers file: the base's canonical text, and after it a line for each command of each request

@@ -3,6 +3,7 @@ pub mod NeedLemmas
 pub mod ReportLaws
 pub mod ReportOne
 pub mod ReportParts
+pub mod NameParts
 pub mod Approvers
 pub mod Joined
 pub mod OfDesk

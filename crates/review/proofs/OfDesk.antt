@@ -12,7 +12,6 @@ use Rattle.std.proofs.lemmas.List.Elements.{Contains-append_right}
 use Rattle.messages.specs.Names.{RequestName, name_of}
 use Rattle.messages.specs.declared.message.Message.{Message}
 use Rattle.grants.specs.Summaries.{Kept, StandsFor}
-use Rattle.desk_store.specs.Sets.{Lists, SameSet}
 use Rattle.desk_outcomes.specs.Order.{AllAfter, AreInOrder, NamePrecedes, TextPrecedes}
 use Rattle.desk_outcomes.specs.Parked.{AreParked}
 use Rattle.desk_outcomes.specs.Summaries.{AreSummaries as AreLent, SummaryPrecedes}
@@ -114,7 +113,3 @@ lent_parked set texts are = record {
       subst (Contains texts) (sym is.text_is)
       (are.all is.verdict (record { given = is.given; waits = λ q asked named. is.waits q asked (sym named.0, sym named.1) }));
 }
-
--- a list of a set's messages is one of any set with the same
-pub still_lists : (S T : Message → Type 0) (list : List Message) → SameSet S T → Lists S list → Lists T list
-still_lists S T list same lists = λ m. (λ held. (lists m).0 ((same m).1 held), λ there. (same m).0 ((lists m).1 there))

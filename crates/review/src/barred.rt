@@ -1,20 +1,17 @@
 //! Whose approvals do not count: a report's lines under BARRED.
 
 ghost use Rattle.std.specs.Prelude.{◌≡◌, ℕ, List, ◌++◌, IfOk, OnOk, Option, string_bytes};
-ghost use Rattle.std.specs.List.{AllByRecursion};
 ghost use Rattle.messages.specs.declared.message.Message.{Message as AnyMessage};
-ghost use Rattle.grants.specs.Summaries.{StandsFor};
 ghost use Rattle.review.specs.Barred.{barred_for, reason};
 ghost use Rattle.review.specs.declared.reason.Reason.{Reason as AnyReason};
-ghost use Rattle.sudo_beyond.specs.Cases.{AreParts};
 ghost use Rattle.review.specs.Columns.{lines_text};
 ghost use Rattle.review.specs.Report as report;
-ghost use Rattle.review.specs.private.Reporting.{AddsLines, IsOpenOf, kept_name};
+ghost use Rattle.review.specs.private.Reporting.{AddsLines, IsOpenOf, IsOutcome, kept_name};
 ghost use Rattle.review.specs.private.Whys as spec;
 
 use crate::columns::{push_left, push_name};
 use crate::reason::{Reason, why_barred};
-use grants::{Status, Summary, status};
+use grants::{Status, Summary};
 use messages::Request;
 use roster::{Ceiling, Roster};
 use std::alloc::Global;
@@ -28,17 +25,21 @@ pub(crate) struct OpenRequest<'s> {
 }
 
 /// Neither disputed nor lapsed.
-fn is_open(status: Status) -> bool
-    ensures { result ≡ report.is_open status }
+fn is_open(status: &Status) -> bool
+    ensures { result ≡ report.is_open status.now }
 {
     !matches!(status, Status::Disputed | Status::Lapsed)
 }
 
-/// The summary's request and its ceiling, where it is neither disputed nor lapsed.
-fn open_request<'s>(roster: &'s Roster, summary: &'s Summary) -> Option<OpenRequest<'s>>
-    ensures { (set : List AnyMessage) → StandsFor set summary.now → IsOpenOf roster.now.says set summary.now result }
+/// The summary's request and its ceiling, where its status is neither disputed nor lapsed.
+fn open_request<'s>(
+    roster: &'s Roster,
+    summary: &'s Summary,
+    status: &Status,
+) -> Option<OpenRequest<'s>>
+    ensures { (set : List AnyMessage) → IsOutcome roster.now.says set summary.now status.now → IsOpenOf roster.now.says set summary.now result }
 {
-    if !is_open(status(roster, summary)) {
+    if !is_open(status) {
         return None;
     }
     let request = summary.request()?;
@@ -132,35 +133,20 @@ fn push_barred_people(
     }
 }
 
-/// Adds those of a summary's request.
-fn push_barred(
+/// Adds the lines under BARRED of a summary's request, where it is open by its status.
+pub(crate) fn push_barred(
     alloc: Global,
     out: &mut String,
     roster: &Roster,
     summary: &Summary,
+    status: &Status,
 ) -> Result<(), NoMemory>
-    ensures { (set : List AnyMessage) → StandsFor set summary.now
+    ensures { (set : List AnyMessage) → IsOutcome roster.now.says set summary.now status.now
         → OnOk result (AddsLines (report.AreBarred roster.now.says set (kept_name summary.now)) (string_bytes out.old) (string_bytes out.new)) }
 {
-    let Some(open) = open_request(roster, summary) else {
+    let Some(open) = open_request(roster, summary, status) else {
         return Ok(());
     };
     let approvals = summary.approvals()?;
     push_barred_people(alloc, out, roster, open.ceiling, open.request, &approvals)
-}
-
-/// Adds the lines under BARRED.
-pub(crate) fn push_all_barred(
-    alloc: Global,
-    out: &mut String,
-    roster: &Roster,
-    summaries: &[Summary],
-) -> Result<(), NoMemory>
-    ensures { (set : List AnyMessage) → AllByRecursion (StandsFor set) summaries.now
-        → OnOk result (AddsLines (AreParts (λ k. report.AreBarred roster.now.says set (kept_name k)) summaries.now) (string_bytes out.old) (string_bytes out.new)) }
-{
-    for summary in summaries {
-        push_barred(alloc, out, roster, summary)?;
-    }
-    Ok(())
 }

@@ -1,20 +1,19 @@
 //! The commands of grants in force that are ALL or a directory: a report's lines under BROAD.
 
 ghost use Rattle.std.specs.Prelude.{◌≡◌, List, ◌++◌, OnOk, codes, string_bytes};
-ghost use Rattle.std.specs.List.{AllByRecursion, flat_map};
+ghost use Rattle.std.specs.List.{flat_map};
+ghost use Rattle.sudo_words.specs.declared.cmnd.Cmnd.{Cmnd as AnyCmnd};
 ghost use Rattle.messages.specs.Names.{name_of};
 ghost use Rattle.messages.specs.declared.message.Message.{Message as AnyMessage};
-ghost use Rattle.grants.specs.Summaries.{StandsFor};
-ghost use Rattle.sudo_beyond.specs.Cases.{AreParts};
+ghost use Rattle.roster.specs.Fields.{RosterFields};
 ghost use Rattle.review.specs.Columns.{lines_text, name_columns};
 ghost use Rattle.review.specs.Report as report;
-ghost use Rattle.review.specs.private.Reporting.{AddsLines, kept_name};
+ghost use Rattle.review.specs.private.Reporting.{AddsLines, IsOutcome, kept_name};
 
 use crate::columns::push_name;
 use crate::live::in_force;
-use grants::Summary;
+use grants::{Status, Summary};
 use messages::Request;
-use roster::Roster;
 use std::alloc::Global;
 use sudo_words::{Cmnd, Moment, NoMemory};
 
@@ -59,36 +58,19 @@ fn push_broad_lines(alloc: Global, out: &mut String, request: &Request) -> Resul
     Ok(())
 }
 
-/// Adds those of a summary's request, where it is in force.
-fn push_broad(
+/// Adds the lines under BROAD of a summary's request, where it is in force by its status.
+pub(crate) fn push_broad(
     alloc: Global,
     out: &mut String,
-    roster: &Roster,
     summary: &Summary,
+    status: &Status,
     at: Moment,
 ) -> Result<(), NoMemory>
-    ensures { (set : List AnyMessage) → StandsFor set summary.now
-        → OnOk result (AddsLines (report.AreInForce roster.now.says set at report.AreBroadLines (kept_name summary.now)) (string_bytes out.old) (string_bytes out.new)) }
+    ensures { (f : RosterFields AnyCmnd) (set : List AnyMessage) → IsOutcome f set summary.now status.now
+        → OnOk result (AddsLines (report.AreInForce f set at report.AreBroadLines (kept_name summary.now)) (string_bytes out.old) (string_bytes out.new)) }
 {
-    let Some(grant) = in_force(roster, summary, at) else {
+    let Some(grant) = in_force(summary, status, at) else {
         return Ok(());
     };
     push_broad_lines(alloc, out, grant.request)
-}
-
-/// Adds the lines under BROAD.
-pub(crate) fn push_all_broad(
-    alloc: Global,
-    out: &mut String,
-    roster: &Roster,
-    summaries: &[Summary],
-    at: Moment,
-) -> Result<(), NoMemory>
-    ensures { (set : List AnyMessage) → AllByRecursion (StandsFor set) summaries.now
-        → OnOk result (AddsLines (AreParts (λ k. report.AreInForce roster.now.says set at report.AreBroadLines (kept_name k)) summaries.now) (string_bytes out.old) (string_bytes out.new)) }
-{
-    for summary in summaries {
-        push_broad(alloc, out, roster, summary, at)?;
-    }
-    Ok(())
 }

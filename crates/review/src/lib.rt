@@ -6,6 +6,7 @@ mod broad;
 mod columns;
 mod conflicts;
 mod live;
+mod names;
 mod need;
 mod of_desk;
 mod reason;

@@ -1,44 +1,33 @@
 //! The grants in force at a moment: a report's lines under LIVE.
 
-ghost use Rattle.std.specs.Prelude.{◌≡◌, List, [], ◌++◌, IfSome, OnOk, codes, option_map, string_bytes};
-ghost use Rattle.std.specs.List.{AllByRecursion, flat_map};
+ghost use Rattle.std.specs.Prelude.{◌≡◌, List, [], ◌++◌, IfSome, OnOk, codes, string_bytes};
+ghost use Rattle.sudo_words.specs.declared.cmnd.Cmnd.{Cmnd};
 ghost use Rattle.messages.specs.declared.message.Message.{Message as AnyMessage};
-ghost use Rattle.grants.specs.Summaries.{StandsFor};
-ghost use Rattle.sudo_beyond.specs.Cases.{AreParts};
-ghost use Rattle.review.specs.Columns.{lines_text};
+ghost use Rattle.roster.specs.Fields.{RosterFields};
 ghost use Rattle.review.specs.Report as report;
-ghost use Rattle.review.specs.private.Reporting.{AddsLines, IsInForceOf, IsSpan, IsWindowAt, kept_name};
+ghost use Rattle.review.specs.private.Reporting.{AddsLines, IsInForceOf, IsOutcome, IsSpan, kept_name};
 
 use crate::columns::{push_left, push_name};
-use crate::need::{Need, need_of, no_policy};
-use grants::{Status, Summary, Window, status};
+use crate::need::{Need, need_of};
+use grants::{Status, Summary, Window};
 use messages::Request;
-use roster::Roster;
 use std::alloc::Global;
 use std::fmt::Write as _;
 use sudo_policy::Policy;
 use sudo_words::{Moment, NoMemory};
 
 /// The window of what is granted, where it holds the moment.
-fn holding(status: Status, at: Moment) -> Option<Window>
-    ensures window { result ≡ report.window_at at status }
+fn holding(status: &Status, at: Moment) -> Option<Window>
+    ensures window { result ≡ report.window_at at status.now }
     ensures span { IfSome result IsSpan }
 {
     match status {
         Status::Granted(window)
             if window.start.secs() <= at.secs() && at.secs() <= window.end.secs() => {
-            Some(window)
+            Some(*window)
         }
         _ => None,
     }
-}
-
-/// The window of a summary's request, where it is granted and holds the moment.
-fn window_at(roster: &Roster, summary: &Summary, at: Moment) -> Option<Window>
-    ensures window { (set : List AnyMessage) → StandsFor set summary.now → IsWindowAt roster.now.says set at summary.now result }
-    ensures span { IfSome result IsSpan }
-{
-    holding(status(roster, summary), at)
 }
 
 /// A request whose grant is in force, and its window.
@@ -48,12 +37,12 @@ pub(crate) struct InForce<'s> {
     pub(crate) window: Window,
 }
 
-/// The summary's request and its window, where it is granted and the window holds the moment.
-pub(crate) fn in_force<'s>(roster: &Roster, summary: &'s Summary, at: Moment) -> Option<InForce<'s>>
-    ensures given { (set : List AnyMessage) → StandsFor set summary.now → IsInForceOf roster.now.says set at summary.now result }
+/// The summary's request and its window, where its status is that it is granted, and the window holds the moment.
+pub(crate) fn in_force<'s>(summary: &'s Summary, status: &Status, at: Moment) -> Option<InForce<'s>>
+    ensures given { (f : RosterFields Cmnd) (set : List AnyMessage) → IsOutcome f set summary.now status.now → IsInForceOf f set at summary.now result }
     ensures span { IfSome result (λ grant. IsSpan grant.window) }
 {
-    let window = window_at(roster, summary, at)?;
+    let window = holding(status, at)?;
     let request = summary.request()?;
     Some(InForce { request, window })
 }
@@ -93,42 +82,23 @@ fn push_live_line(
     Ok(())
 }
 
-/// Adds the line of a summary's request under LIVE, where it is in force.
-fn push_live(
+/// Adds the line under LIVE of a summary's request, where it is in force by its status.
+pub(crate) fn push_live(
     alloc: Global,
     out: &mut String,
-    roster: &Roster,
     base: &Policy,
     empty: &Policy,
     summary: &Summary,
+    status: &Status,
     at: Moment,
 ) -> Result<(), NoMemory>
     requires { empty.now ≡ [] }
-    ensures { (set : List AnyMessage) → StandsFor set summary.now
-        → OnOk result (AddsLines (report.AreInForce roster.now.says set at (report.IsLiveLine base.now) (kept_name summary.now)) (string_bytes out.old) (string_bytes out.new)) }
+    ensures { (f : RosterFields Cmnd) (set : List AnyMessage) → IsOutcome f set summary.now status.now
+        → OnOk result (AddsLines (report.AreInForce f set at (report.IsLiveLine base.now) (kept_name summary.now)) (string_bytes out.old) (string_bytes out.new)) }
 {
-    let Some(grant) = in_force(roster, summary, at) else {
+    let Some(grant) = in_force(summary, status, at) else {
         return Ok(());
     };
     let need = need_of(alloc, base, empty, grant.request, &grant.window)?;
     push_live_line(alloc, out, grant.request, &grant.window, need)
-}
-
-/// Adds the lines under LIVE.
-pub(crate) fn push_all_live(
-    alloc: Global,
-    out: &mut String,
-    roster: &Roster,
-    base: &Policy,
-    summaries: &[Summary],
-    at: Moment,
-) -> Result<(), NoMemory>
-    ensures { (set : List AnyMessage) → AllByRecursion (StandsFor set) summaries.now
-        → OnOk result (AddsLines (AreParts (λ k. report.AreInForce roster.now.says set at (report.IsLiveLine base.now) (kept_name k)) summaries.now) (string_bytes out.old) (string_bytes out.new)) }
-{
-    let empty = no_policy(alloc);
-    for summary in summaries {
-        push_live(alloc, out, roster, base, &empty, summary, at)?;
-    }
-    Ok(())
 }

@@ -9,7 +9,7 @@ ghost use Rattle.desk.specs.declared.refusal.Refusal.TheVariants as refusal;
 ghost use Rattle.review.specs.Report.{IsReport};
 
 use crate::reporting::report_of;
-use desk::{Desk, Keeper, Refusal};
+use desk::{Desk, Holdings, Keeper, Refusal};
 use sudo_words::Moment;
 
 /// The report of what the desk holds, at the moment: which grants are in force and whether they are needed beside the base, whose
@@ -31,8 +31,7 @@ pub fn report<K: Keeper>(desk: &mut Desk<K>, at: Moment) -> Result<String, Refus
     ensures counts { K.failures desk.old.keeper ≤ K.failures desk.new.keeper }
     ensures cause { result ≡ Err refusal.Storage → HasFailed (K.failures desk.old.keeper) (K.failures desk.new.keeper) }
 {
-    let summaries = desk.summaries()?;
-    let parked = desk.parked()?;
-    let alloc = *parked.allocator();
+    let Holdings { summaries, parked } = desk.holdings()?;
+    let alloc = *summaries.allocator();
     Ok(report_of(alloc, desk.roster(), desk.base(), &summaries, &parked, at)?)
 }

@@ -7,10 +7,8 @@ ghost use Rattle.sudo_beyond.specs.Cases.{text_order};
 ghost use Rattle.review.specs.Columns.{lines_text};
 ghost use Rattle.review.specs.Report.{AreAll, AreSummaries, IsParkedText, IsReport};
 
-use crate::barred::push_all_barred;
-use crate::broad::push_all_broad;
 use crate::conflicts::push_all_conflicts;
-use crate::live::push_all_live;
+use crate::names::parts_of;
 use grants::Summary;
 use roster::Roster;
 use std::alloc::Global;
@@ -53,15 +51,16 @@ pub fn report_of(
     ensures { (set : List AnyMessage) → AreSummaries set summaries.now → AreAll text_order (IsParkedText set) (map string_bytes parked.now)
         → IfOk result (λ s. IsReport roster.now.says base.now set at (string_bytes s)) }
 {
+    let parts = parts_of(alloc, roster, base, summaries, at)?;
     let mut out = String::new(alloc);
     push_head(&mut out, at)?;
-    push_all_live(alloc, &mut out, roster, base, summaries, at)?;
+    out.push_str(parts.live.as_str())?;
     out.push_str("BARRED\n")?;
-    push_all_barred(alloc, &mut out, roster, summaries)?;
+    out.push_str(parts.barred.as_str())?;
     out.push_str("CONFLICTS\n")?;
     push_all_conflicts(alloc, &mut out, roster, at)?;
     out.push_str("BROAD\n")?;
-    push_all_broad(alloc, &mut out, roster, summaries, at)?;
+    out.push_str(parts.broad.as_str())?;
     out.push_str("PARKED\n")?;
     push_texts(&mut out, parked)?;
     Ok(out)

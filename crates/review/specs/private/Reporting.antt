@@ -7,7 +7,7 @@ use Rattle.messages.specs.declared.message.Message.{Message}
 use Rattle.roster.specs.Fields.{RosterFields}
 use Rattle.roster.specs.Relations.{ceiling_at}
 use Rattle.grants.specs.Statuses.{IsStatus}
-use Rattle.grants.specs.Summaries.{Kept}
+use Rattle.grants.specs.Summaries.{Kept, StandsFor}
 use Rattle.grants.specs.declared.outcome.Status.{Status}
 use Rattle.grants.specs.declared.outcome.Window.{Window}
 use Rattle.review.specs.declared.barred.OpenRequest.{OpenRequest}
@@ -28,9 +28,10 @@ kept_name k = name_of k.request
 abbrev pub IsSpan : Window → Type 0
 IsSpan w = IsMoment w.start × IsMoment w.end
 
--- the window of a summary's request, where it is granted and holds the moment
-abbrev pub IsWindowAt : RosterFields Cmnd → List Message → ℕ → Kept → Option Window → Type 0
-IsWindowAt f messages at k window = (status : Status) × IsStatus f messages (kept_name k) status × (window_at at status ≡ window)
+-- The summary stands for the set, and the status is what the set's messages about its name come to.
+pub record IsOutcome (f : RosterFields Cmnd) (messages : List Message) (k : Kept) (status : Status) : Type 0 where
+  pub stands : StandsFor messages k
+  pub status_is : IsStatus f messages (kept_name k) status
 
 -- a summary's request and its window, where it is granted and the window holds the moment
 abbrev pub IsInForceOf : RosterFields Cmnd → List Message → ℕ → Kept → Option InForce → Type 0

@@ -8,16 +8,15 @@ use Rattle.review.proofs.ReportParts.{none_in_force, one_in_force}
 use Rattle.review.proofs.live.push_live.Goals as goal
 
 pub returns-in_default : goal.returns-in_default
-returns-in_default c = λ set s.
-    let found = c.in_default.ensures.given set s in
+returns-in_default c = λ f set is.
+    let found = c.in_default.ensures.given f set is in
     let old = string_bytes c.args.out.now in
-    none_in_force c.args.roster.now.says set (kept_name c.args.summary.now) old old c.args.at (IsLiveLine c.args.base.now) found.0 found.1 found.2
+    none_in_force f set (kept_name c.args.summary.now) old old c.args.at (IsLiveLine c.args.base.now) found.0 found.1 found.2
 
 pub returns : goal.returns
-returns c = λ set s.
-    let f = c.args.roster.now.says in
+returns c = λ f set is.
     let name = kept_name c.args.summary.now in
-    let found = c.in-Some.ensures.given set s in
+    let found = c.in-Some.ensures.given f set is in
     let q = c.in-Some.grant.request.now in
     let w = c.in-Some.grant.window in
     let old = string_bytes c.args.out.now in
