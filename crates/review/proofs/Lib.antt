@@ -6,3 +6,4 @@ pub mod ReportParts
 pub mod Approvers
 pub mod Joined
 pub mod OfDesk
+pub mod PastReports
