@@ -16,3 +16,4 @@ pub mod ParkedLemmas
 pub mod LawLemmas
 pub mod Existence
 pub mod SummaryLemmas
+pub mod PastGrants

@@ -11,6 +11,7 @@ pub mod Names
 pub mod Gathered
 -- a host's lines and file, the whole or that after a moment
 pub mod LinesLeft
--- laws: sets that grant the same, and verdicts that count for nothing
+-- laws: sets that grant the same, rosters that do, and verdicts that count for nothing
 pub mod Same
+pub mod Alike
 pub mod Uncounted

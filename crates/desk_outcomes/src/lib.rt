@@ -9,6 +9,7 @@ mod live;
 mod naming;
 mod outcomes;
 mod parked;
+mod past_laws;
 mod summaries;
 
 pub use gathering::Gathered;
@@ -21,4 +22,5 @@ pub use live::{Live, live_in};
 pub use naming::RequestName;
 pub use outcomes::status_in;
 pub use parked::parked_in;
+pub use past_laws::past_grants_stay;
 pub use summaries::summaries_in;

@@ -24,6 +24,7 @@ pub mod MomentLaws
 pub mod SummaryLaws
 pub mod WorkedTeam
 pub mod WindowLaws
+pub mod PastLaws
 pub mod LawfulRules
 pub mod RuleLemmas
 pub mod LookUps

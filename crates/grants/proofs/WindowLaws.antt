@@ -55,3 +55,9 @@ ends_revoked f set q end revoked last first le =
           let there = moved f set q end (end + 1) w (omega (arith, w.from)) (λ m is. omega (arith, one_completion f set q m w.complete is w.complete_is, w.behind)) (omega (arith, gap, le)) (λ r. absurd (omega (arith, gap, first.least (end + 1) r))) in
           absurd (omega (arith, last.greatest (end + 1) there))
     ]
+
+pub unbroken : (f : RosterFields Cmnd) (set : List Message) (q : RequestFields) (early moment late : ℕ) → InWindow f set q early → InWindow f set q late → early ≤ moment → moment ≤ late → InWindow f set q moment
+unbroken f set q early moment late a b low high =
+    moved f set q late moment b (omega (arith, a.from, low))
+    (λ m is. omega (arith, one_completion f set q m a.complete is a.complete_is, a.behind, low)) (omega (arith, b.until, high))
+    (λ r. b.unrevoked (later_too f set q moment late high r))

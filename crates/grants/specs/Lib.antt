@@ -9,6 +9,7 @@ pub mod Verdicts
 pub mod Statuses
 pub mod Completion
 pub mod Counting
+pub mod Past
 pub mod WorkedStatuses
 -- what a summary keeps of them
 pub mod Marks

@@ -7,3 +7,4 @@ pub mod NameParts
 pub mod Approvers
 pub mod Joined
 pub mod OfDesk
+pub mod PastReports

@@ -9,11 +9,13 @@ mod live;
 mod names;
 mod need;
 mod of_desk;
+mod past_laws;
 mod reason;
 mod report_laws;
 mod reporting;
 
 pub use of_desk::report;
+pub use past_laws::past_reports_stay;
 pub use report_laws::{barred_changes_nothing, needless_gives_nothing, one_report, worked_lines};
 pub use reporting::report_of;
 pub use sudo_beyond::{

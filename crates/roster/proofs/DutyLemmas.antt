@@ -134,7 +134,7 @@ more_conflicts f g person asker c at people more e =
     })
 
 -- a duty of an entry that passes a test on a day is held then
-any_held : (day : ℕ) (p : List ℕ → Bool) (ds es : List Entry)
+pub any_held : (day : ℕ) (p : List ℕ → Bool) (ds es : List Entry)
     → ((d : List ℕ) → list_any (gives d day) ds ≡ true → list_any (gives d day) es ≡ true)
     → list_any (λ x. hold x.1 day && p x.0) ds ≡ true → list_any (λ x. hold x.1 day && p x.0) es ≡ true
 any_held day p [] es more e = absurd (true≢false (sym e))

@@ -78,6 +78,17 @@ one_fault text d e a b =
 one_saying : (text : List ℕ) (t u : RosterFields (List ℕ)) → IsDraftOf text t → Says text u → t ≡ u
 one_saying text t u d s = same_Some t u (sym d.types ∙ ap fields_of (one_document text d.document s.0 d.toml s.1) ∙ s.2)
 
+-- the first fault has no lower one
+pub none_below_one : (text : List ℕ) (lower : RosterFault) → number lower < 1 → ¬ Has text lower
+none_below_one text NotToml l h = omega arith
+none_below_one text UnknownKey l h = omega arith
+none_below_one text WrongType l h = omega arith
+none_below_one text BadName l h = omega arith
+none_below_one text UnknownName l h = omega arith
+none_below_one text SelfConflict l h = omega arith
+none_below_one text OutOfRange l h = omega arith
+none_below_one text NoMemory l h = h
+
 only_from_three : (text : List ℕ) (d : Members) → parse_document text ≡ Some d → has_known_keys d ≡ true → (lower : RosterFault) → number lower < 3 → ¬ Has text lower
 only_from_three text d toml keys NotToml l h = none-some d (sym h ∙ toml)
 only_from_three text d toml keys UnknownKey l h =
@@ -93,16 +104,58 @@ only_from_three text d toml keys NoMemory l h = h
 pub of_wrong_type : (text : List ℕ) (d : Members) → parse_document text ≡ Some d → has_known_keys d ≡ true → fields_of d ≡ None → IsLeastFault text WrongType
 of_wrong_type text d toml keys wrong = ((d, toml, wrong), only_from_three text d toml keys)
 
--- a text whose names are good and known, where no duty conflicts with itself and something is out of range, has that fault and no lower one
+-- a text with a roster's keys alone, whose values have their types, has only greater faults than that
+only_from_four : (text : List ℕ) (t : RosterFields (List ℕ)) → IsDraftOf text t → (lower : RosterFault) → number lower < 4 → ¬ Has text lower
+only_from_four text t d NotToml l h = none-some d.document (sym h ∙ d.toml)
+only_from_four text t d UnknownKey l h =
+    true≢false (sym d.keys ∙ ap has_known_keys (one_document text d.document h.0 d.toml h.1) ∙ h.2)
+only_from_four text t d WrongType l h =
+    none-some t (sym h.2 ∙ ap fields_of (one_document text h.0 d.document h.1 d.toml) ∙ d.types)
+only_from_four text t d BadName l h = omega arith
+only_from_four text t d UnknownName l h = omega arith
+only_from_four text t d SelfConflict l h = omega arith
+only_from_four text t d OutOfRange l h = omega arith
+only_from_four text t d NoMemory l h = h
+
+pub of_bad_name : (text : List ℕ) (t : RosterFields (List ℕ)) → IsDraftOf text t → ¬ GoodNames IsCmndText t → IsLeastFault text BadName
+of_bad_name text t d bad = ((t, (d.document, d.toml, d.types), bad), only_from_four text t d)
+
+-- nor has it that one where its names are good
+only_from_five : (text : List ℕ) (t : RosterFields (List ℕ)) → IsDraftOf text t → GoodNames IsCmndText t → (lower : RosterFault) → number lower < 5 → ¬ Has text lower
+only_from_five text t d good NotToml l h = only_from_four text t d NotToml (omega arith) h
+only_from_five text t d good UnknownKey l h = only_from_four text t d UnknownKey (omega arith) h
+only_from_five text t d good WrongType l h = only_from_four text t d WrongType (omega arith) h
+only_from_five text t d good BadName l h = h.2 (subst (GoodNames IsCmndText) (one_saying text t h.0 d h.1) good)
+only_from_five text t d good UnknownName l h = omega arith
+only_from_five text t d good SelfConflict l h = omega arith
+only_from_five text t d good OutOfRange l h = omega arith
+only_from_five text t d good NoMemory l h = h
+
+pub of_unknown_name : (text : List ℕ) (t : RosterFields (List ℕ)) → IsDraftOf text t → GoodNames IsCmndText t → are_known t ≡ false → IsLeastFault text UnknownName
+of_unknown_name text t d good unknown = ((t, (d.document, d.toml, d.types), unknown), only_from_five text t d good)
+
+-- nor that one where they are listed
+only_from_six : (text : List ℕ) (t : RosterFields (List ℕ)) → IsDraftOf text t → GoodNames IsCmndText t → are_known t ≡ true → (lower : RosterFault) → number lower < 6 → ¬ Has text lower
+only_from_six text t d good known NotToml l h = only_from_five text t d good NotToml (omega arith) h
+only_from_six text t d good known UnknownKey l h = only_from_five text t d good UnknownKey (omega arith) h
+only_from_six text t d good known WrongType l h = only_from_five text t d good WrongType (omega arith) h
+only_from_six text t d good known BadName l h = only_from_five text t d good BadName (omega arith) h
+only_from_six text t d good known UnknownName l h = true≢false (sym known ∙ ap are_known (one_saying text t h.0 d h.1) ∙ h.2)
+only_from_six text t d good known SelfConflict l h = omega arith
+only_from_six text t d good known OutOfRange l h = omega arith
+only_from_six text t d good known NoMemory l h = h
+
+pub of_self_conflict : (text : List ℕ) (t : RosterFields (List ℕ)) → IsDraftOf text t → GoodNames IsCmndText t → are_known t ≡ true → has_self_conflict t ≡ true → IsLeastFault text SelfConflict
+of_self_conflict text t d good known itself = ((t, (d.document, d.toml, d.types), itself), only_from_six text t d good known)
+
+-- nor that one where no duty conflicts with itself
 only_from_seven : (text : List ℕ) (t : RosterFields (List ℕ)) → IsDraftOf text t → GoodNames IsCmndText t → are_known t ≡ true → has_self_conflict t ≡ false
     → (lower : RosterFault) → number lower < 7 → ¬ Has text lower
-only_from_seven text t d good known apart NotToml l h = none-some d.document (sym h ∙ d.toml)
-only_from_seven text t d good known apart UnknownKey l h =
-    true≢false (sym d.keys ∙ ap has_known_keys (one_document text d.document h.0 d.toml h.1) ∙ h.2)
-only_from_seven text t d good known apart WrongType l h =
-    none-some t (sym h.2 ∙ ap fields_of (one_document text h.0 d.document h.1 d.toml) ∙ d.types)
-only_from_seven text t d good known apart BadName l h = h.2 (subst (GoodNames IsCmndText) (one_saying text t h.0 d h.1) good)
-only_from_seven text t d good known apart UnknownName l h = true≢false (sym known ∙ ap are_known (one_saying text t h.0 d h.1) ∙ h.2)
+only_from_seven text t d good known apart NotToml l h = only_from_six text t d good known NotToml (omega arith) h
+only_from_seven text t d good known apart UnknownKey l h = only_from_six text t d good known UnknownKey (omega arith) h
+only_from_seven text t d good known apart WrongType l h = only_from_six text t d good known WrongType (omega arith) h
+only_from_seven text t d good known apart BadName l h = only_from_six text t d good known BadName (omega arith) h
+only_from_seven text t d good known apart UnknownName l h = only_from_six text t d good known UnknownName (omega arith) h
 only_from_seven text t d good known apart SelfConflict l h = true≢false (sym h.2 ∙ ap has_self_conflict (sym (one_saying text t h.0 d h.1)) ∙ apart)
 only_from_seven text t d good known apart OutOfRange l h = omega arith
 only_from_seven text t d good known apart NoMemory l h = h

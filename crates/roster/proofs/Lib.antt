@@ -2,7 +2,10 @@ pub mod Loop
 pub mod Texts
 pub mod Uniqueness
 pub mod FaultLemmas
+pub mod DecidedNames
+pub mod SomeRoster
 pub mod DutyLemmas
+pub mod RightLemmas
 pub mod Order
 pub mod Rising
 pub mod Listed

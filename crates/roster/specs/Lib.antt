@@ -3,6 +3,7 @@ pub mod Document
 pub mod Rules
 pub mod Faults
 pub mod Relations
+pub mod Agreement
 pub mod Commands
 pub mod Worked
 pub mod private

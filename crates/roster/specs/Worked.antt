@@ -64,3 +64,42 @@ with_days days = record {
   people = (codes "a", (codes "d", days) ∷ []) ∷ [];
   ceilings = [];
 }
+
+-- the same office where eve approves for two days more, up to 7 January 1970, which is the day 6
+abbrev pub longer_office : RosterFields Cmnd
+longer_office = record office {
+  people =
+      (codes "ann", (codes "approve", Always) ∷ (codes "operate", Always) ∷ [])
+      ∷ (codes "bob", (codes "approve", Always) ∷ [])
+      ∷ (codes "carol", (codes "approve", Always) ∷ (codes "audit", Always) ∷ [])
+      ∷ (codes "eve", (codes "approve", Between 3 6) ∷ [])
+      ∷ (codes "fay", (codes "approve", Always) ∷ (codes "audit", Between 0 3) ∷ [])
+      ∷ [];
+}
+
+-- A whole roster: whoever operates may ask for everything on `db` as root, and one of those who approve has to; the auditing duty
+-- conflicts with approving. Ann operates; eve approves, and audits on 4 and 5 January 1970.
+abbrev pub shop_text : List ℕ
+shop_text =
+    codes "relays = ['mail']\nhosts = ['db']\nduties = ['approve', 'audit', 'operate']\nconflicts = [['audit', 'approve']]\n"
+    ++ codes "[people]\nann = ['operate']\neve = ['approve', {duty = 'audit', from = '19700104', until = '19700105'}]\n"
+    ++ codes "[ceilings.db-root]\nask = 'operate'\napprove = 'approve'\nneeds = 1\nhosts = ['db']\nrunas = ['root']\ncommands = ['ALL']\nlongest = 3600\n"
+
+abbrev pub shop : RosterFields Cmnd
+shop = record {
+  relays = codes "mail" ∷ [];
+  hosts = codes "db" ∷ [];
+  duties = codes "approve" ∷ codes "audit" ∷ codes "operate" ∷ [];
+  conflicts = (codes "audit", codes "approve") ∷ [];
+  people =
+      (codes "ann", (codes "operate", Always) ∷ [])
+      ∷ (codes "eve", (codes "approve", Always) ∷ (codes "audit", Between 3 4) ∷ [])
+      ∷ [];
+  ceilings = (codes "db-root", everything) ∷ [];
+}
+
+-- a roster of one relay and these hosts and duties, pairs and people
+abbrev pub text_of : (hosts duties conflicts people : List ℕ) → List ℕ
+text_of hosts duties conflicts people =
+    codes "relays=['r']\nhosts=[" ++ hosts ++ codes "]\nduties=[" ++ duties ++ codes "]\nconflicts=[" ++ conflicts
+    ++ codes "]\npeople={" ++ people ++ codes "}\nceilings={}"

@@ -1,16 +1,16 @@
 //! Laws of rosters, each the contract of a function that does nothing.
 
-ghost use Rattle.std.specs.Prelude.{◌≡◌, ◌↔◌, ◌≤◌, ◌<◌, ◌+◌, ◌*◌, ℕ, pos, List, true, false, codes};
+ghost use Rattle.std.specs.Prelude.{◌≡◌, ◌↔◌, ◌≤◌, ◌<◌, ◌⊎◌, ◌+◌, ◌*◌, ℕ, pos, List, [], true, false, codes};
 ghost use Rattle.sudo_words.specs.declared.cmnd.Cmnd.{Cmnd};
 ghost use Rattle.sudo_words.specs.Moment.{day_of, IsDateText, IsDay};
 ghost use Rattle.roster.specs.Document.{day_spelled};
 ghost use Rattle.roster.specs.Faults.{Has, IsLeastFault, IsRosterText};
 ghost use Rattle.roster.specs.Fields.{CeilingFields, RosterFields};
 ghost use Rattle.roster.specs.Relations.{conflicting, eligible, hold, holds, may_revoke};
-ghost use Rattle.roster.specs.Worked.{office, everything, smallest, smallest_text, text_with_days, with_days};
+ghost use Rattle.roster.specs.Worked.{office, everything, shop, shop_text, smallest, smallest_text, text_of, text_with_days, with_days};
 ghost use Rattle.roster.specs.declared.days.Days.TheVariants.{Between};
 ghost use Rattle.roster.specs.declared.fault.RosterFault.{RosterFault};
-ghost use Rattle.roster.specs.declared.fault.RosterFault.TheVariants.{NotToml, OutOfRange, UnknownKey, WrongType};
+ghost use Rattle.roster.specs.declared.fault.RosterFault.TheVariants.{BadName, NotToml, OutOfRange, SelfConflict, UnknownKey, UnknownName, WrongType};
 
 /// A text is at most one roster's.
 pub fn one_roster()
@@ -25,6 +25,12 @@ pub fn roster_has_no_fault()
 /// A text has at most one least fault.
 pub fn one_fault()
     ensures { (text : List ℕ) (d e : RosterFault) → IsLeastFault text d → IsLeastFault text e → d ≡ e }
+{}
+
+/// Each text is a roster's, or has a least fault. (It is never both, and never two: `roster_has_no_fault`, `one_roster`, `one_fault`.)
+pub fn roster_or_fault()
+    ensures { (text : List ℕ) →
+        ((f : RosterFields Cmnd) × IsRosterText text f) ⊎ ((fault : RosterFault) × IsLeastFault text fault) }
 {}
 
 /// A conflict is between two duties, and either of them conflicts with the other.
@@ -117,4 +123,19 @@ pub fn worked_entries()
     ensures backward { IsLeastFault (text_with_days (codes "19700102") (codes "19700101")) OutOfRange }
     ensures no_day { IsLeastFault (text_with_days (codes "19700101") (codes "19700100")) OutOfRange }
     ensures other_key { IsLeastFault (codes "people={a=[{by='d'}]}") UnknownKey }
+{}
+
+/// A worked text with people, a duty of some days, a conflict and a ceiling is that roster's.
+pub fn worked_roster()
+    ensures { IsRosterText shop_text shop }
+{}
+
+/// Worked faults of what a text says: a host in upper case, a duty that is not listed, one that conflicts with itself, no host; and of
+/// two faults the lesser.
+pub fn worked_faults()
+    ensures bad_name { IsLeastFault (text_of (codes "'H'") (codes "'d'") [] (codes "a=['d']")) BadName }
+    ensures unknown_name { IsLeastFault (text_of (codes "'h'") (codes "'d'") [] (codes "a=['e']")) UnknownName }
+    ensures self_conflict { IsLeastFault (text_of (codes "'h'") (codes "'d'") (codes "['d','d']") (codes "a=['d']")) SelfConflict }
+    ensures out_of_range { IsLeastFault (text_of [] (codes "'d'") [] (codes "a=['d']")) OutOfRange }
+    ensures lesser { IsLeastFault (text_of [] (codes "'d'") (codes "['d','d']") (codes "a=['d']")) SelfConflict }
 {}

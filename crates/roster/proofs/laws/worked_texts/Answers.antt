@@ -1,4 +1,4 @@
-use Rattle.std.proofs.Common.{◌≡◌, ℕ, ◌<◌, List, Some, None, true, pos, refl, arith}
+use Rattle.std.proofs.Common.{◌≡◌, Some, None, true, pos, refl}
 use Rattle.std.specs.Prelude.{codes}
 use Rattle.std.proofs.lemmas.List.Elements.{All-nil}
 use Rattle.sudo_words.specs.Command.{IsLawful}
@@ -7,23 +7,10 @@ use Rattle.toml.proofs.OnLiterals.{toml_on_literals}
 use Rattle.toml.specs.Data.{Members, no_members, member, integer, array, table, string, no_items, item}
 use Rattle.toml.specs.Parse.{parse_document}
 use Rattle.roster.specs.Document.{has_known_keys, fields_of}
-use Rattle.roster.specs.Faults.{Has, number}
 use Rattle.roster.specs.Rules.{IsNamedCeiling, good_names, are_known, has_self_conflict, in_range}
-use Rattle.roster.specs.declared.fault.RosterFault.{RosterFault}
-use Rattle.roster.specs.declared.fault.RosterFault.TheVariants.{NotToml, UnknownKey, WrongType, BadName, UnknownName, SelfConflict, OutOfRange, NoMemory}
 use Rattle.roster.specs.Worked.{smallest_text}
-use Rattle.roster.proofs.FaultLemmas.{of_wrong_type, read_at_all}
+use Rattle.roster.proofs.FaultLemmas.{none_below_one, of_wrong_type, read_at_all}
 use Rattle.roster.proofs.laws.worked_texts.Goals as goal
-
-none_below_one : (text : List ℕ) (lower : RosterFault) → number lower < 1 → ¬ Has text lower
-none_below_one text NotToml l h = omega arith
-none_below_one text UnknownKey l h = omega arith
-none_below_one text WrongType l h = omega arith
-none_below_one text BadName l h = omega arith
-none_below_one text UnknownName l h = omega arith
-none_below_one text SelfConflict l h = omega arith
-none_below_one text OutOfRange l h = omega arith
-none_below_one text NoMemory l h = h
 
 pub returns-clause-not_toml : goal.returns-clause-not_toml
 unfolding toml_on_literals
