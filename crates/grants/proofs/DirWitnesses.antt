@@ -1,17 +1,19 @@
 -- What a directory reaches beyond a file, and beyond another directory.
-use Rattle.std.proofs.Common.{◌≡◌, ℕ, ◌-◌, true, false, List, [], ◌∷◌, ◌++◌, length, take, drop, refl, sym, ap, ◌∙◌, subst, inl, inr, arith, append_assoc}
+use Rattle.std.proofs.Common.{◌≡◌, ◌≢◌, ℕ, ◌-◌, true, false, List, [], ◌∷◌, ◌++◌, length, take, drop, reverse, refl, sym, ap, ◌∙◌, subst, inl, inr, arith, append_assoc}
+use Rattle.std.specs.Prelude.{codes}
 use Rattle.std.specs.List.{list_all}
 use Rattle.std.specs.Str.{bytes_eq}
 use Rattle.std.proofs.Math.Seq.{take-append_seam, drop-length}
 use Rattle.std.proofs.lemmas.Bool.{cases_Bool, and_parts, and_from, and_left, both_ways, le-leb, false_from_ne_true}
-use Rattle.std.proofs.lemmas.List.{drop-append-le, take-append-drop, length-append}
+use Rattle.std.proofs.lemmas.List.{drop-append-le, take-append-drop, length-append, reverse-append}
 use Rattle.std.proofs.lemmas.Slice.Eq.{bytes_eq-Decides}
 use Rattle.sudo_words.proofs.PathLemmas.{dir_parts, slash_end}
-use Rattle.sudo_words.specs.Word.{is_component, are_components, is_absolute, is_file_path, is_dir_path, is_path_byte}
+use Rattle.sudo_words.proofs.NameLemmas.{sudoedit_end}
+use Rattle.sudo_words.specs.Word.{is_component, are_components, is_absolute, is_file_path, is_dir_path, is_path_byte, is_sudoedit}
 use Rattle.sudo_words.specs.Command.{is_directly_in, IsLawful}
 use Rattle.sudo_words.specs.declared.cmnd.Cmnd.TheVariants.{Path, Dir}
 use Rattle.sudo_words.specs.declared.cmnd.ArgRule.{ArgRule}
-use Rattle.grants.specs.Reach.{Reaches, ReachesBeyond}
+use Rattle.grants.specs.Reach.{ReachesBeyond, ReachesSomething}
 use Rattle.grants.specs.private.Forms.{is_inside}
 use Rattle.grants.proofs.DirLemmas.{absolute_joined}
 
@@ -37,8 +39,29 @@ within d w h =
     and_from (bytes_eq (take (length d) (d ++ w)) d) _ ((bytes_eq-Decides (take (length d) (d ++ w)) d).1 (take-append_seam d w))
     (ap is_component (drop_front d w) ∙ h)
 
-reached : (d w : List ℕ) → IsLawful (Dir d) → are_components w ≡ true → is_component w ≡ true → length w ≡ 1 → Reaches (Dir d) (d ++ w) []
-reached d w hd comps comp one = record { path_is = file_in d w hd comps one; args_are = tt; matches_it = within d w comp }
+head_apart : (a b : ℕ) (xs ys : List ℕ) → a ∷ xs ≡ b ∷ ys → a ≡ b
+head_apart a b xs ys e = cc
+
+-- a path that ends in another byte is not sudo's own command
+pub plain_end : (d : List ℕ) (b : ℕ) → b ≢ 116 → is_sudoedit (d ++ b ∷ []) ≡ false
+plain_end d b other =
+    false_from_ne_true _ (λ h.
+    let found = (sudoedit_end (d ++ b ∷ [])).0 h in
+    let turned : b ∷ reverse d ≡ reverse (codes "/sudoedit") ++ reverse found.0 =
+    sym (reverse-append d (b ∷ [])) ∙ ap reverse found.1 ∙ reverse-append found.0 (codes "/sudoedit") in
+    other (head_apart b 116 (reverse d) (reverse (codes "/sudoedi") ++ reverse found.0) turned))
+
+reaches : (d : List ℕ) (b : ℕ) → IsLawful (Dir d) → are_components (b ∷ []) ≡ true → is_component (b ∷ []) ≡ true → b ≢ 116 → ReachesSomething (Dir d)
+reaches d b hd comps comp other = record {
+  path = d ++ b ∷ [];
+  args = [];
+  few = omega arith;
+  reached = record { path_is = file_in d (b ∷ []) hd comps refl; args_are = tt; matches_it = within d (b ∷ []) comp };
+  plain = plain_end d b other;
+}
+
+pub dir_reaches : (d : List ℕ) → IsLawful (Dir d) → ReachesSomething (Dir d)
+dir_reaches d hd = reaches d 97 hd refl refl (λ e. omega (arith, e))
 
 pub dir_beyond_file : (d g : List ℕ) (s : ArgRule) → IsLawful (Dir d) → ReachesBeyond (Dir d) (Path g s)
 dir_beyond_file d g s hd =
@@ -49,20 +72,8 @@ dir_beyond_file d g s hd =
           let both : d ++ 98 ∷ [] ≡ d ++ 97 ∷ [] = same_bytes (d ++ 98 ∷ []) g e ∙ sym (same_bytes (d ++ 97 ∷ []) g same) in
           let tails : ◌≡◌ {A = List ℕ} (98 ∷ []) (97 ∷ []) = sym (drop_front d (98 ∷ [])) ∙ ap (drop (length d)) both ∙ drop_front d (97 ∷ []) in
           both_ways (bytes_eq (98 ∷ []) (97 ∷ [])) refl ((bytes_eq-Decides (98 ∷ []) (97 ∷ [])).1 tails)) in
-          record {
-            path = d ++ 98 ∷ [];
-            args = [];
-            few = omega arith;
-            reached = reached d (98 ∷ []) hd refl refl refl;
-            not_matched = and_left (bytes_eq (d ++ 98 ∷ []) g) _ other;
-          }
-      | inr differ ↦ record {
-        path = d ++ 97 ∷ [];
-        args = [];
-        few = omega arith;
-        reached = reached d (97 ∷ []) hd refl refl refl;
-        not_matched = and_left (bytes_eq (d ++ 97 ∷ []) g) _ differ;
-      }
+          record { something = reaches d 98 hd refl refl (λ e. omega (arith, e)); not_matched = and_left (bytes_eq (d ++ 98 ∷ []) g) _ other }
+      | inr differ ↦ record { something = dir_reaches d hd; not_matched = and_left (bytes_eq (d ++ 97 ∷ []) g) _ differ }
     ]
 
 -- ---- the last slash of a path
@@ -106,9 +117,6 @@ one_dir d e hd he h =
 
 pub dir_beyond_dir : (d e : List ℕ) → IsLawful (Dir d) → IsLawful (Dir e) → is_inside (Dir d) (Dir e) ≡ false → ReachesBeyond (Dir d) (Dir e)
 dir_beyond_dir d e hd he differ = record {
-  path = d ++ 97 ∷ [];
-  args = [];
-  few = omega arith;
-  reached = reached d (97 ∷ []) hd refl refl refl;
+  something = dir_reaches d hd;
   not_matched = false_from_ne_true _ (λ h. both_ways _ differ ((bytes_eq-Decides d e).1 (one_dir d e hd.head.0 he.head.0 h)));
 }

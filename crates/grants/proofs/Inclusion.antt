@@ -4,10 +4,10 @@ use Rattle.std.proofs.lemmas.Bool.{both_ways, cases_Bool}
 use Rattle.sudo_words.specs.Command.{IsLawful}
 use Rattle.sudo_words.specs.declared.cmnd.Cmnd.{Cmnd}
 use Rattle.sudo_words.specs.declared.cmnd.Cmnd.TheVariants.{All, Path, Dir}
-use Rattle.grants.specs.Reach.{LiesInside, ReachesBeyond}
+use Rattle.grants.specs.Reach.{LiesInside, ReachesBeyond, ReachesSomething}
 use Rattle.grants.specs.private.Forms.{is_inside}
-use Rattle.grants.proofs.Witnesses.{inside, beyond_file, beyond_dir, all_beyond_file, all_beyond_dir}
-use Rattle.grants.proofs.DirWitnesses.{dir_beyond_file, dir_beyond_dir}
+use Rattle.grants.proofs.Witnesses.{inside, all_reaches, file_reaches, beyond_file, beyond_dir, all_beyond_file, all_beyond_dir}
+use Rattle.grants.proofs.DirWitnesses.{dir_reaches, dir_beyond_file, dir_beyond_dir}
 
 pub beyond : (k c : Cmnd) → IsLawful k → IsLawful c → is_inside k c ≡ false → ReachesBeyond k c
 beyond k All hk hc e = absurd (both_ways _ e refl)
@@ -24,8 +24,14 @@ test_from k c hk hc within =
       | inl e ↦ e
       | inr e ↦
           let w = beyond k c hk hc e in
-          absurd (both_ways _ w.not_matched (within w.path w.args w.reached).matches_it)
+          let some = w.something in
+          absurd (both_ways _ w.not_matched (within some.path some.args some.reached).matches_it)
     ]
 
 pub exact : (k c : Cmnd) → IsLawful k → IsLawful c → (is_inside k c ≡ true) ↔ LiesInside k c
 exact k c hk hc = (inside k c, test_from k c hk hc)
+
+pub reaches : (c : Cmnd) → IsLawful c → ReachesSomething c
+reaches All h = all_reaches
+reaches (Path f r) h = file_reaches f r h
+reaches (Dir d) h = dir_reaches d h

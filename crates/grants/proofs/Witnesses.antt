@@ -12,7 +12,7 @@ use Rattle.sudo_words.specs.declared.cmnd.Cmnd.{Cmnd}
 use Rattle.sudo_words.specs.declared.cmnd.Cmnd.TheVariants.{All, Path, Dir}
 use Rattle.sudo_words.specs.declared.cmnd.ArgRule.{ArgRule}
 use Rattle.sudo_words.specs.declared.cmnd.ArgRule.TheVariants.{Any, Empty, Exactly}
-use Rattle.grants.specs.Reach.{AreArgs, LiesInside, ReachesBeyond}
+use Rattle.grants.specs.Reach.{AreArgs, LiesInside, ReachesBeyond, ReachesSomething}
 use Rattle.grants.specs.private.Forms.{rule_inside, is_inside}
 
 same_args : (a b : List (List ℕ)) → pointwise bytes_eq a b ≡ true → a ≡ b
@@ -86,40 +86,37 @@ some_args (Exactly a) h = (a, listed a h, args_same a)
 bytes_same : (w : List ℕ) → bytes_eq w w ≡ true
 bytes_same w = (bytes_eq-Decides w w).1 refl
 
+reaches_with : (f : List ℕ) (r : ArgRule) → IsLawful (Path f r) → (args : List (List ℕ)) → AreFewArgs args → allows r args ≡ true → ReachesSomething (Path f r)
+reaches_with f r hf args are allowed = record {
+  path = f;
+  args = args;
+  few = are.1;
+  reached = record { path_is = hf.head.0; args_are = are.0; matches_it = and_from (bytes_eq f f) _ (bytes_same f) allowed };
+  plain = hf.head.2;
+}
+
+pub file_reaches : (f : List ℕ) (r : ArgRule) → IsLawful (Path f r) → ReachesSomething (Path f r)
+file_reaches f r hf = let some = some_args r hf.args in reaches_with f r hf some.0 some.1 some.2
+
+-- ALL reaches the file `/a`, and `/b`
+pub all_reaches : ReachesSomething All
+all_reaches = record { path = 47 ∷ 97 ∷ []; args = []; few = omega arith; reached = record { path_is = refl; args_are = tt; matches_it = refl }; plain = refl }
+
+all_reaches_other : ReachesSomething All
+all_reaches_other = record { path = 47 ∷ 98 ∷ []; args = []; few = omega arith; reached = record { path_is = refl; args_are = tt; matches_it = refl }; plain = refl }
+
 pub beyond_file : (f g : List ℕ) (r s : ArgRule) → IsLawful (Path f r) → IsLawful (Path g s) → is_inside (Path f r) (Path g s) ≡ false → ReachesBeyond (Path f r) (Path g s)
 beyond_file f g r s hf hg e =
     elim (and_cases (bytes_eq f g) (rule_inside r s) e) as (λ _. ReachesBeyond (Path f r) (Path g s)) [
-      | inl differ ↦
-          let some = some_args r hf.args in
-          record {
-            path = f;
-            args = some.0;
-            few = some.1.1;
-            reached = record { path_is = hf.head.0; args_are = some.1.0; matches_it = and_from (bytes_eq f f) _ (bytes_same f) some.2 };
-            not_matched = and_left (bytes_eq f g) _ differ;
-          }
+      | inl differ ↦ record { something = file_reaches f r hf; not_matched = and_left (bytes_eq f g) _ differ }
       | inr few ↦
           let beyond = rule_beyond r s hf.args hg.args few in
-          record {
-            path = f;
-            args = beyond.args;
-            few = beyond.are.1;
-            reached = record { path_is = hf.head.0; args_are = beyond.are.0; matches_it = and_from (bytes_eq f f) _ (bytes_same f) beyond.allowed };
-            not_matched = and_right (bytes_eq f g) _ beyond.not_allowed;
-          }
+          record { something = reaches_with f r hf beyond.args beyond.are beyond.allowed; not_matched = and_right (bytes_eq f g) _ beyond.not_allowed }
     ]
 
 -- a file and a directory
 pub beyond_dir : (f d : List ℕ) (r : ArgRule) → IsLawful (Path f r) → is_inside (Path f r) (Dir d) ≡ false → ReachesBeyond (Path f r) (Dir d)
-beyond_dir f d r hf e =
-    let some = some_args r hf.args in
-    record {
-      path = f;
-      args = some.0;
-      few = some.1.1;
-      reached = record { path_is = hf.head.0; args_are = some.1.0; matches_it = and_from (bytes_eq f f) _ (bytes_same f) some.2 };
-      not_matched = e;
-    }
+beyond_dir f d r hf e = record { something = file_reaches f r hf; not_matched = e }
 
 -- ALL and a file: of two files one is another
 pub all_beyond_file : (g : List ℕ) (s : ArgRule) → ReachesBeyond All (Path g s)
@@ -127,20 +124,8 @@ all_beyond_file g s =
     elim (cases_Bool (bytes_eq (47 ∷ 97 ∷ []) g)) as (λ _. ReachesBeyond All (Path g s)) [
       | inl same ↦
           let other : bytes_eq (47 ∷ 98 ∷ []) g ≡ false = subst (λ (x : List ℕ). bytes_eq (47 ∷ 98 ∷ []) x ≡ false) (same_bytes (47 ∷ 97 ∷ []) g same) refl in
-          record {
-            path = 47 ∷ 98 ∷ [];
-            args = [];
-            few = omega arith;
-            reached = record { path_is = refl; args_are = tt; matches_it = refl };
-            not_matched = and_left _ _ other;
-          }
-      | inr differ ↦ record {
-        path = 47 ∷ 97 ∷ [];
-        args = [];
-        few = omega arith;
-        reached = record { path_is = refl; args_are = tt; matches_it = refl };
-        not_matched = and_left _ _ differ;
-      }
+          record { something = all_reaches_other; not_matched = and_left _ _ other }
+      | inr differ ↦ record { something = all_reaches; not_matched = and_left _ _ differ }
     ]
 
 -- a directory's text has at least three bytes
@@ -158,10 +143,4 @@ all_beyond_dir d hd =
     false_from_ne_true _ (λ e.
     let same : length (take (length d) (47 ∷ 97 ∷ [])) ≡ length d = ap length (same_bytes (take (length d) (47 ∷ 97 ∷ [])) d e) in
     omega (arith, long, same, length-take {A = ℕ} (length d) (47 ∷ 97 ∷ []))) in
-    record {
-      path = 47 ∷ 97 ∷ [];
-      args = [];
-      few = omega arith;
-      reached = record { path_is = refl; args_are = tt; matches_it = refl };
-      not_matched = and_left _ _ apart;
-    }
+    record { something = all_reaches; not_matched = and_left _ _ apart }

@@ -1,7 +1,7 @@
 -- What a command reaches, and which commands reach no further than another.
 use Rattle.std.specs.Prelude.{◌≡◌, ℕ, ◌≤◌, true, false, List, length}
 use Rattle.std.specs.List.{AllByRecursion}
-use Rattle.sudo_words.specs.Word.{is_file_path, is_arg}
+use Rattle.sudo_words.specs.Word.{is_file_path, is_sudoedit, is_arg}
 use Rattle.sudo_words.specs.Command.{matches}
 use Rattle.sudo_words.specs.declared.cmnd.Cmnd.{Cmnd}
 
@@ -19,10 +19,15 @@ pub record Reaches (cmnd : Cmnd) (path : List ℕ) (args : List (List ℕ)) : Ty
 abbrev pub LiesInside : (inner outer : Cmnd) → Type 0
 LiesInside inner outer = (path : List ℕ) (args : List (List ℕ)) → Reaches inner path args → Reaches outer path args
 
--- something that the one reaches with at most 64 arguments, as many as `desk decide` takes, and the other does not match
-pub record ReachesBeyond (inner outer : Cmnd) : Type 0 where
+-- The command reaches something, with at most 64 arguments, as many as `desk decide` takes; and sudo does not take its path for its own command.
+pub record ReachesSomething (cmnd : Cmnd) : Type 0 where
   pub path : List ℕ
   pub args : List (List ℕ)
   pub few : length args ≤ 64
-  pub reached : Reaches inner path args
-  pub not_matched : matches outer path args ≡ false
+  pub reached : Reaches cmnd path args
+  pub plain : is_sudoedit path ≡ false
+
+-- something such that the one reaches, and the other does not match
+pub record ReachesBeyond (inner outer : Cmnd) : Type 0 where
+  pub something : ReachesSomething inner
+  pub not_matched : matches outer something.path something.args ≡ false

@@ -44,4 +44,4 @@ pub use summary::{Summary, apply, ask, ask_again};
 pub use summary_laws::one_summary;
 pub use voices::{Voices, ask_after};
 pub use within::is_inside;
-pub use within_laws::{forms_of_inclusion, worked_inclusions};
+pub use within_laws::{each_reaches_something, forms_of_inclusion, worked_inclusions};

@@ -5,7 +5,7 @@ ghost use Rattle.sudo_words.specs.Command.{IsLawful, is_directly_in};
 ghost use Rattle.sudo_words.specs.declared.cmnd.ArgRule.{ArgRule as AnyRule};
 ghost use Rattle.sudo_words.specs.declared.cmnd.Cmnd.{Cmnd as AnyCmnd};
 ghost use Rattle.sudo_words.specs.declared.cmnd.Cmnd.TheVariants.{All, Dir, Path};
-ghost use Rattle.grants.specs.Reach.{LiesInside};
+ghost use Rattle.grants.specs.Reach.{LiesInside, ReachesSomething};
 ghost use Rattle.grants.specs.WorkedAdmission.{file, file_alone, file_with};
 
 /// What lies inside what, of the commands that policies hold: `ALL` inside `ALL` alone, a directory inside itself and `ALL`
@@ -17,6 +17,11 @@ pub fn forms_of_inclusion()
     ensures not_in_file { (d f : List ℕ) (r : AnyRule) → IsLawful (Dir d) → IsLawful (Path f r) → ¬ LiesInside (Dir d) (Path f r) }
     ensures file { (f d : List ℕ) (r : AnyRule) → IsLawful (Path f r) → IsLawful (Dir d) → (LiesInside (Path f r) (Dir d) ↔ (is_directly_in d f ≡ true)) }
     ensures same_file { (f g : List ℕ) (r s : AnyRule) → IsLawful (Path f r) → IsLawful (Path g s) → LiesInside (Path f r) (Path g s) → f ≡ g }
+{}
+
+/// Each command that policies hold reaches something that sudo runs as it stands there, and does not take for its own command `sudoedit`.
+pub fn each_reaches_something()
+    ensures { (c : AnyCmnd) → IsLawful c → ReachesSomething c }
 {}
 
 /// Worked commands: with arguments and without, and in a directory and below it.
