@@ -16,7 +16,8 @@ use std::alloc::{AllocError, Global};
 const VERSION: &str = "0.11.0\nproved with rattle-kit-13f logic dac8208d650f15bf";
 
 /// What stands below each help.
-const ENDS: &str = "Exit status: 0 done or allowed; 1 denied or found; 2 refused, with a code.\nManual page: desk(1).";
+const ENDS: &str =
+    "Exit status: 0 done or allowed; 1 denied or found; 2 refused, with a code.\nManual page: desk(1).";
 
 /// What `decide` wants.
 const DECIDE_ARGS: [(&str, &str); 6] = [
