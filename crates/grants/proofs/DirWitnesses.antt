@@ -51,7 +51,7 @@ plain_end d b other =
     sym (reverse-append d (b ∷ [])) ∙ ap reverse found.1 ∙ reverse-append found.0 (codes "/sudoedit") in
     other (head_apart b 116 (reverse d) (reverse (codes "/sudoedi") ++ reverse found.0) turned))
 
-reaches : (d : List ℕ) (b : ℕ) → IsLawful (Dir d) → are_components (b ∷ []) ≡ true → is_component (b ∷ []) ≡ true → b ≢ 116 → ReachesSomething (Dir d)
+abbrev reaches : (d : List ℕ) (b : ℕ) → IsLawful (Dir d) → are_components (b ∷ []) ≡ true → is_component (b ∷ []) ≡ true → b ≢ 116 → ReachesSomething (Dir d)
 reaches d b hd comps comp other = record {
   path = d ++ b ∷ [];
   args = [];
@@ -60,7 +60,7 @@ reaches d b hd comps comp other = record {
   plain = plain_end d b other;
 }
 
-pub dir_reaches : (d : List ℕ) → IsLawful (Dir d) → ReachesSomething (Dir d)
+abbrev pub dir_reaches : (d : List ℕ) → IsLawful (Dir d) → ReachesSomething (Dir d)
 dir_reaches d hd = reaches d 97 hd refl refl (λ e. omega (arith, e))
 
 pub dir_beyond_file : (d g : List ℕ) (s : ArgRule) → IsLawful (Dir d) → ReachesBeyond (Dir d) (Path g s)

@@ -78,7 +78,7 @@ rule_beyond Any (Exactly b) hr hs e = record { args = []; are = (tt, omega arith
 rule_beyond Empty (Exactly b) hr hs e = record { args = []; are = (tt, omega arith); allowed = refl; not_allowed = none_wanted b hs.1 }
 rule_beyond (Exactly a) (Exactly b) hr hs e = record { args = a; are = listed a hr; allowed = args_same a; not_allowed = e }
 
-some_args : (r : ArgRule) → IsArgRule r → (args : List (List ℕ)) × AreFewArgs args × (allows r args ≡ true)
+abbrev some_args : (r : ArgRule) → IsArgRule r → (args : List (List ℕ)) × AreFewArgs args × (allows r args ≡ true)
 some_args Any h = ([], (tt, omega arith), refl)
 some_args Empty h = ([], (tt, omega arith), refl)
 some_args (Exactly a) h = (a, listed a h, args_same a)
@@ -86,7 +86,7 @@ some_args (Exactly a) h = (a, listed a h, args_same a)
 bytes_same : (w : List ℕ) → bytes_eq w w ≡ true
 bytes_same w = (bytes_eq-Decides w w).1 refl
 
-reaches_with : (f : List ℕ) (r : ArgRule) → IsLawful (Path f r) → (args : List (List ℕ)) → AreFewArgs args → allows r args ≡ true → ReachesSomething (Path f r)
+abbrev reaches_with : (f : List ℕ) (r : ArgRule) → IsLawful (Path f r) → (args : List (List ℕ)) → AreFewArgs args → allows r args ≡ true → ReachesSomething (Path f r)
 reaches_with f r hf args are allowed = record {
   path = f;
   args = args;
@@ -95,14 +95,14 @@ reaches_with f r hf args are allowed = record {
   plain = hf.head.2;
 }
 
-pub file_reaches : (f : List ℕ) (r : ArgRule) → IsLawful (Path f r) → ReachesSomething (Path f r)
+abbrev pub file_reaches : (f : List ℕ) (r : ArgRule) → IsLawful (Path f r) → ReachesSomething (Path f r)
 file_reaches f r hf = let some = some_args r hf.args in reaches_with f r hf some.0 some.1 some.2
 
 -- ALL reaches the file `/a`, and `/b`
-pub all_reaches : ReachesSomething All
+abbrev pub all_reaches : ReachesSomething All
 all_reaches = record { path = 47 ∷ 97 ∷ []; args = []; few = omega arith; reached = record { path_is = refl; args_are = tt; matches_it = refl }; plain = refl }
 
-all_reaches_other : ReachesSomething All
+abbrev all_reaches_other : ReachesSomething All
 all_reaches_other = record { path = 47 ∷ 98 ∷ []; args = []; few = omega arith; reached = record { path_is = refl; args_are = tt; matches_it = refl }; plain = refl }
 
 pub beyond_file : (f g : List ℕ) (r s : ArgRule) → IsLawful (Path f r) → IsLawful (Path g s) → is_inside (Path f r) (Path g s) ≡ false → ReachesBeyond (Path f r) (Path g s)

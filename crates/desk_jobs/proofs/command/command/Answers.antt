@@ -11,8 +11,9 @@ returns c =
     let policies = c.in_ok-push_on_policies.ensures [] (search rules) in
     let all = c.in_ok-push_on_desks.ensures _ policies in
     let begun : IsCommand line.program c.subcommand_required.result = (
-      rw (c.subcommand_required.ensures, c.about.ensures) (ap (λ (a : App). record a { top = record a.top { subcommand_required = true } }) c.new.ensures.app),
-      rw (c.subcommand_required.ensures, c.about.ensures) c.new.ensures.local,
+      rw (c.subcommand_required.ensures, c.after_help.ensures, c.version.ensures, c.about.ensures)
+          (ap (λ (a : App). record a { top = record a.top { subcommand_required = true; has_version = true } }) c.new.ensures.app),
+      rw (c.subcommand_required.ensures, c.after_help.ensures, c.version.ensures, c.about.ensures) c.new.ensures.local,
     ) in
     IfOk-weaker c.subcommands.result _ _
     (λ after adds. commands_added c.subcommand_required.result after line.program _ _ adds all begun)

@@ -4,4 +4,8 @@ use Rattle.desk_jobs.proofs.command.command_of.Goals as goal
 
 pub returns : goal.returns
 returns c rules has =
-    IfOk-weaker c.args-2.result _ _ (λ after adds. rules_added c.about.result after _ c.args.args.items rules adds has (rw (c.about.ensures) c.new.ensures.app, rw (c.about.ensures) c.new.ensures.local)) c.args-2.ensures
+    IfOk-weaker c.args-2.result _ _
+    (λ after adds.
+    rules_added c.after_help.result after _ c.args.args.items rules adds has
+    (rw (c.after_help.ensures, c.about.ensures) c.new.ensures.app, rw (c.after_help.ensures, c.about.ensures) c.new.ensures.local))
+    c.args-2.ensures
