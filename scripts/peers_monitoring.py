@@ -145,7 +145,7 @@ def desk_rows() -> list[tuple[str, str, str, list[str], int, str]]:
             "a broad grant",
             calm,
             base,
-            [request("/usr/bin/"), approval(NOW - HOUR)],
+            [request("/usr/local/sbin/"), approval(NOW - HOUR)],
             1,
             "DESK WARNING - 1 broad commands in force |",
         ),
