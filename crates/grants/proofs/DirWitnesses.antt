@@ -23,10 +23,10 @@ same_bytes f g h = (bytes_eq-Decides f g).0 h
 pub split_dir : (d : List ℕ) → is_dir_path d ≡ true → (x : List ℕ) × (d ≡ x ++ 47 ∷ []) × (is_absolute x ≡ true)
 split_dir d h = let parts = dir_parts d h in (take (length d - 1) d, slash_end d parts.0, parts.1)
 
-drop_front : (d w : List ℕ) → drop (length d) (d ++ w) ≡ w
+pub drop_front : (d w : List ℕ) → drop (length d) (d ++ w) ≡ w
 drop_front d w = drop-append-le (length d) d w (omega arith) ∙ ap (λ (z : List ℕ). z ++ w) (drop-length d)
 
-file_in : (d w : List ℕ) → IsLawful (Dir d) → are_components w ≡ true → length w ≡ 1 → is_file_path (d ++ w) ≡ true
+pub file_in : (d w : List ℕ) → IsLawful (Dir d) → are_components w ≡ true → length w ≡ 1 → is_file_path (d ++ w) ≡ true
 file_in d w hd comps one =
     let s = split_dir d hd.head.0 in
     let at : d ++ w ≡ s.0 ++ 47 ∷ w = ap (λ (z : List ℕ). z ++ w) s.1 ∙ append_assoc s.0 (47 ∷ []) w in

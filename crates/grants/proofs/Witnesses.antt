@@ -18,7 +18,7 @@ use Rattle.grants.specs.private.Forms.{rule_inside, is_inside}
 same_args : (a b : List (List ℕ)) → pointwise bytes_eq a b ≡ true → a ≡ b
 same_args a b h = (slice_eq-Decides bytes_eq-Decides a b (pointwise bytes_eq a b) refl).0 h
 
-args_same : (a : List (List ℕ)) → pointwise bytes_eq a a ≡ true
+pub args_same : (a : List (List ℕ)) → pointwise bytes_eq a a ≡ true
 args_same a = (slice_eq-Decides bytes_eq-Decides a a (pointwise bytes_eq a a) refl).1 refl
 
 same_bytes : (f g : List ℕ) → bytes_eq f g ≡ true → f ≡ g
@@ -66,7 +66,7 @@ none_wanted : (b : List (List ℕ)) → 1 ≤ length b → pointwise bytes_eq []
 none_wanted [] h = absurd (omega (arith, h))
 none_wanted (x ∷ b) h = refl
 
-listed : (a : List (List ℕ)) → IsArgRule (Exactly a) → AreFewArgs a
+pub listed : (a : List (List ℕ)) → IsArgRule (Exactly a) → AreFewArgs a
 listed a h = (h.0, omega (arith, h.2))
 
 rule_beyond : (r s : ArgRule) → IsArgRule r → IsArgRule s → rule_inside r s ≡ false → RuleBeyond r s
@@ -83,7 +83,7 @@ some_args Any h = ([], (tt, omega arith), refl)
 some_args Empty h = ([], (tt, omega arith), refl)
 some_args (Exactly a) h = (a, listed a h, args_same a)
 
-bytes_same : (w : List ℕ) → bytes_eq w w ≡ true
+pub bytes_same : (w : List ℕ) → bytes_eq w w ≡ true
 bytes_same w = (bytes_eq-Decides w w).1 refl
 
 abbrev reaches_with : (f : List ℕ) (r : ArgRule) → IsLawful (Path f r) → (args : List (List ℕ)) → AreFewArgs args → allows r args ≡ true → ReachesSomething (Path f r)
