@@ -9,7 +9,9 @@ SENTENCES = {
     ),
     "M3 BadField": (
         "canonical JSON, but no message's",
-        "compare its members with the table of its kind",
+        "compare its members with the table of its kind; no file is named `sudoedit`, and no person, "
+        "host or target `sudoedit`, `sha224`, `sha256`, `sha384` or `sha512`: sudo would take these "
+        "for its own",
     ),
     "A1 UnknownPerson": (
         "`by`, or a verdict's `of`, is no person of the roster",

@@ -173,7 +173,7 @@ def test_by_keyboard_alone(
     ann.get(front.url("ann"))
     ann.switch_to.active_element.send_keys(Keys.TAB)
     assert ann.switch_to.active_element.text == "To the content"
-    given = {"hosts": "db2", "commands": "/usr/bin/w", "length": "30m"}
+    given = {"hosts": "db2", "commands": "/usr/local/sbin/w", "length": "30m"}
     for _ in range(60):
         ann.switch_to.active_element.send_keys(Keys.TAB)
         at = ann.switch_to.active_element

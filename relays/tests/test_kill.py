@@ -96,7 +96,7 @@ def test_the_page_is_killed(site: Site) -> None:
     front, sent = Front(site, ["ann"]), 0
     try:
         for number in range(PAGE_ROUNDS):
-            shown = confirmation(front, commands=f"/usr/bin/tool{number}")
+            shown = confirmation(front, commands=f"/usr/local/sbin/tool{number}")
             data = {"token": token(shown.text), "what": "request"}
             timer = threading.Timer(chance.uniform(0, 0.6), page.kill)
             timer.start()
@@ -121,7 +121,7 @@ def test_the_page_is_killed(site: Site) -> None:
     site.stop_desk()
     tools = [json.loads(body)["cmnds"] for body in site.stored()]
     print(f"{PAGE_ROUNDS} kills of the page: {sent} answers came through")
-    assert sorted(tools) == [[f"/usr/bin/tool{number}"] for number in range(PAGE_ROUNDS)]
+    assert sorted(tools) == [[f"/usr/local/sbin/tool{number}"] for number in range(PAGE_ROUNDS)]
 
 
 def test_the_desk_is_down_for_a_minute(down: tuple[Site, float, str]) -> None:

@@ -232,7 +232,7 @@ ODD = [
     {"runas": "root ALL=(ALL) ALL"},
     {"commands": "id"},
     {"commands": ""},
-    {"commands": "/usr/bin/id '\n/usr/bin/w"},
+    {"commands": "/usr/bin/id '\n/usr/local/sbin/w"},
     {"begins": "<b>soon</b>"},
     {"length": "", "ends": ""},
     {"length": "1h", "ends": "23:59"},
@@ -285,7 +285,7 @@ def test_findings_are_for_auditors(fronted: tuple[Site, Front]) -> None:
 def test_the_desk_is_down(fronted: tuple[Site, Front]) -> None:
     site, front = fronted
     site.stop_desk()
-    told = ask(front, commands="/usr/bin/w")
+    told = ask(front, commands="/usr/local/sbin/w")
     assert "It is kept here and not yet at the desk" in told and "The desk does not answer" in told
     site.start_desk()
     site.start("post", "--every", "0.2")

@@ -102,7 +102,7 @@ def test_two_approvals(both: tuple[Site, Sshd]) -> None:
 
 def test_a_grant_to_come(both: tuple[Site, Sshd]) -> None:
     _, sshd = both
-    line = "ask db-care --on db2 --as root --from +30m --for 1h --yes --json /usr/bin/w"
+    line = "ask db-care --on db2 --as root --from +30m --for 1h --yes --json /usr/local/sbin/w"
     no = json.loads(sshd.ssh("ann", line).stdout)["no"]
     assert "It is granted from" in sshd.ssh("bob", f"approve ann {no} --yes").stdout
     assert f"ann {no}" not in sshd.ssh("bob", "live").stdout
@@ -235,7 +235,7 @@ def test_nothing_is_sent_without_a_yes(both: tuple[Site, Sshd]) -> None:
     site, sshd = both
     before = messages(site)
     for given in ("", "n\n", "\n", "yess\n"):
-        ran = sshd.ssh("ann", *ASK, "--and", "/usr/bin/w", given=given)
+        ran = sshd.ssh("ann", *ASK, "--and", "/usr/local/sbin/w", given=given)
         assert ran.returncode == 1 and "Nothing was sent." in ran.stdout, ran
     assert messages(site) == before
 
@@ -243,11 +243,11 @@ def test_nothing_is_sent_without_a_yes(both: tuple[Site, Sshd]) -> None:
 def test_the_same_is_asked_once(both: tuple[Site, Sshd]) -> None:
     site, sshd = both
     line = "ask db-care --on db2 --as postgres --for 1h --yes --json"
-    first = json.loads(sshd.ssh("carol", f"{line} --once k1 /usr/bin/psql").stdout)
-    again = json.loads(sshd.ssh("carol", f"{line} --once k1 /usr/bin/psql").stdout)
-    other = json.loads(sshd.ssh("carol", f"{line} --once k2 /usr/bin/psql").stdout)
+    first = json.loads(sshd.ssh("carol", f"{line} --once k1 /usr/local/sbin/psql").stdout)
+    again = json.loads(sshd.ssh("carol", f"{line} --once k1 /usr/local/sbin/psql").stdout)
+    other = json.loads(sshd.ssh("carol", f"{line} --once k2 /usr/local/sbin/psql").stdout)
     assert (again["no"], other["no"]) == (first["no"], first["no"] + 1)
-    ran = sshd.ssh("carol", f"{line} /usr/bin/psql")
+    ran = sshd.ssh("carol", f"{line} /usr/local/sbin/psql")
     assert ran.returncode == 1 and f"as carol {other['no']}" in ran.stderr
     assert sshd.ssh("bob", f"approve carol {first['no']} --yes").returncode == 0
     ran = sshd.ssh("bob", f"approve carol {first['no']} --yes")
@@ -256,7 +256,7 @@ def test_the_same_is_asked_once(both: tuple[Site, Sshd]) -> None:
 
 def at_terminal(sshd: Sshd, key: str) -> str:
     """Asks at a terminal, gives the key when it is asked for, and returns what was shown."""
-    line = "ask db-care --on db1 --as root --for 1h /usr/bin/w"
+    line = "ask db-care --on db1 --as root --for 1h /usr/local/sbin/w"
     words = [*sshd.client("bob", "-tt"), line]
     shown = b""
     with subprocess.Popen(words, stdin=subprocess.PIPE, stdout=subprocess.PIPE) as call:
@@ -283,7 +283,7 @@ def test_at_a_terminal(both: tuple[Site, Sshd]) -> None:
 def test_times_without_quotes(both: tuple[Site, Sshd]) -> None:
     _, sshd = both
     words = ["ask", "db-care", "--on", "db1", "--as", "root", "--from", "tomorrow 09:00"]
-    ran = sshd.ssh("ann", *words, "--until", "tomorrow 10:30", "/usr/bin/w", given="n\n")
+    ran = sshd.ssh("ann", *words, "--until", "tomorrow 10:30", "/usr/local/sbin/w", given="n\n")
     assert (
         ran.returncode == 1 and "09:00:00 CE" in ran.stdout and "1 hour 30 minutes" in ran.stdout
     ), ran
