@@ -15,7 +15,7 @@ import sys
 import tempfile
 
 ROOT = os.path.dirname(os.path.dirname(os.path.abspath(__file__)))
-MOST_EDITS = 12
+MOST_EDITS = 10
 
 
 def read(path):
