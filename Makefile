@@ -8,8 +8,9 @@ all: desk
 desk:
 	bash scripts/build.sh
 
-# What the desk does, on the files of examples/.
+# A person asks by ssh and another approves; then what the desk does on the files of examples/.
 demo: desk
+	bash relays/demo.sh
 	bash scripts/demo.sh
 
 # The program on each case of cases/: files, words and inputs, with all that it answers. Then reports of random sets of messages, beside a second
@@ -66,7 +67,7 @@ relays-test:
 
 # A grant's life by ssh: ann asks, bob approves, ann revokes.
 relays-demo:
-	/usr/bin/python3 relays/demo.py
+	bash relays/demo.sh
 
 # The program, its manual pages, completions, units and examples below $(DESTDIR)$(PREFIX); the manual pages and completions alone; Debian's packages
 # in build/deb (dpkg-dev and debhelper); and these packages tried in a root of their own (as root, at most three minutes). None of them proves anything

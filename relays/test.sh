@@ -13,27 +13,13 @@ packages=(
     python3-flask python3-requests python3-waitress
     python3-pytest python3-pytest-xdist python3-selenium
 )
-# The packages of the list that are not installed. (dpkg-query fails where it knows none of a name.)
-lacking() {
-    { dpkg-query -W -f '${db:Status-Status} ${Package}\n' "${packages[@]}" 2>/dev/null || true; } |
-        awk '$1 == "installed" {print $2}' | sort > "$1"
-    printf '%s\n' "${packages[@]}" | sort | comm -23 - "$1"
-}
-there=$(mktemp)
-trap 'rm -f "$there"' EXIT
-mapfile -t wanted < <(lacking "$there")
-if [ "${#wanted[@]}" -gt 0 ] && [ "$(id -u)" = 0 ] && command -v apt-get >/dev/null; then
-    apt-get -o DPkg::Lock::Timeout=120 update -qq
-    # (a machine that is tested starts no service of these packages: the tests start their own)
-    RUNLEVEL=1 DEBIAN_FRONTEND=noninteractive apt-get -o DPkg::Lock::Timeout=120 install -y -qq \
-        --no-install-recommends "${wanted[@]}"
-fi
+bash relays/install.sh "${packages[@]}"
 if [ ! -x "$DESK" ]; then
     echo "there is no program $DESK: run make desk"
     exit 1
 fi
 log=$(mktemp)
-trap 'rm -f "$there" "$log"' EXIT
+trap 'rm -f "$log"' EXIT
 status=0
 # (each file of tests has sites of its own, so they go side by side)
 /usr/bin/python3 -m pytest -p no:cacheprovider -q -n "$(nproc)" --dist loadfile --durations=5 \
