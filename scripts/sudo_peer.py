@@ -1,7 +1,8 @@
 """What the scripts that ask sudo share: a mount namespace of their own, with its own users, commands and /etc/sudoers, and sudo's answers there.
 
 sudo compares files by inode, so the commands are small files under /srv, and its clock stands still at the moment that is asked about
-(`faketime -f`). /etc/sudoers, /etc/passwd and /srv are bound over the machine's in that namespace alone, so nothing of the machine changes.
+(`faketime -f`). Users and hosts are looked up in files alone: Debian's sudo asks for a host's canonical name, and no resolver is to be asked here.
+All of these are bound over the machine's in that namespace alone, so nothing of the machine changes.
 """
 
 import os
@@ -9,7 +10,7 @@ import shutil
 import subprocess
 import sys
 
-PLACES = ("/etc/sudoers", "/etc/passwd", "/srv")
+PLACES = ("/etc/nsswitch.conf", "/etc/sudoers", "/etc/passwd", "/srv")
 
 
 def tool(name):
@@ -56,6 +57,11 @@ def furnish(folder, users, commands):
             file.write(f"{user}:x:{2001 + number}:2001::/:/bin/sh\n")
     os.chmod(passwd, 0o644)
     bind(passwd, "/etc/passwd")
+    lookups = os.path.join(folder, "nsswitch.conf")
+    with open(lookups, "w") as file:
+        file.write("passwd: files\ngroup: files\nhosts: files\n")
+    os.chmod(lookups, 0o644)
+    bind(lookups, "/etc/nsswitch.conf")
     sudoers = os.path.join(folder, "sudoers")
     with open(sudoers, "w") as file:
         file.write("")
