@@ -6,7 +6,6 @@ mod gathering;
 mod grant_laws;
 mod host_file;
 mod live;
-mod naming;
 mod outcomes;
 mod parked;
 mod past_laws;
@@ -19,7 +18,7 @@ pub use grant_laws::{
 };
 pub use host_file::host_file_in;
 pub use live::{Live, live_in};
-pub use naming::RequestName;
+pub use messages::RequestName;
 pub use outcomes::status_in;
 pub use parked::parked_in;
 pub use past_laws::past_grants_stay;

@@ -4,13 +4,14 @@ ghost use Rattle.std.specs.Prelude.{◌≡◌, List, IfOk, OnOk};
 ghost use Rattle.std.specs.BTreeMap.{values};
 ghost use Rattle.messages.specs.declared.message.Message.{Message as AnyMessage};
 ghost use Rattle.grants.specs.Summaries.{StandsFor};
-ghost use Rattle.desk_outcomes.specs.Gathered.{Adds, AreGathered, Gathers, Give, grant_of, live_for, window_at};
-ghost use Rattle.desk_outcomes.specs.Outcomes.{AreLive};
+ghost use Rattle.desk_outcomes.specs.Gathered.{AreGathered};
+ghost use Rattle.desk_outcomes.specs.Outcomes.{AreLive, window_at};
+ghost use Rattle.desk_outcomes.specs.private.ByName.{Gathers};
+ghost use Rattle.desk_outcomes.specs.private.InTurn.{Adds, Give, grant_of, live_for};
 
 use crate::gathering::Gathered;
-use crate::naming::{NameKey, RequestName};
 use grants::{Status, Summary, Window, status};
-use messages::Request;
+use messages::{Request, RequestName};
 use roster::Roster;
 use std::alloc::Global;
 use std::collections::BTreeMap;
@@ -41,10 +42,7 @@ fn grant(request: &Request, window: Window) -> Result<Live, NoMemory>
     ensures { IfOk result (λ l. l ≡ grant_of request.now window) }
 {
     Ok(Live {
-        name: RequestName {
-            by: request.by().clone()?,
-            no: request.no(),
-        },
+        name: request.name()?,
         ceiling: request.ceiling().clone()?,
         window,
     })
@@ -86,7 +84,7 @@ fn push_live(
 fn live_among(
     alloc: Global,
     roster: &Roster,
-    summaries: &BTreeMap<NameKey, Summary>,
+    summaries: &BTreeMap<RequestName, Summary>,
     at: Moment,
 ) -> Result<Vec<Live>, NoMemory>
     ensures { (set : List AnyMessage) → Gathers set summaries.now

@@ -14,7 +14,6 @@ pub mod WorkedStatuses
 -- what a summary keeps of them
 pub mod Marks
 pub mod Summaries
-pub mod Voices
 -- the rules of a host's file
 pub mod GrantRules
 pub mod Bases

@@ -9,7 +9,8 @@ use Rattle.std.proofs.lemmas.Cmp.{nat_cmp_total, on_total, then_total}
 use Rattle.sudo_words.specs.declared.cmnd.Cmnd.{Cmnd}
 use Rattle.sudo_policy.specs.declared.entry.Entry.{Entry}
 use Rattle.messages.specs.Fields.{RequestFields}
-use Rattle.messages.specs.Names.{RequestName, SameMessages}
+use Rattle.messages.specs.Names.{SameMessages}
+use Rattle.messages.specs.declared.request_name.RequestName.{RequestName}
 use Rattle.messages.specs.declared.message.Message.{Message}
 use Rattle.messages.specs.declared.message.Message.TheVariants.{Request, Verdict}
 use Rattle.roster.specs.Fields.{CeilingFields, RosterFields}

@@ -2,8 +2,8 @@ use Rattle.std.proofs.Common.{◌≡◌, List, [], ◌∷◌, ◌++◌, ◌+◌,
 use Rattle.std.specs.Prelude.{string_bytes}
 use Rattle.std.specs.BTreeMap.{values}
 use Rattle.grants.specs.Summaries.{Kept}
-use Rattle.desk_outcomes.specs.Gathered.{Give}
-use Rattle.desk_outcomes.specs.LinesLeft.{rules_left}
+use Rattle.desk_outcomes.specs.private.Behind.{rules_left}
+use Rattle.desk_outcomes.specs.private.InTurn.{Give}
 use Rattle.desk_outcomes.proofs.FileLemmas.{one_behind}
 use Rattle.desk_outcomes.proofs.GivenLists.{is_roll, kept_stands, turn_among, turn_split}
 use Rattle.desk_outcomes.proofs.HostLines.{some_lines}
