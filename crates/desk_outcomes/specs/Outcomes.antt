@@ -1,5 +1,5 @@
 -- What a name comes to, and which grants are in force at a moment.
-use Rattle.std.specs.Prelude.{◌≡◌, ℕ, nat_le, ◌&&◌, if◌then◌else◌, List, Contains, Option, Some, None}
+use Rattle.std.specs.Prelude.{◌≡◌, ℕ, List, Contains, Option, Some, None}
 use Rattle.sudo_words.specs.declared.cmnd.Cmnd.{Cmnd}
 use Rattle.messages.specs.Fields.{RequestFields}
 use Rattle.messages.specs.Names.{NamePrecedes, IsNamed}
@@ -9,7 +9,6 @@ use Rattle.messages.specs.declared.message.Message.{Message}
 use Rattle.roster.specs.Fields.{RosterFields}
 use Rattle.grants.specs.Statuses.{InWindow, IsFirstMoment, IsLastMoment, IsStatus}
 use Rattle.grants.specs.declared.outcome.Status.{Status}
-use Rattle.grants.specs.declared.outcome.Status.TheVariants.{Disputed, Lapsed, Refused, Waiting, Void, Granted}
 use Rattle.grants.specs.declared.outcome.Window.{Window}
 use Rattle.messages.specs.Order.{AreInOrder}
 
@@ -21,15 +20,6 @@ ComesTo f messages name None = NobodyAsks messages name
 ComesTo f messages name (Some status) = IsStatus f messages name status
 
 -- ---- grants in force
-
--- the window, where it holds the moment
-abbrev pub window_at : ℕ → Status → Option Window
-window_at at Disputed = None
-window_at at Lapsed = None
-window_at at Refused = None
-window_at at Waiting = None
-window_at at Void = None
-window_at at (Granted w) = if nat_le w.start at && nat_le at w.end then Some w else None
 
 -- a granted request's name, its ceiling and its window
 pub record LiveGrant : Type 0 where

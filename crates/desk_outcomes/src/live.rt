@@ -5,12 +5,12 @@ ghost use Rattle.std.specs.BTreeMap.{values};
 ghost use Rattle.messages.specs.declared.message.Message.{Message as AnyMessage};
 ghost use Rattle.grants.specs.Summaries.{StandsFor};
 ghost use Rattle.desk_outcomes.specs.Gathered.{AreGathered};
-ghost use Rattle.desk_outcomes.specs.Outcomes.{AreLive, window_at};
+ghost use Rattle.desk_outcomes.specs.Outcomes.{AreLive};
 ghost use Rattle.desk_outcomes.specs.private.ByName.{Gathers};
 ghost use Rattle.desk_outcomes.specs.private.InTurn.{Adds, Give, grant_of, live_for};
 
 use crate::gathering::Gathered;
-use grants::{Status, Summary, Window, status};
+use grants::{Summary, Window, status};
 use messages::{Request, RequestName};
 use roster::Roster;
 use std::alloc::Global;
@@ -48,16 +48,6 @@ fn grant(request: &Request, window: Window) -> Result<Live, NoMemory>
     })
 }
 
-/// The window of what is granted, where it holds the moment.
-fn holding(status: Status, at: Moment) -> Option<Window>
-    ensures { result ≡ window_at at status }
-{
-    match status {
-        Status::Granted(window) if window.start <= at && at <= window.end => Some(window),
-        _ => None,
-    }
-}
-
 /// Adds the grant of a summary's request, where it is in force at the moment.
 fn push_live(
     list: &mut Vec<Live>,
@@ -68,7 +58,7 @@ fn push_live(
     ensures { (set : List AnyMessage) → StandsFor set summary.now
         → OnOk result (Adds roster.now.says set (live_for at) summary.now list.old.items list.new.items) }
 {
-    let Some(window) = holding(status(roster, summary), at) else {
+    let Some(window) = status(roster, summary).window_at(at) else {
         return Ok(());
     };
     match summary.request() {

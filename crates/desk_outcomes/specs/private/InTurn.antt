@@ -5,11 +5,11 @@ use Rattle.messages.specs.Fields.{RequestFields}
 use Rattle.messages.specs.Names.{name_of}
 use Rattle.messages.specs.declared.message.Message.{Message}
 use Rattle.roster.specs.Fields.{RosterFields}
-use Rattle.grants.specs.Statuses.{IsStatus}
+use Rattle.grants.specs.Statuses.{IsStatus, window_at}
 use Rattle.grants.specs.Summaries.{Kept}
 use Rattle.grants.specs.declared.outcome.Status.{Status}
 use Rattle.grants.specs.declared.outcome.Window.{Window}
-use Rattle.desk_outcomes.specs.Outcomes.{LiveGrant, window_at}
+use Rattle.desk_outcomes.specs.Outcomes.{LiveGrant}
 
 module _ {X : Type 0} (f : RosterFields Cmnd) (messages : List Message) (give : RequestFields → Status → List X) where
   -- one more summary
