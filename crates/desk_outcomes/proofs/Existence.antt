@@ -153,8 +153,8 @@ all_grown seen (m ∷ rest) k known each stands =
     let last = all_grown (seen ++ m ∷ []) rest next.0 (subst (λ (r : RequestFields). IsMessage (Request r)) (sym next.1) known) (λ n h. each n (Contains-behind m rest n h)) next.2 in
     (last.0, last.1 ∙ next.1, subst (λ (s : List Message). StandsFor s last.0) (append_assoc seen (m ∷ []) rest) last.2)
 
-first : (q : RequestFields) → StandsFor (Request q ∷ []) (record { request = q; is_disputed = false; approvals = []; refusals = []; revocations = [] })
-first q = record {
+pub asked_alone : (q : RequestFields) → StandsFor (Request q ∷ []) (record { request = q; is_disputed = false; approvals = []; refusals = []; revocations = [] })
+asked_alone q = record {
   asked = Contains-head (Request q) [];
   alone = λ single p h same. elim (Contains-cases (Request q) [] (Request p) h) as (λ _. p ≡ q) [ inl is ↦ cc | inr none ↦ absurd (no_member (Request p) none) ];
   other = λ two. absurd cc;
@@ -251,7 +251,7 @@ some_parked set =
 module _ (set : List Message) (known : (m : Message) → Contains set m → IsMessage m) where
   summary_of : (q : RequestFields) → Contains set (Request q) → (k : Kept) × (k.request ≡ q) × StandsFor set k
   summary_of q h =
-      let all = all_grown (Request q ∷ []) set (record { request = q; is_disputed = false; approvals = []; refusals = []; revocations = [] }) (known (Request q) h) known (first q) in
+      let all = all_grown (Request q ∷ []) set (record { request = q; is_disputed = false; approvals = []; refusals = []; revocations = [] }) (known (Request q) h) known (asked_alone q) in
       (all.0, all.1, stands_same (Request q ∷ set) set all.0 (once_more set (Request q) h) all.2)
 
   -- ---- the roll of summaries

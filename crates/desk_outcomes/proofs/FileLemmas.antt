@@ -25,10 +25,9 @@ use Rattle.sudo_policy.proofs.One.{text_one}
 use Rattle.sudo_policy.proofs.PolicyFronts.{canon_both}
 use Rattle.roster.specs.Fields.{RosterFields}
 use Rattle.grants.specs.Bases.{FitsBase}
-use Rattle.grants.specs.GrantRules.{IsGrantRule}
+use Rattle.grants.specs.GrantRules.{IsGrantRule, rules_for}
 use Rattle.grants.specs.Summaries.{Kept}
-use Rattle.grants.specs.private.Given.{rules_for}
-use Rattle.grants.specs.private.Lines as written
+use Rattle.grants.specs.GrantLines as written
 use Rattle.grants.proofs.LawfulRules.{extended_policy}
 use Rattle.desk_outcomes.specs.private.Behind.{AreBehind, rules_left}
 use Rattle.desk_outcomes.specs.private.ByName.{Gathers}

@@ -13,7 +13,7 @@ use Rattle.grants.specs.Summaries.{Kept, StandsFor}
 use Rattle.desk_outcomes.specs.Parked.{IsParked}
 use Rattle.desk_outcomes.specs.private.ByName.{Gathers, IsSummaryOf, at_name}
 use Rattle.desk_outcomes.proofs.Membership.{no_member, Contains-head, Contains-behind, Contains-cases}
-use Rattle.desk_outcomes.proofs.NameMaps.{SetsAt, at_none, same_cases}
+use Rattle.desk_outcomes.proofs.NameMaps.{SetsAt, at_none, at_same, same_cases}
 use Rattle.desk_outcomes.proofs.Standing.{Mentions, name_from_named, named_from_name, stands_in, stands_still}
 
 -- what stands at a name, of a set
@@ -183,3 +183,7 @@ unheard set v m bare g = record { ordered = g.ordered; each = λ other. at other
 pub gathers_still : (set : List Message) (old new : BTreeMap RequestName Kept) → IsOrdered name_cmp new → ((name : RequestName) → at_name new name ≡ at_name old name) → Gathers set old → Gathers set new
 gathers_still set old new ordered same g =
     record { ordered = ordered; each = λ name. subst (IsAt set name) (sym (same name)) (g.each name) }
+
+-- with the same entries
+pub gathers_same : (set : List Message) (old new : BTreeMap RequestName Kept) → new.entries ≡ old.entries → IsOrdered name_cmp new → Gathers set old → Gathers set new
+gathers_same set old new same ordered g = gathers_still set old new ordered (λ name. at_same old new name same) g

@@ -11,8 +11,7 @@ use Rattle.messages.specs.Names.{name_of}
 use Rattle.messages.specs.declared.request_name.RequestName.{RequestName}
 use Rattle.messages.specs.declared.message.Message.{Message}
 use Rattle.roster.specs.Fields.{RosterFields}
-use Rattle.grants.specs.private.Given.{rules_for}
-use Rattle.grants.specs.GrantRules.{grant_rule}
+use Rattle.grants.specs.GrantRules.{grant_rule, rules_for}
 use Rattle.grants.specs.Statuses.{IsFirstMoment, IsLastMoment, IsStatus}
 use Rattle.grants.specs.Summaries.{Kept, StandsFor}
 use Rattle.grants.specs.declared.outcome.Status.{Status}

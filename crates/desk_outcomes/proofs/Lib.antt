@@ -19,3 +19,4 @@ pub mod Existence
 pub mod SummaryLemmas
 pub mod PastGrants
 pub mod ByNameLemmas
+mod WorkedGrant

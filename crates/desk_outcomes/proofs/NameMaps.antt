@@ -64,9 +64,9 @@ pub at_none : {X : Type 0} (m : BTreeMap RequestName X) (name : RequestName) →
 at_none {X} m name empty =
     ap (λ (es : List (RequestName × X)). lookup (is_at (name_cmp name)) es) empty
 
--- the same entries
-pub same_map : {X : Type 0} (m n : BTreeMap RequestName X) → n.entries ≡ m.entries → m ≡ n
-same_map {X} m n same = ap (λ (es : List (RequestName × X)). record { entries = es }) (sym same)
+-- with the same entries it has the same at each name
+pub at_same : {X : Type 0} (m n : BTreeMap RequestName X) (name : RequestName) → n.entries ≡ m.entries → at_name n name ≡ at_name m name
+at_same {X} m n name same = ap (λ (es : List (RequestName × X)). lookup (is_at (name_cmp name)) es) same
 
 -- ---- as lists
 

@@ -14,4 +14,6 @@ pub mod LinesLeft
 pub mod Same
 pub mod Alike
 pub mod Uncounted
+-- a worked case
+pub mod WorkedSet
 pub mod private

@@ -10,6 +10,7 @@ mod outcomes;
 mod parked;
 mod past_laws;
 mod summaries;
+mod worked;
 
 pub use gathering::Gathered;
 pub use grant_laws::{
@@ -23,3 +24,4 @@ pub use outcomes::status_in;
 pub use parked::parked_in;
 pub use past_laws::past_grants_stay;
 pub use summaries::summaries_in;
+pub use worked::worked_set;

@@ -16,6 +16,7 @@ pub mod Marks
 pub mod Summaries
 -- the rules of a host's file
 pub mod GrantRules
+pub mod GrantLines
 pub mod Bases
 pub mod HostFaults
 pub mod private

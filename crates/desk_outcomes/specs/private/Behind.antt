@@ -8,8 +8,7 @@ use Rattle.sudo_policy.specs.Printing.{canon}
 use Rattle.messages.specs.Fields.{RequestFields}
 use Rattle.messages.specs.declared.message.Message.{Message}
 use Rattle.roster.specs.Fields.{RosterFields}
-use Rattle.grants.specs.private.Given.{rules_for}
-use Rattle.grants.specs.GrantRules.{IsGrantRule}
+use Rattle.grants.specs.GrantRules.{IsGrantRule, rules_for}
 use Rattle.grants.specs.Summaries.{Kept}
 use Rattle.grants.specs.declared.outcome.Status.{Status}
 use Rattle.desk_outcomes.specs.LinesLeft.{stays}

@@ -10,8 +10,8 @@ use Rattle.sudo_decide.proofs.AnswerLemmas.{take_one_more}
 use Rattle.desk_outcomes.proofs.GatherLemmas.{of_itself, of_verdict}
 use Rattle.desk_outcomes.proofs.gathering.first_of.Goals as goal
 
-pub loop-verdict-established : goal.loop-verdict-established
-loop-verdict-established c =
+pub loop-verdict-init : goal.loop-verdict-init
+loop-verdict-init c =
     let stands = c.in_ok-summary.ensures in (of_itself c.args.request.now c.in_ok-summary.summary stands, stands)
 
 pub apply-requires : goal.apply-requires

@@ -8,8 +8,8 @@ use Rattle.messages.specs.declared.message.Message.TheVariants.{Request}
 use Rattle.grants.specs.Summaries.{StandsFor}
 use Rattle.desk_outcomes.specs.private.ByName.{AreByName, at_name, verdicts_at}
 use Rattle.desk_outcomes.proofs.ByNameLemmas.{Summaries, request_first}
-use Rattle.desk_outcomes.proofs.GatherLemmas.{of_verdict}
-use Rattle.desk_outcomes.proofs.NameMaps.{SetsAt, others_from, same_map, sets_from}
+use Rattle.desk_outcomes.proofs.GatherLemmas.{gathers_same, of_verdict}
+use Rattle.desk_outcomes.proofs.NameMaps.{SetsAt, others_from, sets_from}
 use Rattle.desk_outcomes.proofs.gathering.put_first.Goals as goal
 
 pub first_of-requires : goal.first_of-requires
@@ -30,7 +30,10 @@ returns-in_err-settled c =
 pub returns-in_err-insert : goal.returns-in_err-insert
 returns-in_err-insert c =
     let p = err_from_is_err_and c.from_residual-in_err-insert.result c.from_residual-in_err-insert.ensures.1 in
-    rw p.1 (λ set by. subst (λ (m : Summaries). AreByName set m c.args.waiting.now) (same_map c.args.summaries.now c.insert.new.self c.in_err-insert.ensures.err) by)
+    rw p.1 (λ set by. record {
+      summaries = gathers_same set c.args.summaries.now c.insert.new.self c.in_err-insert.ensures.err c.insert.ensures.ordered by.summaries;
+      waiting = by.waiting;
+    })
 
 pub returns : goal.returns
 returns c = λ set by.
@@ -38,7 +41,7 @@ returns c = λ set by.
     let old = c.args.summaries.now in
     let new = c.insert.new.self in
     let waiting = c.args.waiting.now in
-    let taken = c.remove.new.self in
+    let taken = c.remove-part_of_it.new.self in
     let name_is = c.requires.named in
     let k = c.in_ok-summary.summary in
     let bare : at_name old (name_of q) ≡ None = subst (λ (n : RequestName). at_name old n ≡ None) name_is c.requires.first in
@@ -46,6 +49,6 @@ returns c = λ set by.
     let stands : StandsFor (Request q ∷ map of_verdict (verdicts_at waiting (name_of q))) k =
     subst (λ (vs : List VerdictFields). StandsFor (Request q ∷ map of_verdict vs) k) (c.waited.ensures ∙ ap (verdicts_at waiting) name_is) c.in_ok-summary.ensures.stands in
     let settled_is = c.in_ok-settled.ensures ∙ name_is in
-    let gone : at_name taken (name_of q) ≡ None = subst (λ (n : RequestName). at_name taken n ≡ None) settled_is c.remove.ensures.updates.1 in
-    let others = others_from waiting taken c.in_ok-settled.settled None c.remove.ensures.updates in
-    request_first set q old new waiting taken k bare sets c.in_ok-insert.ensures.ordered c.in_ok-summary.ensures.same_request stands c.remove.ensures.ordered gone (λ other differ. others other (λ same. differ (sym settled_is ∙ same))) by
+    let gone : at_name taken (name_of q) ≡ None = subst (λ (n : RequestName). at_name taken n ≡ None) settled_is c.remove-part_of_it.ensures.updates.1 in
+    let others = others_from waiting taken c.in_ok-settled.settled None c.remove-part_of_it.ensures.updates in
+    request_first set q old new waiting taken k bare sets c.in_ok-insert.ensures.ordered c.in_ok-summary.ensures.same_request stands c.remove-part_of_it.ensures.ordered gone (λ other differ. others other (λ same. differ (sym settled_is ∙ same))) by

@@ -28,7 +28,8 @@ returns-in-Some c = λ set by.
     let new = c.get_mut.follows.lender after in
     let holds = c.get_mut.follows.holds after in
     let sets : SetsAt old new (name_meant v) after = subst (λ (n : RequestName). SetsAt old new n after) c.in_ok-name.ensures (sets_from old new c.in_ok-name.name after (holds.3 (search rules))) in
-    verdict_heard set v c.apply.result old new c.args.waiting.now before after (found c) sets holds.4 c.apply.ensures.same_request c.apply.ensures.ok c.apply.ensures.err by
+    let there = subst (λ (n : RequestName). at_name old n ≡ Some before) c.in_ok-name.ensures (sym c.in-Some.ensures.value) in
+    verdict_heard set v c.apply.result old new c.args.waiting.now before after there sets holds.4 c.apply.ensures.same_request c.apply.ensures.ok c.apply.ensures.err by
 
 pub returns-in-None : goal.returns-in-None
 returns-in-None c = λ set by.

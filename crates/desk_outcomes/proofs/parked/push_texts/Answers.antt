@@ -7,8 +7,8 @@ use Rattle.sudo_decide.proofs.AnswerLemmas.{take_one_more}
 use Rattle.desk_outcomes.proofs.ParkedLemmas.{one_text_more}
 use Rattle.desk_outcomes.proofs.parked.push_texts.Goals as goal
 
-pub loop-verdict-established : goal.loop-verdict-established
-loop-verdict-established c = sym (append-nil (map string_bytes c.args.texts.now.items))
+pub loop-verdict-init : goal.loop-verdict-init
+loop-verdict-init c = sym (append-nil (map string_bytes c.args.texts.now.items))
 
 pub loop-verdict-preserved : goal.loop-verdict-preserved
 loop-verdict-preserved c =
