@@ -1,16 +1,16 @@
 -- The verdicts that wait by name, as a set grows.
-use Rattle.std.proofs.Common.{◌≡◌, ◌⊎◌, List, [], ◌∷◌, ◌++◌, Option, None, Vec, refl, sym, ap, ◌∙◌, subst, inl, inr}
+use Rattle.std.proofs.Common.{◌≡◌, ◌⊎◌, List, [], ◌∷◌, ◌++◌, Option, Vec, sym, ap, ◌∙◌, subst, inl, inr}
 use Rattle.std.specs.List.{Contains}
 use Rattle.std.specs.BTreeMap.{BTreeMap, IsOrdered}
 use Rattle.std.specs.declared.alloc.Global.{Global}
 use Rattle.std.proofs.lemmas.List.Elements.{Contains-append_left, Contains-push, Contains-push_cases}
 use Rattle.messages.specs.Fields.{RequestFields, VerdictFields}
-use Rattle.messages.specs.Names.{IsNamed, NobodyAsks, name_cmp, name_meant, name_of}
+use Rattle.messages.specs.Names.{NobodyAsks, name_cmp, name_meant, name_of}
 use Rattle.messages.specs.declared.request_name.RequestName.{RequestName}
 use Rattle.messages.specs.declared.message.Message.{Message}
 use Rattle.messages.specs.declared.message.Message.TheVariants.{Request, Verdict}
 use Rattle.desk_outcomes.specs.Parked.{IsParked}
-use Rattle.desk_outcomes.specs.private.ByName.{Waits, at_name, listed, verdicts_at}
+use Rattle.desk_outcomes.specs.private.ByName.{Waits, listed, verdicts_at}
 use Rattle.desk_outcomes.proofs.Membership.{no_member}
 use Rattle.desk_outcomes.proofs.NameMaps.{at_none, same_cases}
 use Rattle.desk_outcomes.proofs.Standing.{name_from_named, named_from_name}

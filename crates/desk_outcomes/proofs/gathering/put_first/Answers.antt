@@ -1,4 +1,4 @@
-use Rattle.std.proofs.Common.{◌≡◌, ◌∙◌, List, [], ◌∷◌, ◌++◌, None, map, sym, ap, subst}
+use Rattle.std.proofs.Common.{◌≡◌, ◌∙◌, List, ◌∷◌, None, map, sym, ap, subst}
 use Rattle.std.specs.List.{Contains}
 use Rattle.std.proofs.lemmas.Result.{err_from_is_err_and}
 use Rattle.messages.specs.Fields.{VerdictFields}
@@ -6,8 +6,8 @@ use Rattle.messages.specs.Names.{name_of}
 use Rattle.messages.specs.declared.request_name.RequestName.{RequestName}
 use Rattle.messages.specs.declared.message.Message.TheVariants.{Request}
 use Rattle.grants.specs.Summaries.{StandsFor}
-use Rattle.desk_outcomes.specs.private.ByName.{AreByName, at_name, verdicts_at}
-use Rattle.desk_outcomes.proofs.ByNameLemmas.{Summaries, request_first}
+use Rattle.desk_outcomes.specs.private.ByName.{at_name, verdicts_at}
+use Rattle.desk_outcomes.proofs.ByNameLemmas.{request_first}
 use Rattle.desk_outcomes.proofs.GatherLemmas.{gathers_same, of_verdict}
 use Rattle.desk_outcomes.proofs.NameMaps.{SetsAt, others_from, sets_from}
 use Rattle.desk_outcomes.proofs.gathering.put_first.Goals as goal
@@ -48,7 +48,7 @@ returns c = λ set by.
     let sets : SetsAt old new (name_of q) k = subst (λ (n : RequestName). SetsAt old new n k) name_is (sets_from old new c.args.name k c.in_ok-insert.ensures.updates) in
     let stands : StandsFor (Request q ∷ map of_verdict (verdicts_at waiting (name_of q))) k =
     subst (λ (vs : List VerdictFields). StandsFor (Request q ∷ map of_verdict vs) k) (c.waited.ensures ∙ ap (verdicts_at waiting) name_is) c.in_ok-summary.ensures.stands in
-    let settled_is = c.in_ok-settled.ensures ∙ name_is in
+    let settled_is = c.in_ok-settled.ensures.cases ∙ name_is in
     let gone : at_name taken (name_of q) ≡ None = subst (λ (n : RequestName). at_name taken n ≡ None) settled_is c.remove-part_of_it.ensures.updates.1 in
     let others = others_from waiting taken c.in_ok-settled.settled None c.remove-part_of_it.ensures.updates in
     request_first set q old new waiting taken k bare sets c.in_ok-insert.ensures.ordered c.in_ok-summary.ensures.same_request stands c.remove-part_of_it.ensures.ordered gone (λ other differ. others other (λ same. differ (sym settled_is ∙ same))) by

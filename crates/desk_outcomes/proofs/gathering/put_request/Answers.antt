@@ -1,4 +1,4 @@
-use Rattle.std.proofs.Common.{◌≡◌, ◌∙◌, Some, None, rules, ap, sym, subst}
+use Rattle.std.proofs.Common.{◌≡◌, Some, None, rules, ap, sym, subst}
 use Rattle.messages.specs.Names.{name_of}
 use Rattle.messages.specs.declared.request_name.RequestName.{RequestName}
 use Rattle.desk_outcomes.specs.private.ByName.{AreByName, IsByName, at_name}

@@ -3,7 +3,7 @@ use Rattle.std.specs.Prelude.{MatchResult}
 use Rattle.messages.specs.Names.{name_meant}
 use Rattle.messages.specs.declared.request_name.RequestName.{RequestName}
 use Rattle.messages.specs.declared.message.Message.TheVariants.{Verdict}
-use Rattle.desk_outcomes.specs.private.ByName.{AreByName, at_name, verdicts_at}
+use Rattle.desk_outcomes.specs.private.ByName.{AreByName, at_name}
 use Rattle.desk_outcomes.proofs.ByNameLemmas.{Summaries, verdict_heard, verdict_waits}
 use Rattle.desk_outcomes.proofs.GatherLemmas.{named_at}
 use Rattle.desk_outcomes.proofs.NameMaps.{SetsAt, sets_from}

@@ -1,4 +1,4 @@
-use Rattle.std.proofs.Common.{◌≡◌, Some, None, sym, subst}
+use Rattle.std.proofs.Common.{sym, subst}
 use Rattle.messages.specs.declared.request_name.RequestName.{RequestName}
 use Rattle.grants.specs.Statuses.{IsStatus}
 use Rattle.desk_outcomes.proofs.ByNameLemmas.{opened}

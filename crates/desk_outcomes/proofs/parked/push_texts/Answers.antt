@@ -1,9 +1,8 @@
-use Rattle.std.proofs.Common.{◌≡◌, ◌∙◌, List, ℕ, [], ◌∷◌, ◌++◌, map, take, ap, sym, append_assoc}
+use Rattle.std.proofs.Common.{◌∙◌, List, ◌++◌, map, ap, sym}
 use Rattle.std.specs.Prelude.{string_bytes}
-use Rattle.std.proofs.lemmas.List.{append-nil, map-append, take_all}
+use Rattle.std.proofs.lemmas.List.{append-nil, take_all}
 use Rattle.messages.specs.Fields.{VerdictFields}
 use Rattle.messages.specs.Wire.{verdict_text}
-use Rattle.sudo_decide.proofs.AnswerLemmas.{take_one_more}
 use Rattle.desk_outcomes.proofs.ParkedLemmas.{one_text_more}
 use Rattle.desk_outcomes.proofs.parked.push_texts.Goals as goal
 

@@ -1,8 +1,7 @@
-use Rattle.std.proofs.Common.{◌≡◌, ◌∙◌, [], ◌∷◌, ◌++◌, List, Vec, ℕ, map, ap, sym}
+use Rattle.std.proofs.Common.{◌∙◌, [], ◌∷◌, ◌++◌, List, ℕ, map, ap, sym}
 use Rattle.std.specs.Prelude.{string_bytes}
 use Rattle.std.specs.BTreeMap.{values}
-use Rattle.std.specs.declared.alloc.Global.{Global}
-use Rattle.std.proofs.lemmas.List.{append-nil, map-append}
+use Rattle.std.proofs.lemmas.List.{map-append}
 use Rattle.messages.specs.Fields.{VerdictFields}
 use Rattle.messages.specs.Wire.{verdict_text}
 use Rattle.desk_outcomes.specs.private.ByName.{in_turn}
@@ -18,6 +17,7 @@ loop-verdicts-preserved c =
       before.0 ++ list ∷ [],
       turn_split before.0 l.verdicts-iterator c.next.new.self (values c.args.waiting.now) list before.1 c.in-Some.ensures.steps,
       c.in_ok-push_texts.ensures
+          ∙ ap (λ (vs : List VerdictFields). map string_bytes l.texts.items ++ map verdict_text vs) c.deref.ensures.value
           ∙ ap (λ (ts : List (List ℕ)). ts ++ map verdict_text list.items) before.2
           ∙ sym (map-append verdict_text (in_turn before.0) list.items)
           ∙ ap (map verdict_text) (sym (turn_more before.0 list)),

@@ -1,6 +1,5 @@
-use Rattle.std.proofs.Common.{List, sym, ap, subst, ◌∙◌}
+use Rattle.std.proofs.Common.{sym, ap, subst, ◌∙◌}
 use Rattle.std.proofs.lemmas.Result.{IfOk-weaker}
-use Rattle.grants.specs.Summaries.{Kept}
 use Rattle.desk_outcomes.specs.Gathered.{Known}
 use Rattle.desk_outcomes.specs.Summaries.{AreSummaries}
 use Rattle.desk_outcomes.proofs.summaries.summaries_in.Goals as goal

@@ -1,4 +1,4 @@
-use Rattle.std.proofs.Common.{◌≡◌, List, [], ◌∷◌, ◌++◌, sym, subst}
+use Rattle.std.proofs.Common.{[], ◌∷◌, ◌++◌, sym, subst}
 use Rattle.std.specs.Prelude.{OnOk}
 use Rattle.messages.specs.declared.message.Message.{Message}
 use Rattle.messages.specs.declared.message.Message.TheVariants.{Request, Verdict}
@@ -6,8 +6,8 @@ use Rattle.desk_outcomes.specs.Gathered.{AreGathered}
 use Rattle.desk_outcomes.proofs.ByNameLemmas.{after_err, after_ok, known, opened, still_by_name}
 use Rattle.desk_outcomes.proofs.gathering.Gathered.take.Goals as goal
 
-pub invariant_of-self-in-Request : goal.invariant_of-self-in-Request
-invariant_of-self-in-Request c =
+pub invariant_of-self : goal.invariant_of-self
+invariant_of-self c =
     let some = c.self.invariant in
     still_by_name c.put_request.result some.0 (some.0 ++ Request c.in-Request.request ∷ []) c.put_request.new.summaries c.put_request.new.waiting (c.put_request.ensures some.0 some.1)
 
