@@ -9,9 +9,9 @@ ghost use Rattle.sudo_compiled.specs.Compiled.{answer};
 ghost use Rattle.sudo_compiled.specs.private.Writing.{AreKnown, IsWritten};
 
 use crate::aliases::Aliases;
+use crate::among::decide_among;
 use crate::kind::{Cmnds, Hosts, Targets, Users};
 use crate::plain::PlainRule;
-use crate::rule::spoken;
 use crate::writing::written_out;
 use std::alloc::Global;
 use std::marker::Model;
@@ -85,6 +85,19 @@ pub fn compile(alloc: Global, p: &Policy) -> Result<Compiled, NoMemory>
     Ok(Compiled { rules })
 }
 
+/// Adds an entry's rule, as `push_rule` does, and gives the entry back.
+fn take_rule(
+    alloc: Global,
+    rules: &mut Vec<PlainRule>,
+    known: &Aliases,
+    entry: Entry,
+) -> Result<(), NoMemory>
+    ensures { OnOk result ((defined es : List PolicyEntry) (i : Asked) → AreKnown defined known.now → DecidesBy defined es i (answer rules.old.items i)
+        → DecidesBy defined (es ++ entry ∷ []) i (answer rules.new.items i)) }
+{
+    push_rule(alloc, rules, known, &entry)
+}
+
 /// Gives back the room of entries that are done with, once it is half of all.
 fn give_back(rest: &mut Vec<Entry>)
     ensures { rest.new.items ≡ rest.old.items }
@@ -103,7 +116,7 @@ fn rules_of(alloc: Global, known: &Aliases, entries: Vec<Entry>) -> Result<Vec<P
     // The first entry is taken first, from the end.
     rest.reverse();
     while let Some(entry) = rest.pop() {
-        push_rule(alloc, &mut rules, known, &entry)?;
+        take_rule(alloc, &mut rules, known, entry)?;
         give_back(&mut rest);
     }
     Ok(rules)
@@ -119,21 +132,17 @@ pub fn compile_owned(alloc: Global, p: Policy) -> Result<Compiled, NoMemory>
 }
 
 impl Compiled {
-    /// What the compiled policy answers: the last rule that speaks decides, and where none does, it is denied (sudoers(5),
-    /// "SUDOERS FILE FORMAT").
-    ///
-    /// It goes from the last rule back to the first, and in each list from the last item back, stops at the first answer, and
-    /// takes no memory.
+    /// Its rules.
+    pub fn rules(&self) -> &[PlainRule]
+        ensures { result.now ≡ self.now }
+    {
+        &self.rules
+    }
+
+    /// What the compiled policy answers, as `decide_among` finds it in its rules. It takes no memory.
     pub fn decide(&self, i: &Invocation) -> Decision
         ensures { result ≡ answer self.now i.now }
     {
-        let mut rest = self.rules.as_slice();
-        while let Some((last, others)) = rest.split_last() {
-            if let Some(decision) = spoken(last, i) {
-                return decision;
-            }
-            rest = others;
-        }
-        Decision::Deny
+        decide_among(&self.rules, i)
     }
 }

@@ -5,18 +5,19 @@ ghost use Rattle.sudo_decide.specs.Decision as answers;
 ghost use Rattle.sudo_compiled.specs.Compiled as compiled;
 ghost use Rattle.sudo_compiled.specs.private.Kept.{turned};
 
-use crate::listed::{cmnd_says, cmnds_say, plain_says, plains_say};
+use crate::listed::{cmnds_say, plains_say};
 use crate::plain::Plain;
 use std::marker::Model;
 use std::rc::Rc;
+use std::slice;
 use sudo_policy::Signed;
 use sudo_words::{Arg, Cmnd, FilePath};
 
 /// How a list is kept.
 #[derive(Drop)]
 enum Kept<P> {
-    /// One item, and whether it is negated.
-    One(bool, P),
+    /// One item.
+    One(Signed<P>),
     /// However many.
     More(Vec<Signed<P>>),
     /// What an alias stands for, turned over where the use of the alias is negated.
@@ -42,12 +43,12 @@ impl<P> Model for Few<P> {
 }
 
 impl<P> Few<P> {
-    /// The list of one item, negated or not.
-    pub(crate) fn one(negated: bool, item: P) -> Few<P>
-        ensures { result ≡ (record { negated = negated; item = item }) ∷ [] }
+    /// The list of one item.
+    pub(crate) fn one(item: Signed<P>) -> Few<P>
+        ensures { result ≡ item ∷ [] }
     {
         Few {
-            kept: Kept::One(negated, item),
+            kept: Kept::One(item),
         }
     }
 
@@ -102,7 +103,7 @@ impl Few<Plain> {
         ensures { result ≡ compiled.plains_say asked.now self.now }
     {
         match &self.kept {
-            Kept::One(negated, item) => plain_says(*negated, item, asked),
+            Kept::One(item) => plains_say(slice::from_ref(item), asked),
             Kept::More(items) => plains_say(items.as_slice(), asked),
             Kept::Alias(negated, items) => {
                 turned_plains_say(*negated, items.as_ref().as_slice(), asked)
@@ -117,7 +118,7 @@ impl Few<Cmnd> {
         ensures { result ≡ compiled.cmnds_say path.now args.now self.now }
     {
         match &self.kept {
-            Kept::One(negated, cmnd) => cmnd_says(*negated, cmnd, path, args),
+            Kept::One(cmnd) => cmnds_say(slice::from_ref(cmnd), path, args),
             Kept::More(cmnds) => cmnds_say(cmnds.as_slice(), path, args),
             Kept::Alias(negated, cmnds) => {
                 turned_cmnds_say(*negated, cmnds.as_ref().as_slice(), path, args)

@@ -2,6 +2,7 @@
 #![tactic(auto)]
 
 mod aliases;
+mod among;
 mod compiled;
 mod few;
 mod kind;
@@ -13,6 +14,7 @@ mod rule;
 mod short;
 mod writing;
 
+pub use among::{bearing_on, decide_among};
 pub use compiled::{Compiled, compile, compile_owned};
 pub use few::Few;
 pub use laws::aliases_abbreviate;

@@ -32,17 +32,6 @@ pub(crate) fn plains_say(list: &[Signed<Plain>], asked: &[u8]) -> Option<bool>
     None
 }
 
-/// What one item says of this name, negated or not.
-pub(crate) fn plain_says(negated: bool, item: &Plain, asked: &[u8]) -> Option<bool>
-    ensures { result ≡ answers.signed_answer negated (compiled.plain_answer asked.now item.now) }
-{
-    if is_meant(item, asked, tag(asked)) {
-        yes(negated)
-    } else {
-        None
-    }
-}
-
 /// Whether the item is about the name of this tag, which is looked at first.
 fn is_meant(item: &Plain, asked: &[u8], asked_tag: u32) -> bool
     requires { asked_tag ≡ tag_of asked.now }
@@ -66,15 +55,4 @@ pub(crate) fn cmnds_say(list: &[Signed<Cmnd>], path: &FilePath, args: &[Arg]) ->
         rest = others;
     }
     None
-}
-
-/// What one command says of the path with these arguments, negated or not.
-pub(crate) fn cmnd_says(negated: bool, cmnd: &Cmnd, path: &FilePath, args: &[Arg]) -> Option<bool>
-    ensures { result ≡ answers.signed_answer negated (compiled.match_answer path.now args.now cmnd.now) }
-{
-    if cmnd.matches(path, args) {
-        yes(negated)
-    } else {
-        None
-    }
 }

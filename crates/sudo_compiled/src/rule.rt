@@ -23,12 +23,20 @@ fn takes_part(rule: &PlainRule, at: Moment) -> bool
 }
 
 /// Whether the rule's users, hosts and targets each say yes; one that does not ends the look.
-fn is_about(rule: &PlainRule, i: &Invocation) -> bool
+pub(crate) fn is_about(rule: &PlainRule, i: &Invocation) -> bool
     ensures { result ≡ compiled.is_about rule.now i.now }
 {
-    rule.users.says_of(i.user.as_str().as_bytes()).unwrap_or(false)
-        && rule.hosts.says_of(i.host.as_str().as_bytes()).unwrap_or(false)
-        && rule.runas.says_of(i.runas.as_str().as_bytes()).unwrap_or(false)
+    rule.users
+        .says_of(i.user.as_str().as_bytes())
+        .unwrap_or(false)
+        && rule
+            .hosts
+            .says_of(i.host.as_str().as_bytes())
+            .unwrap_or(false)
+        && rule
+            .runas
+            .says_of(i.runas.as_str().as_bytes())
+            .unwrap_or(false)
 }
 
 /// What the rule says: nothing outside its dates, or where it is not about the invocation; else what its commands say.

@@ -115,7 +115,10 @@ fn written_alone<K: Kind>(
     ensures { IfOk result (λ w. (i : Invocation) → list_answer (K.plain i) w ≡ signed_answer only.now.negated (K.says i (known_says (K.plain i) known.now) only.now.item)) }
 {
     match K::written(alloc, &only.item)? {
-        Written::Own(item) => Ok(Few::one(only.negated, item)),
+        Written::Own(item) => Ok(Few::one(Signed {
+            negated: only.negated,
+            item,
+        })),
         Written::Alias(name) => shared::<K>(alloc, known, name, only.negated),
     }
 }

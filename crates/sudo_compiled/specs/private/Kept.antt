@@ -9,6 +9,6 @@ abbrev pub turned : {X : Type 0} → Bool → Signed X → Signed X
 turned negated x = record { negated = if negated then not x.negated else x.negated; item = x.item }
 
 abbrev pub items_of : {X : Type 0} → Kept X → List (Signed X)
-items_of (One negated x) = record { negated = negated; item = x } ∷ []
+items_of (One x) = x ∷ []
 items_of (More xs) = xs.items
 items_of (Alias negated xs) = map (turned negated) xs.value.items

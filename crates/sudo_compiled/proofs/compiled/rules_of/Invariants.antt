@@ -1,4 +1,4 @@
-use Rattle.std.proofs.Common.{length, reverse}
+use Rattle.std.proofs.Common.{List, length, reverse}
 use Rattle.sudo_policy.specs.declared.entry.Entry.{Entry}
 use Rattle.sudo_decide.specs.declared.invocation.Invocation.{Invocation}
 use Rattle.sudo_compiled.specs.private.Writing.{AreKnown}
