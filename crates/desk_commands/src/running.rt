@@ -19,7 +19,7 @@ use desk_jobs::{Job, Status};
 use review::Scope;
 use std::alloc::{AllocError, Global};
 use std::io::{BufWriter, Read, Write};
-use sudo_compiled::compile;
+use sudo_compiled::compile_owned;
 use sudo_decide::{Decision, Invocation};
 use sudo_syntax::{Policy, print_owned, read_policy};
 use sudo_words::{HostName, Moment, NoMemory};
@@ -64,15 +64,15 @@ fn check(alloc: Global, file: &mut Vec<u8>) -> Result<Answer, Refusal>
     })
 }
 
-/// What the policy decides, once it is compiled.
+/// What the policy decides, once it is compiled, and given back on the way.
 fn decision_of(
     alloc: Global,
-    policy: &Policy,
+    policy: Policy,
     invocation: &Invocation,
 ) -> Result<Decision, NoMemory>
-    ensures { IfOk result (λ d. Decides policy.now invocation.now d) }
+    ensures { IfOk result (λ d. Decides policy invocation.now d) }
 {
-    let compiled = compile(alloc, policy)?;
+    let compiled = compile_owned(alloc, policy)?;
     Ok(compiled.decide(invocation))
 }
 
@@ -81,7 +81,7 @@ fn decided(alloc: Global, file: &mut Vec<u8>, invocation: &Invocation) -> Result
     ensures found { IfOk result (λ a. DecidesByFile file.old.items invocation.now a.status (string_bytes a.text)) }
 {
     let policy = policy_of(alloc, file)?;
-    let decision = decision_of(alloc, &policy, invocation)?;
+    let decision = decision_of(alloc, policy, invocation)?;
     Ok(decision_line(alloc, decision)?)
 }
 

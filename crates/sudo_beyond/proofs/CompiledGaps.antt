@@ -1,5 +1,6 @@
 -- What compiled policies answer is what the policies decide.
-use Rattle.std.proofs.Common.{◌≡◌, ◌⊎◌, List, reverse, sym, ◌∙◌, subst, inl, inr}
+use Rattle.std.proofs.Common.{◌≡◌, ◌⊎◌, ℕ, List, [], ◌∷◌, map, reverse, refl, sym, ◌∙◌, subst, inl, inr}
+use Rattle.std.specs.List.{AllByRecursion, flat_map}
 use Rattle.sudo_policy.specs.declared.entry.Entry.{Entry}
 use Rattle.sudo_decide.specs.declared.decision.Decision.{Decision}
 use Rattle.sudo_decide.specs.declared.decision.Decision.TheVariants.{Deny, Allow, AllowNoPassword}
@@ -7,7 +8,11 @@ use Rattle.sudo_decide.specs.declared.invocation.Invocation.{Invocation}
 use Rattle.sudo_decide.specs.Decision.{Decides}
 use Rattle.sudo_decide.proofs.Speakers.{one_decision}
 use Rattle.sudo_compiled.specs.declared.plain.PlainRule.{PlainRule}
-use Rattle.sudo_compiled.specs.Compiled.{answer}
+use Rattle.sudo_compiled.specs.Compiled.{answer, SameNames, AnswerAlike}
+use Rattle.sudo_beyond.specs.declared.cases.Cases.{Cases}
+use Rattle.sudo_beyond.specs.declared.run.Run.{Run}
+use Rattle.sudo_beyond.specs.Cases.{invocation_of, of_run}
+use Rattle.sudo_beyond.proofs.AlikeLemmas.{all_append}
 use Rattle.sudo_beyond.specs.Beyond.{Allows, IsGap}
 use Rattle.sudo_beyond.specs.private.Compared.{IsAllowed, IsAnsweredGap}
 
@@ -43,3 +48,26 @@ no_password_is_no_deny same = cc
 pub not_both_answers : (d : Decision) → IsAllowed d → d ≡ Deny → ⊥
 not_both_answers d (inl allow) deny = allow_is_no_deny (sym allow ∙ deny)
 not_both_answers d (inr allow) deny = no_password_is_no_deny (sym allow ∙ deny)
+
+-- ---- rules that answer alike, of the cases of one user, host and target
+
+pub gap_of_those : (a b x y : List PlainRule) (i j : Invocation) → AnswerAlike a x i → AnswerAlike b y i → SameNames i j → IsAnsweredGap x y j → IsAnsweredGap a b j
+gap_of_those a b x y i j by_a by_b same gap = record {
+  allowed = subst (λ (d : Decision). IsAllowed d) (sym (by_a j same)) gap.allowed;
+  refused = by_b j same ∙ gap.refused;
+}
+
+pub gap_of_all : (a b x y : List PlainRule) (i j : Invocation) → AnswerAlike a x i → AnswerAlike b y i → SameNames i j → IsAnsweredGap a b j → IsAnsweredGap x y j
+gap_of_all a b x y i j by_a by_b same gap = record {
+  allowed = subst (λ (d : Decision). IsAllowed d) (by_a j same) gap.allowed;
+  refused = sym (by_b j same) ∙ gap.refused;
+}
+
+same_names_run : (i : Invocation) (run : Run) (moments : List ℕ) → AllByRecursion (SameNames i) (map (invocation_of i.user i.host i.runas run) moments)
+same_names_run i run [] = tt
+same_names_run i run (t ∷ moments) = (record { user = refl; host = refl; runas = refl }, same_names_run i run moments)
+
+pub same_names_runs : (i : Invocation) (c : Cases) (runs : List Run) → AllByRecursion (SameNames i) (flat_map (of_run c i.user i.host i.runas) runs)
+same_names_runs i c [] = tt
+same_names_runs i c (run ∷ runs) =
+    all_append (SameNames i) (of_run c i.user i.host i.runas run) (flat_map (of_run c i.user i.host i.runas) runs) (same_names_run i run c.moments) (same_names_runs i c runs)

@@ -7,7 +7,7 @@ use Rattle.std.proofs.lemmas.Grind.{flat_map-append}
 use Rattle.std.proofs.lemmas.List.{take_all}
 use Rattle.sudo_decide.specs.declared.invocation.Invocation.{Invocation}
 use Rattle.sudo_beyond.specs.Answer.{IsFirst, FirstOf}
-use Rattle.sudo_beyond.proofs.AlikeLemmas.{all_append}
+use Rattle.sudo_beyond.proofs.AlikeLemmas.{all_append, all_front, all_back}
 use Rattle.sudo_beyond.proofs.Lists.{take_next}
 
 -- P holds of none of the cases
@@ -58,6 +58,25 @@ first_of_same P Q cases (Some i) on back first = record {
   here = on i first.here;
   none_before = weaker_none P Q first.before back first.none_before;
 }
+
+-- so it is where they hold alike of each case of which S holds, and S holds of all
+weaker_none_on : (S P Q : Invocation → Type 0) (cases : List Invocation) → ((i : Invocation) → S i → Q i → P i) → AllByRecursion S cases → NoGap P cases → NoGap Q cases
+weaker_none_on S P Q [] back all none = tt
+weaker_none_on S P Q (i ∷ cases) back all none = (λ q. none.0 (back i all.0 q), weaker_none_on S P Q cases back all.1 none.1)
+
+pub first_of_same_on : (S P Q : Invocation → Type 0) (cases : List Invocation) (found : Option Invocation) → ((i : Invocation) → S i → P i → Q i) → ((i : Invocation) → S i → Q i → P i)
+    → AllByRecursion S cases → FirstOf P cases found → FirstOf Q cases found
+first_of_same_on S P Q cases None on back all none = weaker_none_on S P Q cases back all none
+first_of_same_on S P Q cases (Some i) on back all first =
+    let parts : AllByRecursion S (first.before ++ i ∷ first.after) = subst (λ (is : List Invocation). AllByRecursion S is) first.list_is all in
+    let rest : AllByRecursion S (i ∷ first.after) = all_back S first.before (i ∷ first.after) parts in
+    record {
+      before = first.before;
+      after = first.after;
+      list_is = first.list_is;
+      here = on i rest.0 first.here;
+      none_before = weaker_none_on S P Q first.before back (all_front S first.before (i ∷ first.after) parts) first.none_before;
+    }
 
 -- where a list is empty whatever is put in, so are all of them together
 pub gaps_of_none : {X : Type 0} (P : Invocation → Type 0) (f : X → List Invocation) (xs : List X) → ((x : X) → f x ≡ []) → NoGap P (flat_map f xs)

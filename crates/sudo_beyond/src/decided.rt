@@ -6,22 +6,22 @@ ghost use Rattle.sudo_decide.specs.declared.decision.Decision.TheVariants.{Deny}
 ghost use Rattle.sudo_compiled.specs.Compiled.{answer};
 ghost use Rattle.sudo_beyond.specs.private.Compared.{IsAllowed, IsAnsweredGap};
 
-use sudo_compiled::Compiled;
+use sudo_compiled::{PlainRule, decide_among};
 use sudo_decide::{Decision, Invocation};
 
-/// Whether the policy allows the invocation, with a password or without.
-fn allows(p: &Compiled, i: &Invocation) -> bool
-    ensures yes { result ≡ true → IsAllowed (answer p.now i.now) }
-    ensures no { result ≡ false → answer p.now i.now ≡ Deny }
+/// Whether the rules allow the invocation, with a password or without.
+fn allows(rules: &[PlainRule], i: &Invocation) -> bool
+    ensures yes { result ≡ true → IsAllowed (answer rules.now i.now) }
+    ensures no { result ≡ false → answer rules.now i.now ≡ Deny }
 {
-    match p.decide(i) {
+    match decide_among(rules, i) {
         Decision::Deny => false,
         Decision::Allow | Decision::AllowNoPassword => true,
     }
 }
 
-/// Whether the first policy allows the invocation, and the second refuses it.
-pub fn is_gap(a: &Compiled, b: &Compiled, i: &Invocation) -> bool
+/// Whether the first rules allow the invocation, and the second refuse it.
+pub fn is_gap(a: &[PlainRule], b: &[PlainRule], i: &Invocation) -> bool
     ensures { Tells result (IsAnsweredGap a.now b.now i.now) }
 {
     allows(a, i) && !allows(b, i)

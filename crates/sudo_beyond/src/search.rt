@@ -10,7 +10,7 @@ use crate::cases::Cases;
 use crate::decided::is_gap;
 use crate::run::{Args, Run};
 use std::alloc::Global;
-use sudo_compiled::{Compiled, compile};
+use sudo_compiled::{Compiled, PlainRule, bearing_on, compile};
 use sudo_decide::Invocation;
 use sudo_policy::Policy;
 use sudo_words::{FilePath, HostName, Items, Moment, Name, NoMemory};
@@ -72,8 +72,8 @@ fn set_run(i: &mut Invocation, run: &Run) -> Result<(), NoMemory>
 
 /// Tries each moment of a path with its arguments. At the first case that is a gap it stops, and the invocation is that case.
 fn try_run(
-    a: &Compiled,
-    b: &Compiled,
+    a: &[PlainRule],
+    b: &[PlainRule],
     cases: &Cases,
     run: &Run,
     i: &mut Invocation,
@@ -94,7 +94,25 @@ fn try_run(
     Ok(false)
 }
 
-/// One invocation serves all cases of a user, a host and a target.
+/// Tries each path with its arguments. One invocation serves all cases of a user, a host and a target.
+fn try_runs(
+    a: &[PlainRule],
+    b: &[PlainRule],
+    cases: &Cases,
+    first: Invocation,
+) -> Result<Option<Invocation>, NoMemory>
+    ensures { IfOk result (FirstOf (IsAnsweredGap a.now b.now) (specs.of_target cases.now first.user first.host first.runas)) }
+{
+    let mut i = first;
+    for run in cases.runs.as_slice() {
+        if try_run(a, b, cases, run, &mut i)? {
+            return Ok(Some(i));
+        }
+    }
+    Ok(None)
+}
+
+/// Of each policy's rules only those are asked that are about the user, the host and the target.
 fn of_target(
     a: &Compiled,
     b: &Compiled,
@@ -111,13 +129,10 @@ fn of_target(
     let Some(at) = cases.moments.as_slice().first() else {
         return Ok(None);
     };
-    let mut i = invocation_of(user, host, runas, first, *at)?;
-    for run in cases.runs.as_slice() {
-        if try_run(a, b, cases, run, &mut i)? {
-            return Ok(Some(i));
-        }
-    }
-    Ok(None)
+    let i = invocation_of(user, host, runas, first, *at)?;
+    let allowing = bearing_on(a.rules(), &i);
+    let refusing = bearing_on(b.rules(), &i);
+    try_runs(allowing, refusing, cases, i)
 }
 
 fn of_host(

@@ -1,5 +1,5 @@
 -- A list, or rules, that are gone through from the last.
-use Rattle.std.proofs.Common.{◌≡◌, Bool, true, false, ◌&&◌, if◌then◌else◌, Option, Some, None, List, [], ◌∷◌, ◌++◌, map, reverse, refl, sym, ap, ◌∙◌, subst}
+use Rattle.std.proofs.Common.{◌≡◌, ℕ, Bool, true, false, ◌&&◌, if◌then◌else◌, Option, Some, None, List, [], ◌∷◌, ◌++◌, map, reverse, refl, sym, ap, ◌∙◌, subst}
 use Rattle.std.specs.Prelude.{unwrap_or}
 use Rattle.std.specs.Option.{option_map, option_or}
 use Rattle.std.proofs.lemmas.List.{map_push}
@@ -12,10 +12,10 @@ use Rattle.sudo_decide.specs.declared.invocation.Invocation.{Invocation}
 use Rattle.sudo_decide.specs.Decision as defined
 use Rattle.sudo_decide.specs.Decision.{is_yes, last_given, signed_answer, list_answer, DecidesBy}
 use Rattle.sudo_policy.specs.declared.entry.Signed.{Signed}
-use Rattle.sudo_decide.proofs.AnswerLemmas.{last_given-append, list_answer-push}
+use Rattle.sudo_decide.proofs.AnswerLemmas.{option_or-None, last_given-append, list_answer-push}
 use Rattle.sudo_decide.proofs.DecisionLemmas.{decides_silent_last, decides_rule_last}
 use Rattle.sudo_compiled.specs.declared.plain.PlainRule.{PlainRule}
-use Rattle.sudo_compiled.specs.Compiled.{is_about, cmnds_say, takes_part, says, outcome, spoken, last_spoken, answer}
+use Rattle.sudo_compiled.specs.Compiled.{SameNames, is_about, plains_say, cmnds_say, takes_part, says, outcome, spoken, last_spoken, answer}
 use Rattle.sudo_compiled.specs.private.Writing.{IsWritten}
 
 -- one more rule answers, unless it is silent
@@ -29,6 +29,11 @@ answer_speaks rules r i d speaks =
 pub answer_silent : (rules : List PlainRule) (r : PlainRule) (i : Invocation) → spoken i r ≡ None → answer (rules ++ r ∷ []) i ≡ answer rules i
 answer_silent rules r i quiet =
     ap (λ (o : Option Decision). unwrap_or o Deny) (last_spoken-push rules r i ∙ ap (λ (o : Option Decision). option_or o (last_spoken rules i)) quiet)
+
+-- nor does one at the front answer that is silent
+pub answer_silent_first : (rules : List PlainRule) (r : PlainRule) (i : Invocation) → spoken i r ≡ None → answer (r ∷ rules) i ≡ answer rules i
+answer_silent_first rules r i quiet =
+    ap (λ (o : Option Decision). unwrap_or o Deny) (ap (option_or (last_spoken rules i)) quiet ∙ option_or-None (last_spoken rules i))
 
 -- ---- a rule that is written out
 
@@ -95,3 +100,27 @@ list_passes item_says list front x is silent =
 pub about_alike : (a b c d e f : Option Bool) → a ≡ d → b ≡ e → c ≡ f → (is_yes a && is_yes b && is_yes c) ≡ (is_yes d && is_yes e && is_yes f)
 about_alike a b c d e f p q r =
     ap (λ (x : Option Bool). is_yes x && is_yes b && is_yes c) p ∙ ap (λ (x : Option Bool). is_yes d && is_yes x && is_yes c) q ∙ ap (λ (x : Option Bool). is_yes d && is_yes e && is_yes x) r
+
+-- ---- a rule that is not about the user, the host and the target is silent
+
+about_same : (r : PlainRule) (i j : Invocation) → SameNames i j → is_about r j ≡ is_about r i
+about_same r i j same =
+    about_alike (plains_say j.user r.users) (plains_say j.host r.hosts) (plains_say j.runas r.runas)
+    (plains_say i.user r.users) (plains_say i.host r.hosts) (plains_say i.runas r.runas)
+    (ap (λ (name : List ℕ). plains_say name r.users) same.user)
+    (ap (λ (name : List ℕ). plains_say name r.hosts) same.host)
+    (ap (λ (name : List ℕ). plains_say name r.runas) same.runas)
+
+says_nothing : (dates : Bool) (said : Option Bool) → says_from dates false said ≡ None
+unfolding says_from
+says_nothing true said = refl
+says_nothing false said = refl
+
+silent_says : (r : PlainRule) (i j : Invocation) → SameNames i j → is_about r i ≡ false → says r j ≡ None
+unfolding says_from
+silent_says r i j same other =
+    ap (λ (about : Bool). says_from (takes_part r j.at) about (cmnds_say j.path j.args r.cmnds)) (about_same r i j same ∙ other)
+    ∙ says_nothing (takes_part r j.at) (cmnds_say j.path j.args r.cmnds)
+
+pub silent_of_others : (r : PlainRule) (i j : Invocation) → SameNames i j → is_about r i ≡ false → spoken j r ≡ None
+silent_of_others r i j same other = ap (option_map (outcome r)) (silent_says r i j same other)

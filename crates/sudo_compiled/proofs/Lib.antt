@@ -1,2 +1,3 @@
 pub mod WrittenLists
 pub mod Answering
+pub mod Taking

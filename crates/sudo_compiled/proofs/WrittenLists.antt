@@ -1,12 +1,19 @@
 -- Lists as they are written out, sign by sign.
-use Rattle.std.proofs.Common.{◌≡◌, ℕ, ◌+◌, ◌<◌, Bool, true, false, not, if◌then◌else◌, Option, Some, None, List, [], ◌∷◌, ◌++◌, length, take, get_or, refl, sym, ap, ◌∙◌}
-use Rattle.std.specs.Prelude.{Result, Ok, Err, OnOk}
-use Rattle.std.specs.Option.{option_or}
+use Rattle.std.proofs.Common.{◌≡◌, ℕ, ◌+◌, ◌<◌, Bool, true, false, not, cond, if◌then◌else◌, Option, Some, None, List, [], ◌∷◌, ◌++◌, length, take, get_or, map, refl, sym, ap, ◌∙◌}
+use Rattle.std.specs.Prelude.{Result, Ok, Err, OnOk, IfOk}
+use Rattle.std.specs.Map.{update}
+use Rattle.std.specs.Option.{option_or, option_map}
+use Rattle.std.specs.Str.{bytes_eq}
+use Rattle.std.proofs.Math.Path.{fun_ext}
 use Rattle.sudo_policy.specs.declared.entry.Signed.{Signed}
+use Rattle.sudo_policy.specs.declared.tree.Definition.{Definition}
 use Rattle.sudo_decide.specs.declared.invocation.Invocation.{Invocation}
 use Rattle.sudo_decide.specs.Decision.{signed_answer, list_answer}
+use Rattle.sudo_decide.specs.Kinds.{aliases_say, list_says_by}
 use Rattle.sudo_decide.proofs.AnswerLemmas.{list_answer-push, list_answer-take_more}
-use Rattle.sudo_compiled.specs.private.Writing.{Adds}
+use Rattle.sudo_compiled.specs.declared.known.Known.{Known}
+use Rattle.sudo_compiled.specs.private.Kept.{turned}
+use Rattle.sudo_compiled.specs.private.Writing.{Adds, Stands, list_at, found_says, known_says}
 
 or_assoc : {X : Type 0} (a b c : Option X) → option_or (option_or a b) c ≡ option_or a (option_or b c)
 or_assoc None b c = refl
@@ -71,3 +78,48 @@ module _ {X : Type 0} (plain : Invocation → X → Option Bool) where
 pub on_ok : {A E P Q : Type 0} (r : Result A E) → (P → Q) → OnOk r P → OnOk r Q
 on_ok (Ok x) f p = f p
 on_ok (Err e) f p = p
+
+-- ---- what an alias stands for, turned over
+
+pub turned_list : {X : Type 0} (says : X → Option Bool) (negated : Bool) (xs : List (Signed X)) → list_answer says (map (turned negated) xs) ≡ signed_answer negated (list_answer says xs)
+turned_list says negated [] = sym (signed_silence negated)
+turned_list says negated (x ∷ xs) =
+    let own : Option Bool = signed_answer (if negated then not x.negated else x.negated) (says x.item) in
+    ap (λ (a : Option Bool). option_or a own) (turned_list says negated xs)
+    ∙ ap (option_or (signed_answer negated (list_answer says xs))) (signed_turned x.negated negated (says x.item))
+    ∙ sym (signed_or negated (list_answer says xs) (signed_answer x.negated (says x.item)))
+
+-- ---- one more alias
+
+found_cond : {X : Type 0} (plain : X → Option Bool) (b : Bool) (list : List (Signed X)) (o : Option (List (Signed X)))
+    → found_says plain (cond b (Some list) o) ≡ (if b then list_answer plain list else found_says plain o)
+found_cond plain true list o = refl
+found_cond plain false list o = refl
+
+if_same : (b : Bool) (x y u v : Option Bool) → x ≡ u → y ≡ v → (if b then x else y) ≡ (if b then u else v)
+if_same true x y u v e f = e
+if_same false x y u v e f = f
+
+-- what is kept says of a list what the definitions say of it
+pub stands_list : {X Y : Type 0} (plain : Invocation → X → Option Bool) (says : Invocation → (List ℕ → Option Bool) → Y → Option Bool) (defs : List (Definition Y)) (known : Known X)
+    (list : List (Signed Y)) (i : Invocation) → Stands plain says defs known → list_answer (says i (known_says (plain i) known)) list ≡ list_says_by (says i) defs list
+stands_list plain says defs known list i stands = ap (λ (f : List ℕ → Option Bool). list_answer (says i f) list) (fun_ext (λ name. stands i name))
+
+pub stands_more : {X Y : Type 0} (plain : Invocation → X → Option Bool) (says : Invocation → (List ℕ → Option Bool) → Y → Option Bool) (defs : List (Definition Y)) (old new : Known X)
+    (name : List ℕ) (list : List (Signed Y)) (written : List (Signed X))
+    → ((i : Invocation) → list_answer (plain i) written ≡ list_answer (says i (known_says (plain i) old)) list)
+    → ((n : List ℕ) → list_at new n ≡ update bytes_eq (list_at old) name (Some written) n)
+    → Stands plain says defs old → Stands plain says (record { name = name; list = list } ∷ defs) new
+stands_more plain says defs old new name list written is updates stands = λ i n.
+    ap (found_says (plain i)) (updates n)
+    ∙ found_cond (plain i) (bytes_eq name n) written (list_at old n)
+    ∙ if_same (bytes_eq name n) (list_answer (plain i) written) (known_says (plain i) old n) (list_says_by (says i) defs list) (aliases_say (says i) defs n)
+    (is i ∙ stands_list plain says defs old list i stands) (stands i n)
+
+pub map_cond : {X Y : Type 0} (f : X → Y) (b : Bool) (x : X) (o : Option X) → option_map f (cond b (Some x) o) ≡ cond b (Some (f x)) (option_map f o)
+map_cond f true x o = refl
+map_cond f false x o = refl
+
+pub if_ok : {A E : Type 0} {P Q : A → Type 0} (r : Result A E) → ((x : A) → P x → Q x) → IfOk r P → IfOk r Q
+if_ok (Ok x) f p = f x p
+if_ok (Err e) f p = p

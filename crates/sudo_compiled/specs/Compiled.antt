@@ -1,5 +1,5 @@
 -- What a compiled policy answers: the last rule that speaks decides, as of any policy, and there is no alias to follow (sudoers(5), "SUDOERS FILE FORMAT").
-use Rattle.std.specs.Prelude.{ℕ, Bool, true, ◌&&◌, List, map, Option, Some, None, if◌then◌else◌, unwrap_or}
+use Rattle.std.specs.Prelude.{◌≡◌, ℕ, Bool, true, ◌&&◌, List, map, Option, Some, None, if◌then◌else◌, unwrap_or}
 use Rattle.std.specs.Option.{option_map}
 use Rattle.std.specs.Str.{bytes_eq}
 use Rattle.sudo_words.specs.declared.cmnd.Cmnd.{Cmnd}
@@ -54,3 +54,14 @@ last_spoken rules i = last_given (map (spoken i) rules)
 
 abbrev pub answer : List PlainRule → Invocation → Decision
 answer rules i = unwrap_or (last_spoken rules i) Deny
+
+-- ---- the same user, host and target
+
+pub record SameNames (i j : Invocation) : Type 0 where
+  pub user : j.user ≡ i.user
+  pub host : j.host ≡ i.host
+  pub runas : j.runas ≡ i.runas
+
+-- whatever they run, and whenever, the rules answer alike
+abbrev pub AnswerAlike : List PlainRule → List PlainRule → Invocation → Type 0
+AnswerAlike rules others i = (j : Invocation) → SameNames i j → answer rules j ≡ answer others j

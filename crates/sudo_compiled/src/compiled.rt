@@ -1,16 +1,17 @@
 //! Policies compiled, and what they decide.
 
-ghost use Rattle.std.specs.Prelude.{◌≡◌, ◌++◌, ◌∷◌, [], List, reverse, IfOk, OnOk};
+ghost use Rattle.std.specs.Prelude.{◌≡◌, ◌++◌, ◌∷◌, [], List, IfOk, OnOk};
 ghost use Rattle.sudo_policy.specs.declared.entry.Entry.{Entry as PolicyEntry};
 ghost use Rattle.sudo_policy.specs.declared.entry.Entry.TheVariants as entries;
 ghost use Rattle.sudo_decide.specs.declared.invocation.Invocation.{Invocation as Asked};
 ghost use Rattle.sudo_decide.specs.Decision.{Decides, DecidesBy};
 ghost use Rattle.sudo_compiled.specs.Compiled.{answer};
-ghost use Rattle.sudo_compiled.specs.private.Writing.{IsWritten};
+ghost use Rattle.sudo_compiled.specs.private.Writing.{AreKnown, IsWritten};
 
+use crate::aliases::Aliases;
+use crate::among::decide_among;
 use crate::kind::{Cmnds, Hosts, Targets, Users};
 use crate::plain::PlainRule;
-use crate::rule::spoken;
 use crate::writing::written_out;
 use std::alloc::Global;
 use std::marker::Model;
@@ -35,13 +36,13 @@ impl Model for Compiled {
 }
 
 /// The rule with its aliases written out.
-fn written_rule(alloc: Global, p: &Policy, rule: &Rule) -> Result<PlainRule, NoMemory>
-    ensures { IfOk result (IsWritten (reverse p.now) rule.now) }
+fn written_rule(alloc: Global, known: &Aliases, rule: &Rule) -> Result<PlainRule, NoMemory>
+    ensures { IfOk result (λ w. (defined : List PolicyEntry) → AreKnown defined known.now → IsWritten defined rule.now w) }
 {
-    let users = written_out::<Users>(alloc, p, rule.users.as_slice())?;
-    let hosts = written_out::<Hosts>(alloc, p, rule.hosts.as_slice())?;
-    let runas = written_out::<Targets>(alloc, p, rule.runas.as_slice())?;
-    let cmnds = written_out::<Cmnds>(alloc, p, slice::from_ref(&rule.cmnd))?;
+    let users = written_out::<Users>(alloc, &known.users, rule.users.as_slice())?;
+    let hosts = written_out::<Hosts>(alloc, &known.hosts, rule.hosts.as_slice())?;
+    let runas = written_out::<Targets>(alloc, &known.runas, rule.runas.as_slice())?;
+    let cmnds = written_out::<Cmnds>(alloc, &known.cmnds, slice::from_ref(&rule.cmnd))?;
     Ok(PlainRule {
         users,
         hosts,
@@ -57,48 +58,91 @@ fn written_rule(alloc: Global, p: &Policy, rule: &Rule) -> Result<PlainRule, NoM
 fn push_rule(
     alloc: Global,
     rules: &mut Vec<PlainRule>,
-    p: &Policy,
+    known: &Aliases,
     entry: &Entry,
 ) -> Result<(), NoMemory>
-    ensures { OnOk result ((es : List PolicyEntry) (i : Asked) → DecidesBy (reverse p.now) es i (answer rules.old.items i)
-        → DecidesBy (reverse p.now) (es ++ entry.now ∷ []) i (answer rules.new.items i)) }
+    ensures { OnOk result ((defined es : List PolicyEntry) (i : Asked) → AreKnown defined known.now → DecidesBy defined es i (answer rules.old.items i)
+        → DecidesBy defined (es ++ entry.now ∷ []) i (answer rules.new.items i)) }
 {
     if let Entry::Rule(rule) = entry {
-        rules.push(written_rule(alloc, p, rule)?)?;
+        rules.push(written_rule(alloc, known, rule)?)?;
     }
     Ok(())
 }
 
 /// The policy compiled: whatever is asked, it answers what the policy decides.
 ///
-/// Every alias is written out: in its place stand the items of its list in order, each turned over where the alias is negated.
-/// So it has at most 131,072 names and commands, the most that a policy weighs.
+/// Every alias is written out, once, in the order of the entries: in its place stand the items of its list in order, each turned over
+/// where the alias is negated. So it has at most 131,072 names and commands, the most that a policy weighs.
 pub fn compile(alloc: Global, p: &Policy) -> Result<Compiled, NoMemory>
     ensures { IfOk result (λ c. (i : Asked) → Decides p.now i (answer c i)) }
 {
-    let mut rules = Vec::new(alloc);
+    let known = Aliases::of(alloc, p.entries())?;
+    let mut rules = Vec::with_capacity(alloc, p.entries().len())?;
     for entry in p.entries() {
-        push_rule(alloc, &mut rules, p, entry)?;
+        push_rule(alloc, &mut rules, &known, entry)?;
     }
     Ok(Compiled { rules })
 }
 
+/// Adds an entry's rule, as `push_rule` does, and gives the entry back.
+fn take_rule(
+    alloc: Global,
+    rules: &mut Vec<PlainRule>,
+    known: &Aliases,
+    entry: Entry,
+) -> Result<(), NoMemory>
+    ensures { OnOk result ((defined es : List PolicyEntry) (i : Asked) → AreKnown defined known.now → DecidesBy defined es i (answer rules.old.items i)
+        → DecidesBy defined (es ++ entry ∷ []) i (answer rules.new.items i)) }
+{
+    push_rule(alloc, rules, known, &entry)
+}
+
+/// Gives back the room of entries that are done with, once it is half of all.
+fn give_back(rest: &mut Vec<Entry>)
+    ensures { rest.new.items ≡ rest.old.items }
+{
+    if rest.len() <= rest.capacity() / 2 {
+        rest.shrink_to_fit();
+    }
+}
+
+/// The rules of the entries, each of which is given back once its rule is made.
+fn rules_of(alloc: Global, known: &Aliases, entries: Vec<Entry>) -> Result<Vec<PlainRule>, NoMemory>
+    ensures { IfOk result (λ rules. (defined : List PolicyEntry) (i : Asked) → AreKnown defined known.now → DecidesBy defined entries.items i (answer rules.items i)) }
+{
+    let mut rules = Vec::with_capacity(alloc, entries.len())?;
+    let mut rest = entries;
+    // The first entry is taken first, from the end.
+    rest.reverse();
+    while let Some(entry) = rest.pop() {
+        take_rule(alloc, &mut rules, known, entry)?;
+        give_back(&mut rest);
+    }
+    Ok(rules)
+}
+
+/// The policy compiled, as `compile` compiles it. It is given back on the way, which takes less memory at once.
+pub fn compile_owned(alloc: Global, p: Policy) -> Result<Compiled, NoMemory>
+    ensures { IfOk result (λ c. (i : Asked) → Decides p i (answer c i)) }
+{
+    let known = Aliases::of(alloc, p.entries())?;
+    let rules = rules_of(alloc, &known, p.into_entries())?;
+    Ok(Compiled { rules })
+}
+
 impl Compiled {
-    /// What the compiled policy answers: the last rule that speaks decides, and where none does, it is denied (sudoers(5),
-    /// "SUDOERS FILE FORMAT").
-    ///
-    /// It goes from the last rule back to the first, and in each list from the last item back, stops at the first answer, and
-    /// takes no memory.
+    /// Its rules.
+    pub fn rules(&self) -> &[PlainRule]
+        ensures { result.now ≡ self.now }
+    {
+        &self.rules
+    }
+
+    /// What the compiled policy answers, as `decide_among` finds it in its rules. It takes no memory.
     pub fn decide(&self, i: &Invocation) -> Decision
         ensures { result ≡ answer self.now i.now }
     {
-        let mut rest = self.rules.as_slice();
-        while let Some((last, others)) = rest.split_last() {
-            if let Some(decision) = spoken(last, i) {
-                return decision;
-            }
-            rest = others;
-        }
-        Decision::Deny
+        decide_among(&self.rules, i)
     }
 }

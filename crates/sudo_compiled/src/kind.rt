@@ -1,21 +1,15 @@
-//! The kinds of aliases: where each is defined, and what is written of the items of its lists.
+//! The kinds of aliases: what is written of the items of their lists.
 
-ghost use Rattle.std.specs.Prelude.{◌≡◌, Bool, List, [], ℕ, Option, MatchOption, IfOk, false};
-ghost use Rattle.std.specs.List.{flat_map};
-ghost use Rattle.sudo_policy.specs.Alias.{DefinedAt, is_defined, user_def, runas_def, host_def, cmnd_def};
-ghost use Rattle.sudo_policy.specs.Policy.{IsPolicy};
-ghost use Rattle.sudo_policy.specs.declared.entry.Entry.{Entry};
-ghost use Rattle.sudo_policy.specs.declared.tree.Definition.{Definition};
+ghost use Rattle.std.specs.Prelude.{◌≡◌, Bool, List, ℕ, Option, IfOk};
 ghost use Rattle.sudo_decide.specs.declared.invocation.Invocation.{Invocation};
 ghost use Rattle.sudo_decide.specs.Decision.{item_answer, cmnd_answer};
-ghost use Rattle.sudo_decide.specs.Kinds.{AreNew, user_aliases_new, runas_aliases_new, host_aliases_new, cmnd_aliases_new};
 ghost use Rattle.sudo_compiled.specs.Compiled.{plain_answer, match_answer};
 ghost use Rattle.sudo_compiled.specs.private.Writing.{written_says};
 
 use crate::plain::Plain;
 use crate::short::Short;
 use std::alloc::Global;
-use sudo_policy::{CmndItem, Item, Policy, Signed};
+use sudo_policy::{CmndItem, Item};
 use sudo_words::{AliasName, Cmnd, Form, HostName, Name, NoMemory, Word};
 
 /// What is written of an item of a list.
@@ -34,18 +28,11 @@ pub(crate) trait Kind {
     /// What a list is made of in which no alias stands.
     type Plain: Drop;
 
-    /// What an entry defines of the kind.
-    ghost def: { Entry → List (Definition Self.Item) };
-
     /// What an item says of the invocation, by what the aliases say.
     ghost says: { Invocation → (List ℕ → Option Bool) → Self.Item → Option Bool };
 
     /// What one that is no alias says of it.
     ghost plain: { Invocation → Self.Plain → Option Bool };
-
-    /// The place where the alias is defined, and its list.
-    fn definition<'a>(p: &'a Policy, name: &AliasName) -> Option<(usize, &'a [Signed<Self::Item>])>
-        ensures { MatchOption result (is_defined (flat_map def p.now) name.now ≡ false) (λ x. DefinedAt def p.now x.0 name.now x.1.now) };
 
     /// The item as it is written, a copy of its own.
     fn written<'a>(
@@ -54,8 +41,9 @@ pub(crate) trait Kind {
     ) -> Result<Written<'a, Self::Plain>, NoMemory>
         ensures { IfOk result (λ w. (i : Invocation) (alias_says : List ℕ → Option Bool) → written_says (plain i) alias_says w ≡ says i alias_says item.now) };
 
-    /// A policy defines each alias of the kind once.
-    ghost once: { (es : List Entry) → IsPolicy es → AreNew def [] es };
+    /// A copy of one that is no alias.
+    fn copied(alloc: Global, own: &Self::Plain) -> Result<Self::Plain, NoMemory>
+        ensures { IfOk result (λ x. x ≡ own.now) };
 }
 
 fn copied_cmnd(cmnd: &Cmnd) -> Result<Cmnd, NoMemory>
@@ -86,24 +74,17 @@ impl Kind for Users {
 
     type Plain = Plain;
 
-    ghost def = { user_def };
-
     ghost says = { λ i alias_says item. item_answer alias_says i.user item };
 
     ghost plain = { λ i x. plain_answer i.user x };
-
-    fn definition<'a>(
-        p: &'a Policy,
-        name: &AliasName,
-    ) -> Option<(usize, &'a [Signed<Item<Name>>])> {
-        p.user_alias(name)
-    }
 
     fn written<'a>(alloc: Global, item: &'a Item<Name>) -> Result<Written<'a, Plain>, NoMemory> {
         written_item(alloc, item)
     }
 
-    ghost once = { user_aliases_new };
+    fn copied(alloc: Global, own: &Plain) -> Result<Plain, NoMemory> {
+        own.copied(alloc)
+    }
 }
 
 /// The aliases of targets.
@@ -114,24 +95,17 @@ impl Kind for Targets {
 
     type Plain = Plain;
 
-    ghost def = { runas_def };
-
     ghost says = { λ i alias_says item. item_answer alias_says i.runas item };
 
     ghost plain = { λ i x. plain_answer i.runas x };
-
-    fn definition<'a>(
-        p: &'a Policy,
-        name: &AliasName,
-    ) -> Option<(usize, &'a [Signed<Item<Name>>])> {
-        p.runas_alias(name)
-    }
 
     fn written<'a>(alloc: Global, item: &'a Item<Name>) -> Result<Written<'a, Plain>, NoMemory> {
         written_item(alloc, item)
     }
 
-    ghost once = { runas_aliases_new };
+    fn copied(alloc: Global, own: &Plain) -> Result<Plain, NoMemory> {
+        own.copied(alloc)
+    }
 }
 
 /// The aliases of hosts.
@@ -142,18 +116,9 @@ impl Kind for Hosts {
 
     type Plain = Plain;
 
-    ghost def = { host_def };
-
     ghost says = { λ i alias_says item. item_answer alias_says i.host item };
 
     ghost plain = { λ i x. plain_answer i.host x };
-
-    fn definition<'a>(
-        p: &'a Policy,
-        name: &AliasName,
-    ) -> Option<(usize, &'a [Signed<Item<HostName>>])> {
-        p.host_alias(name)
-    }
 
     fn written<'a>(
         alloc: Global,
@@ -162,7 +127,9 @@ impl Kind for Hosts {
         written_item(alloc, item)
     }
 
-    ghost once = { host_aliases_new };
+    fn copied(alloc: Global, own: &Plain) -> Result<Plain, NoMemory> {
+        own.copied(alloc)
+    }
 }
 
 /// The aliases of commands.
@@ -173,15 +140,9 @@ impl Kind for Cmnds {
 
     type Plain = Cmnd;
 
-    ghost def = { cmnd_def };
-
     ghost says = { λ i alias_says item. cmnd_answer alias_says i.path i.args item };
 
     ghost plain = { λ i x. match_answer i.path i.args x };
-
-    fn definition<'a>(p: &'a Policy, name: &AliasName) -> Option<(usize, &'a [Signed<CmndItem>])> {
-        p.cmnd_alias(name)
-    }
 
     fn written<'a>(_alloc: Global, item: &'a CmndItem) -> Result<Written<'a, Cmnd>, NoMemory> {
         match item {
@@ -190,5 +151,7 @@ impl Kind for Cmnds {
         }
     }
 
-    ghost once = { cmnd_aliases_new };
+    fn copied(_alloc: Global, own: &Cmnd) -> Result<Cmnd, NoMemory> {
+        copied_cmnd(own)
+    }
 }

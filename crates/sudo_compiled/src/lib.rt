@@ -1,16 +1,22 @@
 //! Policies compiled: every alias written out, so that what is asked meets names and commands alone.
 #![tactic(auto)]
 
+mod aliases;
+mod among;
 mod compiled;
 mod few;
 mod kind;
+mod known;
+mod laws;
 mod listed;
 mod plain;
 mod rule;
 mod short;
 mod writing;
 
-pub use compiled::{Compiled, compile};
+pub use among::{bearing_on, decide_among};
+pub use compiled::{Compiled, compile, compile_owned};
 pub use few::Few;
+pub use laws::aliases_abbreviate;
 pub use plain::{Plain, PlainRule};
 pub use short::Short;

@@ -1,9 +1,11 @@
 //! What a compiled policy is made of: rules in whose lists no alias stands.
 
+ghost use Rattle.std.specs.Prelude.{◌≡◌, IfOk};
+
 use crate::few::Few;
 use crate::short::Short;
-use sudo_policy::Signed;
-use sudo_words::{Cmnd, Moment};
+use std::alloc::Global;
+use sudo_words::{Cmnd, Moment, NoMemory};
 
 /// An item of a list of users, hosts or targets that is no alias.
 #[derive(Drop)]
@@ -14,15 +16,27 @@ pub enum Plain {
     Name(Short),
 }
 
+impl Plain {
+    /// A copy of its own.
+    pub(crate) fn copied(&self, alloc: Global) -> Result<Plain, NoMemory>
+        ensures { IfOk result (λ x. x ≡ self.now) }
+    {
+        match self {
+            Plain::All => Ok(Plain::All),
+            Plain::Name(name) => Ok(Plain::Name(name.copied(alloc)?)),
+        }
+    }
+}
+
 /// A rule whose aliases are written out: in the place of each stand the items of its list, turned round where it is negated.
 #[derive(Drop)]
 pub struct PlainRule {
     /// The users whom it is about.
-    pub users: Few<Signed<Plain>>,
+    pub users: Few<Plain>,
     /// The hosts that it is about.
-    pub hosts: Few<Signed<Plain>>,
+    pub hosts: Few<Plain>,
     /// The targets that the commands may run as.
-    pub runas: Few<Signed<Plain>>,
+    pub runas: Few<Plain>,
     /// The first moment at which it takes part; absent, there is no bound.
     pub not_before: Option<Moment>,
     /// The last moment at which it takes part; absent, there is no bound.
@@ -30,5 +44,5 @@ pub struct PlainRule {
     /// Whether no password is asked for.
     pub nopasswd: bool,
     /// The commands that it allows, or denies where they are negated.
-    pub cmnds: Few<Signed<Cmnd>>,
+    pub cmnds: Few<Cmnd>,
 }

@@ -3,7 +3,6 @@
 ghost use Rattle.std.specs.Prelude.{◌≡◌};
 ghost use Rattle.sudo_compiled.specs.Compiled as compiled;
 
-use crate::listed::{cmnds_say, plains_say};
 use crate::plain::PlainRule;
 use sudo_decide::{Decision, Invocation};
 use sudo_words::Moment;
@@ -24,12 +23,20 @@ fn takes_part(rule: &PlainRule, at: Moment) -> bool
 }
 
 /// Whether the rule's users, hosts and targets each say yes; one that does not ends the look.
-fn is_about(rule: &PlainRule, i: &Invocation) -> bool
+pub(crate) fn is_about(rule: &PlainRule, i: &Invocation) -> bool
     ensures { result ≡ compiled.is_about rule.now i.now }
 {
-    plains_say(rule.users.plains(), i.user.as_str().as_bytes()).unwrap_or(false)
-        && plains_say(rule.hosts.plains(), i.host.as_str().as_bytes()).unwrap_or(false)
-        && plains_say(rule.runas.plains(), i.runas.as_str().as_bytes()).unwrap_or(false)
+    rule.users
+        .says_of(i.user.as_str().as_bytes())
+        .unwrap_or(false)
+        && rule
+            .hosts
+            .says_of(i.host.as_str().as_bytes())
+            .unwrap_or(false)
+        && rule
+            .runas
+            .says_of(i.runas.as_str().as_bytes())
+            .unwrap_or(false)
 }
 
 /// What the rule says: nothing outside its dates, or where it is not about the invocation; else what its commands say.
@@ -39,7 +46,7 @@ fn says(rule: &PlainRule, i: &Invocation) -> Option<bool>
     if !takes_part(rule, i.at) || !is_about(rule, i) {
         return None;
     }
-    cmnds_say(rule.cmnds.cmnds(), &i.path, i.args.as_slice())
+    rule.cmnds.says_of_run(&i.path, i.args.as_slice())
 }
 
 /// What the rule decides by its answer.

@@ -55,6 +55,16 @@ impl Short {
         })
     }
 
+    /// A copy of its own.
+    pub(crate) fn copied(&self, alloc: Global) -> Result<Short, NoMemory>
+        ensures { IfOk result (λ s. s ≡ self.now) }
+    {
+        Ok(Short {
+            bytes: SmallVec::from_slice(alloc, self.bytes.as_slice())?,
+            tag: self.tag,
+        })
+    }
+
     /// Its bytes.
     pub(crate) fn as_bytes(&self) -> &[u8]
         ensures { result.now ≡ self.now }

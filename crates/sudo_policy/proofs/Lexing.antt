@@ -1,7 +1,5 @@
 -- The first token of a line is found in one way.
-use Rattle.std.proofs.Common.{Result, Ok, Err, not, eqb, ◌-◌, get_or, take, drop, take_all, ◌≡◌, ℕ, zero, suc, ◌<◌, ◌≤◌, Bool, true, false, List, [], ◌∷◌, ◌++◌, length, refl, sym, ap, subst, ◌∙◌, inl, inr, append_assoc, arith}
-use Rattle.std.specs.Prelude.{MatchResult, IsSome}
-use Rattle.std.specs.Result.{result_ok}
+use Rattle.std.proofs.Common.{not, eqb, ◌-◌, get_or, take, drop, take_all, ◌≡◌, ℕ, zero, suc, ◌<◌, ◌≤◌, Bool, true, false, List, [], ◌∷◌, ◌++◌, length, refl, sym, ap, subst, ◌∙◌, inl, inr, append_assoc, arith}
 use Rattle.std.proofs.lemmas.Bool.{false≢true, eqb-true}
 use Rattle.std.proofs.lemmas.Bool.Decides.{nat_tests}
 use Rattle.std.proofs.lemmas.List.{append-nil, length-append}
@@ -71,11 +69,6 @@ one_bangs n m v w r s some_v text_v some_w text_w e =
     let same = sym (append_assoc (bangs n) v r) ∙ e ∙ append_assoc (bangs m) w s in
     let cut = one_cut is_bang (bangs n) (v ++ r) (bangs m) (w ++ s) (each_bang n) (stops_bangs v r some_v text_v) (each_bang m) (stops_bangs w s some_w text_w) same in
     (sym (length_bangs n) ∙ ap length cut.0 ∙ length_bangs m, cut.1)
-
--- what from_utf8 answers of it
-pub given_text : {T E : Type 0} (U : Type 0) (P : T → Type 0) (Q : E → Type 0) (r : Result T E) → MatchResult r P (λ e. (U → ⊥) × Q e) → U → IsSome (result_ok r)
-given_text U P Q (Ok x) m u = refl
-given_text U P Q (Err e) m u = absurd (m.0 u)
 
 -- whether blanks were cut off
 pub some_blank : (blanks : List ℕ) → not (eqb (length blanks) 0) ≡ is_some_blank blanks

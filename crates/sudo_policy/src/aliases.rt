@@ -9,7 +9,7 @@ ghost use Rattle.sudo_policy.specs.declared.fault.LineFault.TheVariants as fault
 use crate::entry::{CmndItem, Item, Signed};
 use crate::fault::LineFault;
 use std::alloc::Global;
-use std::collections::BTreeMap;
+use std::collections::HashMap;
 use sudo_words::{AliasName, Form, Word};
 
 /// The most that a policy weighs.
@@ -87,7 +87,7 @@ pub struct Alias {
 /// The aliases of one kind, by name.
 #[derive(Drop)]
 pub struct Aliases {
-    known: BTreeMap<String, Alias>,
+    known: HashMap<String, Alias>,
 }
 
 impl Aliases {
@@ -96,7 +96,7 @@ impl Aliases {
         ensures { (name : List ℕ) → alias_at result name ≡ None }
     {
         Aliases {
-            known: BTreeMap::new(alloc),
+            known: HashMap::new(alloc),
         }
     }
 

@@ -118,7 +118,7 @@ impl Policy {
     }
 
     /// Gives the entries back, in order.
-    pub(crate) fn into_entries(self) -> Vec<Entry>
+    pub fn into_entries(self) -> Vec<Entry>
         ensures value { result.items ≡ self }
         ensures policy { IsPolicy self }
     {

@@ -179,11 +179,12 @@ fn cut_word(bytes: &[u8]) -> (&[u8], &[u8])
 }
 
 /// A word's bytes as text: they are ASCII.
-fn text_of(word: &[u8]) -> Option<&str>
-    ensures found { IfSome result (λ s. s.now ≡ word.now) }
-    ensures only { lex.is_word_text word.now ≡ true → IsSome result }
+fn text_of(word: &[u8]) -> &str
+    requires { lex.is_word_text word.now ≡ true }
+    ensures { result.now ≡ word.now }
 {
-    str::from_utf8(word).ok()
+    // So they are UTF-8, which is proved of this call and not tested.
+    unsafe { str::from_utf8_unchecked(word) }
 }
 
 /// What is wrong where no word begins with this byte, which is no `!`: wildcards, quotes, escapes and comments are left out,
@@ -223,14 +224,10 @@ pub fn next_token(bytes: &[u8]) -> Result<Option<(Token<'_>, &[u8])>, LineFault>
     if word.is_empty() {
         return Err(no_word(behind));
     }
-    match text_of(word) {
-        Some(text) => {
-            let bangs = bangs.len();
-            let kind = TokenKind::Word { bangs, text };
-            Ok(Some((Token { spaced, kind }, after)))
-        }
-        None => Err(LineFault::BadWord),
-    }
+    let bangs = bangs.len();
+    let text = text_of(word);
+    let kind = TokenKind::Word { bangs, text };
+    Ok(Some((Token { spaced, kind }, after)))
 }
 
 /// The tokens of a line.

@@ -1,11 +1,12 @@
-use Rattle.std.proofs.Common.{◌≡◌, ℕ, Bool, true, if◌then◌else◌, Option, Some, None, List, [], map, take, sym, ap, ◌∙◌, subst}
-use Rattle.std.specs.List.{flat_map}
+use Rattle.std.proofs.Common.{ℕ, List, map, sym, ap, ◌∙◌, subst}
 use Rattle.sudo_decide.specs.declared.invocation.Invocation.{Invocation}
-use Rattle.sudo_beyond.specs.declared.run.Run.{Run}
-use Rattle.sudo_beyond.specs.Cases.{of_run, invocation_of}
-use Rattle.sudo_beyond.specs.Answer.{IsFirst, FirstOf}
+use Rattle.sudo_compiled.specs.declared.plain.PlainRule.{PlainRule}
+use Rattle.sudo_compiled.specs.Compiled.{SameNames, AnswerAlike}
+use Rattle.sudo_beyond.specs.Cases.{of_run, of_target, invocation_of}
+use Rattle.sudo_beyond.specs.Answer.{FirstOf}
 use Rattle.sudo_beyond.specs.private.Compared.{IsAnsweredGap}
-use Rattle.sudo_beyond.proofs.Gaps.{NoGap, gap_here, gaps_of_none, none_is_empty}
+use Rattle.sudo_beyond.proofs.CompiledGaps.{gap_of_those, gap_of_all, same_names_runs}
+use Rattle.sudo_beyond.proofs.Gaps.{first_of_same_on, gaps_of_none, none_is_empty, if_ok}
 use Rattle.sudo_beyond.proofs.search.of_target.Goals as goal
 
 pub returns-in_default-first : goal.returns-in_default-first
@@ -14,18 +15,19 @@ returns-in_default-first c =
     (λ run. ap (λ (ts : List ℕ). map (invocation_of c.args.user.now c.args.host.now c.args.runas.now run) ts)
     (sym c.as_slice-2.ensures ∙ none_is_empty c.as_slice-2.result.now (sym c.in_default-first.ensures.value)))
 
-pub returns-then-branch : goal.returns-then-branch
-returns-then-branch c =
-    let P : Invocation → Type 0 = IsAnsweredGap c.args.a.now c.args.b.now in
-    let f : Run → List Invocation = of_run c.args.cases.now c.args.user.now c.args.host.now c.args.runas.now in
-    let runs : List Run = c.as_slice-run-items.result.now in
-    let gap : FirstOf P (of_run c.args.cases.now c.loop-run.i.user c.loop-run.i.host c.loop-run.i.runas c.run-item.result) (Some c.try_run.new.i) =
-    subst (λ (b : Bool). FirstOf P (of_run c.args.cases.now c.loop-run.i.user c.loop-run.i.host c.loop-run.i.runas c.run-item.result) (if b then Some c.try_run.new.i else None)) c.if-branch.true c.in_ok-try_run.ensures.found in
-    let names : of_run c.args.cases.now c.loop-run.i.user c.loop-run.i.host c.loop-run.i.runas c.run-item.result ≡ f c.run-item.result =
-    ap (λ (u : List ℕ). of_run c.args.cases.now u c.loop-run.i.host c.loop-run.i.runas c.run-item.result) c.loop-run.invariant.user_is
-    ∙ ap (λ (h : List ℕ). of_run c.args.cases.now c.args.user.now h c.loop-run.i.runas c.run-item.result) c.loop-run.invariant.host_is
-    ∙ ap (λ (r : List ℕ). of_run c.args.cases.now c.args.user.now c.args.host.now r c.run-item.result) c.loop-run.invariant.runas_is in
-    subst (λ (xs : List Run). IsFirst P (flat_map f xs) c.try_run.new.i) c.as_slice-run-items.ensures
-    (gap_here P f runs c.loop-run.run-index c.run-item.result c.try_run.new.i c.loop-run-test.true c.run-item.is
-    (subst (λ (xs : List Run). NoGap P (flat_map f (take c.loop-run.run-index xs))) (sym c.as_slice-run-items.ensures) c.loop-run.invariant.none)
-    (subst (λ (is : List Invocation). IsFirst P is c.try_run.new.i) names gap))
+pub returns : goal.returns
+returns c =
+    let a : List PlainRule = c.args.a.now in
+    let b : List PlainRule = c.args.b.now in
+    let x : List PlainRule = c.bearing_on.result.now in
+    let y : List PlainRule = c.bearing_on-2.result.now in
+    let i : Invocation = c.in_ok-i.i in
+    let by_a : AnswerAlike a x i = subst (λ (rules : List PlainRule). AnswerAlike rules x i) c.rules.ensures c.bearing_on.ensures in
+    let by_b : AnswerAlike b y i = subst (λ (rules : List PlainRule). AnswerAlike rules y i) c.rules-2.ensures c.bearing_on-2.ensures in
+    if_ok c.try_runs.result
+    (λ found first.
+    subst (λ (is : List Invocation). FirstOf (IsAnsweredGap a b) is found) (ap (λ (j : Invocation). of_target c.args.cases.now j.user j.host j.runas) c.in_ok-i.ensures)
+    (first_of_same_on (SameNames i) (IsAnsweredGap x y) (IsAnsweredGap a b) (of_target c.args.cases.now i.user i.host i.runas) found
+    (λ j. gap_of_those a b x y i j by_a by_b) (λ j. gap_of_all a b x y i j by_a by_b)
+    (same_names_runs i c.args.cases.now c.args.cases.now.runs) first))
+    c.try_runs.ensures

@@ -2,7 +2,7 @@ use Rattle.std.proofs.Common.{◌≡◌, ◌+◌, List, ℕ, Some, ap, ◌∙◌
 use Rattle.std.specs.Prelude.{string_bytes}
 use Rattle.std.specs.Map.{update}
 use Rattle.std.specs.Str.{bytes_eq}
-use Rattle.std.proofs.lemmas.Map.Text.{btree_map_updates_text}
+use Rattle.std.proofs.lemmas.Map.Text.{hash_map_updates_text}
 use Rattle.sudo_policy.specs.declared.aliases.Alias.{Alias}
 use Rattle.sudo_policy.specs.Alias.{depth_of}
 use Rattle.sudo_policy.specs.private.Measures.{alias_at, depth_in}
@@ -28,6 +28,6 @@ returns-clause-found g c =
         depth = deep;
       };
       updates = λ n.
-          btree_map_updates_text (string_bytes c.in_ok-from_str.field-0) old.known c.insert.new.self _ c.in_ok-insert.ensures.updates n
+          hash_map_updates_text (string_bytes c.in_ok-from_str.field-0) old.known c.insert.new.self _ c.in_ok-insert.ensures.updates n
           ∙ ap (λ (bs : List ℕ). update bytes_eq (alias_at old) bs (Some alias) n) named;
     }
