@@ -5,11 +5,8 @@ import re
 from collections.abc import Iterator
 
 HERE = os.path.dirname(os.path.abspath(__file__))
-PLACES = (
-    os.path.join(HERE, "..", "..", "docs", "CODES.md"),
-    os.path.join(HERE, "..", "..", "..", "share", "doc", "steelnewt", "CODES.md"),
-    "/usr/share/doc/steelnewt/CODES.md",
-)
+# where it is installed, and in a clone
+PLACES = (os.path.join(HERE, "..", "CODES.md"), os.path.join(HERE, "..", "..", "docs", "CODES.md"))
 
 
 def document() -> str:

@@ -39,7 +39,6 @@ HARMLESS = {
     "setenv": "SETENV is left out: the environment cannot be set (`ALL` has it anyway)",
     "log_input": "LOG_INPUT is left out: keep `Defaults log_input` in the host's own sudoers",
     "log_output": "LOG_OUTPUT is left out: keep `Defaults log_output` in the host's own sudoers",
-    "send_mail": "MAIL is left out: keep `Defaults mail_always` in the host's own sudoers if it is wanted",
 }
 HOLDS_BACK = {"noexec", "intercept", "targetpw", "rootpw", "runaspw", "requiretty", "use_pty", "env_reset", "secure_path", "env_check", "env_delete"}
 KEEP = "a Defaults line gives no right: keep it in the host's own /etc/sudoers"

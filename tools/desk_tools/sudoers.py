@@ -15,6 +15,12 @@ ALIASES = ("User_Aliases", "Runas_Aliases", "Host_Aliases", "Command_Aliases")
 INCLUDE = re.compile(r"[@#](include|includedir)[ \t]+(?:\"([^\"]+)\"|((?:[^ \t\\]|\\.)+))[ \t]*$")
 COMMENT = re.compile(r"(?<!\\)#(?!-?[0-9])")
 MOST_DEEP = 128
+# options of a command, which come before its tags
+OPTION = r"(?:NOTBEFORE|NOTAFTER|TIMEOUT|CWD|CHROOT|ROLE|TYPE|PRIVS|LIMITPRIVS|APPARMOR_PROFILE)[ \t]*=[ \t]*"
+HEAD = re.compile(rf"[ \t]*(?:\([^)]*\)[ \t]*)?(?:{OPTION}(?:\"[^\"]*\"|(?:\\.|[^ \t\\,])+)[ \t]+)*")
+TAGS = re.compile(r"(?:(?:NO)?(?:PASSWD|EXEC|SETENV|LOG_INPUT|LOG_OUTPUT|MAIL|FOLLOW|INTERCEPT)[ \t]*:[ \t]*)*")
+MAIL = re.compile(r"(?:NO)?MAIL[ \t]*:[ \t]*")
+MARK = re.compile(r'"[^"]*"|\\.|sha(?:224|256|384|512)[ \t]*:|\([^)]*\)|([,:=])')
 
 
 class BadSudoers(Exception):
@@ -92,6 +98,60 @@ def logical(text: str) -> Iterator[tuple[int, str]]:
         yield began, held.strip()
 
 
+def marks(line: str, at: int, wanted: str) -> int:
+    """Where one of these marks comes next, outside of quotes and parentheses and without a backslash; the line's end where none does."""
+    for found in MARK.finditer(line, at):
+        if found[1] and found[1] in wanted:
+            return found.start()
+    return len(line)
+
+
+def set_apart(line: str) -> str:
+    """A rule in which each command has another tag than the one before: cvtsudoers of 1.9.13 joins commands whose options alone differ, and tells the
+    options of the first. The tag is one of those that give no right."""
+    pieces, at, count = [], 0, 0
+    while (equals := marks(line, at, "=")) < len(line):
+        pieces.append(line[at : equals + 1])
+        at = equals + 1
+        while True:
+            head = HEAD.match(line, at)
+            assert head is not None
+            tags = TAGS.match(line, head.end())
+            assert tags is not None
+            end = marks(line, tags.end(), ",:")
+            pieces += [head[0], " MAIL: " if count % 2 else " NOMAIL: ", MAIL.sub("", tags[0]), line[tags.end() : end + 1]]
+            at, count = end + 1, count + 1
+            if line[end : end + 1] != ",":
+                break
+    return "".join(pieces) + line[at:]
+
+
+def commands(specs: list[dict[str, Any]]) -> list[Any]:
+    """Each command of these rules with what else the rule says of it, but for its options."""
+    return [
+        [spec["User_List"], spec["Host_List"], part.get("runasusers"), part.get("runasgroups"), command]
+        for spec in specs
+        for part in spec["Cmnd_Specs"]
+        for command in part["Commands"]
+    ]
+
+
+def rules(line: str, place: Place) -> dict[str, Any]:
+    """What a line is, where cvtsudoers is not trusted with options."""
+    read = converted(f"{line}\n", place.file)
+    joined = any(len(part["Commands"]) > 1 for spec in read.get("User_Specs", []) for part in spec["Cmnd_Specs"])
+    if not joined or not re.search(OPTION, line):
+        return read
+    try:
+        apart = converted(f"{set_apart(line)}\n", place.file)
+    except BadSudoers:
+        apart = {}
+    specs = apart.get("User_Specs", [])
+    if commands(specs) != commands(read["User_Specs"]) or any(len(part["Commands"]) > 1 for spec in specs for part in spec["Cmnd_Specs"]):
+        raise BadSudoers(f"{place}: write each command with its options as a rule of its own: cvtsudoers mixes up such a line")
+    return apart
+
+
 class Reader:
     def __init__(self) -> None:
         self.found = Sudoers()
@@ -114,12 +174,12 @@ class Reader:
             elif re.match(r"Defaults\b", line):
                 mine.defaults.append((place, line))
             elif line:
-                read = converted(f"{line}\n", shown)
+                read = rules(line, place)
                 for kind in ALIASES:
                     mine.aliases[kind] |= {name: (place, items) for name, items in read.get(kind, {}).items()}
                 mine.specs += [(place, spec) for spec in read.get("User_Specs", [])]
                 specs += read.get("User_Specs", [])
-        if specs != whole.get("User_Specs", []):
+        if commands(specs) != commands(whole.get("User_Specs", [])):
             raise BadSudoers(f"{shown}: line by line sudo reads something else than the whole file; write each rule on lines of its own")
         self.take(mine)
 

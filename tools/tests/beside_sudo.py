@@ -25,7 +25,7 @@ import sudo_peer  # noqa: E402
 from desk_tools.sudoers import BadSudoers, converted  # noqa: E402
 
 DESK = os.environ.get("DESK", os.path.join(ROOT, "build", "desk"))
-ASKED = 24  # invocations of each file
+ASKED = int(os.environ.get("ASKED", "8"))  # invocations of each file
 USERS, HOSTS = ("ann", "bob", "eve", "kim"), ("db1", "db2", "web1")
 GROUPS = {"wheel": ("ann", "bob"), "ops": ("kim",), "empty": ()}
 FILES = ("/srv/bin/ls", "/srv/bin/lsof", "/srv/bin/kill", "/srv/sbin/tool")
@@ -38,24 +38,40 @@ def digest(path):
     return base64.b64encode(hashlib.sha256(f"#!/bin/sh\n# {path.removeprefix('/srv/')}\n".encode()).digest()).decode()
 
 
+def signed(rng, word):
+    """A word, or its negation; the sign of a command stands behind its digest."""
+    sign = rng.choice(("", "", "", "!"))
+    return word.replace(" ", f" {sign}", 1) if word.startswith("sha") else sign + word
+
+
 def chosen(rng, words, most=3):
-    return ", ".join(rng.choice(("", "", "", "!")) + rng.choice(words) for _ in range(rng.randint(1, most)))
+    return ", ".join(signed(rng, rng.choice(words)) for _ in range(rng.randint(1, most)))
+
+
+def random_command(rng, targets, commands):
+    """A command or two, with a target, options and tags or without."""
+    target = rng.choice(["", "", f"({chosen(rng, targets, 2)}) ", f"({chosen(rng, targets, 2)} : op) "])
+    odd = (["TIMEOUT=60 ", "CWD=/ "], ["NOEXEC: ", "EXEC: ", "SETENV: ", "MAIL: "]) if len(commands) > 12 else ([], [])
+    option = rng.choice([*[""] * 5, "NOTBEFORE=2026010509Z ", "NOTAFTER=20260105093000Z ", "NOTAFTER=2026010509Z ", *odd[0]])
+    tag = rng.choice([*[""] * 4, "NOPASSWD: ", "PASSWD: ", *odd[1]])
+    return f"{target}{option}{tag}{chosen(rng, commands, 2)}"
 
 
 def random_sudoers(rng):
-    """Aliases and rules, with much that the desk cannot say."""
-    users = [*USERS, "ALL", "%wheel", "%ops", "%empty", "%nobody-knows", "+net", "#2002", "Odd", "U0", "U1"]
-    hosts = [*HOSTS, "ALL", "ALL", "10.0.0.0/8", "db1.example.org", "DB1", "H0"]
-    targets = ["root", "op", "ALL", "%ops", "R0"]
-    commands = [*FILES, "ALL", "/srv/bin/", "/srv/bin/ls -l", '/srv/bin/ls ""', "/srv/bin/l*", "/srv/bin/ls -*", "/srv/*/kill", f"sha256:{digest(FILES[0])} {FILES[0]}", "C0", "C1"]
+    """Aliases and rules; of two thirds of the files some words are ones that the desk cannot say."""
+    users, hosts, targets = [*USERS, "ALL", "ALL", "%wheel", "%ops", "%empty", "#2002", "%nobody-knows"], [*HOSTS, "ALL", "ALL", "ALL", "DB1"], ["root", "root", "op", "ALL", "ALL", "%ops"]
+    commands = [*FILES, "ALL", "ALL", "/srv/bin/", "/srv/bin/ls -l", '/srv/bin/ls ""']
+    if rng.random() < 0.67:
+        users, hosts = [*users, "+net", "Odd"], [*hosts, "10.0.0.0/8", "db1.example.org"]
+        commands += ["/srv/bin/l*", "/srv/bin/ls -*", "/srv/*/kill", f"sha256:{digest(FILES[0])} {FILES[0]}"]
+    users, hosts, targets, commands = [*users, "U0", "U1"], [*hosts, "H0"], [*targets, "R0"], [*commands, "C0", "C1"]
     lines = [f"User_Alias U0 = {chosen(rng, users[:-2])}", f"User_Alias U1 = {chosen(rng, users[:-1])}", f"Host_Alias H0 = {chosen(rng, hosts[:-1])}"]
     lines += [f"Runas_Alias R0 = {chosen(rng, targets[:-1])}", f"Cmnd_Alias C0 = {chosen(rng, commands[:-2])}", f"Cmnd_Alias C1 = {chosen(rng, commands[:-1])}"]
     rng.shuffle(lines)
     lines.insert(0, rng.choice(["Defaults !lecture", "# a comment", "Defaults runas_default=op", ""]))
     for _ in range(rng.randint(1, 4)):
-        tag = rng.choice(["", "", "", "NOPASSWD: ", "NOEXEC: ", "SETENV: ", "NOTBEFORE=2026010509Z ", "NOTAFTER=20260105093000Z ", "NOTAFTER=2026010509Z "])
-        target = rng.choice(["", f"({chosen(rng, targets, 2)}) ", f"({chosen(rng, targets, 2)} : op) "])
-        lines.append(f"{chosen(rng, users)} {chosen(rng, hosts, 2)} = {target}{tag}{chosen(rng, commands)}")
+        parts = [random_command(rng, targets, commands) for _ in range(rng.choice([1, 1, 2, 3]))]
+        lines.append(f"{chosen(rng, users)} {chosen(rng, hosts, 2)} = {', '.join(parts)}")
     return "".join(f"{line}\n" for line in lines)
 
 
@@ -131,7 +147,7 @@ class Run:
         if not sudo_peer.accepts(self.programs["visudo"], file.name, ran.stdout, self.folder):
             self.wrong(file, "visudo refuses the base")
             return
-        for _ in range(ASKED if not file.name.startswith("random") else ASKED // 4):
+        for _ in range(ASKED):
             self.ask(file, base, ran.stdout, is_whole, file.invocation(rng))
 
     def ask(self, file, base, text, is_whole, words):
@@ -170,7 +186,7 @@ def inside(count, named):
         subprocess.run(["umount", "/etc/group"], check=True)
         sudo_peer.clear()
     print(f"of {len(files) + unread} sudoers files sudo reads {len(files)}: {ran.count}")
-    sys.exit(1 if ran.count["wrong"] or not ran.count["allowed"] else 0)
+    sys.exit(1 if ran.count["wrong"] or not ran.count["allowed"] or not ran.count["kept whole"] else 0)
 
 
 if __name__ == "__main__":

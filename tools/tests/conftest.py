@@ -17,7 +17,7 @@ Run = Callable[..., "subprocess.CompletedProcess[str]"]
 def pytest_addoption(parser: pytest.Parser) -> None:
     parser.addoption("--rosters", type=int, default=400, help="random rosters (400)")
     parser.addoption("--messages", type=int, default=4000, help="random messages (4000)")
-    parser.addoption("--sudoers", type=int, default=60, help="random sudoers files (60)")
+    parser.addoption("--sudoers", type=int, default=40, help="random sudoers files (40)")
 
 
 @pytest.fixture(scope="session")

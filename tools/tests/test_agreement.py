@@ -32,7 +32,6 @@ def test_rosters(desk, tmp_path, pytestconfig):
             wrong.append((data.decode("utf-8", "replace"), theirs, code))
     print(f"rosters: {dict(seen)}")
     assert not wrong, f"{len(wrong)} otherwise, among them: {wrong[:3]}"
-    assert {*seen} >= {"read", *(f"O{it}" for it in "")}
     assert pytestconfig.getoption("rosters") < 400 or len(seen) == 8, seen
 
 

@@ -1,9 +1,12 @@
 """Random rosters and messages: examples with a few of their parts changed. The same ones for the same seed."""
 
+import copy
 import json
 import os
 import random
 import re
+import tomllib
+from typing import Any
 
 from tests.conftest import ROOT
 
@@ -73,14 +76,71 @@ def changed(chance: random.Random, text: str, words: list[str], marks: list[str]
     return text[:at] + chance.choice(marks) + text[at:]
 
 
+def toml_of(value: object) -> str:
+    """A value in TOML."""
+    if isinstance(value, dict):
+        return "{ " + ", ".join(f"{json.dumps(key, ensure_ascii=False)} = {toml_of(it)}" for key, it in value.items()) + " }"
+    if isinstance(value, list):
+        return f"[{', '.join(map(toml_of, value))}]"
+    return "2026-01-05" if value is None else json.dumps(value, ensure_ascii=False)
+
+
+def places(value: object, path: tuple[str | int, ...] = ()) -> list[tuple[str | int, ...]]:
+    """The paths of all parts of a value."""
+    inner = list(value.items()) if isinstance(value, dict) else list(enumerate(value)) if isinstance(value, list) else []
+    return [path, *(it for key, held in inner for it in places(held, (*path, key)))]
+
+
+NUMBERS = [0, 1, 3, 4, -1, 1.0, 2_592_000, 2_592_001, 2**63 - 1, True]
+ENTRIES = [
+    {"duty": "audit", "from": first, "until": last}
+    for first, last in [("20260101", "20260101"), ("20260102", "20260101"), ("20260230", "20260301"), ("19691231", "20260101"), ("20260101", "21000101"), ("2026-01-01", "20260101")]
+]
+
+
+def revalued(chance: random.Random, document: dict[str, Any]) -> None:
+    """Another value at some place, one more or one less there, or two that change places."""
+    *front, last = chance.choice(places(document)[1:])
+    holder: Any = document
+    for key in front:
+        holder = holder[key]
+    old = holder[last]
+    kind = chance.randrange(8)
+    if kind == 0:
+        del holder[last]
+    elif kind == 1:
+        holder[last] = chance.choice([*VALUES, *NUMBERS])
+    elif kind == 2:
+        holder[last] = chance.choice(WORDS)
+    elif kind == 3 and isinstance(holder, list):
+        holder.append(chance.choice([old, *WORDS[:20], *ENTRIES]))
+    elif kind == 4 and isinstance(holder, list) and len(holder) > 1:
+        holder[last] = holder[last - 1]
+    elif isinstance(old, bool | int):
+        holder[last] = chance.choice(NUMBERS)
+    elif kind == 5 and isinstance(old, list) and old:
+        holder[last] = old * chance.choice([2, 64, 65, 256, 257])
+    elif kind == 6 and isinstance(holder, dict):
+        holder[chance.choice(WORDS)] = old
+    elif isinstance(old, str):
+        holder[last] = chance.choice(WORDS[:24] + ["approve-db", "audit", "operate-db"])
+
+
 def rosters(count: int, seed: int = 1) -> list[bytes]:
     chance = random.Random(seed)
     with open(os.path.join(ROOT, "examples", "roster.toml"), encoding="utf-8") as file:
         bases = [file.read(), DATED]
+    document = tomllib.loads(bases[0])
+    document["people"]["frank"] = [ENTRIES[0], "audit"]
     found = []
-    for _ in range(count):
+    for number in range(count):
         text = chance.choice(bases)
-        for _ in range(chance.choice([1, 1, 1, 2, 2, 3, 5])):
+        if number % 2:
+            copied = copy.deepcopy(document)
+            for _ in range(chance.choice([1, 1, 1, 1, 2, 3])):
+                revalued(chance, copied)
+            text = "".join(f"{json.dumps(key, ensure_ascii=False)} = {toml_of(it)}\n" for key, it in copied.items())
+        for _ in range(chance.choice([1, 1, 1, 2, 2, 3, 5]) if number % 2 == 0 or chance.random() < 0.05 else 0):
             text = changed(chance, text, WORDS, MARKS)
         data = text.encode()
         if chance.random() < 0.01:
