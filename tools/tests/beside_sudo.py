@@ -59,7 +59,8 @@ def random_command(rng, targets, commands):
 
 def random_sudoers(rng):
     """Aliases and rules; of two thirds of the files some words are ones that the desk cannot say."""
-    users, hosts, targets = [*USERS, "ALL", "ALL", "%wheel", "%ops", "%empty", "#2002", "%nobody-knows"], [*HOSTS, "ALL", "ALL", "ALL", "DB1"], ["root", "root", "op", "ALL", "ALL", "%ops"]
+    users = [*USERS, "ALL", "ALL", "%wheel", "%ops", "%empty", "#2002", "%nobody-knows"]
+    hosts, targets = [*HOSTS, "ALL", "ALL", "ALL", "DB1"], ["root", "root", "op", "ALL", "ALL", "%ops"]
     commands = [*FILES, "ALL", "ALL", "/srv/bin/", "/srv/bin/ls -l", '/srv/bin/ls ""']
     if rng.random() < 0.67:
         users, hosts = [*users, "+net", "Odd"], [*hosts, "10.0.0.0/8", "db1.example.org"]

@@ -1,6 +1,7 @@
 """desk-import: the base of a sudoers file, and what is said of the rest; and what sudo says of both."""
 
 import os
+import shutil
 import subprocess
 import sys
 
@@ -12,6 +13,7 @@ from tests.conftest import ROOT
 BESIDE = os.path.join(ROOT, "tools", "tests", "beside_sudo.py")
 GROUP = "wheel:x:3001:ann,bob\nops:x:3002:\nodd:x:3003:Ann\n"
 PASSWD = "root:x:0:0::/:/bin/sh\nann:x:2001:2001::/:/bin/sh\nkim:x:2002:3002::/:/bin/sh\n"
+NINE = "NOTBEFORE=20260105090000Z NOTAFTER=20260105090000Z"
 GETENT = """#!/bin/sh
 case $1:$2 in
     passwd:) cat PASSWD ;;
@@ -46,10 +48,21 @@ def made(imports, desk, tmp_path, monkeypatch):
     ("text", "base"),
     [
         ("ann ALL = /bin/ls\n", "ann ALL = (root) /bin/ls\n"),
-        ("ann db1 = (op) NOPASSWD: /bin/ls, PASSWD: /bin/kill -9 1 : db2 = ALL", "ann db1 = (op) NOPASSWD: /bin/ls\nann db1 = (op) /bin/kill -9 1\nann db2 = (root) ALL\n"),
-        ("B = ann\n".replace("B", "User_Alias B") + "B ALL = ALL\n", "User_Alias B = ann\nB ALL = (root) ALL\n"),
+        (
+            "ann db1 = (op) NOPASSWD: /bin/ls, PASSWD: /bin/kill -9 1 : db2 = ALL",
+            "ann db1 = (op) NOPASSWD: /bin/ls\nann db1 = (op) /bin/kill -9 1\nann db2 = (root) ALL\n",
+        ),
+        ("User_Alias B = ann\nB ALL = ALL\n", "User_Alias B = ann\nB ALL = (root) ALL\n"),
         ("A DB1 = /bin/ls\nUser_Alias A = B, !bob\nUser_Alias B = ann\n", "User_Alias B = ann\nUser_Alias A = B, !bob\nA db1 = (root) /bin/ls\n"),
-        ("ann ALL = NOTBEFORE=2026010509Z NOTAFTER=202601051000+0100 /bin/x a\\,b\\:c \\\n, !/bin/y\n", None),
+        (
+            "ann ALL = NOTBEFORE=2026010509Z NOTAFTER=202601051000+0100 /bin/x a\\,b\\:c \\\n, !/bin/y\n",
+            f"ann ALL = (root) {NINE} /bin/x a\\,b\\:c\nann ALL = (root) {NINE} !/bin/y\n",
+        ),
+        # cvtsudoers joins commands whose options alone differ
+        (
+            "ann ALL = NOTBEFORE=2026010509Z /bin/a a\\,b, NOTAFTER=2026010509Z MAIL: /bin/b : db1 = (op) TIMEOUT=1 /bin/c, !/bin/d",
+            f"ann ALL = (root) NOTBEFORE=20260105090000Z /bin/a a\\,b\nann ALL = (root) {NINE} /bin/b\nann db1 = (op) !/bin/d\n",
+        ),
         ("%wheel ALL = ALL\n%#3002 ALL = /bin/ls\n#2002 ALL = /bin/ls\n", "ann, bob ALL = (root) ALL\nkim ALL = (root) /bin/ls\nkim ALL = (root) /bin/ls\n"),
         ("Defaults runas_default=op\nann ALL = /bin/ls\n", "ann ALL = (op) /bin/ls\n"),
         # what allows is narrowed, and what denies is widened
@@ -69,8 +82,7 @@ def made(imports, desk, tmp_path, monkeypatch):
 )
 def test_bases(made, text, base):
     found, _ = made(text)
-    wanted = "ann ALL = (root) NOTBEFORE=20260105090000Z NOTAFTER=20260105090000Z /bin/x a\\,b\\:c\nann ALL = (root) NOTBEFORE=20260105090000Z NOTAFTER=20260105090000Z !/bin/y\n"
-    assert found == (wanted if base is None else base)
+    assert found == base
 
 
 def test_the_list_of_what_is_left_out(made, tmp_path):
@@ -108,7 +120,8 @@ def test_hosts_of_a_list(made, tmp_path):
 
 def test_included_files(made, tmp_path):
     (tmp_path / "more.d").mkdir()
-    for name, text in (("b", "bob ALL = /bin/b\n"), ("a", "User_Alias A = ann\n\nA ALL = /bin/a, /bin/x*\n"), ("c.off", "c ALL = ALL\n"), ("d~", "d ALL = ALL\n")):
+    files = {"b": "bob ALL = /bin/b\n", "a": "User_Alias A = ann\n\nA ALL = /bin/a, /bin/x*\n", "c.off": "c ALL = ALL\n", "d~": "d ALL = ALL\n"}
+    for name, text in files.items():
         (tmp_path / "more.d" / name).write_text(text)
     found, said = made("root ALL = ALL\n@includedir more.d\nroot ALL = !/bin/su\n#include nothing\n")
     assert found == "User_Alias A = ann\nroot ALL = (root) ALL\nA ALL = (root) /bin/a\nbob ALL = (root) /bin/b\nroot ALL = (root) !/bin/su\n"
@@ -123,7 +136,8 @@ def test_failures(made, imports, desk, tmp_path):
 
 
 def ask_sudo(count, *files):
-    lacks = [name for name in ("sudo", "visudo", "cvtsudoers", "faketime", "unshare") if subprocess.run(["sh", "-c", f"PATH=$PATH:/usr/sbin command -v {name}"], capture_output=True, check=False).returncode]
+    path = f"{os.environ['PATH']}:/usr/sbin:/sbin"
+    lacks = [name for name in ("sudo", "visudo", "cvtsudoers", "faketime", "unshare") if shutil.which(name, path=path) is None]
     if os.geteuid() != 0 or lacks:
         assert not os.environ.get("WHOLE"), f"sudo cannot be asked here: it lacks root or {lacks}"
         pytest.skip(f"sudo cannot be asked here: it lacks root or {lacks}")

@@ -110,7 +110,10 @@ SOUND = 'ann = ["ask"]\nbob = ["approve"]\ndave = ["audit"]'
         (roster(SOUND), []),
         (roster(SOUND, needs=2), ["approvers: too few people can approve: it needs 2, and beside the asker bob may"]),
         (roster('ann = ["ask", "approve"]\ndave = ["audit"]'), ["approvers: too few people can approve: it needs 1, and beside the asker ann may"]),
-        (roster('ann = ["ask", "approve"]\nbob = ["ask"]\ndave = ["audit"]'), ["approvers: by ann it cannot be obtained: too few other people can approve (ann)"]),
+        (
+            roster('ann = ["ask", "approve"]\nbob = ["ask"]\ndave = ["audit"]'),
+            ["approvers: by ann it cannot be obtained: too few other people can approve (ann)"],
+        ),
         (roster('bob = ["approve"]\ndave = ["audit"]'), ["duty: nobody holds ask", "approvers: nobody may ask under it: nobody holds ask"]),
         (
             roster('ann = ["ask"]\nbob = [{ duty = "approve", from = "20260101", until = "20260630" }]\ndave = ["audit"]'),
@@ -130,7 +133,10 @@ SOUND = 'ann = ["ask"]\nbob = ["approve"]\ndave = ["audit"]'
             roster(f'{SOUND}\neve = [{{ duty = "ask", from = "20250101", until = "20250630" }}]'),
             ["ended: ask ended on 20250630; leave the entry: without it what was approved by it would be approved no more"],
         ),
-        (roster(SOUND, commands="""['/usr/bin/find', '/usr/bin/find ""', '/usr/bin/find /tmp']"""), ["runs-others: /usr/bin/find: its arguments name what it runs"]),
+        (
+            roster(SOUND, commands="""['/usr/bin/find', '/usr/bin/find ""', '/usr/bin/find /tmp']"""),
+            ["runs-others: /usr/bin/find: its arguments name what it runs"],
+        ),
         (roster(SOUND, commands='["/usr/bin/less /var/log/x"]'), ["runs-others: /usr/bin/less /var/log/x: a pager opens a shell from inside (`!`)"]),
         (roster(SOUND, commands='["/bin/journalctl --no-pager -n 5", "ALL", "/opt/bin/"]'), []),
         (

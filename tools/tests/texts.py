@@ -37,13 +37,16 @@ longest = 2_592_000
 """
 WORDS = (
     "ann bob kim.l Ann _a a a-b a.b 9a sudoedit sha256 sha256x ALL all db1 db2 web1 db9 chat mail approve-db audit operate-db cash root postgres "
-    "/bin/ls /bin/ls/ / /bin//ls /bin/../ls /bin/sudoedit /opt/sudoedit/ /opt/sudoedit/x /usr/bin/ /usr/bin/id /bin/* 20260101 20260230 19691231 20991231 21000101 "
-    "20240229 2026010 0 1 3 4 -1 1.0 1e2 7_200 7__2 0x1 2592000 2592001 9223372036854775807 9223372036854775808 true false inf nan 2026-01-05 10:00 ask approve needs "
+    "/bin/ls /bin/ls/ / /bin//ls /bin/../ls /bin/sudoedit /opt/sudoedit/ /opt/sudoedit/x /usr/bin/ /usr/bin/id /bin/* "
+    "20260101 20260230 19691231 20991231 21000101 20240229 2026010 0 1 3 4 -1 1.0 1e2 7_200 7__2 0x1 2592000 2592001 "
+    "9223372036854775807 9223372036854775808 true false inf nan 2026-01-05 10:00 ask approve needs "
     "hosts runas commands longest people ceilings relays duties conflicts duty from until"
 ).split()
-WORDS += ["x" * 32, "x" * 33, "", "/bin/ls -l", '/bin/ls ""', "/bin/ls  -l", "/bin/echo a\\:b", "/bin/echo a:b", "/bin/ls " + "-a " * 15 + "-a", "/bin/ls" + " -a" * 17]
+WORDS += ["x" * 32, "x" * 33, "", "/bin/ls -l", '/bin/ls ""', "/bin/ls  -l", "/bin/echo a\\:b", "/bin/echo a:b"]
+WORDS += ["/bin/ls " + "-a " * 15 + "-a", "/bin/ls" + " -a" * 17]
 WORDS += ["/" + "a" * 254, "/" + "a" * 255, "/bin/x " + "b" * 64, "/bin/x " + "b" * 65, "é", "a b"]
-MARKS = list("[]{}=,.\"'#\n\t \r\\_-+:/xu0aA\x00\x7fé") + ["\r\n", '"""', "'''", "[[", "]]", "\\u0041", "\\x41", "\\e", "\\ud800", "[people]\n", "[ceilings.x]\n", "a.b = 1\n", "{}", "[]"]
+MARKS = list("[]{}=,.\"'#\n\t \r\\_-+:/xu0aA\x00\x7fé") + ["\r\n", '"""', "'''", "[[", "]]", "\\u0041", "\\x41", "\\e", "\\ud800"]
+MARKS += ["[people]\n", "[ceilings.x]\n", "a.b = 1\n", "{}", "[]"]
 TOKEN = re.compile(r"""[A-Za-z0-9_./:+-]+|"[^"\n]*"|'[^'\n]*'""")
 
 
@@ -93,9 +96,11 @@ def places(value: object, path: tuple[str | int, ...] = ()) -> list[tuple[str | 
 
 NUMBERS = [0, 1, 3, 4, -1, 1.0, 2_592_000, 2_592_001, 2**63 - 1, True]
 ENTRIES = [
-    {"duty": "audit", "from": first, "until": last}
-    for first, last in [("20260101", "20260101"), ("20260102", "20260101"), ("20260230", "20260301"), ("19691231", "20260101"), ("20260101", "21000101"), ("2026-01-01", "20260101")]
-]
+    {"duty": "audit", "from": days.split()[0], "until": days.split()[1]}
+    for days in (
+        "20260101 20260101", "20260102 20260101", "20260230 20260301", "19691231 20260101", "20260101 21000101", "2026-01-01 20260101",
+    )
+]  # fmt: skip
 
 
 def revalued(chance: random.Random, document: dict[str, Any]) -> None:
@@ -150,7 +155,8 @@ def rosters(count: int, seed: int = 1) -> list[bytes]:
     return found
 
 
-VALUES = [0, 7, -1, 10**9, 999_999_999, 7.0, True, None, [], {}, "", "request", "approve", "revoke", [["db1"]], ["db1", "db1"], ["db2", "db1"], ["db1", "db2"], "20260230090000Z"]
+VALUES = [0, 7, -1, 10**9, 999_999_999, 7.0, True, None, [], {}, "", "request", "approve", "revoke", "20260230090000Z"]
+VALUES += [[["db1"]], ["db1", "db1"], ["db2", "db1"], ["db1", "db2"]]
 VALUES += ["20260105090000Z", "2026010509Z", "20260105096000Z", "20991231235959Z", "21000101000000Z", "20260105090000z", "db-care", "db-emergency"]
 STAMPS = ["20260105060000Z", "20260105090000Z", "20260105103000Z", "20260105110000Z", "20260105110001Z", "20260106000000Z"]
 ASKED = {
@@ -160,6 +166,10 @@ ASKED = {
 SAID = {"at": "20260105083000Z", "by": "bob", "kind": "approve", "no": 7, "of": "ann"}
 COMMANDS = ["/usr/bin/id", "/usr/bin/id -u", '/usr/bin/id ""', "/usr/bin/", "/usr/local/sbin/x", "/usr/local/sbin/x y", "/usr/local/sbin/", "ALL", "/bin/ls"]
 COMMANDS += ["/usr/bin/systemctl restart postgresql", "/usr/bin/systemctl", "/usr/local/sbin/a/b"]
+
+
+ODD = ["", "[" * 127 + "]" * 127, "[" * 128 + "]" * 128, "7", '""', "null", "-0", "1e400", "18446744073709551615", "18446744073709551616"]
+ODD += ['"\\ud800"', "{}"]
 
 
 def canonical(value: object) -> str:
@@ -205,7 +215,7 @@ def messages(count: int, seed: int = 2) -> list[bytes]:
         for _ in range(chance.choice([0, 0, 0, 1, 2])):
             text = changed(chance, text, WORDS, MARKS)
         if chance.random() < 0.01:
-            text = chance.choice(["", "[" * 127 + "]" * 127, "[" * 128 + "]" * 128, "7", '""', "null", "-0", "1e400", "18446744073709551615", "18446744073709551616", '"\\ud800"', "{}"])
+            text = chance.choice(ODD)
         if chance.random() < 0.01:
             text += " " * chance.choice([16_384 - len(text.encode()), 16_385 - len(text.encode())])
         data = text.encode("utf-8", "surrogatepass")
