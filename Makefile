@@ -1,12 +1,16 @@
 # The commands of the repository. `rt` is the toolchain's command.
 
-.PHONY: all desk demo test quick cases gate-times edits peers bench faults relays-test relays-demo several install deb pages package-test clean
+.PHONY: all desk demo test quick try cases gate-times edits peers bench faults relays-test relays-demo tools-test several install deb pages package-test clean
 
 all: desk
 
 # The proved program, at build/desk.
 desk:
 	bash scripts/build.sh
+
+# The program without any proof, at build/desk-unproved, in some three minutes: for trying a change out.
+try:
+	bash scripts/try.sh
 
 # A person asks by ssh and another approves; then what the desk does on the files of examples/.
 demo: desk
@@ -64,6 +68,10 @@ faults: desk
 # it needs of Debian is installed where this is root.
 relays-test:
 	bash relays/test.sh
+
+# The tools (docs/LINT.md, docs/IMPORT.md): desk-lint beside the desk, and desk-import beside sudo itself, over build/desk or the program that DESK names.
+tools-test:
+	bash tools/test.sh
 
 # A grant's life by ssh: ann asks, bob approves, ann revokes.
 relays-demo:

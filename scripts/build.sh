@@ -5,7 +5,13 @@ cd "$(dirname "$0")/.."
 log=$(mktemp)
 trap 'rm -f "$log"' EXIT
 echo "proving and building the program (some minutes on a fresh checkout) .."
-# `rt run` proves the program and every crate below it, builds it and runs it once.
+# Where there is room for it, crates are proved side by side first: a lane for each processor and each 5 GB.
+lanes=$(awk -v cores="$(nproc)" '/MemAvailable/ { most = int($2 / 5000000); print most < cores ? most : cores }' /proc/meminfo)
+if [ "${lanes:-1}" -gt 1 ] && ! rt all check --jobs "$lanes" > "$log" 2>&1; then
+    cat "$log" >&2
+    exit 1
+fi
+# `rt run` proves the program and every crate below it that is not proved yet, builds it and runs it once.
 if ! (cd crates/desk_cli && rt run -- --help) > "$log" 2>&1; then
     cat "$log" >&2
     exit 1

@@ -29,6 +29,12 @@ TYPED = [
     (["desk", "beyond", "site.sudo", "--u"], {"--user"}),
     (["desk", "serve", "roster.toml", "site.sudo", "app"], {"approved.messages"}),
     (["desk", "nothing", ""], set()),
+    (["desk-lint", "rost"], {"roster.toml"}),
+    (["desk-lint", "--r"], {"--roster"}),
+    (["desk-lint", "--roster", "rost"], {"roster.toml"}),
+    (["desk-lint", "--explain", ""], set()),
+    (["desk-import", "--re"], {"--report"}),
+    (["desk-import", "base."], {"base.sudo"}),
 ]
 
 
@@ -138,9 +144,9 @@ def copy_examples(folder: str) -> None:
 
 
 BASH = """
-source {pages}/desk.bash
+source {pages}/$1.bash
 COMP_WORDS=("$@") COMP_CWORD=$(($# - 1))
-_desk
+_${{1//-/_}}
 printf '%s\\n' "${{COMPREPLY[@]}}"
 """
 

@@ -92,3 +92,38 @@ _desk() {
 }
 _desk "$@"
 """
+
+
+def tool_bash(tool: dict) -> str:
+    """Completes options and files; a value that is no file is not completed."""
+    names = " ".join(name for name, _ in tool["options"])
+    others = "|".join(name for name, kind in tool["options"] if kind == "other")
+    function = "_" + tool["name"].replace("-", "_")
+    text = TOOL_BASH.replace("@NAMES@", names).replace("@FUNCTION@", function)
+    return text.replace("@TOOL@", tool["name"]).replace("@OTHERS@", others or "--")
+
+
+TOOL_BASH = """\
+# What bash completes behind `@TOOL@`: options and files.
+@FUNCTION@() {
+    local current=${COMP_WORDS[COMP_CWORD]} before=${COMP_WORDS[COMP_CWORD - 1]}
+    COMPREPLY=()
+    case $before in
+        @OTHERS@) return ;;
+    esac
+    case $current in
+        -*) mapfile -t COMPREPLY < <(compgen -W '@NAMES@' -- "$current") ;;
+        *)
+            compopt -o filenames 2> /dev/null
+            mapfile -t COMPREPLY < <(compgen -f -- "$current")
+            ;;
+    esac
+}
+complete -F @FUNCTION@ @TOOL@
+"""
+
+
+def tool_zsh(tool: dict) -> str:
+    values = {"": "", "file": ":FILE:_files", "other": ":WORD: "}
+    options = " ".join(f"'{name}[{name[2:]}]{values[kind]}'" for name, kind in tool["options"])
+    return f"#compdef {tool['name']}\n# What zsh completes behind `{tool['name']}`: options and files.\n_arguments {options} '*:FILE:_files'\n"

@@ -1,6 +1,6 @@
 #!/usr/bin/env bash
 # Installs the program build/desk and what belongs to it below $DESTDIR$PREFIX (/usr/local where
-# PREFIX is not given): the program, its manual pages, the completions, the units, the
+# PREFIX is not given): the program, the tools beside it, manual pages, completions, the units, the
 # configuration, the documents and the examples. A configuration file that is there already stays as
 # it is.
 set -euo pipefail
@@ -36,15 +36,28 @@ put 0755 examples/monitoring/check_desk.py "$PREFIX/lib/nagios/plugins/check_des
 for page in build/pages/*.[1-8]; do
     put 0644 "$page" "$PREFIX/share/man/man${page##*.}/$(basename "$page")"
 done
-put 0644 build/pages/desk.bash "$PREFIX/share/bash-completion/completions/desk"
-put 0644 build/pages/_desk "$PREFIX/share/zsh/$zsh/_desk"
+for name in desk desk-lint desk-import; do
+    put 0644 "build/pages/$name.bash" "$PREFIX/share/bash-completion/completions/$name"
+    put 0644 "build/pages/_$name" "$PREFIX/share/zsh/$zsh/_$name"
+done
+# The tools stand in a folder of their own, with the schemas and the codes that they explain.
+share=$PREFIX/share/steelnewt
+for tool in desk-lint desk-import; do
+    put 0755 "tools/$tool" "$share/$tool"
+    mkdir -p "$root$PREFIX/bin"
+    ln -sfn "../share/steelnewt/$tool" "$root$PREFIX/bin/$tool"
+done
+for file in tools/desk_tools/*.py tools/desk_tools/*.toml tools/schemas/*.json; do
+    put 0644 "$file" "$share/${file#tools/}"
+done
+put 0644 docs/CODES.md "$share/CODES.md"
 for unit in packaging/units/*; do
     fill "$unit" 0644 "$units/$(basename "$unit")"
 done
 for conf in serve.conf fetch.conf; do
     [ -e "$root/etc/desk/$conf" ] || put 0644 "packaging/$conf" "/etc/desk/$conf"
 done
-for text in README.md CHANGELOG.md docs/{OPERATING,HTTP,AUDITING,ROSTER,SUDOERS,MESSAGES,STORE,CODES}.md; do
+for text in README.md CHANGELOG.md docs/{OPERATING,HTTP,AUDITING,ROSTER,SUDOERS,MESSAGES,STORE,CODES,LINT,IMPORT}.md; do
     put 0644 "$text" "$doc/$(basename "$text")"
 done
 files=$(cd examples && find . -type f ! -path './peers/*' ! -name 'demo.expected' ! -name '*.pyc')

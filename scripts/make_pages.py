@@ -23,6 +23,8 @@ DOCUMENTS = [
     ("desk-message", 5, "MESSAGES.md", "requests to a desk, and verdicts on them"),
     ("desk-store", 5, "STORE.md", "the database in which a desk keeps its messages"),
     ("desk-codes", 7, "CODES.md", "what a desk says when it refuses, and what to do"),
+    ("desk-lint", 1, "LINT.md", "look through rosters and messages"),
+    ("desk-import", 1, "IMPORT.md", "make a base policy of a sudoers file"),
 ]
 
 
@@ -130,6 +132,8 @@ In a folder with the files of
 .Pa {doc}/examples :
 {examples}
 .Sh SEE ALSO
+.Xr desk-import 1 ,
+.Xr desk-lint 1 ,
 .Xr desk-message 5 ,
 .Xr desk-policy 5 ,
 .Xr desk-roster 5 ,
@@ -161,6 +165,9 @@ def main() -> None:
         made[f"{name}.{section}"] = text.replace("$Mdocdate$", DATE)
     made["desk.bash"] = completions.bash(table["command"], table["files"])
     made["_desk"] = completions.zsh(table["command"], table["files"])
+    for tool in table["tool"]:
+        made[f"{tool['name']}.bash"] = completions.tool_bash(tool)
+        made[f"_{tool['name']}"] = completions.tool_zsh(tool)
     os.makedirs(folder, exist_ok=True)
     for name, text in made.items():
         with open(os.path.join(folder, name), "w", encoding="utf-8") as file:

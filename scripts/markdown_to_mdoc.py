@@ -1,6 +1,7 @@
 """The part of Markdown that docs/ is written in, as mdoc: headings, paragraphs, lists, tables and
 code."""
 
+import os
 import re
 import textwrap
 from collections.abc import Iterator
@@ -12,6 +13,8 @@ PAGES = {
     "MESSAGES.md": "desk-message(5)",
     "STORE.md": "desk-store(5)",
     "CODES.md": "desk-codes(7)",
+    "LINT.md": "desk-lint(1)",
+    "IMPORT.md": "desk-import(1)",
 }
 INSTALLED = ("README.md", "CHANGELOG.md", "OPERATING.md", "HTTP.md", "AUDITING.md")
 
@@ -32,6 +35,7 @@ def renamed(text: str, doc: str) -> str:
     text = re.sub(r"\[[^\]]*\]\((?:docs/)?(\w+\.md)\)", lambda it: document(it[1], doc), text)
     text = re.sub(r"`?docs/(\w+\.md)`?", lambda it: document(it[1], doc), text)
     text = re.sub(r"(?<![\w/])build/desk(?= )", "desk", text)
+    text = re.sub(r"(?<![\w/])tools/(desk_tools|schemas)/", f"{os.path.dirname(os.path.dirname(doc))}/steelnewt/\\1/", text)
     return re.sub(r"(?<![\w/])examples/", f"{doc}/examples/", text)
 
 

@@ -24,9 +24,10 @@ import syscalls
 
 ROOT = os.path.dirname(os.path.dirname(os.path.abspath(__file__)))
 DEBS = os.path.join(ROOT, "build", "deb")
-NEEDED = "adduser,ca-certificates,curl,faketime,nginx-light,openssl,python3,sqlite3"
+NEEDED = "adduser,ca-certificates,curl,faketime,nginx-light,openssl,python3,python3-jsonschema,sqlite3"
 NEEDED += ",strace,sudo,systemd"
 DOC = "/usr/share/doc/steelnewt"
+NAMES = ("steelnewt", "steelnewt-host", "steelnewt-tools")
 PATIENCE = 120  # the seconds after which something hangs
 STORE = "/var/lib/desk/desk.db"
 DPKG = ["dpkg", "--force-unsafe-io", "--no-triggers"]  # quick: the root is thrown away
@@ -109,8 +110,7 @@ def install(trial: Trial) -> None:
         "what is installed is what the package has",
         "dpkg",
         "-V",
-        "steelnewt",
-        "steelnewt-host",
+        *NAMES,
         says="^$",
     )
     trial.does(
@@ -127,6 +127,21 @@ def install(trial: Trial) -> None:
         says="serve.conf(.|\n)*fetch.conf",
     )
     trial.does("the account has no shell", "getent", "passwd", "desk", says="nologin$")
+
+
+def tools(trial: Trial) -> None:
+    """The tools, as they are installed: a roster with faults, a code's sentence, a base of a sudoers file."""
+    trial.does("desk-lint", "desk-lint", FILES[0], says="roster.toml:7: warning: .*no ceiling has web1")
+    trial.write("/tmp/bad.toml", trial.read(FILES[0]).replace("needs = 1", 'needs = "1"'))
+    said = "/tmp/bad.toml:27: O3 WrongType: ceilings.db-care.needs = .*expected a whole number"
+    trial.does("desk-lint of a fault", "desk-lint", "/tmp/bad.toml", status=2, says=said)
+    trial.does("desk-lint --explain", "desk-lint", "--explain", "O3", says="^O3 WrongType ")
+    trial.write("/tmp/sudoers", "Defaults noexec\nann ALL = /bin/ls, NOEXEC: /usr/bin/less\n")
+    base = trial.does("desk-import", "desk-import", "/tmp/sudoers", status=1, says="sudoers:2: left out: /usr/bin/less: NOEXEC ")
+    trial.check("the base", base.endswith("\nann ALL = (root) /bin/ls\n"), base)
+    for page in ("desk-lint", "desk-import"):
+        trial.does(f"{page}(1)", "test", "-s", f"/usr/share/man/man1/{page}.1.gz")
+    trial.does("the schemas", "test", "-s", "/usr/share/steelnewt/schemas/roster.schema.json")
 
 
 def tour(trial: Trial) -> None:
@@ -563,7 +578,7 @@ def later_on(trial: Trial) -> None:
                 said,
             )
     empty(trial)
-    trial.does("purge of a desk without messages", *DPKG, "-P", "steelnewt", "steelnewt-host")
+    trial.does("purge of a desk without messages", *DPKG, "-P", *NAMES)
     trial.check("its folder is gone", not os.path.exists(trial.path("/var/lib/desk")))
 
 
@@ -621,7 +636,7 @@ def inside(fresh: str) -> None:
     with tempfile.TemporaryDirectory() as folder:
         trial = Trial(furnish(folder, fresh))
         try:
-            for part in (install, tour, bad_starts, traced, served, later_on):
+            for part in (install, tools, tour, bad_starts, traced, served, later_on):
                 began = time.monotonic()
                 part(trial)
                 print(f"{part.__name__}: {time.monotonic() - began:.1f} s", flush=True)

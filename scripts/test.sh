@@ -1,6 +1,6 @@
 #!/usr/bin/env bash
 # The whole gate: what can be seen without a proof; `rt ci`; and then, over the program that it left, the demo, the cases, sudo beside the desk, the desk
-# served over loopback, its file beside sqlite3, each request for memory refused, and several desks behind a broker.
+# served over loopback, its file beside sqlite3, each request for memory refused, the relays and tools, and several desks behind a broker.
 # With WHOLE=1 a part that cannot run here fails; without it, it is left out and named. The last line is 'N passed, M failed'.
 set -euo pipefail
 cd "$(dirname "$0")/.."
@@ -90,6 +90,7 @@ part_with cases setpriv -- cases
 part_with peers root sudo visudo cvtsudoers faketime unshare curl nc sqlite3 -- peers
 part_with faults cc -- python3 scripts/faults.py
 part_with relays-test root apt-get -- bash relays/test.sh
+part_with tools-test root apt-get -- bash tools/test.sh
 part_with pages mandoc zsh -- pages
 part_with peers nginx haproxy openssl sqlite3 -- front
 part_with package-test root dpkg-buildpackage dh lintian systemd-analyze sudo faketime unshare ip nginx openssl strace -- package_test

@@ -1,0 +1,1 @@
+"""The tools beside the desk: `desk-lint` looks through rosters and messages, `desk-import` makes a base of a sudoers file."""

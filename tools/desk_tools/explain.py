@@ -1,0 +1,44 @@
+"""What docs/CODES.md says of a code."""
+
+import os
+import re
+from collections.abc import Iterator
+
+HERE = os.path.dirname(os.path.abspath(__file__))
+# where it is installed, and in a clone
+PLACES = (os.path.join(HERE, "..", "CODES.md"), os.path.join(HERE, "..", "..", "docs", "CODES.md"))
+
+
+def document() -> str:
+    for path in PLACES:
+        if os.path.exists(path):
+            with open(path, encoding="utf-8") as file:
+                return file.read()
+    raise FileNotFoundError("CODES.md")
+
+
+def rows(text: str) -> Iterator[tuple[str, dict[str, str]]]:
+    """Each row of each table, under its heading, by the names of its columns."""
+    heading, head = "", None
+    for line in text.splitlines():
+        if line.startswith("#"):
+            heading = line.lstrip("# ")
+        cells = [it.strip().replace(r"\|", "|") for it in re.split(r"(?<!\\)\|", line)[1:-1]]
+        if not cells:
+            head = None
+        elif head is None:
+            head = cells
+        elif not line.startswith("|--"):
+            yield heading, dict(zip(head, cells))
+
+
+def explain(code: str) -> str | None:
+    """What is said of the code, or of the codes that begin with the word; None where nothing is."""
+    found = []
+    for heading, row in rows(document()):
+        name = row.get("Code", "").strip("`")
+        if code.upper() == name.partition(" ")[0] or code.lower() == name.lower() or code.lower() == name.partition(" ")[2].lower():
+            told = [f"{name} ({heading})", f"  when: {row['When']}"]
+            told += [f"  what to do: {row['What to do']}"] if row.get("What to do") else []
+            found.append("\n".join(told))
+    return "\n".join(found) + "\n" if found else None

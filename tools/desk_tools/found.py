@@ -1,0 +1,61 @@
+"""What a linter finds, and how it is shown."""
+
+import json
+from typing import Any, NamedTuple
+
+NAMES = {
+    "O1": "NotToml", "O2": "UnknownKey", "O3": "WrongType", "O4": "BadName", "O5": "UnknownName", "O6": "SelfConflict", "O7": "OutOfRange",
+    "M1": "TooLong", "M2": "NotCanonical", "M3": "BadField",
+    "A1": "UnknownPerson", "A2": "UnknownCeiling", "A3": "NotAsker", "A4": "HostOutside", "A5": "RunasOutside", "A6": "CommandOutside",
+    "A7": "WindowTooLong", "A8": "WindowBackwards",
+}  # fmt: skip
+# of several faults the desk names the first of these
+ORDER = [*NAMES]
+MOST_SHOWN = 60
+
+
+class Fault(NamedTuple):
+    """Something for which the desk refuses a text: where, under which key, with which value, and what is expected."""
+
+    line: int
+    code: str
+    key: str
+    value: str
+    expected: str
+
+
+class Warning(NamedTuple):
+    """Something that is lawful and surely not meant; a note says only what is so."""
+
+    line: int
+    kind: str
+    key: str
+    said: str
+    is_note: bool = False
+
+
+def coded(code: str) -> str:
+    """A code as the desk prints it."""
+    return f"{code} {NAMES[code]}"
+
+
+def first_code(faults: list[Fault]) -> str | None:
+    """The code that the desk answers where a text has these faults."""
+    return min((fault.code for fault in faults), key=ORDER.index, default=None)
+
+
+def shown(value: Any) -> str:
+    """A value on one line, shortened."""
+    try:
+        text = json.dumps(value, ensure_ascii=True)
+    except (TypeError, ValueError):
+        text = value.text if hasattr(value, "text") else str(value)
+    return text if len(text) <= MOST_SHOWN else f"{text[: MOST_SHOWN - 4]} ..{text[-1]}"
+
+
+def dotted(path: tuple[str | int, ...]) -> str:
+    """A path as a person writes it: `people.ann`, the third of `relays`."""
+    words = [shown(part) if isinstance(part, str) and not part.replace("-", "").replace("_", "").isalnum() else part for part in path]
+    keys = ".".join(str(word) for word in words if isinstance(word, str))
+    places = [str(word + 1) for word in words if isinstance(word, int)]
+    return f"{keys} (item {', '.join(places)})" if places else keys

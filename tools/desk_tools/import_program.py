@@ -1,0 +1,88 @@
+"""The program `desk-import`."""
+
+import argparse
+import os
+import shutil
+import subprocess
+import sys
+import tempfile
+
+from desk_tools.importing import Import, Note, hosts_of
+from desk_tools.schema import NoJsonschema
+from desk_tools.sudoers import BadSudoers, read
+
+KEPT, LEFT_OUT, FAILED = 0, 1, 2
+MOST_ENTRIES = 4096
+HERE = os.path.dirname(os.path.abspath(__file__))
+
+
+class Failed(Exception):
+    """Why there is no base."""
+
+
+def parser() -> argparse.ArgumentParser:
+    found = argparse.ArgumentParser(
+        "desk-import",
+        description="Makes a base policy for a privileged access desk of a sudoers file, on the standard output, and lists what is left out.",
+        epilog="Exit status: 0 everything is kept, 1 something is left out, 2 there is no base.",
+    )
+    found.add_argument("--host-list", metavar="FILE", help="hosts as /etc/hosts has them, for addresses, networks, whole names and wildcards")
+    found.add_argument("--report", metavar="FILE", help="write the list of what is left out there, too")
+    found.add_argument("--desk", metavar="PROGRAM", help="the program desk (the one on the path)")
+    found.add_argument("sudoers", metavar="SUDOERS", help="a sudoers file")
+    return found
+
+
+def program(said: str | None) -> str:
+    for path in (said, shutil.which("desk"), os.path.join(HERE, "..", "..", "build", "desk")):
+        if path and os.path.exists(path):
+            return path
+    raise Failed("it needs the program desk: --desk PROGRAM")
+
+
+def checked(desk: str, text: str) -> str:
+    """The canonical text, by `desk check`."""
+    with tempfile.NamedTemporaryFile("w", encoding="ascii") as file:
+        file.write(text)
+        file.flush()
+        ran = subprocess.run([desk, "check", file.name], capture_output=True, text=True, check=False)
+    if ran.returncode:
+        raise Failed(f"the desk does not read what was made ({ran.stderr.strip()}): report this\n{text}")
+    return ran.stdout
+
+
+def report(notes: list[Note], entries: int) -> str:
+    lines = [f"{note.place}: {'left out' if note.is_left_out else 'note'}: {note.what}: {note.said}" for note in notes]
+    if entries > MOST_ENTRIES:
+        lines.append(f"the base has {entries:,} entries, and a desk's has up to {MOST_ENTRIES:,} (K6): write aliases and directories in place of many rules")
+    left_out = sum(note.is_left_out for note in notes)
+    lines.append(f"{entries:,} entries; {left_out} things are left out")
+    return "".join(f"{line}\n" for line in lines)
+
+
+def imported(said: argparse.Namespace) -> int:
+    hosts = []
+    if said.host_list:
+        with open(said.host_list, encoding="utf-8") as file:
+            hosts = hosts_of(file.read())
+    desk = program(said.desk)
+    job = Import(read(said.sudoers), hosts)
+    text = checked(desk, job.run())
+    told = report(job.notes, text.count("\n")).encode("utf-8", "backslashreplace").decode()
+    if said.report:
+        with open(said.report, "w", encoding="utf-8") as file:
+            file.write(told)
+    sys.stderr.write(told)
+    sys.stdout.write(text)
+    return LEFT_OUT if any(note.is_left_out for note in job.notes) else KEPT
+
+
+def main(words: list[str]) -> int:
+    said = parser().parse_args(words)
+    try:
+        return imported(said)
+    except (BadSudoers, Failed, OSError) as fault:
+        print(f"desk-import: {fault}", file=sys.stderr)
+    except NoJsonschema:
+        print("desk-import: it needs Debian's package python3-jsonschema", file=sys.stderr)
+    return FAILED

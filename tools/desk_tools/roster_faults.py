@@ -1,0 +1,192 @@
+"""What is wrong with a roster: its structure by the published schema, and what a schema cannot say by the rules of docs/ROSTER.md."""
+
+from collections.abc import Iterator
+from datetime import date
+from typing import Any
+
+from desk_tools import schema, toml_text
+from desk_tools.found import Fault, dotted, shown
+
+MOST_BYTES = 1_048_576
+TYPES = {"array": "a list", "object": "a table", "string": "a text", "integer": "a whole number"}
+# what the words of each form are, by the schema's title
+FORMS = {
+    "Label": "a label: a-z, 0-9 and -, beginning with a letter, up to 32 bytes",
+    "Duty": "a duty's label: a-z, 0-9 and -, beginning with a letter, up to 32 bytes",
+    "Host name": "a host name: a-z, 0-9 and -, beginning with a letter, up to 32 bytes, and no keyword of sudo (sudoedit, sha224 ..)",
+    "User name": "a user name: a-z, 0-9, . _ and -, beginning with a letter or _, up to 32 bytes, and no keyword of sudo (sudoedit, sha224 ..)",
+    "Entry": "a duty's label, or a table of duty, from and until",
+}
+
+
+def command_form(text: str) -> str:
+    """What is expected of a command, with the likeliest reason first."""
+    form = 'ALL, a directory that ends in /, or a file\'s path with nothing, `""` or 1 to 16 arguments behind it'
+    if not text.startswith("/"):
+        return f"{form}; a path begins with /"
+    if any(mark in text for mark in "*?[]"):
+        return f"{form}; there are no wildcards: a directory allows each file in it, a path alone any arguments"
+    if "  " in text or text != text.strip():
+        return f"{form}, with single spaces"
+    if text.split(" ")[0].endswith("/sudoedit"):
+        return f"{form}; sudo takes a file named sudoedit for its own command, which edits any file"
+    if any(mark in text.replace(f"\\{mark}", "") for mark in ",:="):
+        return f"{form}, with a backslash before `,` `:` and `=` (write such a text between ' in TOML)"
+    return form
+
+
+def expected(error: Any) -> tuple[str, str]:
+    """The code of a schema's error, and what is expected in its place."""
+    value, limit, keyword = error.instance, error.validator_value, error.validator
+    title = error.schema.get("title", "")
+    if keyword == "type":
+        kinds = [limit] if isinstance(limit, str) else limit
+        return "O3", f"expected {' or '.join(TYPES[kind] for kind in kinds)}"
+    if keyword == "pattern" and title == "Command":
+        return "O4", f"expected {command_form(value)}"
+    if keyword == "pattern" and "day" in title.lower():
+        return "O7", "expected a day from 19700101 to 20991231, as yyyymmdd"
+    if keyword == "pattern":
+        return "O4", f"expected {FORMS[title]}"
+    if title == "Pair":
+        return "O3", f"expected exactly two duties, and there are {len(value)}"
+    if keyword in ("minItems", "maxItems", "maxProperties"):
+        most = error.schema.get("maxItems", error.schema.get("maxProperties"))
+        return "O7", f"expected {error.schema.get('minItems', 0)} to {most:,} of them, and there are {len(value):,}"
+    if keyword in ("minimum", "maximum"):
+        return "O7", f"expected {error.schema['minimum']} to {error.schema['maximum']:,}"
+    raise AssertionError(f"the schema has a keyword that is not known here: {keyword}")
+
+
+class Roster:
+    """A roster's text and what is found in it."""
+
+    def __init__(self, data: bytes) -> None:
+        self.data = data
+        self.document = toml_text.read(data)
+        self.faults: list[Fault] = []
+
+    def add(self, code: str, path: toml_text.Path, value: Any, said: str) -> None:
+        self.faults.append(Fault(self.document.line(path), code, dotted(path), shown(value), said))
+
+    def look(self) -> list[Fault]:
+        """All faults, by line."""
+        if self.document.faults:
+            return [Fault(line, "O1", "", "", said) for line, said in self.document.faults]
+        for error in schema.validator("roster").iter_errors(self.document.value):
+            self.by_schema(error)
+        self.names()
+        self.days()
+        if len(self.data) > MOST_BYTES:
+            self.faults.append(Fault(1, "O7", "", "", f"expected up to {MOST_BYTES:,} bytes, and there are {len(self.data):,}"))
+        return sorted(self.faults)
+
+    def by_schema(self, error: Any) -> None:
+        path = tuple(error.absolute_path)
+        if error.validator == "additionalProperties":
+            for key in sorted(set(error.instance) - set(error.schema["properties"])):
+                known = ", ".join(error.schema["properties"])
+                self.add("O2", (*path, key), error.instance[key], f"the key is unknown; known here are {known}")
+        elif error.validator == "required":
+            # (one error for each key that is missing)
+            for key in error.validator_value:
+                if key not in error.instance and error.message.startswith(f"{key!r} "):
+                    self.add("O3", path, {}, f"the key {key} is missing")
+        elif "propertyNames" in error.absolute_schema_path:
+            self.add("O4", (*path, error.instance), error.instance, expected(error)[1])
+        else:
+            code, said = expected(error)
+            if code == "O3" and len(path) == 2 and path[0] == "people" and isinstance(error.instance, dict):
+                said += ": a name with a dot stands between quotes, since TOML takes it for a key of a key"
+            self.add(code, path, error.instance, said)
+
+    # ---- what a schema cannot say
+
+    def texts(self, *path: str | int) -> Iterator[tuple[toml_text.Path, str]]:
+        """The texts of the list at a path."""
+        held = self.at(path)
+        if isinstance(held, list):
+            yield from (((*path, place), it) for place, it in enumerate(held) if isinstance(it, str))
+
+    def at(self, path: toml_text.Path) -> Any:
+        held: Any = self.document.value
+        for part in path:
+            fits = isinstance(held, dict) if isinstance(part, str) else isinstance(held, list)
+            if not fits or (isinstance(part, str) and part not in held):
+                return None
+            held = held[part]
+        return held
+
+    def members(self, key: str) -> dict[str, Any]:
+        held = self.at((key,))
+        return held if isinstance(held, dict) else {}
+
+    def entries(self) -> Iterator[tuple[toml_text.Path, Any]]:
+        """Each entry of each person."""
+        for person, held in self.members("people").items():
+            if isinstance(held, list):
+                yield from ((("people", person, place), it) for place, it in enumerate(held))
+
+    def used_duties(self) -> Iterator[tuple[toml_text.Path, Any]]:
+        pairs = self.at(("conflicts",))
+        for place, pair in enumerate(pairs if isinstance(pairs, list) else []):
+            if isinstance(pair, list):
+                yield from ((("conflicts", place, number), it) for number, it in enumerate(pair))
+        for path, entry in self.entries():
+            yield (*path, "duty") if isinstance(entry, dict) else path, entry.get("duty") if isinstance(entry, dict) else entry
+        for label, ceiling in self.members("ceilings").items():
+            if isinstance(ceiling, dict):
+                yield from ((("ceilings", label, key), ceiling.get(key)) for key in ("ask", "approve"))
+
+    def names(self) -> None:
+        """Each duty is listed, each ceiling's host too, and no duty conflicts with itself."""
+        duties = {text for _, text in self.texts("duties")}
+        hosts = {text for _, text in self.texts("hosts")}
+        for path, duty in self.used_duties():
+            if isinstance(duty, str) and duty not in duties:
+                self.add("O5", path, duty, f"expected one of `duties`: {near(duty, duties)}")
+        for label in self.members("ceilings"):
+            for path, host in self.texts("ceilings", label, "hosts"):
+                if host not in hosts:
+                    self.add("O5", path, host, f"expected one of the roster's `hosts`: {near(host, hosts)}")
+        pairs = self.at(("conflicts",))
+        for place, pair in enumerate(pairs if isinstance(pairs, list) else []):
+            if isinstance(pair, list) and len(pair) == 2 and isinstance(pair[0], str) and pair[0] == pair[1]:
+                self.add("O6", ("conflicts", place), pair, "expected two different duties")
+
+    def days(self) -> None:
+        """Each day is one of the calendar's, and no entry ends before it begins."""
+        for path, entry in self.entries():
+            if not isinstance(entry, dict):
+                continue
+            first, last = (entry.get(key) for key in ("from", "until"))
+            for key, text in (("from", first), ("until", last)):
+                if isinstance(text, str) and is_formed(text) and not is_day(text):
+                    self.add("O7", (*path, key), text, "expected a day of the calendar")
+            if is_day(first) and is_day(last) and first > last:
+                self.add("O7", path, entry, "`from` is after `until`")
+
+
+def near(word: str, known: set[str]) -> str:
+    """The known words, the likest first."""
+    import difflib
+
+    likest = difflib.get_close_matches(word, sorted(known), 3, 0.5)
+    words = [*likest, *sorted(known - set(likest))]
+    return ", ".join(words[:8]) + (" .." if len(words) > 8 else "") or "there is none"
+
+
+def is_formed(text: str) -> bool:
+    """Whether the schema takes the text for a day."""
+    form = schema.validator("roster").schema["$defs"]["day"]["pattern"]
+    return schema.whole(form).search(text) is not None
+
+
+def is_day(text: Any) -> bool:
+    if not isinstance(text, str) or not is_formed(text):
+        return False
+    try:
+        date(int(text[:4]), int(text[4:6]), int(text[6:]))
+    except ValueError:
+        return False
+    return True

@@ -1,0 +1,85 @@
+"""A roster without faults, as the desk reads it: who holds what on which day, and what a ceiling admits (docs/ROSTER.md)."""
+
+from datetime import date, timedelta
+from typing import Any, NamedTuple
+
+FIRST, LAST = "19700101", "20991231"
+
+
+class Command(NamedTuple):
+    """A command: `all`, a `dir`, or a `file` with what it says of its arguments: `any`, `none`, or these."""
+
+    kind: str
+    path: str
+    rule: str
+    args: tuple[str, ...]
+
+
+def command(text: str) -> Command:
+    path, *args = text.split(" ")
+    if path == "ALL":
+        return Command("all", "", "any", ())
+    if path.endswith("/"):
+        return Command("dir", path, "any", ())
+    rule = "any" if not args else "none" if args == ['""'] else "these"
+    return Command("file", path, rule, tuple(args) if rule == "these" else ())
+
+
+def lies_inside(asked: Command, wide: Command) -> bool:
+    """Whether a command allows nothing that the wide one does not."""
+    if wide.kind == "all" or asked == wide:
+        return True
+    if asked.kind != "file":
+        return False
+    if wide.kind == "dir":
+        return asked.path.rpartition("/")[0] + "/" == wide.path
+    return asked.path == wide.path and wide.rule == "any"
+
+
+def after(day: str) -> str | None:
+    """The next day; None behind the last."""
+    if day == LAST:
+        return None
+    return (date(int(day[:4]), int(day[4:6]), int(day[6:])) + timedelta(days=1)).strftime("%Y%m%d")
+
+
+class Site:
+    def __init__(self, document: dict[str, Any]) -> None:
+        self.relays: list[str] = document["relays"]
+        self.hosts: list[str] = document["hosts"]
+        self.duties: list[str] = document["duties"]
+        self.conflicts = [frozenset(pair) for pair in document["conflicts"]]
+        self.people: dict[str, list[Any]] = document["people"]
+        self.ceilings: dict[str, dict[str, Any]] = document["ceilings"]
+
+    def held(self, person: str, day: str) -> set[str]:
+        """The duties that a person holds on a day."""
+        found = set()
+        for entry in self.people.get(person, []):
+            if isinstance(entry, str):
+                found.add(entry)
+            elif entry["from"] <= day <= entry["until"]:
+                found.add(entry["duty"])
+        return found
+
+    def conflicts_with(self, duty: str) -> set[str]:
+        return {other for pair in self.conflicts if duty in pair for other in pair if other != duty}
+
+    def approvers(self, duty: str, day: str) -> set[str]:
+        """Whoever's approval counts on a day, but for the asker's."""
+        against = self.conflicts_with(duty)
+        return {person for person in self.people if duty in (held := self.held(person, day)) and not held & against}
+
+    def holders(self, duty: str, day: str) -> set[str]:
+        return {person for person in self.people if duty in self.held(person, day)}
+
+    def spans(self, today: str) -> list[tuple[str, str]]:
+        """From today on: the spans of days in which nobody's duties change."""
+        begins = {today}
+        for entries in self.people.values():
+            for entry in entries:
+                if isinstance(entry, dict):
+                    begins |= {day for day in (entry["from"], after(entry["until"])) if day is not None and day > today}
+        days = sorted(begins)
+        ends = [(date(int(day[:4]), int(day[4:6]), int(day[6:])) - timedelta(days=1)).strftime("%Y%m%d") for day in days[1:]]
+        return list(zip(days, [*ends, LAST]))

@@ -1,0 +1,160 @@
+"""desk-import: the base of a sudoers file, and what is said of the rest; and what sudo says of both."""
+
+import os
+import shutil
+import subprocess
+import sys
+
+import pytest
+
+from tests import fetch
+from tests.conftest import ROOT
+
+BESIDE = os.path.join(ROOT, "tools", "tests", "beside_sudo.py")
+GROUP = "wheel:x:3001:ann,bob\nops:x:3002:\nodd:x:3003:Ann\n"
+PASSWD = "root:x:0:0::/:/bin/sh\nann:x:2001:2001::/:/bin/sh\nkim:x:2002:3002::/:/bin/sh\n"
+NINE = "NOTBEFORE=20260105090000Z NOTAFTER=20260105090000Z"
+GETENT = """#!/bin/sh
+case $1:$2 in
+    passwd:) cat PASSWD ;;
+    passwd:*) grep -E "^($2:|[^:]*:[^:]*:$2:)" PASSWD ;;
+    group:*) grep -E "^($2:|[^:]*:[^:]*:$2:)" GROUP ;;
+esac
+"""
+
+
+@pytest.fixture
+def made(imports, desk, tmp_path, monkeypatch):
+    """The base of a text, and the notes on it, on a machine of three users and three groups."""
+    for name, text in (("group", GROUP), ("passwd", PASSWD)):
+        (tmp_path / name).write_text(text)
+    (tmp_path / "bin").mkdir()
+    getent = tmp_path / "bin" / "getent"
+    getent.write_text(GETENT.replace("PASSWD", str(tmp_path / "passwd")).replace("GROUP", str(tmp_path / "group")))
+    getent.chmod(0o755)
+    monkeypatch.setenv("PATH", f"{tmp_path}/bin:{os.environ['PATH']}")
+
+    def make(text, *words, status=None):
+        source = tmp_path / "sudoers"
+        source.write_text(text)
+        ran = imports("--desk", desk, *words, str(source))
+        assert status is None or ran.returncode == status, ran.stderr
+        return ran.stdout, ran.stderr.replace(str(source), "sudoers").splitlines()
+
+    return make
+
+
+@pytest.mark.parametrize(
+    ("text", "base"),
+    [
+        ("ann ALL = /bin/ls\n", "ann ALL = (root) /bin/ls\n"),
+        (
+            "ann db1 = (op) NOPASSWD: /bin/ls, PASSWD: /bin/kill -9 1 : db2 = ALL",
+            "ann db1 = (op) NOPASSWD: /bin/ls\nann db1 = (op) /bin/kill -9 1\nann db2 = (root) ALL\n",
+        ),
+        ("User_Alias B = ann\nB ALL = ALL\n", "User_Alias B = ann\nB ALL = (root) ALL\n"),
+        ("A DB1 = /bin/ls\nUser_Alias A = B, !bob\nUser_Alias B = ann\n", "User_Alias B = ann\nUser_Alias A = B, !bob\nA db1 = (root) /bin/ls\n"),
+        (
+            "ann ALL = NOTBEFORE=2026010509Z NOTAFTER=202601051000+0100 /bin/x a\\,b\\:c \\\n, !/bin/y\n",
+            f"ann ALL = (root) {NINE} /bin/x a\\,b\\:c\nann ALL = (root) {NINE} !/bin/y\n",
+        ),
+        # cvtsudoers joins commands whose options alone differ
+        (
+            "ann ALL = NOTBEFORE=2026010509Z /bin/a a\\,b, NOTAFTER=2026010509Z MAIL: /bin/b : db1 = (op) TIMEOUT=1 /bin/c, !/bin/d",
+            f"ann ALL = (root) NOTBEFORE=20260105090000Z /bin/a a\\,b\nann ALL = (root) {NINE} /bin/b\nann db1 = (op) !/bin/d\n",
+        ),
+        ("%wheel ALL = ALL\n%#3002 ALL = /bin/ls\n#2002 ALL = /bin/ls\n", "ann, bob ALL = (root) ALL\nkim ALL = (root) /bin/ls\nkim ALL = (root) /bin/ls\n"),
+        ("Defaults runas_default=op\nann ALL = /bin/ls\n", "ann ALL = (op) /bin/ls\n"),
+        # what allows is narrowed, and what denies is widened
+        ("ann, +net ALL = /bin/ls\n", "ann ALL = (root) /bin/ls\n"),
+        ("ALL, !+net, bob ALL = /bin/ls\n", "bob ALL = (root) /bin/ls\n"),
+        ("ann ALL = ALL, !/bin/l*\n", "ann ALL = (root) ALL\nann ALL = (root) !/bin/\n"),
+        ("ann ALL = ALL, !/bin/ls -*\n", "ann ALL = (root) ALL\nann ALL = (root) !/bin/ls\n"),
+        ("ann ALL = ALL, !/*/ls\n", "ann ALL = (root) ALL\nann ALL = (root) !ALL\n"),
+        ("ann ALL = ALL\n+net 10.0.0.0/8 = (ALL, !op) !/bin/ls\n", "ann ALL = (root) ALL\nALL ALL = (ALL, !op) !/bin/ls\n"),
+        ("ann, !+net db1, db2 = ALL, !/bin/ls\n", "ann db1, db2 = (root) !/bin/ls\n"),
+        ("Cmnd_Alias C = ALL, !/bin/ls\n+net, ann ALL = C\n", "Cmnd_Alias C = ALL, !/bin/ls\nann ALL = (root) ALL\nALL, ann ALL = (root) !/bin/ls\n"),
+        ("Cmnd_Alias C = /bin/l*, /bin/kill\nann ALL = /bin/ps, !C\n", "ann ALL = (root) /bin/ps\nann ALL = (root) !/bin/\nann ALL = (root) !/bin/kill\n"),
+        ("ann ALL = NOEXEC: /bin/ls, EXEC: /bin/kill, NOSETENV: ALL\n", "ann ALL = (root) /bin/kill\n"),
+        ("ann ALL = CWD=/tmp /bin/ls, TIMEOUT=10 /bin/kill\n", ""),
+        ("ann ALL = (: op) /bin/ls, () /bin/kill, (op : op) /bin/ps\n", "ann ALL = (op) /bin/ps\n"),
+    ],
+)
+def test_bases(made, text, base):
+    found, _ = made(text)
+    assert found == base
+
+
+def test_the_list_of_what_is_left_out(made, tmp_path):
+    text = """\
+# a comment, \\
+Defaults env_reset, \\
+    mail_badpass
+Defaults:ann !requiretty
+ann ALL = \\
+    NOEXEC: /usr/bin/less, \\
+    sha224:0GomF8mNN3wlDt1HD9XldjJ3SNgpFdbjO1+NsQ== /bin/cat
+%odd, %nothing ALL = sudoedit /etc/motd # five
+"""
+    report = tmp_path / "report"
+    found, said = made(text, "--report", str(report), status=1)
+    assert found == ""
+    assert [line.split(": ")[:3] for line in said[:-1]] == [
+        ["sudoers:2", "left out", "Defaults env_reset,      mail_badpass"],
+        ["sudoers:4", "left out", "Defaults:ann !requiretty"],
+        ["sudoers:5", "left out", "/usr/bin/less"],
+        ["sudoers:5", "left out", "/bin/cat"],
+        ["sudoers:8", "left out", "sudoedit /etc/motd"],
+    ]
+    assert "may open a shell" in said[2] and said[-1] == "0 entries; 5 things are left out"
+    assert report.read_text().replace(str(tmp_path / "sudoers"), "sudoers").splitlines() == said
+
+
+def test_hosts_of_a_list(made, tmp_path):
+    (tmp_path / "hosts").write_text("# ours\n10.0.0.1 db1.example.org db1\n10.0.0.2 DB2\n192.0.2.7 web1\n")
+    words = ("--host-list", str(tmp_path / "hosts"))
+    text = "ann 10.0.0.0/24, !db1.example.org = /bin/ls\nann db* = /bin/kill\nann 203.0.113.0/24 = ALL\n"
+    assert made(text, *words)[0] == "ann db1, db2, !db1 = (root) /bin/ls\nann db1, db2 = (root) /bin/kill\n"
+    assert made(text)[0] == ""
+
+
+def test_included_files(made, tmp_path):
+    (tmp_path / "more.d").mkdir()
+    files = {"b": "bob ALL = /bin/b\n", "a": "User_Alias A = ann\n\nA ALL = /bin/a, /bin/x*\n", "c.off": "c ALL = ALL\n", "d~": "d ALL = ALL\n"}
+    for name, text in files.items():
+        (tmp_path / "more.d" / name).write_text(text)
+    found, said = made("root ALL = ALL\n@includedir more.d\nroot ALL = !/bin/su\n#include nothing\n")
+    assert found == "User_Alias A = ann\nroot ALL = (root) ALL\nA ALL = (root) /bin/a\nbob ALL = (root) /bin/b\nroot ALL = (root) !/bin/su\n"
+    assert said[0].endswith("No such file or directory") and said[0].startswith("sudoers:4: left out: ")
+    assert said[1].startswith(f"{tmp_path}/more.d/a:3: left out: /bin/x*: wildcards ")
+
+
+def test_failures(made, imports, desk, tmp_path):
+    assert made("ann ALL = \n", status=2)[1][0].startswith("desk-import: sudo cannot read it: ")
+    assert imports("--desk", desk, str(tmp_path / "none")).returncode == 2
+    assert made("ann ALL = /bin/ls\n", status=0)[1] == ["1 entries; 0 things are left out"]
+
+
+def ask_sudo(count, *files):
+    path = f"{os.environ['PATH']}:/usr/sbin:/sbin"
+    lacks = [name for name in ("sudo", "visudo", "cvtsudoers", "faketime", "unshare") if shutil.which(name, path=path) is None]
+    if os.geteuid() != 0 or lacks:
+        assert not os.environ.get("WHOLE"), f"sudo cannot be asked here: it lacks root or {lacks}"
+        pytest.skip(f"sudo cannot be asked here: it lacks root or {lacks}")
+    ran = subprocess.run([sys.executable, BESIDE, str(count), *files], stdout=subprocess.PIPE, stderr=subprocess.STDOUT, text=True, check=False)
+    print(ran.stdout[-400:])
+    assert ran.returncode == 0, ran.stdout[-6000:]
+
+
+def test_random_files_beside_sudo(desk, pytestconfig):
+    ask_sudo(pytestconfig.getoption("sudoers"))
+
+
+def test_files_of_others_beside_sudo(desk):
+    try:
+        files = fetch.fetched()
+    except fetch.NoNetwork as fault:
+        assert not os.environ.get("WHOLE"), f"the sudoers files of Debian's packages cannot be fetched: {fault}"
+        pytest.skip(f"LEFT OUT: the sudoers files of Debian's packages cannot be fetched: {fault}")
+    assert len(files) > 25, files
+    ask_sudo(0, *files)

@@ -1,0 +1,219 @@
+"""desk-lint by its words: what it prints, and its status."""
+
+import json
+import os
+import re
+
+import pytest
+
+from desk_tools import schema, toml_text
+from desk_tools.site import command, lies_inside
+from desk_tools.warnings import risk, table
+from tests.conftest import ROOT
+
+EXAMPLES = os.path.join(ROOT, "examples")
+ROSTER = os.path.join(EXAMPLES, "roster.toml")
+FAULTY = """\
+relays = ["chat", "Mail"]
+hosts = ["db1", "db2"]
+duties = ["approve-db", "audit", "operate-db"]
+conflicts = [["approve-db", "audit", "x"], ["audit", "audit"]]
+extra = 1
+[people]
+ann = ["operate-db"]
+kim.l = ["approve-db"]
+bob = [{duty = "audit", from = "20260101", until = "20250101"},
+       {duty = "audit", from = "20260231", until = "20270101"},
+       "operator-db"]
+[ceilings.db-care]
+ask = "operate-db"
+approve = "approve-db"
+needs = "1"
+hosts = ["db1", "db3"]
+runas = ["postgres", "root"]
+commands = [
+  "/usr/bin/id  x",
+  "/usr/bin/*",
+  '/bin/x a:b',
+  "/usr/bin/sudoedit",
+]
+"""
+FAULTS = [
+    (1, "O4", "relays (item 2)"),
+    (4, "O3", "conflicts (item 1)"),
+    (4, "O5", "conflicts (item 1, 3)"),
+    (4, "O6", "conflicts (item 2)"),
+    (5, "O2", "extra"),
+    (8, "O3", "people.kim"),
+    (9, "O7", "people.bob (item 1)"),
+    (10, "O7", "people.bob.from (item 2)"),
+    (11, "O5", "people.bob (item 3)"),
+    (12, "O3", "ceilings.db-care"),
+    (15, "O3", "ceilings.db-care.needs"),
+    (16, "O5", "ceilings.db-care.hosts (item 2)"),
+    (19, "O4", "ceilings.db-care.commands (item 1)"),
+    (20, "O4", "ceilings.db-care.commands (item 2)"),
+    (21, "O4", "ceilings.db-care.commands (item 3)"),
+    (22, "O4", "ceilings.db-care.commands (item 4)"),
+]
+
+
+def found_in(lint, path, *words):
+    ran = lint("--json", *words, str(path))
+    assert not ran.stderr
+    return json.loads(ran.stdout)["files"][0]
+
+
+def test_all_faults_by_line(lint, tmp_path):
+    path = tmp_path / "roster.toml"
+    path.write_text(FAULTY)
+    found = found_in(lint, path)
+    assert [(it["line"], it["code"], it["key"]) for it in found["faults"]] == FAULTS
+    assert found["answer"] == "O2 UnknownKey" and found["kind"] == "roster"
+    ran = lint(str(path))
+    assert ran.returncode == 2
+    lines = ran.stdout.splitlines()
+    assert lines[4].startswith(f"{path}:5: O2 UnknownKey: extra = 1: the key is unknown; known here are relays, hosts, ")
+    assert lines[8].endswith("expected one of `duties`: operate-db, approve-db, audit")
+    assert lines[-1] == f"{path}: refused; of these faults the desk names O2 UnknownKey"
+
+
+def test_several_faults_of_syntax(lint, tmp_path):
+    path = tmp_path / "roster.toml"
+    path.write_text('relays = ["chat"\nhosts = ["db1"]\nduties = [\n  "a"\n  "b",\n]\nduties = x\n[people]\nann = [\'a\']\n[people]\nbob = "x\n')
+    found = found_in(lint, path)
+    assert [it["line"] for it in found["faults"]] == [2, 5, 7, 10, 11]
+    assert found["answer"] == "O1 NotToml" and {it["code"] for it in found["faults"]} == {"O1"}
+
+
+def test_the_example_has_warnings_alone(lint):
+    ran = lint(ROSTER)
+    assert (ran.returncode, ran.stdout.count("warning:"), ran.stdout.count("\n")) == (0, 3, 3)
+    assert lint("--strict", ROSTER).returncode == 1
+    assert re.search(r"roster.toml:7: warning: .*no ceiling has web1", ran.stdout)
+    assert re.search(r"roster.toml:21: warning: people.eve: .*audit conflicts", ran.stdout)
+
+
+def roster(people, needs=1, commands='["/opt/x"]', conflicts='[["approve", "audit"]]', hosts='["db1"]', duties='["approve", "audit", "ask"]'):
+    return (
+        f'relays = ["chat"]\nhosts = {hosts}\nduties = {duties}\nconflicts = {conflicts}\n[people]\n{people}\n'
+        f'[ceilings.c]\nask = "ask"\napprove = "approve"\nneeds = {needs}\nhosts = ["db1"]\nrunas = ["root"]\ncommands = {commands}\nlongest = 60\n'
+    )
+
+
+SOUND = 'ann = ["ask"]\nbob = ["approve"]\ndave = ["audit"]'
+
+
+@pytest.mark.parametrize(
+    ("text", "said"),
+    [
+        (roster(SOUND), []),
+        (roster(SOUND, needs=2), ["approvers: too few people can approve: it needs 2, and beside the asker bob may"]),
+        (roster('ann = ["ask", "approve"]\ndave = ["audit"]'), ["approvers: too few people can approve: it needs 1, and beside the asker ann may"]),
+        (
+            roster('ann = ["ask", "approve"]\nbob = ["ask"]\ndave = ["audit"]'),
+            ["approvers: by ann it cannot be obtained: too few other people can approve (ann)"],
+        ),
+        (roster('bob = ["approve"]\ndave = ["audit"]'), ["duty: nobody holds ask", "approvers: nobody may ask under it: nobody holds ask"]),
+        (
+            roster('ann = ["ask"]\nbob = [{ duty = "approve", from = "20260101", until = "20260630" }]\ndave = ["audit"]'),
+            ["approvers: too few people can approve: it needs 1, and beside the asker nobody may from 20260701 on"],
+        ),
+        (
+            roster('ann = ["ask"]\nbob = ["approve", { duty = "audit", from = "20260801", until = "20260810" }]\ndave = ["audit"]'),
+            ["approvers: too few people can approve: it needs 1, and beside the asker nobody may from 20260801 on up to 20260810"],
+        ),
+        (roster(f'{SOUND}\neve = ["approve", "audit"]'), ["conflict: an approval as approve never counts: audit conflicts with it on each of its days"]),
+        (roster(f'{SOUND}\neve = ["approve", {{ duty = "audit", from = "20270101", until = "20270102" }}]'), []),
+        (roster(SOUND, hosts='["db1", "db2"]'), ["host: no ceiling has db2: nobody can ask for anything there"]),
+        (roster(SOUND, duties='["approve", "audit", "ask", "x"]'), ["duty: nobody holds x"]),
+        (roster(f"{SOUND}\neve = []"), ["person: no ceiling admits eve: no duty is held"]),
+        (roster(f'{SOUND}\neve = ["x"]', duties='["approve", "audit", "ask", "x"]'), ["person: no ceiling admits eve"]),
+        (
+            roster(f'{SOUND}\neve = [{{ duty = "ask", from = "20250101", until = "20250630" }}]'),
+            ["ended: ask ended on 20250630; leave the entry: without it what was approved by it would be approved no more"],
+        ),
+        (
+            roster(SOUND, commands="""['/usr/bin/find', '/usr/bin/find ""', '/usr/bin/find /tmp']"""),
+            ["runs-others: /usr/bin/find: its arguments name what it runs"],
+        ),
+        (roster(SOUND, commands='["/usr/bin/less /var/log/x"]'), ["runs-others: /usr/bin/less /var/log/x: a pager opens a shell from inside (`!`)"]),
+        (roster(SOUND, commands='["/bin/journalctl --no-pager -n 5", "ALL", "/opt/bin/"]'), []),
+        (
+            roster(SOUND, commands='["/usr/bin/"]'),
+            ["runs-others: /usr/bin/: it holds shells, editors and interpreters, and sudo's own sudoedit, which edits any file"],
+        ),
+    ],
+)
+def test_warnings(lint, tmp_path, text, said):
+    path = tmp_path / "roster.toml"
+    path.write_text(text)
+    found = found_in(lint, path, "--on", "20260105")
+    assert not found["faults"]
+    assert [f"{it['kind']}: {it['said']}" for it in found["warnings"]] == said
+    strict = any(not it["is_note"] for it in found["warnings"])
+    assert lint("--strict", "--on", "20260105", str(path)).returncode == int(strict)
+
+
+def test_messages(lint, tmp_path):
+    path = tmp_path / "x.messages"
+    path.write_text(
+        '{"at":"20260105083000Z", "by":"bob","kind":"approve","no":7.0,"of":"Ann"}\n\n'
+        '{"at":"20260105083000Z","by":"bob","kind":"approve","no":7,"of":"ann"}\n{"at":"20260231083000Z","by":"bob","kind":"aprove","no":7,"of":"ann"}'
+    )
+    found = found_in(lint, path)
+    assert found["answers"] == {"1": "M2 NotCanonical", "2": "M2 NotCanonical", "4": "M3 BadField"} and found["messages"] == 4
+    assert [(it["line"], it["code"]) for it in found["faults"]] == [(1, "M2"), (1, "M2"), (1, "M3"), (2, "M2"), (4, "M3")]
+    ran = lint("--roster", ROSTER, os.path.join(EXAMPLES, "approved.messages"))
+    assert (ran.returncode, ran.stdout) == (0, "")
+
+
+def test_a_message_over_several_lines(lint, tmp_path):
+    path = tmp_path / "x.json"
+    path.write_text(json.dumps({"at": "20260105083000Z", "by": "Bob", "kind": "approve", "no": 7, "of": "ann"}, indent=2))
+    assert [(it["line"], it["code"]) for it in found_in(lint, path)["faults"]] == [(1, "M2"), (1, "M3")]
+
+
+def test_words(lint, tmp_path):
+    assert lint("--explain", "O4").stdout.startswith("O4 BadName (A roster (docs/ROSTER.md))\n  when: a text has not the form")
+    assert lint("--explain", "badname").stdout == lint("--explain", "O4 BadName").stdout
+    assert lint("--explain", "Z9").returncode == 2
+    ran = lint(str(tmp_path / "nothing"))
+    assert (ran.returncode, ran.stderr) == (2, f"desk-lint: {tmp_path}/nothing: No such file or directory\n")
+    assert lint("-", given='{"kind":7}\n').stdout.startswith('-:1: M3 BadField: kind = 7: expected one of request, approve, ')
+
+
+def test_commands():
+    rows = [
+        ("/usr/bin/id -u", ["/usr/bin/id -u", "/usr/bin/id", "/usr/bin/", "ALL"], ['/usr/bin/id ""', "/usr/bin/id -g", "/usr/"]),
+        ("/usr/bin/id", ["/usr/bin/id", "/usr/bin/", "ALL"], ["/usr/bin/id -u", '/usr/bin/id ""', "/usr/"]),
+        ("/usr/bin/", ["/usr/bin/", "ALL"], ["/usr/", "/usr/bin/id"]),
+        ("ALL", ["ALL"], ["/usr/bin/"]),
+    ]
+    for asked, inside, outside in rows:
+        assert all(lies_inside(command(asked), command(it)) for it in inside)
+        assert not any(lies_inside(command(asked), command(it)) for it in outside)
+
+
+def test_the_table_of_programs():
+    names = [name for row in table()["program"].values() for name in row["names"]]
+    assert len(table()["program"]) == len({*names}), "a program stands twice"
+    assert risk(command("/bin/vi")) and risk(command('/bin/vi ""')) and not risk(command("/bin/true"))
+
+
+def test_schemas():
+    """Each place of the schemas says what it is, and an editor takes the examples by them."""
+
+    def undescribed(node, path):
+        if isinstance(node, dict):
+            if ("type" in node or "$ref" in node) and path and "propertyNames" not in path[-1:] and not {"title", "description", "$ref"} & {*node}:
+                yield path
+            for key, it in node.items():
+                yield from undescribed(it, (*path, key))
+
+    for name in ("roster", "message"):
+        assert not list(undescribed(schema.validator(name).schema, ()))
+    with open(ROSTER, "rb") as file:
+        document = toml_text.read(file.read())
+    assert schema.validator("roster").is_valid(document.value)
+    assert document.line(("people", "eve")) == 21 and document.line(("ceilings", "db-care", "needs", "x")) == 27

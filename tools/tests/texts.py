@@ -1,0 +1,225 @@
+"""Random rosters and messages: examples with a few of their parts changed. The same ones for the same seed."""
+
+import copy
+import json
+import os
+import random
+import re
+import tomllib
+from typing import Any
+
+from tests.conftest import ROOT
+
+DATED = """\
+hosts = ['db1', "db2", "web-1"]   # three
+duties = ["approve-db", "audit", "operate-db"]
+conflicts = [
+  ["approve-db", "audit"], # a pair
+]
+relays = ["chat",]
+ceilings.low = { ask = "operate-db", approve = "approve-db", needs = 0x1, hosts = ["db1"],
+  runas = ["root"], commands = ['/bin/echo a\\:b', "/bin/ls \\"\\""], longest = 7_200, }
+
+[people]
+ann = ["operate-db"]
+"kim.l" = [{ duty = "approve-db", from = "20260101", until = "20261231" }, "audit"]
+bob = [{ duty = "approve-db", from = "20260309", until = "20260315" },
+       { duty = "audit", from = "20240229", until = "20240229" }]
+
+[ceilings.db-root]
+ask = "operate-db"
+approve = "approve-db"
+needs = 2
+hosts = ["db1", "db2"]
+runas = ["root"]
+commands = ["ALL", "/usr/bin/", "/bin/ls", "/bin/ls -l /tmp"]
+longest = 2_592_000
+"""
+WORDS = (
+    "ann bob kim.l Ann _a a a-b a.b 9a sudoedit sha256 sha256x ALL all db1 db2 web1 db9 chat mail approve-db audit operate-db cash root postgres "
+    "/bin/ls /bin/ls/ / /bin//ls /bin/../ls /bin/sudoedit /opt/sudoedit/ /opt/sudoedit/x /usr/bin/ /usr/bin/id /bin/* "
+    "20260101 20260230 19691231 20991231 21000101 20240229 2026010 0 1 3 4 -1 1.0 1e2 7_200 7__2 0x1 2592000 2592001 "
+    "9223372036854775807 9223372036854775808 true false inf nan 2026-01-05 10:00 ask approve needs "
+    "hosts runas commands longest people ceilings relays duties conflicts duty from until"
+).split()
+WORDS += ["x" * 32, "x" * 33, "", "/bin/ls -l", '/bin/ls ""', "/bin/ls  -l", "/bin/echo a\\:b", "/bin/echo a:b"]
+WORDS += ["/bin/ls " + "-a " * 15 + "-a", "/bin/ls" + " -a" * 17]
+WORDS += ["/" + "a" * 254, "/" + "a" * 255, "/bin/x " + "b" * 64, "/bin/x " + "b" * 65, "é", "a b"]
+MARKS = list("[]{}=,.\"'#\n\t \r\\_-+:/xu0aA\x00\x7fé") + ["\r\n", '"""', "'''", "[[", "]]", "\\u0041", "\\x41", "\\e", "\\ud800"]
+MARKS += ["[people]\n", "[ceilings.x]\n", "a.b = 1\n", "{}", "[]"]
+TOKEN = re.compile(r"""[A-Za-z0-9_./:+-]+|"[^"\n]*"|'[^'\n]*'""")
+
+
+def changed(chance: random.Random, text: str, words: list[str], marks: list[str]) -> str:
+    """The text with one part changed."""
+    kind = chance.randrange(10)
+    tokens = list(TOKEN.finditer(text))
+    if kind < 4 and tokens:
+        token = chance.choice(tokens)
+        word = chance.choice(words)
+        quote = token[0][0] if token[0][0] in "\"'" and chance.random() < 0.9 else ""
+        return text[: token.start()] + quote + (word.replace("\\", "\\\\") if quote == '"' and chance.random() < 0.8 else word) + quote + text[token.end() :]
+    lines = text.split("\n")
+    place = chance.randrange(len(lines))
+    if kind == 4:
+        return "\n".join(lines[:place] + lines[place + 1 :])
+    if kind == 5:
+        other = chance.randrange(len(lines) + 1)
+        return "\n".join(lines[:other] + [lines[place]] + lines[other:])
+    at = chance.randrange(len(text) + 1)
+    if kind == 6 and tokens:
+        one, other = sorted(chance.sample(range(len(tokens)), 2)) if len(tokens) > 1 else (0, 0)
+        a, b = tokens[one], tokens[other]
+        return text[: a.start()] + b[0] + text[a.end() : b.start()] + a[0] + text[b.end() :] if one != other else text
+    if kind == 7:
+        return text[:at] + text[at + 1 :]
+    if kind == 8 and tokens:
+        token = chance.choice(tokens)
+        return text[: token.end()] + ", " + token[0] + text[token.end() :]
+    return text[:at] + chance.choice(marks) + text[at:]
+
+
+def toml_of(value: object) -> str:
+    """A value in TOML."""
+    if isinstance(value, dict):
+        return "{ " + ", ".join(f"{json.dumps(key, ensure_ascii=False)} = {toml_of(it)}" for key, it in value.items()) + " }"
+    if isinstance(value, list):
+        return f"[{', '.join(map(toml_of, value))}]"
+    return "2026-01-05" if value is None else json.dumps(value, ensure_ascii=False)
+
+
+def places(value: object, path: tuple[str | int, ...] = ()) -> list[tuple[str | int, ...]]:
+    """The paths of all parts of a value."""
+    inner = list(value.items()) if isinstance(value, dict) else list(enumerate(value)) if isinstance(value, list) else []
+    return [path, *(it for key, held in inner for it in places(held, (*path, key)))]
+
+
+NUMBERS = [0, 1, 3, 4, -1, 1.0, 2_592_000, 2_592_001, 2**63 - 1, True]
+ENTRIES = [
+    {"duty": "audit", "from": days.split()[0], "until": days.split()[1]}
+    for days in (
+        "20260101 20260101", "20260102 20260101", "20260230 20260301", "19691231 20260101", "20260101 21000101", "2026-01-01 20260101",
+    )
+]  # fmt: skip
+
+
+def revalued(chance: random.Random, document: dict[str, Any]) -> None:
+    """Another value at some place, one more or one less there, or two that change places."""
+    *front, last = chance.choice(places(document)[1:])
+    holder: Any = document
+    for key in front:
+        holder = holder[key]
+    old = holder[last]
+    kind = chance.randrange(8)
+    if kind == 0:
+        del holder[last]
+    elif kind == 1:
+        holder[last] = chance.choice([*VALUES, *NUMBERS])
+    elif kind == 2:
+        holder[last] = chance.choice(WORDS)
+    elif kind == 3 and isinstance(holder, list):
+        holder.append(chance.choice([old, *WORDS[:20], *ENTRIES]))
+    elif kind == 4 and isinstance(holder, list) and len(holder) > 1:
+        holder[last] = holder[last - 1]
+    elif isinstance(old, bool | int):
+        holder[last] = chance.choice(NUMBERS)
+    elif kind == 5 and isinstance(old, list) and old:
+        holder[last] = old * chance.choice([2, 64, 65, 256, 257])
+    elif kind == 6 and isinstance(holder, dict):
+        holder[chance.choice(WORDS)] = old
+    elif isinstance(old, str):
+        holder[last] = chance.choice(WORDS[:24] + ["approve-db", "audit", "operate-db"])
+
+
+def rosters(count: int, seed: int = 1) -> list[bytes]:
+    chance = random.Random(seed)
+    with open(os.path.join(ROOT, "examples", "roster.toml"), encoding="utf-8") as file:
+        bases = [file.read(), DATED]
+    document = tomllib.loads(bases[0])
+    document["people"]["frank"] = [ENTRIES[0], "audit"]
+    found = []
+    for number in range(count):
+        text = chance.choice(bases)
+        if number % 2:
+            copied = copy.deepcopy(document)
+            for _ in range(chance.choice([1, 1, 1, 1, 2, 3])):
+                revalued(chance, copied)
+            text = "".join(f"{json.dumps(key, ensure_ascii=False)} = {toml_of(it)}\n" for key, it in copied.items())
+        for _ in range(chance.choice([1, 1, 1, 2, 2, 3, 5]) if number % 2 == 0 or chance.random() < 0.05 else 0):
+            text = changed(chance, text, WORDS, MARKS)
+        data = text.encode()
+        if chance.random() < 0.01:
+            at = chance.randrange(len(data) + 1)
+            data = data[:at] + chance.choice([b"\xff", b"\xc3", b"\xed\xa0\x80", b"\xef\xbb\xbf"]) + data[at:]
+        found.append(data)
+    return found
+
+
+VALUES = [0, 7, -1, 10**9, 999_999_999, 7.0, True, None, [], {}, "", "request", "approve", "revoke", "20260230090000Z"]
+VALUES += [[["db1"]], ["db1", "db1"], ["db2", "db1"], ["db1", "db2"]]
+VALUES += ["20260105090000Z", "2026010509Z", "20260105096000Z", "20991231235959Z", "21000101000000Z", "20260105090000z", "db-care", "db-emergency"]
+STAMPS = ["20260105060000Z", "20260105090000Z", "20260105103000Z", "20260105110000Z", "20260105110001Z", "20260106000000Z"]
+ASKED = {
+    "at": "20260105060000Z", "by": "ann", "ceiling": "db-care", "cmnds": ["/usr/bin/id"], "from": "20260105090000Z", "hosts": ["db1"],
+    "kind": "request", "no": 7, "runas": "root", "until": "20260105103000Z",
+}  # fmt: skip
+SAID = {"at": "20260105083000Z", "by": "bob", "kind": "approve", "no": 7, "of": "ann"}
+COMMANDS = ["/usr/bin/id", "/usr/bin/id -u", '/usr/bin/id ""', "/usr/bin/", "/usr/local/sbin/x", "/usr/local/sbin/x y", "/usr/local/sbin/", "ALL", "/bin/ls"]
+COMMANDS += ["/usr/bin/systemctl restart postgresql", "/usr/bin/systemctl", "/usr/local/sbin/a/b"]
+
+
+ODD = ["", "[" * 127 + "]" * 127, "[" * 128 + "]" * 128, "7", '""', "null", "-0", "1e400", "18446744073709551615", "18446744073709551616"]
+ODD += ['"\\ud800"', "{}"]
+
+
+def canonical(value: object) -> str:
+    return json.dumps(value, ensure_ascii=False, separators=(",", ":"), sort_keys=True)
+
+
+def altered(chance: random.Random, message: dict[str, object]) -> dict[str, object]:
+    """The message with another value, a member more or less, or one that other messages have."""
+    found = dict(message)
+    kind = chance.randrange(12)
+    key = chance.choice(sorted(found))
+    if kind == 0:
+        found[key] = chance.choice(VALUES)
+    elif kind == 1:
+        found[key] = chance.choice(WORDS)
+    elif kind == 2:
+        del found[key]
+    elif kind == 3:
+        found[chance.choice(["of", "x", "runas", "At", "hosts", "é"])] = chance.choice(VALUES)
+    elif kind == 4 and "cmnds" in found:
+        found["cmnds"] = chance.sample(WORDS, chance.randint(1, 3))
+    elif kind < 8 and "cmnds" in found:
+        found["cmnds"] = sorted(chance.sample(COMMANDS, chance.randint(1, 3)))
+    elif kind < 10 and "from" in found:
+        found |= {"at": chance.choice(STAMPS), "from": chance.choice(STAMPS), "until": chance.choice(STAMPS)}
+    elif kind == 10 and "hosts" in found:
+        found["hosts"] = sorted(chance.sample(["db1", "db2", "web1", "db9"], chance.randint(1, 3)))
+    else:
+        found["by"] = chance.choice(["ann", "bob", "carol", "dave", "eve", "zoe"])
+        found["ceiling" if "ceiling" in found else "of"] = chance.choice(["db-care", "db-emergency", "ann", "zoe"])
+    return found
+
+
+def messages(count: int, seed: int = 2) -> list[bytes]:
+    """Lines: none has a newline in it."""
+    chance = random.Random(seed)
+    found = []
+    for _ in range(count):
+        message = dict(chance.choice([ASKED, ASKED, SAID]))
+        for _ in range(chance.choice([0, 1, 1, 1, 2])):
+            message = altered(chance, message)
+        text = canonical(message)
+        for _ in range(chance.choice([0, 0, 0, 1, 2])):
+            text = changed(chance, text, WORDS, MARKS)
+        if chance.random() < 0.01:
+            text = chance.choice(ODD)
+        if chance.random() < 0.01:
+            text += " " * chance.choice([16_384 - len(text.encode()), 16_385 - len(text.encode())])
+        data = text.encode("utf-8", "surrogatepass")
+        if chance.random() < 0.01:
+            data = data[:5] + b"\xff" + data[5:]
+        found.append(data.replace(b"\n", b""))
+    return found
