@@ -8,6 +8,7 @@ pub mod RowsCompared
 pub mod KeyedCompared
 pub mod PlainRows
 -- what was read is so of the database
+pub mod ReadingLemmas
 pub mod WholeRows
 pub mod Shown
 pub mod TextsShown

@@ -21,10 +21,11 @@ use Rattle.desk_schema.proofs.ShapeLemmas.{common_of, desk_of, tree_in}
 use Rattle.desk_opening.specs.declared.found.Found.{Found}
 use Rattle.desk_opening.specs.declared.found.Found.TheVariants as found
 use Rattle.desk_opening.specs.Opened.{FoundIn, HasContents, IsDamaged, IsDeskBesideRows, IsKept, IsOldDesk, recorded_as}
+use Rattle.desk_opening.specs.Rows.{HaveRowids}
 use Rattle.desk_opening.specs.private.Judged.{AreContents, IsWhole, Judges, JudgesOld, LackContents, Strays}
 use Rattle.desk_opening.specs.private.Reading.{AreHeld}
 use Rattle.desk_opening.specs.private.Selecting.{ShowsPart, ShowsRows, ShowsTexts}
-use Rattle.desk_opening.proofs.Shown.{SameRows, held_too, recorded_two, same_back, same_rows_in}
+use Rattle.desk_opening.proofs.Shown.{SameRows, held_too, identified, recorded_two, same_back, same_rows_in}
 use Rattle.desk_opening.proofs.TextsShown.{contents_there, messages_listed, none_there}
 
 -- ---- parts that are there
@@ -36,6 +37,11 @@ not_old : (s : Rattle.sqlite.specs.Schema.Schema) → FindsPart s part.Verdicts 
 not_old s has old = let e : ◌≡◌ {A = Option ℕ} (Some has.0) None = sym has.2.named ∙ old.verdicts.table in absurd cc
 
 -- ---- a desk of today
+
+-- each of the rows that were read has a rowid
+pub rows_identified : (db : Database) → IsDatabase db → HasCommon db.schema → FindsPart db.schema part.Verdicts → (N V P : List Row) → ShowsRows db N V P → HaveRowids N × HaveRowids V × HaveRowids P
+rows_identified db sound common verdicts N V P rows =
+    (identified db sound part.Names tt common.names N rows.names_are, identified db sound part.Verdicts tt verdicts V rows.verdicts_are, identified db sound part.Parked tt common.parked P rows.parked_are)
 
 module _ (db : Database) (sound : IsDatabase db) (common : HasCommon db.schema) (verdicts : FindsPart db.schema part.Verdicts) (unmarked : IsUnmarked db)
     (D M N V P : List Row) (alone : Bool) (texts : ShowsTexts db D M) (rows : ShowsRows db N V P) (tells : (alone ≡ true → AreUnreferred db.schema) × (AreUnreferred db.schema → alone ≡ true)) where

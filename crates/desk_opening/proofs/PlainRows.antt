@@ -31,37 +31,46 @@ module _ (rows : List Row) (keyed : IsKeyed rows) (wide : HaveRowids rows) (each
 
 module _ (S : Message → Type 0) (N V P : List Row) (r : AreRows S (IsRow N) (IsRow V) (IsRow P)) where
   pub names_plain : (values : List Value) → IsRow N values → (length values ≤ 5) × ((v : Value) → Has values v → IsPlain v)
-  names_plain values there = let it = r.names_each values there in subst (λ x. (length x ≤ 5) × ((v : Value) → Has x v → IsPlain v)) (sym it.4) (omega arith, λ v has. elim has [
-    | inl e ↦ subst IsPlain (sym e) (text it.0.by)
-    | inr more ↦ elim more [
-      | inl e ↦ subst IsPlain (sym e) (whole (pos it.0.no))
+  names_plain values there = let it = r.names_each values there in subst (λ x. (length x ≤ 5) × ((v : Value) → Has x v → IsPlain v)) (sym it.4) (
+    omega arith,
+    λ v has. elim has [
+      | inl e ↦ subst IsPlain (sym e) (text it.0.by)
       | inr more ↦ elim more [
-        | inl e ↦ subst IsPlain (sym e) (text _)
-        | inr more ↦ elim more [ inl e ↦ subst IsPlain (sym e) (whole _) | inr none ↦ absurd none ]
-      ]
-    ]
-  ])
-
-  pub verdicts_plain : (values : List Value) → IsRow V values → (length values ≤ 5) × ((v : Value) → Has values v → IsPlain v)
-  verdicts_plain values there = let it = r.verdicts_each values there in subst (λ x. (length x ≤ 5) × ((v : Value) → Has x v → IsPlain v)) (sym it.3) (omega arith, λ v has. elim has [
-    | inl e ↦ subst IsPlain (sym e) (text it.0.of)
-    | inr more ↦ elim more [
-      | inl e ↦ subst IsPlain (sym e) (whole (pos it.0.no))
-      | inr more ↦ elim more [
-        | inl e ↦ subst IsPlain (sym e) (text it.0.by)
+        | inl e ↦ subst IsPlain (sym e) (whole (pos it.0.no))
         | inr more ↦ elim more [
           | inl e ↦ subst IsPlain (sym e) (text _)
           | inr more ↦ elim more [ inl e ↦ subst IsPlain (sym e) (whole _) | inr none ↦ absurd none ]
         ]
       ]
-    ]
-  ])
+    ],
+  )
+
+  pub verdicts_plain : (values : List Value) → IsRow V values → (length values ≤ 5) × ((v : Value) → Has values v → IsPlain v)
+  verdicts_plain values there = let it = r.verdicts_each values there in subst (λ x. (length x ≤ 5) × ((v : Value) → Has x v → IsPlain v)) (sym it.3) (
+    omega arith,
+    λ v has. elim has [
+      | inl e ↦ subst IsPlain (sym e) (text it.0.of)
+      | inr more ↦ elim more [
+        | inl e ↦ subst IsPlain (sym e) (whole (pos it.0.no))
+        | inr more ↦ elim more [
+          | inl e ↦ subst IsPlain (sym e) (text it.0.by)
+          | inr more ↦ elim more [
+            | inl e ↦ subst IsPlain (sym e) (text _)
+            | inr more ↦ elim more [ inl e ↦ subst IsPlain (sym e) (whole _) | inr none ↦ absurd none ]
+          ]
+        ]
+      ]
+    ],
+  )
 
   pub parked_plain : (values : List Value) → IsRow P values → (length values ≤ 5) × ((v : Value) → Has values v → IsPlain v)
-  parked_plain values there = let it = r.parked_each values there in subst (λ x. (length x ≤ 5) × ((v : Value) → Has x v → IsPlain v)) (sym it.3) (omega arith, λ v has. elim has [
-    | inl e ↦ subst IsPlain (sym e) (text _)
-    | inr more ↦ elim more [
-      | inl e ↦ subst IsPlain (sym e) (text it.0.of)
-      | inr more ↦ elim more [ inl e ↦ subst IsPlain (sym e) (whole (pos it.0.no)) | inr none ↦ absurd none ]
-    ]
-  ])
+  parked_plain values there = let it = r.parked_each values there in subst (λ x. (length x ≤ 5) × ((v : Value) → Has x v → IsPlain v)) (sym it.3) (
+    omega arith,
+    λ v has. elim has [
+      | inl e ↦ subst IsPlain (sym e) (text _)
+      | inr more ↦ elim more [
+        | inl e ↦ subst IsPlain (sym e) (text it.0.of)
+        | inr more ↦ elim more [ inl e ↦ subst IsPlain (sym e) (whole (pos it.0.no)) | inr none ↦ absurd none ]
+      ]
+    ],
+  )

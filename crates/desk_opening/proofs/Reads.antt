@@ -140,6 +140,15 @@ still a b P reads was up = subst P (sym (reads.same up)) (was (reads.was_up up))
 pub before : (a b : State) (P : Database → Type 0) → Reads a b → IsUp b → P b.now → P a.now
 before a b P reads up is = subst P (reads.same up) is
 
+-- what follows of an answer
+pub ok_as : {A E : Type 0} (P Q : A → Type 0) → ((x : A) → P x → Q x) → (r : Result A E) → IfOk r P → IfOk r Q
+ok_as P Q each (Ok x) h = each x h
+ok_as P Q each (Err e) h = tt
+
+pub up_ok : {A E P : Type 0} (r : Result A E) → P → OnOk r P
+up_ok (Ok x) h = h
+up_ok (Err e) h = tt
+
 -- ---- what is shown
 
 abbrev seen : List Term → Row → Row

@@ -1,5 +1,5 @@
 -- The rows that are read of a desk's tables are the rows of the tables.
-use Rattle.std.proofs.Common.{◌≡◌, ◌==◌, ◌≤◌, inl, inr, ℕ, suc, pos, Bool, true, false, ◌&&◌, cond, List, [], ◌∷◌, length, map, Option, Some, None, codes, refl, sym, ap, subst, ◌∙◌, arith}
+use Rattle.std.proofs.Common.{◌≡◌, ◌==◌, ◌≤◌, inl, inr, ℕ, suc, pos, Bool, true, false, true≢false, not, ◌&&◌, cond, slice_get, List, [], ◌∷◌, length, map, Option, Some, None, codes, refl, sym, ap, subst, ◌∙◌, arith}
 use Rattle.std.specs.List.Sorted.{IsPermutation}
 use Rattle.std.proofs.lemmas.List.Sorted.{IsPermutation-sym, length_permutation}
 use Rattle.std.proofs.lemmas.Bool.Decides.{Decides-eqb}
@@ -7,6 +7,7 @@ use Rattle.sqlite.specs.declared.types.Value.{Value}
 use Rattle.sqlite.specs.declared.types.Value.TheVariants.{Null, Int, Real, Text, Blob}
 use Rattle.sqlite.specs.Order.{Row, column}
 use Rattle.sqlite.specs.Effect.{Database, IsDatabase}
+use Rattle.sqlite.specs.Table.{Table}
 use Rattle.sqlite.proofs.Callers.{one_permutation}
 use Rattle.sqlite_rules.specs.Lists.{Has}
 use Rattle.sqlite_rules.proofs.ListLemmas.{contains_had, has_contained}
@@ -18,8 +19,8 @@ use Rattle.desk_tables.specs.Rows.{AreRows, IsRow, RowSet}
 use Rattle.desk_tables.specs.Stored.{is_one, is_two, mark, recorded}
 use Rattle.desk_schema.specs.declared.part.Part.{Part}
 use Rattle.desk_schema.specs.declared.part.Part.TheVariants.{Desk, Messages, Names, Marks, Verdicts, Parked}
-use Rattle.desk_schema.specs.Parts.{name_of}
-use Rattle.desk_schema.specs.Shapes.{FindsPart}
+use Rattle.desk_schema.specs.Parts.{name_of, table_at}
+use Rattle.desk_schema.specs.Shapes.{FindsPart, IsUnmarked}
 use Rattle.desk_schema.proofs.ShapeLemmas.{tree_in}
 use Rattle.desk_opening.specs.Opened.{is_number, recorded_as}
 use Rattle.desk_opening.specs.Rows.{HaveRowids}
@@ -34,7 +35,7 @@ pub has_permuted : {X : Type 0} (xs ys : List X) (x : X) → IsPermutation xs ys
 has_permuted xs ys x same h = has_contained ys x (Contains-permutation xs ys x same (contains_had xs x h))
 
 -- each row of one is a row of the other
-pub SameRows : (old new : List Row) → Type 0
+abbrev pub SameRows : (old new : List Row) → Type 0
 SameRows old new = (r : Row) → (Has old r → Has new r) × (Has new r → Has old r)
 
 -- ---- one table
@@ -50,7 +51,6 @@ module _ (db : Database) (sound : IsDatabase db) (p : Part) (reads : IsRead p) (
   wide r n w = (Decides-eqb (length r) (suc n)).1 (ap length w.is ∙ ap suc w.width_is)
 
   itself : (p : Part) → IsRead p → (r : Row) → IsWholeRow (width_of p) r → shown_of p r ≡ r
-  unfolding IsRead width_of
   itself Desk reads r w = absurd reads
   itself Messages reads r w = absurd reads
   itself Names reads r w = sym (five r (wide r 4 w))
@@ -67,7 +67,6 @@ module _ (db : Database) (sound : IsDatabase db) (p : Part) (reads : IsRead p) (
   in_rows r there = subst (Has rows) (itself p reads r (whole r there)) (has_permuted (map (shown_of p) table) rows (shown_of p r) shows (mapped_has (shown_of p) table r there))
 
   pub same_rows_in : SameRows rows table
-  unfolding SameRows
   same_rows_in r = (in_table r, in_rows r)
 
   pub identified : HaveRowids rows
@@ -77,19 +76,15 @@ module _ (db : Database) (sound : IsDatabase db) (p : Part) (reads : IsRead p) (
 
 module _ (old new : List Row) (same : SameRows old new) where
   pub keyed_same : IsKeyed old → IsKeyed new
-  unfolding SameRows
   keyed_same keyed = record { ints = λ r there. keyed.ints r ((same r).1 there); once = λ a b here there. keyed.once a b ((same a).1 here) ((same b).1 there) }
 
   row_too : (r : List Value) → IsRow old r → IsRow new r
-  unfolding SameRows
   row_too r there = (there.0, (same (there.0 ∷ r)).0 there.1)
 
   row_before : (r : List Value) → IsRow new r → IsRow old r
-  unfolding SameRows
   row_before r there = (there.0, (same (there.0 ∷ r)).1 there.1)
 
 pub same_back : (old new : List Row) → SameRows old new → SameRows new old
-unfolding SameRows
 same_back old new same r = ((same r).1, (same r).0)
 
 module _ (S : Message → Type 0) (N V P N' V' P' : List Row) (n : SameRows N N') (v : SameRows V V') (p : SameRows P P') where
@@ -145,3 +140,51 @@ pub recorded_two : (rows : List Row) → recorded_as 2 rows ≡ recorded rows
 recorded_two [] = refl
 recorded_two (r ∷ []) = λ i. cond (one_is (column r 0) i && two_is (column r 2) i) (Rattle.desk_tables.specs.Stored.text_at (column r 3)) None
 recorded_two (r ∷ s ∷ rs) = refl
+
+-- ---- the `marks` of an older desk
+
+no_rows : {X : Type 0} (xs : List X) → length xs ≡ 0 → xs ≡ []
+no_rows [] e = refl
+no_rows (x ∷ xs) e = absurd (omega (arith, e))
+
+-- whether a row is shown of them tells whether they have one
+pub tells_marks : (db : Database) (it : FindsPart db.schema Marks) (rows : List Row) → ShowsPart Marks db rows → (empty : Bool) → empty ≡ (length rows == 0) → (not empty ≡ false → IsUnmarked db) × (not empty ≡ true → ¬ IsUnmarked db)
+tells_marks db it rows shows empty is = (unmarked, marked)
+  where
+    table : length (map (shown_of Marks) (table_in db (name_of Marks))) ≡ length rows
+    table = sym (length_permutation (map (shown_of Marks) (table_in db (name_of Marks))) rows shows)
+
+    none_stored : (l : List Row) → length (map (shown_of Marks) l) ≡ 0 → l ≡ []
+    none_stored [] e = refl
+    none_stored (r ∷ rs) e = absurd (omega (arith, e))
+
+    unmarked : not empty ≡ false → IsUnmarked db
+    unmarked no_mark =
+        let none : length rows ≡ 0 = (Decides-eqb (length rows) 0).0 (sym is ∙ not_false empty no_mark) in
+        let bare : table_in db (name_of Marks) ≡ [] = none_stored _ (table ∙ none) in
+        inr (record { at = it.0; tree = it.1; finds = it.2; empty = subst (λ t. db.trees t ≡ []) (tree_in db.schema Marks it) bare })
+      where
+        not_false : (b : Bool) → not b ≡ false → b ≡ true
+        not_false true h = refl
+        not_false false h = absurd (true≢false h)
+
+    marked : not empty ≡ true → ¬ IsUnmarked db
+    marked some (inl lacks) = let e : ◌≡◌ {A = Option ℕ} (Some it.0) None = sym it.2.named ∙ lacks.table in absurd cc
+    marked some (inr bare) =
+        absurd (filled some (subst (λ l. length (map (shown_of Marks) l) ≡ length rows) (ap db.trees (tree_in db.schema Marks it ∙ same) ∙ bare.empty) table))
+      where
+        one : it.0 ≡ bare.at
+        one = let place : ◌≡◌ {A = Option ℕ} (Some it.0) (Some bare.at) = sym it.2.named ∙ bare.finds.named in cc
+
+        same : it.1 ≡ bare.tree
+        same =
+            let here : ◌≡◌ {A = Option Table} (Some (table_at Marks it.1)) (Some (table_at Marks bare.tree)) = sym it.2.has ∙ ap (slice_get db.schema.tables) one ∙ bare.finds.has in
+            let both : table_at Marks it.1 ≡ table_at Marks bare.tree = cc in
+            ap (λ (t : Table). t.tree) both
+
+        filled : not empty ≡ true → 0 ≡ length rows → ⊥
+        filled some none = true≢false (sym ((Decides-eqb (length rows) 0).1 (sym none)) ∙ sym is ∙ not_true empty some)
+
+        not_true : (b : Bool) → not b ≡ true → b ≡ false
+        not_true true h = absurd (true≢false (sym h))
+        not_true false h = refl

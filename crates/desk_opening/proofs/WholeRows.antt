@@ -23,14 +23,13 @@ use Rattle.desk_schema.specs.Parts.{columns_of, name_of, table_at}
 use Rattle.desk_tables.specs.Stored.{Finds}
 
 -- a column that takes no NULL
-IsFirm : Column → Type 0
+abbrev IsFirm : Column → Type 0
 IsFirm c = c.not_null ≡ true
 
 no_null : (v : Value) → (not true || not (is_null v)) ≡ true → v ≡ Null → ⊥
 no_null v h e = true≢false (sym h ∙ ap (λ w. not true || not (is_null w)) e)
 
 present : (c : Column) (at : ℕ) (row : Row) (cs : List Column) → IsFirm c → are_present None at (c ∷ cs) row ≡ true → (column row (at + 1) ≡ Null → ⊥) × (are_present None (at + 1) cs row ≡ true)
-unfolding IsFirm
 present c at row cs firm h =
     let both = and_parts (not c.not_null || not (is_null (column row (at + 1)))) (are_present None (at + 1) cs row) h in
     (no_null (column row (at + 1)) (subst (λ b. (not b || not (is_null (column row (at + 1)))) ≡ true) firm both.0), both.1)
@@ -71,11 +70,11 @@ module _ (db : Database) (sound : IsDatabase db) (at : ℕ) (t : Table) (has : s
 
 -- ---- a desk's tables that are read with their rowids
 
-pub width_of : Part → ℕ
+abbrev pub width_of : Part → ℕ
 width_of p = length (columns_of p)
 
 -- the part's table has a key of its own, beside the rowid
-pub IsRead : Part → Type 0
+abbrev pub IsRead : Part → Type 0
 IsRead Desk = ⊥
 IsRead Messages = ⊥
 IsRead Names = Unit {0}
@@ -84,7 +83,6 @@ IsRead Verdicts = Unit {0}
 IsRead Parked = Unit {0}
 
 pub whole_rows : (db : Database) → IsDatabase db → (p : Part) → IsRead p → (at tree : ℕ) → Finds db.schema (name_of p) at (table_at p tree) → (r : Row) → Has (db.trees tree) r → IsWholeRow (width_of p) r
-unfolding IsRead IsFirm width_of
 whole_rows db sound Desk reads at tree found r there = absurd reads
 whole_rows db sound Messages reads at tree found r there = absurd reads
 whole_rows db sound Names reads at tree found r there = whole_row db sound at (table_at Names tree) found.has refl _ _ refl (refl, (refl, (refl, (refl, tt)))) r there

@@ -1,12 +1,13 @@
 //! What a database keeps, as it is opened.
 
-ghost use Rattle.std.specs.Prelude.{◌≡◌, Contains, Err, IsTrue, IfOk, IfSome, IfNone, OnOk, string_bytes};
-ghost use Rattle.sqlite.specs.State.{HasCleanDisk};
+ghost use Rattle.std.specs.Prelude.{◌≡◌, ◌↔◌, Contains, true, false, Err, IsTrue, IfOk, IfSome, IfNone, OnOk, string_bytes};
+ghost use Rattle.sqlite.specs.State.{HasCleanDisk, IsLive};
 ghost use Rattle.sqlite.specs.Held.{state};
 ghost use Rattle.desk_tables.specs.SqliteStates.{IsUp, Rests};
 ghost use Rattle.desk_tables.specs.declared.fault.Fault.TheVariants as fault;
 ghost use Rattle.desk_schema.specs.declared.part.Part.TheVariants as part;
-ghost use Rattle.desk_schema.specs.Shapes.{FindsPart, HasCommon, IsOld, IsUnmarked};
+ghost use Rattle.desk_schema.specs.Shapes.{FindsPart, HasCommon, IsOld, IsShape, IsUnmarked};
+ghost use Rattle.desk_schema.specs.References.{AreUnreferred};
 ghost use Rattle.desk_opening.specs.Opened.{FoundIn, IsDamaged};
 ghost use Rattle.desk_opening.specs.Rows.{HaveRowids};
 ghost use Rattle.desk_opening.specs.private.Reading.{Reads};
@@ -20,7 +21,7 @@ use crate::statements::rows_of;
 use crate::tables::{Rows, Texts, rows_beside, texts_of};
 use desk_schema::{Part, Shape, are_unreferred, shape_of};
 use desk_tables::Fault;
-use sqlite::{Alter, Connection};
+use sqlite::{Alter, Connection, Error};
 use std::alloc::Global;
 use sudo_words::NoMemory;
 
@@ -83,6 +84,21 @@ fn judge_old(alloc: Global, texts: &Texts) -> Result<Found, NoMemory>
     }
 }
 
+/// What the database's schema has of a desk's tables.
+fn shape_in<S: Alter>(conn: &Connection<S>) -> Shape
+    ensures { IsShape (state S.Store conn.now).now.schema result }
+{
+    shape_of(conn.schema())
+}
+
+/// Whether no foreign key refers to a desk's tables that lose rows.
+fn is_alone<S: Alter>(conn: &Connection<S>) -> bool
+    ensures alone { IsTrue result ↔ AreUnreferred (state S.Store conn.now).now.schema }
+    ensures live { IsLive (state S.Store conn.now) }
+{
+    are_unreferred(conn.schema())
+}
+
 /// Looks at a database that has a desk's tables.
 fn look_within<S: Alter>(alloc: Global, conn: &mut Connection<S>) -> Result<Found, Fault>
     requires rests { Rests (state S.Store conn.old) }
@@ -94,10 +110,23 @@ fn look_within<S: Alter>(alloc: Global, conn: &mut Connection<S>) -> Result<Foun
     ensures found { IsUp (state S.Store conn.new) → IfOk result (FoundIn (state S.Store conn.old).now) }
     ensures damaged { IsUp (state S.Store conn.new) → result ≡ Err fault.Stray → IsDamaged (state S.Store conn.old).now }
 {
-    let alone = are_unreferred(conn.schema());
+    let alone = is_alone(conn);
     let texts = texts_of(conn)?;
     let rows = rows_beside(conn)?;
     judge(alloc, &texts, &rows, alone)
+}
+
+/// Whether the older desk's `marks` have a row.
+fn has_marks<S: Alter>(conn: &mut Connection<S>) -> Result<bool, Error>
+    requires rests { Rests (state S.Store conn.old) }
+    requires found { IsUp (state S.Store conn.old) → FindsPart (state S.Store conn.old).now.schema part.Marks }
+    ensures reads { Reads (state S.Store conn.old) (state S.Store conn.new) }
+    ensures up { IsUp (state S.Store conn.old) → HasCleanDisk (state S.Store conn.new) → OnOk result (IsUp (state S.Store conn.new)) }
+    ensures none { IsUp (state S.Store conn.new) → IfOk result (λ some. some ≡ false → IsUnmarked (state S.Store conn.old).now) }
+    ensures some { IsUp (state S.Store conn.new) → IfOk result (λ some. some ≡ true → ¬ IsUnmarked (state S.Store conn.old).now) }
+{
+    let marks = rows_of(conn, Part::Marks)?;
+    Ok(!marks.is_empty())
 }
 
 /// Looks at a database that has a desk's tables, and those of the older desk that it was.
@@ -111,8 +140,7 @@ fn look_migrated<S: Alter>(alloc: Global, conn: &mut Connection<S>) -> Result<Fo
     ensures found { IsUp (state S.Store conn.new) → IfOk result (FoundIn (state S.Store conn.old).now) }
     ensures damaged { IsUp (state S.Store conn.new) → result ≡ Err fault.Stray → IsDamaged (state S.Store conn.old).now }
 {
-    let marks = rows_of(conn, Part::Marks)?;
-    if !marks.is_empty() {
+    if has_marks(conn)? {
         return Ok(Found::NotADesk);
     }
     look_within(alloc, conn)
@@ -140,7 +168,7 @@ pub fn look<S: Alter>(alloc: Global, conn: &mut Connection<S>) -> Result<Found, 
     ensures found { IsUp (state S.Store conn.new) → IfOk result (FoundIn (state S.Store conn.old).now) }
     ensures damaged { IsUp (state S.Store conn.new) → result ≡ Err fault.Stray → IsDamaged (state S.Store conn.old).now }
 {
-    match shape_of(conn.schema()) {
+    match shape_in(conn) {
         Shape::Free => Ok(Found::Empty),
         Shape::Other => Ok(Found::NotADesk),
         Shape::Old => look_old(alloc, conn),
