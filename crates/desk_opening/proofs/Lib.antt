@@ -1,0 +1,15 @@
+-- the statements that read
+pub mod Rowids
+pub mod PartQueries
+pub mod Reads
+-- the tests
+pub mod Compared
+pub mod RowsCompared
+pub mod KeyedCompared
+pub mod PlainRows
+-- what was read is so of the database
+pub mod ReadingLemmas
+pub mod WholeRows
+pub mod Shown
+pub mod TextsShown
+pub mod OpenedLemmas

@@ -1,0 +1,20 @@
+-- The messages that rows show, one after the other.
+use Rattle.std.proofs.Common.{◌≡◌, inl, inr, ℕ, ◌<◌, ◌+◌, List, [], ◌∷◌, ◌++◌, length, get_or, take, map, sym, ap, subst, ◌∙◌}
+use Rattle.std.proofs.lemmas.List.{take_more, map-append}
+use Rattle.std.proofs.lemmas.List.Elements.{Contains-push_cases}
+use Rattle.sqlite.specs.Order.{Row, column}
+use Rattle.messages.specs.declared.message.Message.{Message}
+use Rattle.desk_opening.specs.private.Reading.{AreBodies, IsKeepable, body}
+
+-- one row and its message more
+pub bodies_more : (rows : List Row) (ms : List Message) (i : ℕ) (r : Row) (m : Message) → AreBodies (take i rows) ms → i < length rows → r ≡ get_or rows i r → (column r 0 ≡ body m) × IsKeepable m → AreBodies (take (i + 1) rows) (ms ++ m ∷ [])
+bodies_more rows ms i r m before within is both =
+    let first : Row → _ = λ x. column x 0 in
+    let more : take (i + 1) rows ≡ take i rows ++ r ∷ [] = take_more rows i r within ∙ ap (λ x. take i rows ++ x ∷ []) (sym is) in
+    record {
+      texts = ap (map first) more ∙ map-append first (take i rows) (r ∷ []) ∙ ap (λ vs. vs ++ column r 0 ∷ []) before.texts ∙ ap (λ v. map body ms ++ v ∷ []) both.0 ∙ sym (map-append body ms (m ∷ []));
+      only = λ n there. elim (Contains-push_cases ms m n there) as (λ _. IsKeepable n) [
+        | inl old ↦ before.only n old
+        | inr equal ↦ subst IsKeepable equal both.1
+      ];
+    }

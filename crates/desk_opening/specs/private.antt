@@ -1,0 +1,4 @@
+pub mod Compare
+pub mod Selecting
+pub mod Reading
+pub mod Judged

@@ -1,0 +1,11 @@
+pub mod RecognizedLemmas
+pub mod ShapeLemmas
+-- how a table is added
+pub mod Grown
+pub mod Makes
+pub mod GrowLemmas
+pub mod CreateLemmas
+-- how a desk is made
+pub mod MadeLemmas
+pub mod EndLemmas
+pub mod MarksLemmas

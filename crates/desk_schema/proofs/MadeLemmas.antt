@@ -1,0 +1,256 @@
+-- Five empty tables and the row of the roster are a desk with no message.
+use Rattle.std.proofs.Common.{◌≡◌, ◌≢◌, ◌⊎◌, inl, inr, ◌+◌, ◌++◌, ◌==◌, Bool, cond, find, None, ℕ, List, [], ◌∷◌, codes, true, false, Some, unwrap_or, IsTrue, refl, sym, ap, subst, ◌∙◌}
+use Rattle.std.specs.Prelude.{IsUtf8}
+use Rattle.std.specs.List.{AllByRecursion, list_any, position_from}
+use Rattle.std.specs.FinSet as set
+use Rattle.std.specs.Ordering.{nat_cmp}
+use Rattle.std.specs.Cmp.Lexicographic.{slice_cmp}
+use Rattle.sqlite.specs.Order.{Row}
+use Rattle.sqlite.specs.Schema.{Schema}
+use Rattle.sqlite.specs.Table.{Table}
+use Rattle.sqlite.specs.Effect.{Database, IsDatabase}
+use Rattle.sqlite.specs.State.{State}
+use Rattle.sqlite_rules.specs.Lists.{Has}
+use Rattle.sqlite_schema.specs.Names.{same_name}
+use Rattle.desk_tables.specs.Kept.{IsDeskDatabase, IsKeyed, IsNeat, IsTidy, table_in}
+use Rattle.desk_tables.specs.Stored.{Finds, HasDesk, IsUnreferred, content_of, has, is_stray, recorded, texts_of, tree_of}
+use Rattle.desk_tables.specs.private.Stepping.{IsBare, Marked, Marks, Says}
+use Rattle.desk_tables.proofs.OneSchema.{again, unused_again}
+use Rattle.desk_tables.proofs.RefillLemmas.{no_rows}
+use Rattle.desk_tables.proofs.RosterLemmas.{same_messages, same_names, same_parked, same_verdicts}
+use Rattle.desk_tables.proofs.StepLemmas.{keyed_none, neat_none}
+use Rattle.desk_schema.specs.declared.part.Part.{Part}
+use Rattle.desk_schema.specs.declared.part.Part.TheVariants as part
+use Rattle.desk_schema.specs.Parts.{name_of, table_at}
+use Rattle.desk_schema.specs.Shapes.{Lacks}
+use Rattle.desk_schema.specs.private.Making.{AddsPart, Differs, Filled, Founds, Grows, GrownWhole, GrowsWhole, HasEmpty, Makes, fresh}
+use Rattle.desk_schema.specs.Ready.{IsReady}
+use Rattle.std.proofs.lemmas.Bool.Decides.{eqb_tells}
+use Rattle.sqlite.specs.Change.{KeepsRows}
+use Rattle.desk_schema.proofs.Grown.{find_kept}
+use Rattle.desk_schema.proofs.GrowLemmas.{grows_more, same_itself}
+use Rattle.desk_schema.proofs.RecognizedLemmas.{tree_is}
+
+-- ---- the five tables
+
+differ_desk : AllByRecursion (Differs part.Desk) (part.Messages ∷ part.Names ∷ part.Verdicts ∷ part.Parked ∷ part.Marks ∷ [])
+unfolding same_name
+differ_desk = (record { table = refl; index = λ t k. refl }, (record { table = refl; index = λ t k. refl }, (record { table = refl; index = λ t k. refl }, (record { table = refl; index = λ t k. refl }, (record { table = refl; index = λ t k. refl }, tt)))))
+
+differ_messages : AllByRecursion (Differs part.Messages) (part.Names ∷ part.Verdicts ∷ part.Parked ∷ part.Marks ∷ [])
+unfolding same_name
+differ_messages = (record { table = refl; index = λ t k. refl }, (record { table = refl; index = λ t k. refl }, (record { table = refl; index = λ t k. refl }, (record { table = refl; index = λ t k. refl }, tt))))
+
+differ_names : AllByRecursion (Differs part.Names) (part.Verdicts ∷ part.Parked ∷ part.Marks ∷ [])
+unfolding same_name
+differ_names = (record { table = refl; index = λ t k. refl }, (record { table = refl; index = λ t k. refl }, (record { table = refl; index = λ t k. refl }, tt)))
+
+differ_verdicts : AllByRecursion (Differs part.Verdicts) (part.Parked ∷ part.Marks ∷ [])
+unfolding same_name
+differ_verdicts = (record { table = refl; index = λ t k. refl }, (record { table = refl; index = λ t k. refl }, tt))
+
+differ_parked : AllByRecursion (Differs part.Parked) (part.Marks ∷ [])
+unfolding same_name
+differ_parked = (record { table = refl; index = λ t k. refl }, tt)
+
+keeps_itself : (ts : List Table) (trees : Rattle.sqlite.specs.Tree.Trees) → Rattle.sqlite.specs.Change.KeepsRows ts trees trees
+keeps_itself [] trees = tt
+keeps_itself (t ∷ ts) trees = (refl, keeps_itself ts trees)
+
+append_none : (ts : List Table) → ts ≡ Rattle.std.proofs.Common.◌++◌ ts []
+append_none [] = refl
+append_none (t ∷ ts) = ap (λ us. t ∷ us) (append_none ts)
+
+begins : (a : Database) → IsReady a.schema → Grows [] (part.Desk ∷ part.Messages ∷ part.Names ∷ part.Verdicts ∷ part.Parked ∷ part.Marks ∷ []) a a
+begins a ready = record { has = tt; open' = ready.vacant; counted = ready.counted; kept = keeps_itself a.schema.tables a.trees; more = []; tables = append_none a.schema.tables }
+
+one : (p : Part) (made rest : List Part) (a : Database) (b c : State) → AllByRecursion (Differs p) rest → AddsPart p b c → Grows made (p ∷ rest) a b.now → Grows (p ∷ made) rest a c.now
+one p made rest a b c differ adds g = grows_more p made rest a b.now c.now differ g (adds.adds g.open'.0.lacks g.counted)
+
+pub grown : (a b c d e f : State) → AddsPart part.Desk a b → AddsPart part.Messages b c → AddsPart part.Names c d → AddsPart part.Verdicts d e → AddsPart part.Parked e f → GrownWhole a f
+grown a b c d e f p q r s t = record {
+  mode = t.inside.mode;
+  grows = λ ready.
+      one part.Parked _ _ a.now e f differ_parked t (one part.Verdicts _ _ a.now d e differ_verdicts s (one part.Names _ _ a.now c d differ_names r
+      (one part.Messages _ _ a.now b c differ_messages q (one part.Desk _ _ a.now a b differ_desk p (begins a.now ready)))));
+}
+
+-- ---- what they are
+
+module _ (db : Database) (p : Part) (it : HasEmpty db p) where
+  pub tree_in : tree_of db.schema (name_of p) ≡ it.tree
+  tree_in = rw (it.finds.named, it.finds.has) (tree_is p it.tree)
+
+  pub found : Finds db.schema (name_of p) it.at (table_at p (tree_of db.schema (name_of p)))
+  found = subst (λ n. Finds db.schema (name_of p) it.at (table_at p n)) (sym tree_in) it.finds
+
+  pub bare : table_in db (name_of p) ≡ []
+  bare = ap db.trees tree_in ∙ it.empty
+
+  pub alone : IsUnreferred db.schema (tree_of db.schema (name_of p))
+  alone = subst (IsUnreferred db.schema) (sym tree_in) it.alone
+
+none_in : (rows : List Row) → rows ≡ [] → (x : Row) → ¬ Has rows x
+none_in rows none x = subst (λ rs. ¬ Has rs x) (sym none) (λ there. there)
+
+module _ (a b : Database) (g : GrowsWhole a b) where
+  abbrev k : HasEmpty b part.Parked
+  k = g.has.0
+
+  abbrev v : HasEmpty b part.Verdicts
+  v = g.has.1.0
+
+  abbrev n : HasEmpty b part.Names
+  n = g.has.1.1.0
+
+  abbrev m : HasEmpty b part.Messages
+  m = g.has.1.1.1.0
+
+  abbrev d : HasEmpty b part.Desk
+  d = g.has.1.1.1.1.0
+
+  pub tidy : IsTidy b
+  tidy = record {
+    desk = record {
+      d = d.at;
+      m = m.at;
+      n = n.at;
+      v = v.at;
+      p = k.at;
+      desk = found b part.Desk d;
+      messages = found b part.Messages m;
+      names = found b part.Names n;
+      verdicts = found b part.Verdicts v;
+      parked = found b part.Parked k;
+      desk_alone = alone b part.Desk d;
+      names_alone = alone b part.Names n;
+      verdicts_alone = alone b part.Verdicts v;
+      parked_alone = alone b part.Parked k;
+    };
+    names = neat_none 1 _ (none_in _ (bare b part.Names n));
+    verdicts = keyed_none _ (none_in _ (bare b part.Verdicts v));
+    parked = neat_none 2 _ (none_in _ (bare b part.Parked k));
+  }
+
+  pub unrecorded : table_in b (codes "desk") ≡ []
+  unrecorded = bare b part.Desk d
+
+  module _ (roster : List ℕ) (utf8 : IsUtf8 roster) (c : Database) (put : Marks (Says roster) b c) where
+    nothing : table_in c (codes "messages") ≡ []
+    nothing = same_messages b c tidy put.schema put.others ∙ bare b part.Messages m
+
+    names_none : table_in c (codes "names") ≡ []
+    names_none = same_names b c tidy put.schema put.others ∙ bare b part.Names n
+
+    verdicts_none : table_in c (codes "verdicts") ≡ []
+    verdicts_none = same_verdicts b c tidy put.schema put.others ∙ bare b part.Verdicts v
+
+    parked_none : table_in c (codes "parked") ≡ []
+    parked_none = same_parked b c tidy put.schema put.others ∙ bare b part.Parked k
+
+    content : content_of c ≡ fresh roster
+    content = λ i. record { roster = unwrap_or (put.row i) []; texts = texts_of (nothing i) }
+
+    none_held : (text : List ℕ) → ¬ (has (content_of c) text ≡ true)
+    none_held text there = let no : false ≡ true = sym (set.contains-empty (slice_cmp nat_cmp) text) ∙ sym (ap (λ x. has x text) content) ∙ there in cc
+
+    pub makes : Makes roster c
+    makes = record {
+      sound = put.sound;
+      desk = record {
+        tidy = put.tidy;
+        marked = (roster, put.row, utf8);
+        texts = ap (list_any is_stray) nothing;
+        only = λ text there. absurd (none_held text there);
+        rows = subst (λ texts. Rattle.desk_tables.specs.Kept.HasRows texts c) (sym (ap (λ (x : Rattle.desk_tables.specs.Stored.Content). x.texts) content))
+            (no_rows c (λ r there. none_in _ names_none (there.0 ∷ r) there.1) (λ r there. none_in _ verdicts_none (there.0 ∷ r) there.1) (λ r there. none_in _ parked_none (there.0 ∷ r) there.1));
+      };
+      marks = subst (λ (s : Schema). Lacks s part.Marks) (sym put.schema) g.open'.0.lacks;
+      content = content;
+    }
+
+-- ---- the tables that were there
+
+module _ (q : Table → Bool) where
+  -- what is a member is found, or another before it
+  found_some : (ts : List Table) (t : Table) → Has ts t → q t ≡ true → (u : Table) × (find q ts ≡ Some u)
+  found_some [] t there is = absurd there
+  found_some (x ∷ ts) t there is = go (q x) refl (λ later. found_some ts t later is)
+    where
+      go : (b : Bool) → q x ≡ b → (Has ts t → (u : Table) × (find q ts ≡ Some u)) → (u : Table) × (cond (q x) (Some x) (find q ts) ≡ Some u)
+      go true e more = (x, ap (λ b. cond b (Some x) (find q ts)) e)
+      go false e more = elim there [
+        | inl same ↦ absurd (let no : true ≡ false = sym is ∙ ap q same ∙ e in cc)
+        | inr later ↦ let it = more later in (it.0, ap (λ b. cond b (Some x) (find q ts)) e ∙ it.1)
+      ]
+
+  -- what is found has no name that none has
+  not_named : (p : Table → Bool) (i : ℕ) (ts : List Table) (u : Table) → position_from p i ts ≡ None → find q ts ≡ Some u → p u ≡ false
+  not_named p i [] u none h = absurd cc
+  not_named p i (x ∷ ts) u none h = go (p x) refl (q x) none h (λ n e. not_named p (i + 1) ts u n e)
+    where
+      go : (b : Bool) → p x ≡ b → (c : Bool) → cond b (Some i) (position_from p (i + 1) ts) ≡ None → cond c (Some x) (find q ts) ≡ Some u → (position_from p (i + 1) ts ≡ None → find q ts ≡ Some u → p u ≡ false) → p u ≡ false
+      go true e c n f more = absurd cc
+      go false e true n f more = let same : x ≡ u = cc in ap p (sym same) ∙ e
+      go false e false n f more = more n f
+
+all_of : (P : Table → Type 0) (ts : List Table) → ((t : Table) → Has ts t → P t) → AllByRecursion P ts
+all_of P [] each = tt
+all_of P (t ∷ ts) each = (each t (inl refl), all_of P ts (λ u there. each u (inr there)))
+
+all_member : (P : Table → Type 0) (ts : List Table) (t : Table) → Has ts t → AllByRecursion P ts → P t
+all_member P [] t there all = absurd there
+all_member P (u ∷ ts) t (inl same) all = subst P (sym same) all.0
+all_member P (u ∷ ts) t (inr later) all = all_member P ts t later all.1
+
+has_before : (ts us : List Table) (t : Table) → Has ts t → Has (ts ++ us) t
+has_before [] us t there = absurd there
+has_before (u ∷ ts) us t (inl same) = inl same
+has_before (u ∷ ts) us t (inr later) = inr (has_before ts us t later)
+
+same_number : (m : ℕ) → (m == m) ≡ true
+same_number m = elim (eqb_tells m m) [ inl is ↦ is.0 | inr apart ↦ absurd (apart.1 refl) ]
+
+module _ (roster : List ℕ) (a b c : Database) (ready : IsReady a.schema) (g : GrowsWhole a b) (put : Marks (Says roster) b c) where
+  abbrev desk_tree : ℕ
+  desk_tree = tree_of b.schema (codes "desk")
+
+  -- no table that was there has the tree of the new one
+  apart_from : (t : Table) → Has a.schema.tables t → t.tree ≢ desk_tree
+  apart_from t there same =
+      let q : Table → Bool = λ u. u.tree == desk_tree in
+      let it = found_some (λ (u : Table). u.tree == desk_tree) a.schema.tables t there (ap (λ n. n == desk_tree) same ∙ same_number desk_tree) in
+      let longer : find (λ (u : Table). u.tree == desk_tree) b.schema.tables ≡ Some it.0 = ap (find (λ (u : Table). u.tree == desk_tree)) g.tables ∙ find_kept (λ (u : Table). u.tree == desk_tree) it.0 a.schema.tables g.more it.1 in
+      let whole = found b part.Desk (d a b g) in
+      let two : Some it.0 ≡ Some (table_at part.Desk desk_tree) = sym longer ∙ whole.by_tree in
+      let is : it.0 ≡ table_at part.Desk desk_tree = cc in
+      let named = not_named (λ (u : Table). u.tree == desk_tree) (λ (u : Table). same_name u.name (codes "desk")) 0 a.schema.tables it.0 ready.vacant.0.lacks.table it.1 in
+      absurd (let no : true ≡ false = sym (same_itself part.Desk desk_tree) ∙ ap (λ (u : Table). same_name u.name (codes "desk")) (sym is) ∙ named in cc)
+
+  pub keeps_whole : KeepsRows a.schema.tables a.trees c.trees
+  keeps_whole = all_of (λ (t : Table). c.trees t.tree ≡ a.trees t.tree) a.schema.tables (λ t there.
+      all_member (λ (u : Table). u.tree ≢ desk_tree → c.trees u.tree ≡ b.trees u.tree) b.schema.tables t (subst (λ ts. Has ts t) (sym g.tables) (has_before a.schema.tables g.more t there)) put.others (apart_from t there)
+      ∙ all_member (λ (u : Table). b.trees u.tree ≡ a.trees u.tree) a.schema.tables t there g.kept)
+
+pub filled : (roster : List ℕ) → IsUtf8 roster → (a b c : State) → GrownWhole a b → Marked IsBare (Says roster) b c → Filled roster a c
+filled roster utf8 a b c grown put = record {
+  mode = put.inside.mode;
+  founds = λ ready.
+      let g = grown.grows ready in
+      let marks = put.marks (tidy a.now b.now g) (unrecorded a.now b.now g) in
+      record { makes = makes a.now b.now g roster utf8 c.now marks; kept = keeps_whole roster a.now b.now c.now ready g marks };
+}
+
+-- ---- what was promised of one schema holds of each that the trees list
+
+pub makes_again : (roster : List ℕ) (a b : Database) → IsDatabase b → b.trees ≡ a.trees → Makes roster a → Makes roster b
+makes_again roster a b sound same makes =
+    let it = again a b makes.sound sound same in
+    let sound' = subst (λ (t : Rattle.sqlite.specs.Tree.Trees). Rattle.sqlite_catalog.specs.Listing.IsSound b.schema t) same sound in
+    record { sound = sound; desk = it.desk makes.desk; marks = unused_again a.schema b.schema a.trees makes.sound sound' (codes "marks") makes.marks; content = it.content ∙ makes.content }
+
+pub founds_again : (roster : List ℕ) (old a b : Database) → IsDatabase b → b.trees ≡ a.trees → Founds roster old a → Founds roster old b
+founds_again roster old a b sound same founds = record {
+  makes = makes_again roster a b sound same founds.makes;
+  kept = subst (λ (t : Rattle.sqlite.specs.Tree.Trees). KeepsRows old.schema.tables old.trees t) (sym same) founds.kept;
+}

@@ -1,0 +1,5 @@
+pub mod Parts
+pub mod Shapes
+pub mod Ready
+pub mod References
+pub mod private

@@ -1,0 +1,11 @@
+-- What a desk's tables have beside columns and keys: nothing.
+use Rattle.std.specs.Prelude.{◌≡◌, false, []}
+use Rattle.sqlite.specs.Table.{Table}
+
+-- no check, no reference and no default that is computed
+pub record IsBare (table : Table) : Type 0 where
+  pub checks : table.checks ≡ []
+  pub references : table.references ≡ []
+  pub computed : table.computed ≡ []
+  pub stamps : table.stamps ≡ record { places = []; terms = []; formats = [] }
+  pub is_counted : table.is_counted ≡ false

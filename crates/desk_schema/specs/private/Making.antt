@@ -1,0 +1,94 @@
+-- What the statements that make a desk leave of a connection.
+use Rattle.std.specs.Prelude.{◌≡◌, ◌+◌, ◌^◌, ◌++◌, IsTrue, nat_le, ℕ, false, List, [], ◌∷◌, None, codes}
+use Rattle.std.specs.List.{AllByRecursion, position_from}
+use Rattle.std.specs.FinSet as set
+use Rattle.sqlite.specs.Table.{Table}
+use Rattle.sqlite.specs.Tree.{Trees}
+use Rattle.sqlite.specs.Change.{created, next_tree, KeepsRows}
+use Rattle.sqlite_catalog.specs.Change.{automatics}
+use Rattle.sqlite.specs.Does.{lacks_sequence}
+use Rattle.sqlite.specs.State.{State}
+use Rattle.sqlite.specs.Effect.{Database, IsDatabase}
+use Rattle.sqlite_schema.specs.Names.{same_name}
+use Rattle.desk_tables.specs.Kept.{IsDeskDatabase}
+use Rattle.desk_tables.specs.Stored.{Content, Finds, IsUnreferred, content_of}
+use Rattle.desk_tables.specs.private.Stepping.{IsInside}
+use Rattle.desk_schema.specs.declared.part.Part.{Part}
+use Rattle.desk_schema.specs.declared.part.Part.TheVariants.{Desk, Messages, Names, Marks, Verdicts, Parked}
+use Rattle.desk_schema.specs.Parts.{name_of, table_at}
+use Rattle.desk_schema.specs.Ready.{IsOpen, IsReady}
+use Rattle.desk_schema.specs.Shapes.{Lacks}
+
+-- the statement that makes the table
+abbrev pub text_of : Part → List ℕ
+text_of Desk = codes "CREATE TABLE desk (id INTEGER PRIMARY KEY, schema INTEGER NOT NULL, roster TEXT NOT NULL) STRICT"
+text_of Messages = codes "CREATE TABLE messages (body TEXT PRIMARY KEY NOT NULL) STRICT"
+text_of Names = codes "CREATE TABLE names (asker TEXT NOT NULL, no INTEGER NOT NULL, body TEXT NOT NULL, disputed INTEGER NOT NULL, PRIMARY KEY (asker, no)) STRICT"
+text_of Marks = codes "CREATE TABLE marks (asker TEXT NOT NULL, no INTEGER NOT NULL, person TEXT NOT NULL, kind TEXT NOT NULL, at INTEGER NOT NULL, PRIMARY KEY (asker, no, person, kind)) STRICT"
+text_of Verdicts = codes "CREATE TABLE verdicts (asker TEXT NOT NULL, no INTEGER NOT NULL, person TEXT NOT NULL, kind TEXT NOT NULL, at INTEGER NOT NULL, PRIMARY KEY (asker, no, person, kind, at)) STRICT"
+text_of Parked = codes "CREATE TABLE parked (body TEXT PRIMARY KEY NOT NULL, asker TEXT NOT NULL, no INTEGER NOT NULL) STRICT"
+
+-- The table was added, in a tree that is stored, and it is empty; those that were there keep their rows.
+pub record Adds (table : Table) (old new : Database) : Type 0 where
+  pub schema : new.schema ≡ created old.schema table
+  pub stored : nat_le (2 ^ 31) (next_tree old.schema) ≡ false
+  pub empty : new.trees (next_tree old.schema) ≡ []
+  pub others : KeepsRows old.schema.tables old.trees new.trees
+
+pub record AddsPart (part : Part) (old new : State) : Type 0 where
+  pub inside : IsInside old new
+  pub adds : Lacks old.now.schema part → lacks_sequence old.now.schema ≡ false → Adds (table_at part 0) old.now new.now
+
+-- the part's table is there, and has no row, and no foreign key refers to it
+pub record HasEmpty (db : Database) (part : Part) : Type 0 where
+  pub at : ℕ
+  pub tree : ℕ
+  pub finds : Finds db.schema (name_of part) at (table_at part tree)
+  pub empty : db.trees tree ≡ []
+  pub alone : IsUnreferred db.schema tree
+
+-- these parts were made, and these are open still; the tables that were there keep their rows
+pub record Grows (made rest : List Part) (old new : Database) : Type 0 where
+  pub has : AllByRecursion (HasEmpty new) made
+  pub open' : AllByRecursion (IsOpen new.schema) rest
+  pub counted : lacks_sequence new.schema ≡ false
+  pub kept : KeepsRows old.schema.tables old.trees new.trees
+  pub more : List Table
+  pub tables : new.schema.tables ≡ old.schema.tables ++ more
+
+-- all five tables were made
+abbrev pub GrowsWhole : Database → Database → Type 0
+GrowsWhole = Grows (Parked ∷ Verdicts ∷ Names ∷ Messages ∷ Desk ∷ []) (Marks ∷ [])
+
+pub record GrownWhole (old new : State) : Type 0 where
+  pub mode : IsTrue new.in_transaction
+  pub grows : IsReady old.now.schema → GrowsWhole old.now new.now
+
+-- a desk of this roster text, with no message
+abbrev pub fresh : List ℕ → Content
+fresh roster = record { roster = roster; texts = set.empty }
+
+-- a desk of the roster text was made, with no message, in trees that obey the schema that they list
+pub record Makes (roster : List ℕ) (new : Database) : Type 0 where
+  pub sound : IsDatabase new
+  pub desk : IsDeskDatabase new
+  pub marks : Lacks new.schema Marks
+  pub content : content_of new ≡ fresh roster
+
+-- It was made, and the tables that were there keep their rows.
+pub record Founds (roster : List ℕ) (old new : Database) : Type 0 where
+  pub makes : Makes roster new
+  pub kept : KeepsRows old.schema.tables old.trees new.trees
+
+pub record Filled (roster : List ℕ) (old new : State) : Type 0 where
+  pub mode : IsTrue new.in_transaction
+  pub founds : IsReady old.now.schema → Founds roster old.now new.now
+
+-- Whatever database has these trees: it is a desk of the roster text, with no message, beside the tables that were there.
+abbrev pub FoundsAt : List ℕ → Database → Trees → Type 0
+FoundsAt roster old trees = (db : Database) → db.trees ≡ trees → IsDatabase db → Founds roster old db
+
+-- the name of the other part is not that of this one, nor of an index that SQLite makes for it
+pub record Differs (part other : Part) : Type 0 where
+  pub table : same_name (name_of part) (name_of other) ≡ false
+  pub index : (tree k : ℕ) → position_from (λ i. same_name i.name (name_of other)) k (automatics (table_at part tree) 0 (tree + 1) (table_at part tree).uniques) ≡ None

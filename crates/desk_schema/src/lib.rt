@@ -1,0 +1,18 @@
+//! The tables of a desk in a schema: found, told from an older desk's, and made.
+#![tactic(auto)]
+
+mod columns;
+mod making;
+mod part;
+mod ready;
+mod recognize;
+mod references;
+mod shape;
+mod tables;
+
+pub use making::make;
+pub use part::Part;
+pub use ready::is_ready;
+pub use recognize::shape_of;
+pub use references::are_unreferred;
+pub use shape::Shape;

@@ -1,0 +1,102 @@
+//! Whether a table is one of a desk's.
+
+ghost use Rattle.std.specs.Prelude.{◌≡◌, ◌↔◌, IsTrue, [], ◌∷◌};
+ghost use Rattle.desk_tables.specs.DeskTables.{keyed};
+ghost use Rattle.desk_schema.specs.Parts.{framed, key_of, table_at};
+ghost use Rattle.desk_schema.specs.private.Bare.{IsBare};
+
+use crate::columns::are_columns;
+use crate::part::{Part, name_of};
+use sqlite_items::Items;
+use sqlite_schema::schema::Table;
+use sqlite_value::keys::Order;
+
+/// No check, no reference and no default that is computed.
+fn is_bare(table: &Table) -> bool
+    ensures { IsTrue result ↔ IsBare table.now }
+{
+    table.checks.roots.is_empty()
+        && table.references.is_empty()
+        && table.computed.is_empty()
+        && table.stamps.places.is_empty()
+        && table.stamps.terms.roots.is_empty()
+        && table.stamps.formats.is_empty()
+        && !table.is_counted
+}
+
+fn is_key(key: &Items<usize>, places: &[usize]) -> bool
+    ensures { IsTrue result ↔ (key.now ≡ places.now) }
+{
+    key.as_slice() == places
+}
+
+fn are_keys(keys: &[Items<usize>], places: &[usize]) -> bool
+    ensures { IsTrue result ↔ (keys.now ≡ places.now ∷ []) }
+{
+    match keys {
+        [key] => is_key(key, places),
+        _ => false,
+    }
+}
+
+fn are_orders(orders: &[Order]) -> bool
+    ensures { IsTrue result ↔ (orders.now ≡ (record { digits = 0 }) ∷ []) }
+{
+    match orders {
+        [order] => order.digits == 0,
+        _ => false,
+    }
+}
+
+/// Whether the table has this name, this unique key, and nothing else that its columns do not say.
+fn is_keyed(table: &Table, name: &[u8], places: &[usize]) -> bool
+    ensures { IsTrue result ↔ (table.now ≡ record (keyed name.now table.now.columns places.now) { tree = table.now.tree }) }
+{
+    table.name.as_slice() == name
+        && table.key.is_none()
+        && table.primary.as_slice() == places
+        && are_keys(table.uniques.as_slice(), places)
+        && are_orders(table.orders.as_slice())
+        && is_bare(table)
+}
+
+/// The same of `desk`, whose key is its rowid.
+fn is_by_rowid(table: &Table, name: &[u8]) -> bool
+    ensures { IsTrue result ↔ (table.now ≡ record (framed name.now table.now.columns) { tree = table.now.tree }) }
+{
+    table.name.as_slice() == name
+        && table.key == Some(0)
+        && table.primary.as_slice() == [0usize].as_slice()
+        && table.uniques.is_empty()
+        && table.orders.is_empty()
+        && is_bare(table)
+}
+
+/// The places of the columns that are a table's key.
+fn key_of(part: Part) -> &'static [usize]
+    ensures { result.now ≡ key_of part }
+{
+    match part {
+        Part::Desk => &[0],
+        Part::Messages | Part::Parked => &[1],
+        Part::Names => &[1, 2],
+        Part::Marks => &[1, 2, 3, 4],
+        Part::Verdicts => &[1, 2, 3, 4, 5],
+    }
+}
+
+fn has_frame(table: &Table, part: Part) -> bool
+    ensures { IsTrue result ↔ (table.now ≡ record (table_at part table.now.tree) { columns = table.now.columns }) }
+{
+    match part {
+        Part::Desk => is_by_rowid(table, name_of(part)),
+        _ => is_keyed(table, name_of(part), key_of(part)),
+    }
+}
+
+/// Whether the table is the desk's of this part, in whatever tree.
+pub(crate) fn is_table(table: &Table, part: Part) -> bool
+    ensures { IsTrue result ↔ (table.now ≡ table_at part table.now.tree) }
+{
+    has_frame(table, part) && are_columns(table.columns.as_slice(), part)
+}

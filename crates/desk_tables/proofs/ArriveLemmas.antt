@@ -1,0 +1,92 @@
+-- How the transaction of a message that arrives ends.
+use Rattle.std.proofs.Common.{◌≡◌, inl, inr, ℕ, List, true, false, IsTrue, refl, sym, ap, subst, ◌∙◌, arith}
+use Rattle.sqlite.specs.Tree.{Trees}
+use Rattle.sqlite.specs.State.{State, HasCleanDisk, IsRolledBack, KeepsCommit, Shows, Survives}
+use Rattle.sqlite.specs.Steps.{FailsToCommit}
+use Rattle.sqlite.specs.declared.error.Error.{Error}
+use Rattle.sqlite.proofs.StateLemmas.{survives_then}
+use Rattle.desk_tables.specs.Stored.{content_of, with_text}
+use Rattle.desk_tables.specs.Kept.{IsDeskDatabase, Spares}
+use Rattle.desk_tables.specs.SqliteStates.{IsUp, Rests}
+use Rattle.desk_tables.specs.private.Steps.{IsStep}
+use Rattle.desk_tables.specs.private.Survival.{ArrivesAt}
+use Rattle.desk_tables.specs.private.Turning.{Received, Receives}
+use Rattle.desk_tables.proofs.OneSchema.{again}
+use Rattle.desk_tables.proofs.TurnLemmas.{clean_before}
+
+abbrev pub begun : State → State
+begun old = record old { in_transaction = true }
+
+-- what holds of the end, whatever it is
+pub record Ends (old end : State) : Type 0 where
+  pub rests : Rests end
+  pub was_up : IsUp end → IsUp old
+  pub was_clean : HasCleanDisk end → HasCleanDisk old
+
+module _ (text : List ℕ) (old last end : State) (rests : Rests old) (step : IsStep (begun old) last) (P : Trees → Type 0) (ends : Survives last end P) where
+  clean_last : HasCleanDisk end → HasCleanDisk last
+  clean_last clean = clean_before last end P ends clean
+
+  clean_first : HasCleanDisk last → HasCleanDisk old
+  clean_first clean = let before = step.survives.clean in omega (arith, before, clean)
+
+  survives_from : Survives old last (λ _. ⊥)
+  survives_from = let s = step.survives in record { clean = s.clean; shield = s.shield; counts = s.counts; limit = s.limit; closes = s.closes; crash = s.crash }
+
+  kept : HasCleanDisk last → KeepsCommit (begun old) last
+  kept clean = step.kept clean refl
+
+  -- ---- it was undone
+
+  pub undone_ends : (HasCleanDisk end → IsRolledBack last end) → Ends old end
+  undone_ends back = record {
+    rests = λ up. let it = back up.clean in let both = it.undone up.is_open in record { settled = both.0 ∙ sym both.1; autocommit = it.autocommit };
+    was_up = λ up. record { clean = clean_first (clean_last up.clean); is_open = (kept (clean_last up.clean)).was_open ((back up.clean).was_open up.is_open) };
+    was_clean = λ clean. clean_first (clean_last clean);
+  }
+
+  pub undone_same : (HasCleanDisk end → IsRolledBack last end) → IsUp end → end.now ≡ old.now
+  undone_same back up =
+      ((back up.clean).undone up.is_open).0 ∙ (kept (clean_last up.clean)).committed ((back up.clean).was_open up.is_open) ∙ sym (rests ((undone_ends back).was_up up)).settled
+
+  pub undone_survives : (Q : Trees → Type 0) → ((db : Trees) → ¬ P db) → Survives old end Q
+  undone_survives Q none = survives_then old last end _ _ Q (λ _ db no_such. absurd no_such) (λ _ db is. absurd (none db is)) survives_from ends
+
+  -- ---- it was committed
+
+  module _ (received : HasCleanDisk last → Received text (begun old) last) (desk : IsUp old → IsDeskDatabase old.now) where
+    receives : IsUp old → HasCleanDisk last → Receives text old.now last.now
+    receives up clean = (received clean).receives (desk up)
+
+    -- a crash in the commit may leave the whole
+    pub arrive_survives : ((db : Trees) → P db → db ≡ last.now.trees) → IsUp old → Survives old end (ArrivesAt text old.now)
+    arrive_survives only up = survives_then old last end _ _ (ArrivesAt text old.now) (λ _ db no_such. absurd no_such)
+        (λ clean db left. let it = receives up (clean_last clean) in subst (ArrivesAt text old.now) (sym (only db left)) (λ b same sound.
+        let again' = again last.now b it.sound sound same in record { desk = again'.desk it.desk; content = again'.content ∙ it.content; foreign = λ t there foreign. ap (λ (db : Trees). db t.tree) same ∙ it.spares.foreign t there foreign })) survives_from ends
+
+    -- a commit that fails inside the transaction undoes it
+    pub commit_undone : (e : Error) → (HasCleanDisk end → FailsToCommit last end e) → HasCleanDisk end → IsRolledBack last end
+    commit_undone e fails clean = elim (fails clean) [
+      | inl failed ↦ failed.3
+      | inr late ↦ absurd (let both : true ≡ false = sym (received (clean_last clean)).mode ∙ late.1 in cc)
+    ]
+
+    module _ (ok : HasCleanDisk end → IsTrue last.in_transaction × Shows last end last.now last.now false) where
+      pub commit_ends : Ends old end
+      commit_ends = record {
+        rests = λ up. let shows = (ok up.clean).1 in record { settled = shows.now_is ∙ sym shows.committed_is; autocommit = shows.mode };
+        was_up = λ up. record { clean = clean_first (clean_last up.clean); is_open = (kept (clean_last up.clean)).was_open (ok up.clean).1.was_open };
+        was_clean = λ clean. clean_first (clean_last clean);
+      }
+
+      pub commit_up : HasCleanDisk end → IsUp end
+      commit_up clean = record { clean = clean; is_open = (ok clean).1.is_open }
+
+      pub commit_desk : IsUp end → IsDeskDatabase end.now
+      commit_desk up = subst IsDeskDatabase (sym (ok up.clean).1.now_is) (receives (commit_ends.was_up up) (clean_last up.clean)).desk
+
+      pub commit_arrived : IsUp end → content_of end.now ≡ with_text text (content_of old.now)
+      commit_arrived up = ap content_of (ok up.clean).1.now_is ∙ (receives (commit_ends.was_up up) (clean_last up.clean)).content
+
+      pub commit_spared : IsUp end → Spares old.now end.now
+      commit_spared up = subst (Spares old.now) (sym (ok up.clean).1.now_is) (receives (commit_ends.was_up up) (clean_last up.clean)).spares

@@ -1,0 +1,5 @@
+pub mod Changes
+pub mod Stepping
+pub mod Turning
+pub mod Steps
+pub mod Survival

@@ -1,0 +1,107 @@
+-- What a statement of a transaction does to the rows of a desk's tables.
+use Rattle.std.specs.Prelude.{◌≡◌, ◌≢◌, Some, IsTrue, true, false, Bool, cond, if◌then◌else◌, ℕ, pos, List, [], ◌∷◌, codes}
+use Rattle.std.specs.List.{AllByRecursion, list_any}
+use Rattle.std.specs.FinSet as set
+use Rattle.sqlite.specs.Order.{Row, column}
+use Rattle.sqlite.specs.Table.{Table}
+use Rattle.sqlite.specs.Effect.{Database, IsDatabase}
+use Rattle.sqlite.specs.State.{HasCleanDisk, State, Shows}
+use Rattle.sqlite.specs.declared.types.Value.{Value}
+use Rattle.sqlite.specs.declared.types.Value.TheVariants.{Int, Text}
+use Rattle.sqlite_rules.specs.Lists.{Has}
+use Rattle.messages.specs.declared.request_name.RequestName.{RequestName}
+use Rattle.desk_tables.specs.Rows.{RowSet, IsRow, OfName}
+use Rattle.desk_tables.specs.Stored.{is_stray, recorded, texts_of, tree_of}
+use Rattle.desk_tables.specs.Kept.{IsTidy, table_in}
+use Rattle.desk_tables.specs.private.Changes.{Tells}
+
+-- of a step of a transaction, before and after it, where the disk is honest
+abbrev pub InStep : (old new : State) → (State → State → Type 0) → Type 0
+InStep old new Does = HasCleanDisk new → IsTrue old.in_transaction → Does old new
+
+-- inside a transaction, which goes on
+abbrev pub IsInside : State → State → Type 0
+IsInside old new = Shows old new new.now old.committed true
+
+-- the connection is open, inside a transaction that goes on
+pub record IsOpenInside (old new : State) : Type 0 where
+  pub was_open : IsTrue old.is_open
+  pub is_open : IsTrue new.is_open
+  pub mode : IsTrue new.in_transaction
+
+-- each table but this one keeps its rows
+abbrev pub KeepsBut : List ℕ → Database → Database → Type 0
+KeepsBut name old new = AllByRecursion (λ (t : Table). t.tree ≢ tree_of old.schema name → new.trees t.tree ≡ old.trees t.tree) old.schema.tables
+
+-- The rows of this table alone were changed, in trees that obey the schema that they list.
+pub record Alters (name : List ℕ) (Rows : RowSet → RowSet → Type 0) (old new : Database) : Type 0 where
+  pub sound : IsDatabase new
+  pub schema : new.schema ≡ old.schema
+  pub rows : Rows (IsRow (table_in old name)) (IsRow (table_in new name))
+  pub others : KeepsBut name old new
+  pub tidy : IsTidy new
+
+-- what a statement makes of a desk's tables
+pub record Wrote (name : List ℕ) (Rows : RowSet → RowSet → Type 0) (old new : State) : Type 0 where
+  pub inside : IsInside old new
+  pub alters : IsTidy old.now → Alters name Rows old.now new.now
+
+-- The text was put to the messages where it was missing, and the count tells whether it was.
+pub record AddsText (text : List ℕ) (count : ℕ) (old new : Database) : Type 0 where
+  pub sound : IsDatabase new
+  pub schema : new.schema ≡ old.schema
+  pub count_is : count ≡ cond (set.contains (texts_of (table_in old (codes "messages"))) text) 0 1
+  pub texts : texts_of (table_in new (codes "messages")) ≡ set.insert (texts_of (table_in old (codes "messages"))) text
+  pub typed : list_any is_stray (table_in old (codes "messages")) ≡ false → list_any is_stray (table_in new (codes "messages")) ≡ false
+  pub others : KeepsBut (codes "messages") old new
+  pub tidy : IsTidy new
+
+pub record WroteText (text : List ℕ) (count : ℕ) (old new : State) : Type 0 where
+  pub inside : IsInside old new
+  pub adds : IsTidy old.now → AddsText text count old.now new.now
+
+-- ---- rows
+
+abbrev pub name_values : (asker : List ℕ) (number : ℕ) (body : List ℕ) (disputed : Bool) → List Value
+name_values asker number body disputed = Text asker ∷ Int (pos number) ∷ Text body ∷ Int (if disputed then pos 1 else pos 0) ∷ []
+
+abbrev pub verdict_values : (asker : List ℕ) (number : ℕ) (person kind : List ℕ) (at : ℕ) → List Value
+verdict_values asker number person kind at = Text asker ∷ Int (pos number) ∷ Text person ∷ Text kind ∷ Int (pos at) ∷ []
+
+abbrev pub parked_values : (body asker : List ℕ) (number : ℕ) → List Value
+parked_values body asker number = Text body ∷ Text asker ∷ Int (pos number) ∷ []
+
+-- the rows show the bodies of the parked rows of the name
+pub record ShowsParked (name : RequestName) (parked : RowSet) (rows : List Row) : Type 0 where
+  pub each : (x : Row) → Has rows x → (r : List Value) × parked r × OfName 1 name r × (x ≡ column r 0 ∷ [])
+  pub all : (r : List Value) → parked r → OfName 1 name r → Has rows (column r 0 ∷ [])
+
+-- the database is as it was, and this is whether the name has a row
+pub record Finds (name : RequestName) (told : Bool) (old new : State) : Type 0 where
+  pub begun : IsOpenInside old new
+  pub same : IsTidy old.now → new.now ≡ old.now
+  pub tells : IsTidy old.now → Tells (IsRow (table_in old.now (codes "names"))) name told
+
+-- the database is as it was, and these show the name's parked verdicts
+pub record FindsParked (name : RequestName) (rows : List Row) (old new : State) : Type 0 where
+  pub begun : IsOpenInside old new
+  pub same : IsTidy old.now → new.now ≡ old.now
+  pub shows : IsTidy old.now → ShowsParked name (IsRow (table_in old.now (codes "parked"))) rows
+
+-- The desk's row alone was changed, and is as told.
+pub record Marks (Row' : List Row → Type 0) (old new : Database) : Type 0 where
+  pub sound : IsDatabase new
+  pub schema : new.schema ≡ old.schema
+  pub row : Row' (table_in new (codes "desk"))
+  pub others : KeepsBut (codes "desk") old new
+  pub tidy : IsTidy new
+
+pub record Marked (Needs Row' : List Row → Type 0) (old new : State) : Type 0 where
+  pub inside : IsInside old new
+  pub marks : IsTidy old.now → Needs (table_in old.now (codes "desk")) → Marks Row' old.now new.now
+
+abbrev pub IsBare : List Row → Type 0
+IsBare rows = rows ≡ []
+
+abbrev pub Says : List ℕ → List Row → Type 0
+Says roster rows = recorded rows ≡ Some roster

@@ -1,0 +1,32 @@
+-- What the private functions promise of a crash.
+use Rattle.std.specs.Prelude.{◌≡◌, List, ℕ}
+use Rattle.sqlite.specs.Tree.{Trees}
+use Rattle.sqlite.specs.Effect.{Database, IsDatabase}
+use Rattle.desk_tables.specs.Stored.{IsFree, content_of, with_roster, with_text}
+use Rattle.desk_tables.specs.Kept.{IsDeskDatabase, KeepsForeign}
+
+-- The second database keeps of a desk what the first does, whatever its schema has beside.
+pub record IsAgain (a b : Database) : Type 0 where
+  pub free : IsFree a.schema → IsFree b.schema
+  pub desk : IsDeskDatabase a → IsDeskDatabase b
+  pub content : content_of b ≡ content_of a
+
+-- the desk, with the text of a message more, and with the rows of all its messages
+pub record Arrives (text : List ℕ) (old new : Database) : Type 0 where
+  pub desk : IsDeskDatabase new
+  pub content : content_of new ≡ with_text text (content_of old)
+  pub foreign : KeepsForeign old.schema old.trees new.trees
+
+-- Whatever database has these trees: it is the desk, with the text more.
+abbrev pub ArrivesAt : List ℕ → Database → Trees → Type 0
+ArrivesAt text old trees = (db : Database) → db.trees ≡ trees → IsDatabase db → Arrives text old db
+
+-- the desk of another roster text, with the messages that it had, and their rows
+pub record Changes (roster : List ℕ) (old new : Database) : Type 0 where
+  pub desk : IsDeskDatabase new
+  pub content : content_of new ≡ with_roster roster (content_of old)
+  pub foreign : KeepsForeign old.schema old.trees new.trees
+
+-- Whatever database has these trees: it is the desk, with the other roster text.
+abbrev pub ChangesAt : List ℕ → Database → Trees → Type 0
+ChangesAt roster old trees = (db : Database) → db.trees ≡ trees → IsDatabase db → Changes roster old db

@@ -1,0 +1,80 @@
+//! A message that arrives, in one commit.
+
+ghost use Rattle.std.specs.Prelude.{◌≡◌, ◌≢◌, false, AllPairs, Contains, OnOk, OnErr};
+ghost use Rattle.sqlite.specs.State.{HasCleanDisk, Survives};
+ghost use Rattle.sqlite.specs.Held.{state};
+ghost use Rattle.messages.specs.Wire.{wire, IsMessage};
+ghost use Rattle.messages.specs.declared.message.Message.{Message as AnyMessage};
+ghost use Rattle.desk_tables.specs.Sets.{Lists};
+ghost use Rattle.desk_tables.specs.Kept.{HoldsText, IsDeskDatabase, Spares};
+ghost use Rattle.desk_tables.specs.SqliteStates.{IsUp, Rests};
+ghost use Rattle.desk_tables.specs.Stored.{IsWritten, content_of, with_roster, with_text};
+ghost use Rattle.desk_tables.specs.private.Survival.{ArrivesAt, ChangesAt};
+
+use crate::arrival::receive;
+use crate::fault::Fault;
+use crate::roster::replace_within;
+use messages::Message;
+use sqlite::{Alter, Connection};
+use std::alloc::Global;
+
+/// Takes a message into a desk with all that it changes, in one commit. One that is there changes nothing.
+pub fn arrive<S: Alter>(
+    alloc: Global,
+    conn: &mut Connection<S>,
+    message: &Message,
+    body: &str,
+) -> Result<(), Fault>
+    requires autocommit { conn.old.in_transaction ≡ false }
+    requires rests { Rests (state S.Store conn.old) }
+    requires desk { IsUp (state S.Store conn.old) → IsDeskDatabase (state S.Store conn.old).now }
+    requires text { body.now ≡ wire message.now }
+    requires written { IsWritten body.now }
+    ensures rests { Rests (state S.Store conn.new) }
+    ensures was_up { IsUp (state S.Store conn.new) → IsUp (state S.Store conn.old) }
+    ensures was_clean { HasCleanDisk (state S.Store conn.new) → HasCleanDisk (state S.Store conn.old) }
+    ensures up { IsUp (state S.Store conn.old) → HasCleanDisk (state S.Store conn.new) → OnOk result (IsUp (state S.Store conn.new)) }
+    ensures desk { IsUp (state S.Store conn.new) → IsDeskDatabase (state S.Store conn.new).now }
+    ensures arrived { IsUp (state S.Store conn.new)
+        → OnOk result (content_of (state S.Store conn.new).now ≡ with_text body.now (content_of (state S.Store conn.old).now)) }
+    ensures others { IsUp (state S.Store conn.new) → OnOk result (Spares (state S.Store conn.old).now (state S.Store conn.new).now) }
+    ensures unchanged { IsUp (state S.Store conn.new) → OnErr result ((state S.Store conn.new).now ≡ (state S.Store conn.old).now) }
+    ensures survives { IsUp (state S.Store conn.old)
+        → Survives (state S.Store conn.old) (state S.Store conn.new) (ArrivesAt body.now (state S.Store conn.old).now) }
+{
+    let mut tx = conn.transaction();
+    receive(alloc, &mut tx, message, body)?;
+    tx.commit()?;
+    Ok(())
+}
+
+/// Replaces the desk's roster text, and makes all rows anew from its messages, in one commit.
+pub fn replace<S: Alter>(
+    alloc: Global,
+    conn: &mut Connection<S>,
+    roster: &str,
+    messages: &[Message],
+) -> Result<(), Fault>
+    requires autocommit { conn.old.in_transaction ≡ false }
+    requires rests { Rests (state S.Store conn.old) }
+    requires desk { IsUp (state S.Store conn.old) → IsDeskDatabase (state S.Store conn.old).now }
+    requires listed { IsUp (state S.Store conn.old) → Lists (HoldsText (state S.Store conn.old).now) messages.now }
+    requires once { AllPairs (λ m n. m ≢ n) messages.now }
+    requires messages { (m : AnyMessage) → Contains messages.now m → IsMessage m }
+    ensures rests { Rests (state S.Store conn.new) }
+    ensures was_up { IsUp (state S.Store conn.new) → IsUp (state S.Store conn.old) }
+    ensures was_clean { HasCleanDisk (state S.Store conn.new) → HasCleanDisk (state S.Store conn.old) }
+    ensures up { IsUp (state S.Store conn.old) → HasCleanDisk (state S.Store conn.new) → OnOk result (IsUp (state S.Store conn.new)) }
+    ensures desk { IsUp (state S.Store conn.new) → IsDeskDatabase (state S.Store conn.new).now }
+    ensures replaced { IsUp (state S.Store conn.new)
+        → OnOk result (content_of (state S.Store conn.new).now ≡ with_roster roster.now (content_of (state S.Store conn.old).now)) }
+    ensures others { IsUp (state S.Store conn.new) → OnOk result (Spares (state S.Store conn.old).now (state S.Store conn.new).now) }
+    ensures unchanged { IsUp (state S.Store conn.new) → OnErr result ((state S.Store conn.new).now ≡ (state S.Store conn.old).now) }
+    ensures survives { IsUp (state S.Store conn.old)
+        → Survives (state S.Store conn.old) (state S.Store conn.new) (ChangesAt roster.now (state S.Store conn.old).now) }
+{
+    let mut tx = conn.transaction();
+    replace_within(alloc, &mut tx, roster, messages)?;
+    tx.commit()?;
+    Ok(())
+}

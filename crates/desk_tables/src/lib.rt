@@ -1,0 +1,13 @@
+//! The tables of a desk: what they hold for a set of messages, and the statements that keep it so.
+#![tactic(auto)]
+
+mod arrival;
+mod commit;
+mod fault;
+mod refill;
+mod roster;
+mod statements;
+
+pub use commit::{arrive, replace};
+pub use fault::Fault;
+pub use statements::put_roster;
