@@ -1,4 +1,0 @@
-pub mod Compare
-pub mod Selecting
-pub mod Reading
-pub mod Judged
