@@ -4,7 +4,8 @@
 The policies: 1,601 and 16,001 rules with dates; 8,000 aliases of the four kinds, each of which uses another, with 8,000 rules that use
 them; and one whose weight is just below the limit, by aliases that double. Then times `desk print` on 800 and 8,000 requests, each with an approval, in shuffled order and all for one host, over a roster of 501 people.
 Then rosters of 1 MiB (scripts/big_roster.py): reading one beside Python's `tomllib`, and printing over one from 8,000 messages; what it costs to
-admit a request of 16 commands under a ceiling of 256; and what it costs to say what a request comes to that thousands of people approved.
+admit a request of 16 commands under a ceiling of 256; and what it costs to say what a request comes to that thousands of people approved, or one
+person 100,000 times.
 Then `desk deliver` of 1,000, 10,000 and 100,000 shuffled messages, with the memory of a message, beside what it costs to read them alone; and a host's file of
 8,000 grants beside what it costs to print that policy alone. No command does one of these two alone: `deliver` over a roster that lists nobody
 reads each message whole and keeps none (both also split the input into lines), and `check` of the file costs beyond `decide` by it what printing
@@ -219,12 +220,12 @@ def best_of_tomllib(text):
 def rosters(folder):
     """The rows on rosters; how many of them do not hold."""
     wrong, none, base = 0, stored(folder, "none", ""), stored(folder, "empty.sudo", "")
-    for what in ("commands", "hosts", "duties"):
+    for what, most in (("commands", 1.0), ("hosts", 1.0), ("duties", 1.0), ("days", 0.5)):
         text = big_roster.roster(what)
         words = [DESK, "print", stored(folder, "large.toml", text), base, "-", "h0"]
         figure = (instructions(words, none), *run(words, none), len(text))
         print(f"roster of many {what:8}, {shown(figure)}")
-        wrong += judged(f"roster of many {what} against tomllib", figure[1] / best_of_tomllib(text), 1.0)
+        wrong += judged(f"roster of many {what} against tomllib", figure[1] / best_of_tomllib(text), most)
     # 8,000 messages over the largest roster: requests and approvals, one after the other, in any order
     lines = []
     for n in range(4_000):
@@ -270,7 +271,27 @@ def statuses(folder, base):
         figure = (instructions(words, given), *run(words, given), os.path.getsize(given))
         counts.append(figure[0] or figure[1])
         print(f"print, {people:,} people who approve one request, {shown(figure)}")
-    return judged("statuses: twice the people", counts[1] / counts[0], 2.5)
+    wrong = judged("statuses: twice the people", counts[1] / counts[0], 2.2)
+    return wrong + approved_often(folder, base, 1) + approved_often(folder, base, 4_095)
+
+
+def approved_often(folder, base, people):
+    """What one request costs that 100,000 approvals of so many people stand for, against ten requests of 10,000 each."""
+    words = [DESK, "print", stored(folder, "people.toml", rules_roster(people, ["/bin/ls"])), base, "-", "db1"]
+    costs = []
+    for requests in (1, 10):
+        lines = [request(no, ["/bin/ls"]) for no in range(requests)]
+        for n in range(100_000):
+            # a moment for each approval, from midnight of the second on
+            day, second = divmod(n, 86_400)
+            at = f"202601{day + 2:02}{second // 3600:02}{second // 60 % 60:02}{second % 60:02}Z"
+            lines.append(approval(n % requests, f"p{n // requests % people}", at))
+        random.Random(7).shuffle(lines)
+        given = stored(folder, "approved", "\n".join(lines) + "\n")
+        figure = (instructions(words, given), *run(words, given, 3, 2), os.path.getsize(given))
+        costs.append(figure[0] or figure[1])
+        print(f"print, 100,000 approvals of {people:,} people for {requests} requests, {shown(figure)}")
+    return judged(f"statuses: 100,000 approvals of {people:,} people for one request against ten", costs[0] / costs[1], 3.0)
 
 
 def deliveries(folder, base):
@@ -359,7 +380,7 @@ def reports(folder):
         figures.append((instructions([DESK, *words], given), *run([DESK, *words], given, 5), os.path.getsize(given)))
         print(f"{words[0]:7} 8,000 grants beside 100 rules, {shown(figures[-1])}")
     counted, other = figures[0][0] or figures[0][1], figures[1][0] or figures[1][1]
-    return judged("review: 8,000 grants against printing their host's file", counted / other, 20.0)
+    return judged("review: 8,000 grants against printing their host's file", counted / other, 3.0)
 
 
 def main():

@@ -34,6 +34,12 @@ def person(n, duties):
     return f"p{n}={listed(f'd{k}' for k in duties)}\n"
 
 
+def stand_in(n, duties):
+    """A person whose duties are each held in a month of their own."""
+    dated = (f'{{duty="d{k}",from="2026{k % 12 + 1:02}01",until="2026{k % 12 + 1:02}28"}}' for k in duties)
+    return f"p{n}=[{','.join(dated)}]\n"
+
+
 def roster(what):
     head = [
         f"relays={listed(f'r{k}' for k in range(64))}\n",
@@ -45,10 +51,12 @@ def roster(what):
     people = [person(n, spread(256, 2, n)) for n in range(4_096)]
     ceilings = [ceiling(n, [n % 1_024], [f"/bin/t{n}"]) for n in range(1_024)]
     left = MOST - sum(map(len, head + people + ceilings))
-    rows = people if what == "duties" else ceilings
+    rows = people if what in ("duties", "days") else ceilings
     for n in reversed(range(len(rows))):
         if what == "duties":
             more = person(n, spread(256, 256, n))
+        elif what == "days":
+            more = stand_in(n, spread(256, 64, n))
         elif what == "hosts":
             more = ceiling(n, spread(1_024, 256, n), [f"/bin/t{n}"])
         else:

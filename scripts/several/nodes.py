@@ -102,7 +102,8 @@ class Cluster:
             (home / name).mkdir(parents=True)
         words = [os.path.join(self._scripts, "rabbitmq-server")]
         environment = self._environment(number)
-        return self._started.add(Program(f"b{number + 1}", words, environment, home / "out"))
+        # a broker that fails leaves a dump in the folder that it runs in
+        return self._started.add(Program(f"b{number + 1}", words, environment, home / "out", home))
 
     def start(self) -> None:
         epmd = shutil.which("epmd")

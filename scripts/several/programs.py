@@ -48,12 +48,17 @@ def wait_until(what: str, is_so: Callable[[], bool], seconds: float, step: float
 
 
 class Program:
-    """One program, which has a process most of the time. Its output goes to a file."""
+    """One program, which has a process most of the time. Its output goes to a file. It runs in the folder, where one is given."""
 
     def __init__(
-        self, name: str, words: list[str], environment: dict[str, str], log: pathlib.Path
+        self,
+        name: str,
+        words: list[str],
+        environment: dict[str, str],
+        log: pathlib.Path,
+        folder: pathlib.Path | None = None,
     ) -> None:
-        self.name, self.log = name, log
+        self.name, self.log, self._folder = name, log, folder
         self._words, self._environment = words, environment
         self._process: subprocess.Popen[bytes] | None = None
         self.kills = 0
@@ -62,6 +67,7 @@ class Program:
         with open(self.log, "ab") as log:
             self._process = subprocess.Popen(
                 self._words,
+                cwd=self._folder,
                 env=self._environment,
                 stdin=subprocess.DEVNULL,
                 stdout=log,

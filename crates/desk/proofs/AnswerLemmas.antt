@@ -2,16 +2,20 @@
 use Rattle.std.proofs.Common.{◌≡◌, ℕ, List, Option, length, ap}
 use Rattle.sudo_words.specs.declared.cmnd.Cmnd.{Cmnd}
 use Rattle.sudo_policy.specs.declared.entry.Entry.{Entry}
-use Rattle.messages.specs.Names.{RequestName, SameMessages}
+use Rattle.messages.specs.Names.{SameMessages}
+use Rattle.messages.specs.declared.request_name.RequestName.{RequestName}
 use Rattle.messages.specs.declared.message.Message.{Message}
 use Rattle.roster.specs.Fields.{RosterFields}
+use Rattle.grants.specs.Summaries.{Kept}
 use Rattle.grants.specs.declared.outcome.Status.{Status}
 use Rattle.desk_outcomes.specs.HostFile.{Line, AreLines, IsHostFile, IsHostFileAfter, lines_after}
 use Rattle.desk_outcomes.specs.Outcomes.{AreLive, ComesTo, LiveGrant}
 use Rattle.desk_outcomes.specs.Parked.{AreParked}
+use Rattle.desk_outcomes.specs.Summaries.{AllKeepTheSame, AreSummaries}
 use Rattle.desk.specs.Runs.{Event, IsRun, SameAcked}
 use Rattle.desk.specs.Texts.{AreTexts}
 use Rattle.desk_outcomes.proofs.FileLemmas.{one_file, one_file_after, one_lines}
+use Rattle.desk_outcomes.proofs.SummaryLemmas.{one_of_summaries, summaries_of_set}
 use Rattle.desk.proofs.RunLemmas.{runs_agree}
 use Rattle.desk.proofs.TextLemmas.{one_texts}
 use Rattle.desk_outcomes.proofs.SetLemmas.{Alike, alike_sets, file_after_alike, file_alike, lines_alike, live_alike, one_live, one_outcome, one_parked, outcome_alike, parked_of_set}
@@ -31,6 +35,9 @@ module _ (f : RosterFields Cmnd) (old s t : List Message) (r u : List Event) (ac
 
   pub same_parked : (a b : List (List ℕ)) → AreParked s a → AreParked t b → a ≡ b
   same_parked a b x y = one_parked t a b (parked_of_set s t a same_left x) y
+
+  pub same_summaries : (a b : List Kept) → AreSummaries s a → AreSummaries t b → AllKeepTheSame a b
+  same_summaries a b x y = one_of_summaries t a b (summaries_of_set s t a same_left x) y
 
   pub same_file : (base : List Entry) (host a b : List ℕ) → IsHostFile f base s host a → IsHostFile f base t host b → a ≡ b
   same_file base host a b x y = one_file f base t host a b (file_alike f s t left_alike base host a x) y

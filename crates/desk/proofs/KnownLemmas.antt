@@ -44,11 +44,6 @@ known_more Up Later S T m (Some g) None known was grown more nothing = tt
 known_more Up Later S T m (Some g) (Some h) known was grown more nothing =
     (known.0 ++ m ∷ [], more known.0 known.1, λ later. with_lists S T m known.0 (grown later) (known.2 (was later)))
 
--- it is what is known of some list
-pub of_some_list : (Up : Type 0) (S : Message → Type 0) (o : Option Gathered) → IsKnown Up S o → IfSome o (λ g. (set : List Message) × AreGathered set g)
-of_some_list Up S None known = tt
-of_some_list Up S (Some g) known = (known.0, known.1)
-
 -- of a desk that was made nothing is held
 pub at_first : (Up : Type 0) (S : Message → Type 0) (origin : Origin) (o : Option Gathered) → IsKnownAtFirst origin o → (Up → origin ≡ Made → IsNothing S) → IsKnown Up S o
 at_first Up S origin None first nothing = tt

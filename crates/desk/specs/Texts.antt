@@ -1,8 +1,8 @@
 -- The texts of a set's messages.
 use Rattle.std.specs.Prelude.{◌≡◌, ℕ, List, Contains}
+use Rattle.messages.specs.Order.{AreInOrder, TextPrecedes}
 use Rattle.messages.specs.Wire.{wire}
 use Rattle.messages.specs.declared.message.Message.{Message}
-use Rattle.desk_outcomes.specs.Order.{AreInOrder, TextPrecedes}
 
 -- the text of each message of the set, each once, in byte order
 pub record AreTexts (messages : List Message) (texts : List (List ℕ)) : Type 0 where

@@ -1,12 +1,13 @@
 //! What a desk holds: requests with the verdicts on them, and verdicts that wait for theirs.
 
-ghost use Rattle.std.specs.Prelude.{IfOk, map, string_bytes};
+ghost use Rattle.std.specs.Prelude.{List, IfOk, map, string_bytes};
+ghost use Rattle.messages.specs.declared.message.Message.{Message as AnyMessage};
+ghost use Rattle.desk_outcomes.specs.Gathered.{AreGathered};
 ghost use Rattle.desk_outcomes.specs.Parked.{AreParked};
 ghost use Rattle.desk_outcomes.specs.Summaries.{AreSummaries};
 
-use desk_outcomes::{parked_in, summaries_in};
+use desk_outcomes::{Gathered, parked_in, summaries_in};
 use grants::Summary;
-use messages::Message;
 use std::alloc::Global;
 use sudo_words::NoMemory;
 
@@ -19,12 +20,12 @@ pub struct Holdings {
     pub parked: Vec<String>,
 }
 
-/// Those of the set.
-pub(crate) fn holdings_in(alloc: Global, set: &[Message]) -> Result<Holdings, NoMemory>
-    ensures summaries { IfOk result (λ held. AreSummaries set.now held.summaries.items) }
-    ensures parked { IfOk result (λ held. AreParked set.now (map string_bytes held.parked.items)) }
+/// Those of what is known of a set.
+pub(crate) fn holdings_in(alloc: Global, gathered: &Gathered) -> Result<Holdings, NoMemory>
+    ensures summaries { (set : List AnyMessage) → AreGathered set gathered.now → IfOk result (λ held. AreSummaries set held.summaries.items) }
+    ensures parked { (set : List AnyMessage) → AreGathered set gathered.now → IfOk result (λ held. AreParked set (map string_bytes held.parked.items)) }
 {
-    let summaries = summaries_in(alloc, set)?;
-    let parked = parked_in(alloc, set)?;
+    let summaries = summaries_in(alloc, gathered)?;
+    let parked = parked_in(alloc, gathered)?;
     Ok(Holdings { summaries, parked })
 }

@@ -51,6 +51,7 @@ pub(crate) fn known_of<K: Keeper>(
     ensures still_known { IfOk result (λ g. IsKnown (K.is_up keeper.new) (K.holds keeper.new) (Some g)) }
     ensures err { IfErr result IsWant }
     ensures same { K.is_up keeper.new → K.is_same keeper.old keeper.new }
+    ensures set { K.is_up keeper.new → SameSet (K.holds keeper.old) (K.holds keeper.new) }
     ensures desk { K.is_up keeper.new → K.is_desk keeper.new }
     ensures roster { K.is_up keeper.new → K.roster keeper.new ≡ K.roster keeper.old }
     ensures was_up { K.is_up keeper.new → K.is_up keeper.old }
@@ -71,7 +72,6 @@ pub(crate) fn known_of<K: Keeper>(
 
 /// What is known with one message more; nothing, where memory runs out.
 pub(crate) fn with_message(known: Option<Gathered>, message: &Message) -> Option<Gathered>
-    requires { IfSome known (λ g. (set : List AnyMessage) × AreGathered set g) }
     ensures more { (set : List AnyMessage) → IfSome known (AreGathered set) → IfSome result (AreGathered (set ++ message.now ∷ [])) }
     ensures nothing { known ≡ None → result ≡ None }
 {

@@ -16,7 +16,7 @@ ghost use Rattle.desk.specs.declared.refusal.Refusal.TheVariants as refusal;
 
 use crate::desk::Desk;
 use crate::holdings::{Holdings, holdings_in};
-use crate::loading::{known_of, load};
+use crate::loading::known_of;
 use crate::refusal::Refusal;
 use desk_outcomes::{Live, RequestName, host_file_in, live_in, parked_in, status_in, summaries_in};
 use desk_store::Keeper;
@@ -42,7 +42,7 @@ impl<K: Keeper> Desk<K> {
         let known = known_of(self.alloc, self.known.take(), &mut self.keeper)?;
         let status = status_in(&self.roster, &known, name);
         self.known = Some(known);
-        Ok(status?)
+        Ok(status)
     }
 
     /// The grants that are in force at the moment, by the asker in byte order, then by the number.
@@ -81,9 +81,10 @@ impl<K: Keeper> Desk<K> {
         ensures counts { K.failures self.old.keeper ≤ K.failures self.new.keeper }
         ensures cause { result ≡ Err refusal.Storage → HasFailed (K.failures self.old.keeper) (K.failures self.new.keeper) }
     {
-        load(&mut self.keeper, &self.known)?;
-        let set = self.keeper.messages();
-        Ok(parked_in(self.alloc, set)?)
+        let known = known_of(self.alloc, self.known.take(), &mut self.keeper)?;
+        let texts = parked_in(self.alloc, &known);
+        self.known = Some(known);
+        Ok(texts?)
     }
 
     /// The summaries of what is asked, by the asker in byte order, then by the number: what a report is made from.
@@ -102,9 +103,10 @@ impl<K: Keeper> Desk<K> {
         ensures counts { K.failures self.old.keeper ≤ K.failures self.new.keeper }
         ensures cause { result ≡ Err refusal.Storage → HasFailed (K.failures self.old.keeper) (K.failures self.new.keeper) }
     {
-        load(&mut self.keeper, &self.known)?;
-        let set = self.keeper.messages();
-        Ok(summaries_in(self.alloc, set)?)
+        let known = known_of(self.alloc, self.known.take(), &mut self.keeper)?;
+        let list = summaries_in(self.alloc, &known);
+        self.known = Some(known);
+        Ok(list?)
     }
 
     /// The summaries and the parked texts, of the messages as they are brought once: what a report is made from.
@@ -124,9 +126,10 @@ impl<K: Keeper> Desk<K> {
         ensures counts { K.failures self.old.keeper ≤ K.failures self.new.keeper }
         ensures cause { result ≡ Err refusal.Storage → HasFailed (K.failures self.old.keeper) (K.failures self.new.keeper) }
     {
-        load(&mut self.keeper, &self.known)?;
-        let set = self.keeper.messages();
-        Ok(holdings_in(self.alloc, set)?)
+        let known = known_of(self.alloc, self.known.take(), &mut self.keeper)?;
+        let held = holdings_in(self.alloc, &known);
+        self.known = Some(known);
+        Ok(held?)
     }
 
     /// The text of the host's sudoers file: the base's canonical text, and after it a line for each command of each request

@@ -1,24 +1,20 @@
 -- Each set of messages has its statuses, its lines, its grants in force and its parked texts.
-use Rattle.std.proofs.Common.{◌≡◌, ℕ, ◌⊎◌, true, false, List, [], ◌∷◌, ◌++◌, Option, Some, None, refl, sym, ap, ◌∙◌, subst, inl, inr, arith, append_assoc}
+use Rattle.std.proofs.Common.{◌≡◌, ℕ, ◌⊎◌, true, false, List, [], ◌∷◌, ◌++◌, Option, Some, None, refl, sym, ap, ◌∙◌, subst, inl, inr, append_assoc}
 use Rattle.std.specs.List.{Contains}
 use Rattle.std.specs.Str.{bytes_eq}
-use Rattle.std.specs.Cmp.Lexicographic.{slice_cmp}
-use Rattle.std.specs.Ordering.{nat_cmp, is_lt, ordering_reverse}
-use Rattle.std.specs.declared.cmp.Ordering.{Ordering}
-use Rattle.std.specs.declared.cmp.Ordering.TheVariants.{Less, Equal, Greater}
-use Rattle.std.proofs.lemmas.Bool.{cases_Bool, cases_lt, both_ways}
-use Rattle.std.proofs.lemmas.Cmp.{nat_list_cmp_total}
+use Rattle.std.proofs.lemmas.Bool.{cases_Bool, both_ways}
 use Rattle.std.proofs.lemmas.List.{append-nil}
-use Rattle.std.proofs.lemmas.Map.Lookups.{exact_bytes}
 use Rattle.std.proofs.lemmas.Slice.Eq.{bytes_eq-Decides}
 use Rattle.sudo_words.specs.declared.cmnd.Cmnd.{Cmnd}
 use Rattle.messages.specs.Fields.{RequestFields, VerdictFields}
-use Rattle.messages.specs.Names.{RequestName, IsAbout, IsNamed, SameMessages, SameName, name_of}
+use Rattle.messages.specs.Names.{IsAbout, IsNamed, name_meant, name_of, NamePrecedes, NobodyAsks, SameMessages, SameName}
+use Rattle.messages.specs.declared.request_name.RequestName.{RequestName}
 use Rattle.messages.specs.Wire.{IsMessage, wire}
 use Rattle.messages.specs.declared.message.Message.{Message}
 use Rattle.messages.specs.declared.message.Message.TheVariants.{Request, Verdict}
 use Rattle.messages.specs.declared.kind.VerdictKind.{VerdictKind}
 use Rattle.messages.specs.declared.kind.VerdictKind.TheVariants.{Approve, Refuse, Revoke}
+use Rattle.messages.proofs.NameOrder.{either_name, either_text, names_trans, texts_trans}
 use Rattle.messages.proofs.Uniqueness.{one_message}
 use Rattle.roster.specs.Faults.{IsRosterText}
 use Rattle.roster.specs.Fields.{CeilingFields, RosterFields}
@@ -35,61 +31,21 @@ use Rattle.grants.proofs.MarkLemmas.{keep_nothing}
 use Rattle.grants.proofs.SomeAnswer.{some_answer}
 use Rattle.grants.proofs.StandLemmas as standing
 use Rattle.grants.proofs.StatusLemmas.{admitted_is, disputed_is, lapsed_is}
-use Rattle.desk_outcomes.specs.Gathered.{Give, live_for}
 use Rattle.sudo_policy.specs.declared.entry.Entry.{Entry}
 use Rattle.sudo_policy.specs.Printing.{canon}
+use Rattle.desk_outcomes.specs.Summaries.{AreSummaries, SummaryPrecedes}
+use Rattle.desk_outcomes.specs.private.InTurn.{Give, live_for}
+use Rattle.messages.specs.Order.{AreInOrder, TextPrecedes}
 use Rattle.desk_outcomes.specs.HostFile.{Line, AreLines, IsHostFile, IsHostFileAfter, lines_after, with_lines}
-use Rattle.desk_outcomes.specs.Order.{AreInOrder, NamePrecedes, TextPrecedes}
-use Rattle.desk_outcomes.specs.Outcomes.{AreLive, ComesTo, LiveGrant, NobodyAsks}
-use Rattle.desk_outcomes.specs.Parked.{AreParked, IsParked, name_meant}
-use Rattle.desk_outcomes.proofs.GivenLists.{IsRoll, KeptPrecedes}
+use Rattle.desk_outcomes.specs.Outcomes.{AreLive, ComesTo, LiveGrant}
+use Rattle.desk_outcomes.specs.Parked.{AreParked, IsParked}
+use Rattle.desk_outcomes.proofs.GivenLists.{IsRoll}
 use Rattle.desk_outcomes.proofs.HostLines.{are_lines, lines_for}
 use Rattle.desk_outcomes.proofs.LiveLemmas.{are_live}
 use Rattle.desk_outcomes.proofs.Membership.{no_member, Contains-head, Contains-behind, Contains-cases}
 use Rattle.desk_outcomes.proofs.NameMaps.{same_cases}
 use Rattle.desk_outcomes.proofs.Orders.{behind_each, behind_from_each}
 use Rattle.desk_outcomes.proofs.Standing.{name_from_named, named_from_name, stands_same, stands_still}
-
--- ---- texts and names are in one order or the other
-
-texts_by : (a b : List ℕ) (o : Ordering) → slice_cmp nat_cmp a b ≡ o → TextPrecedes a b ⊎ ((a ≡ b) ⊎ TextPrecedes b a)
-texts_by a b Less was = inl (ap is_lt was)
-texts_by a b Equal was = inr (inl (exact_bytes a b was))
-texts_by a b Greater was = inr (inr (ap is_lt (nat_list_cmp_total.antisymm b a ∙ ap ordering_reverse was)))
-
-either_text : (a b : List ℕ) → TextPrecedes a b ⊎ ((a ≡ b) ⊎ TextPrecedes b a)
-either_text a b = texts_by a b (slice_cmp nat_cmp a b) refl
-
-less_from_test : (o : Ordering) → is_lt o ≡ true → o ≡ Less
-less_from_test Less h = refl
-less_from_test Equal h = absurd cc
-less_from_test Greater h = absurd cc
-
-texts_trans : (a b c : List ℕ) → TextPrecedes a b → TextPrecedes b c → TextPrecedes a c
-texts_trans a b c f g =
-    ap is_lt (nat_list_cmp_total.trans a b c (less_from_test (slice_cmp nat_cmp a b) f) (less_from_test (slice_cmp nat_cmp b c) g))
-
-either_name : (a b : RequestName) → NamePrecedes a b ⊎ ((a ≡ b) ⊎ NamePrecedes b a)
-either_name a b =
-    elim (either_text a.by b.by) as (λ _. NamePrecedes a b ⊎ ((a ≡ b) ⊎ NamePrecedes b a)) [
-      | inl before ↦ inl (inl before)
-      | inr (inr after) ↦ inr (inr (inl after))
-      | inr (inl same) ↦
-          elim (cases_lt a.no b.no) as (λ _. NamePrecedes a b ⊎ ((a ≡ b) ⊎ NamePrecedes b a)) [
-            | inl low ↦ inl (inr (same, low))
-            | inr high ↦
-                elim (cases_lt b.no a.no) as (λ _. NamePrecedes a b ⊎ ((a ≡ b) ⊎ NamePrecedes b a)) [
-                  | inl low ↦ inr (inr (inr (sym same, low)))
-                  | inr also ↦ let no : a.no ≡ b.no = omega (arith, high, also) in inr (inl (rw (same, no) refl))
-                ]
-          ]
-    ]
-
-names_trans : (a b c : RequestName) → NamePrecedes a b → NamePrecedes b c → NamePrecedes a c
-names_trans a b c (inl f) (inl g) = inl (texts_trans a.by b.by c.by f g)
-names_trans a b c (inl f) (inr g) = inl (subst (TextPrecedes a.by) g.0 f)
-names_trans a b c (inr f) (inl g) = inl (subst (λ (w : List ℕ). TextPrecedes w c.by) (sym f.0) g)
-names_trans a b c (inr f) (inr g) = inr (f.0 ∙ g.0, omega (arith, f.1, g.1))
 
 -- ---- a place in an ordered list, by a key
 
@@ -197,8 +153,8 @@ all_grown seen (m ∷ rest) k known each stands =
     let last = all_grown (seen ++ m ∷ []) rest next.0 (subst (λ (r : RequestFields). IsMessage (Request r)) (sym next.1) known) (λ n h. each n (Contains-behind m rest n h)) next.2 in
     (last.0, last.1 ∙ next.1, subst (λ (s : List Message). StandsFor s last.0) (append_assoc seen (m ∷ []) rest) last.2)
 
-first : (q : RequestFields) → StandsFor (Request q ∷ []) (record { request = q; is_disputed = false; approvals = []; refusals = []; revocations = [] })
-first q = record {
+pub asked_alone : (q : RequestFields) → StandsFor (Request q ∷ []) (record { request = q; is_disputed = false; approvals = []; refusals = []; revocations = [] })
+asked_alone q = record {
   asked = Contains-head (Request q) [];
   alone = λ single p h same. elim (Contains-cases (Request q) [] (Request p) h) as (λ _. p ≡ q) [ inl is ↦ cc | inr none ↦ absurd (no_member (Request p) none) ];
   other = λ two. absurd cc;
@@ -292,41 +248,17 @@ some_parked set =
 
 -- ---- what the messages come to
 
-module _ (text : List ℕ) (f : RosterFields Cmnd) (set : List Message) (roster : IsRosterText text f) (known : (m : Message) → Contains set m → IsMessage m) where
+module _ (set : List Message) (known : (m : Message) → Contains set m → IsMessage m) where
   summary_of : (q : RequestFields) → Contains set (Request q) → (k : Kept) × (k.request ≡ q) × StandsFor set k
   summary_of q h =
-      let all = all_grown (Request q ∷ []) set (record { request = q; is_disputed = false; approvals = []; refusals = []; revocations = [] }) (known (Request q) h) known (first q) in
+      let all = all_grown (Request q ∷ []) set (record { request = q; is_disputed = false; approvals = []; refusals = []; revocations = [] }) (known (Request q) h) known (asked_alone q) in
       (all.0, all.1, stands_same (Request q ∷ set) set all.0 (once_more set (Request q) h) all.2)
-
-  -- ---- what each comes to
-
-  status_of : (k : Kept) → StandsFor set k → (status : Status) × IsStatus f set (name_of k.request) status
-  status_of k stands =
-      elim (cases_Bool k.is_disputed) as (λ _. (status : Status) × IsStatus f set (name_of k.request) status) [
-        | inl two ↦ (Disputed, disputed_is set k two stands)
-        | inr single ↦
-            elim (some_answer text f (Request k.request) roster (known (Request k.request) stands.asked)) as (λ _. (status : Status) × IsStatus f set (name_of k.request) status) [
-              | inl admits ↦
-                  let c = admits.ceiling in
-                  let needs = found_few text f k.request.ceiling (λ (x : CeilingFields Cmnd). x) (Some c) roster (sym admits.may_ask.ceiling_is) in
-                  (admitted_status f c k, admitted_is f c set k admits.may_ask.ceiling_is needs.0 admits single stands)
-              | inr denied ↦
-                  (Lapsed, lapsed_is f set k (λ admits. no_denial f (Request k.request) denied.0 admits denied.1.applies) single stands)
-            ]
-      ]
-
-  given_of : {X : Type 0} (give : RequestFields → Status → List X) (ks : List Kept) → ((k : Kept) → Contains ks k → StandsFor set k) → (xs : List X) × Give f set give ks xs
-  given_of give [] stands = ([], refl)
-  given_of give (k ∷ ks) stands =
-      let more = given_of give ks (λ j h. stands j (Contains-behind k ks j h)) in
-      let here = status_of k (stands k (Contains-head k ks)) in
-      (give k.request here.0 ++ more.0, (more.0, here.0, more.1, here.1, refl))
 
   -- ---- the roll of summaries
 
   record Rolled (some : List Message) : Type 0 where
     ks : List Kept
-    in_order : AreInOrder KeptPrecedes ks
+    in_order : AreInOrder SummaryPrecedes ks
     stands : (k : Kept) → Contains ks k → StandsFor set k
     each : (q : RequestFields) → Contains some (Request q) → (k : Kept) × Contains ks k × (name_of k.request ≡ name_of q)
 
@@ -369,10 +301,46 @@ module _ (text : List ℕ) (f : RosterFields Cmnd) (set : List Message) (roster 
         },
       )
 
+  pub some_summaries : (list : List Kept) × AreSummaries set list
+  some_summaries =
+      let r = rolled set (λ m h. h) in (
+        r.ks,
+        record {
+          in_order = r.in_order;
+          each = r.stands;
+          all = λ q asked. let found = r.each q asked in (found.0, found.1, named_from_name found.0.request (name_of q) found.2);
+        },
+      )
+
+module _ (text : List ℕ) (f : RosterFields Cmnd) (set : List Message) (roster : IsRosterText text f) (known : (m : Message) → Contains set m → IsMessage m) where
+  -- ---- what each comes to
+
+  status_of : (k : Kept) → StandsFor set k → (status : Status) × IsStatus f set (name_of k.request) status
+  status_of k stands =
+      elim (cases_Bool k.is_disputed) as (λ _. (status : Status) × IsStatus f set (name_of k.request) status) [
+        | inl two ↦ (Disputed, disputed_is set k two stands)
+        | inr single ↦
+            elim (some_answer text f (Request k.request) roster (known (Request k.request) stands.asked)) as (λ _. (status : Status) × IsStatus f set (name_of k.request) status) [
+              | inl admits ↦
+                  let c = admits.ceiling in
+                  let needs = found_few text f k.request.ceiling (λ (x : CeilingFields Cmnd). x) (Some c) roster (sym admits.may_ask.ceiling_is) in
+                  (admitted_status f c k, admitted_is f c set k admits.may_ask.ceiling_is needs.0 admits single stands)
+              | inr denied ↦
+                  (Lapsed, lapsed_is f set k (λ admits. no_denial f (Request k.request) denied.0 admits denied.1.applies) single stands)
+            ]
+      ]
+
+  given_of : {X : Type 0} (give : RequestFields → Status → List X) (ks : List Kept) → ((k : Kept) → Contains ks k → StandsFor set k) → (xs : List X) × Give f set give ks xs
+  given_of give [] stands = ([], refl)
+  given_of give (k ∷ ks) stands =
+      let more = given_of give ks (λ j h. stands j (Contains-behind k ks j h)) in
+      let here = status_of k (stands k (Contains-head k ks)) in
+      (give k.request here.0 ++ more.0, (more.0, here.0, more.1, here.1, refl))
+
   pub some_lines : (host : List ℕ) → (lines : List Line) × AreLines f set host lines
   some_lines host =
-      let given = given_of (lines_for host) roll.0 roll.1.stands in
-      (given.0, are_lines f set host roll.0 roll.1 given.0 given.1)
+      let given = given_of (lines_for host) (roll set known).0 (roll set known).1.stands in
+      (given.0, are_lines f set host (roll set known).0 (roll set known).1 given.0 given.1)
 
   pub some_file : (base : List Entry) (host : List ℕ) → (file : List ℕ) × IsHostFile f base set host file
   some_file base host =
@@ -386,15 +354,15 @@ module _ (text : List ℕ) (f : RosterFields Cmnd) (set : List Message) (roster 
 
   pub some_live : (moment : ℕ) → (list : List LiveGrant) × AreLive f set moment list
   some_live moment =
-      let given = given_of (live_for moment) roll.0 roll.1.stands in
-      (given.0, are_live f set moment roll.0 roll.1 given.0 given.1)
+      let given = given_of (live_for moment) (roll set known).0 (roll set known).1.stands in
+      (given.0, are_live f set moment (roll set known).0 (roll set known).1 given.0 given.1)
 
   pub some_outcome : (name : RequestName) → (o : Option Status) × ComesTo f set name o
   some_outcome name =
       elim (who_asks set name) as (λ _. (o : Option Status) × ComesTo f set name o) [
         | inr nobody ↦ (None, nobody)
         | inl found ↦
-            let k = summary_of found.0 found.1 in
+            let k = summary_of set known found.0 found.1 in
             let status = status_of k.0 k.2 in
             (Some status.0, subst (λ (n : RequestName). IsStatus f set n status.0) (ap name_of k.1 ∙ name_from_named found.0 name found.2) status.1)
       ]

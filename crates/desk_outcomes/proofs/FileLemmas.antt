@@ -25,19 +25,20 @@ use Rattle.sudo_policy.proofs.One.{text_one}
 use Rattle.sudo_policy.proofs.PolicyFronts.{canon_both}
 use Rattle.roster.specs.Fields.{RosterFields}
 use Rattle.grants.specs.Bases.{FitsBase}
-use Rattle.grants.specs.GrantRules.{IsGrantRule}
+use Rattle.grants.specs.GrantRules.{IsGrantRule, rules_for}
 use Rattle.grants.specs.Summaries.{Kept}
-use Rattle.grants.specs.private.Given.{rules_for}
-use Rattle.grants.specs.private.Lines as written
+use Rattle.grants.specs.GrantLines as written
 use Rattle.grants.proofs.LawfulRules.{extended_policy}
-use Rattle.desk_outcomes.specs.declared.naming.NameKey.{NameKey}
+use Rattle.desk_outcomes.specs.private.Behind.{AreBehind, rules_left}
+use Rattle.desk_outcomes.specs.private.ByName.{Gathers}
+use Rattle.desk_outcomes.specs.private.InTurn.{Give}
+use Rattle.messages.specs.declared.request_name.RequestName.{RequestName}
 use Rattle.grants.specs.declared.host_fault.HostFault.{HostFault}
 use Rattle.grants.specs.declared.host_fault.HostFault.TheVariants.{NoMemory}
 use Rattle.sudo_decide.specs.Decision.{is_not_after}
 use Rattle.sudo_decide.specs.declared.invocation.Invocation.{Invocation}
-use Rattle.desk_outcomes.specs.Gathered.{Gathers, Give}
 use Rattle.desk_outcomes.specs.HostFile.{Line, IsLine, LinePrecedes, AreLines, IsHostFile, IsHostFileAfter, lines_after, with_lines}
-use Rattle.desk_outcomes.specs.LinesLeft.{AreBehind, IsFileLeft, IsPast, lines_left, rules_left, stays}
+use Rattle.desk_outcomes.specs.LinesLeft.{IsFileLeft, IsPast, lines_left, stays}
 use Rattle.desk_outcomes.specs.Rights.{GivesRights, GivesRightsAfter}
 use Rattle.desk_outcomes.proofs.Filters.{all_left, kept, passes, was_there}
 use Rattle.desk_outcomes.proofs.GivenLists.{all_both, is_roll, one_given}
@@ -67,7 +68,7 @@ one_file_after f base set host moment x y a b =
 abbrev pub HasRules : RosterFields Cmnd → List Message → List ℕ → Option ℕ → List Rule → Type 0
 HasRules f set host after rules = (lines : List Line) × AreLines f set host lines × (rules ≡ map rule_in (lines_left after lines))
 
-pub has_rules : (f : RosterFields Cmnd) (set : List Message) (host : List ℕ) (after : Option ℕ) (m : BTreeMap NameKey Kept) (rules : List Rule) → Gathers set m → Give f set (rules_left after host) (values m) rules → HasRules f set host after rules
+pub has_rules : (f : RosterFields Cmnd) (set : List Message) (host : List ℕ) (after : Option ℕ) (m : BTreeMap RequestName Kept) (rules : List Rule) → Gathers set m → Give f set (rules_left after host) (values m) rules → HasRules f set host after rules
 has_rules f set host after m rules g given =
     let found = left_given f set host after (values m) rules given in
     (found.0, are_lines f set host (values m) (is_roll set m g) found.0 found.1, found.2)
@@ -126,14 +127,14 @@ one_behind f set host after seen k first old new count more before w =
     )
 
 -- the base's text and the lines behind it are the file
-pub is_file_left : (f : RosterFields Cmnd) (base : List Entry) (set : List Message) (host : List ℕ) (after : Option ℕ) (m : BTreeMap NameKey Kept) (text : List ℕ) → FitsBase base → Gathers set m → AreBehind f set host after (values m) (canon base) text → IsFileLeft f base set host after text
+pub is_file_left : (f : RosterFields Cmnd) (base : List Entry) (set : List Message) (host : List ℕ) (after : Option ℕ) (m : BTreeMap RequestName Kept) (text : List ℕ) → FitsBase base → Gathers set m → AreBehind f set host after (values m) (canon base) text → IsFileLeft f base set host after text
 is_file_left f base set host after m text fits g b =
     let spelled = canon_spells (with_rules base b.rules) (extended_policy base b.rules fits b.few b.grants) in
     let is : text ≡ canon (with_rules base b.rules) = b.text_is ∙ sym (canon_both base (map entries.Rule b.rules)) in
     is_left f base set host after text b.rules (has_rules f set host after m b.rules g b.given) is (subst (λ (t : List ℕ). Spells t (with_rules base b.rules)) (sym is) spelled)
 
 -- and then they are not too many
-pub not_past : (f : RosterFields Cmnd) (set : List Message) (host : List ℕ) (after : Option ℕ) (m : BTreeMap NameKey Kept) (old new : List ℕ) (lines : List Line) → Gathers set m → AreBehind f set host after (values m) old new → AreLines f set host lines → 8_192 < length (lines_left after lines) → ⊥
+pub not_past : (f : RosterFields Cmnd) (set : List Message) (host : List ℕ) (after : Option ℕ) (m : BTreeMap RequestName Kept) (old new : List ℕ) (lines : List Line) → Gathers set m → AreBehind f set host after (values m) old new → AreLines f set host lines → 8_192 < length (lines_left after lines) → ⊥
 not_past f set host after m old new lines g b are past =
     omega (arith, past, b.few, same_count f set host after b.rules lines (has_rules f set host after m b.rules g b.given) are)
 

@@ -8,8 +8,8 @@ use Rattle.sudo_words.specs.declared.cmnd.Cmnd.{Cmnd}
 use Rattle.roster.specs.Fields.{RosterFields}
 use Rattle.grants.specs.Summaries.{Kept}
 use Rattle.grants.specs.declared.outcome.Status.{Status}
-use Rattle.desk_outcomes.specs.Gathered.{Give}
-use Rattle.desk_outcomes.specs.Order.{AllAfter, AreInOrder}
+use Rattle.desk_outcomes.specs.private.InTurn.{Give}
+use Rattle.messages.specs.Order.{AllAfter, AreInOrder}
 use Rattle.desk_outcomes.proofs.Membership.{no_member, Contains-head, Contains-behind, Contains-cases}
 use Rattle.desk_outcomes.proofs.Orders.{behind_each, behind_from_each}
 

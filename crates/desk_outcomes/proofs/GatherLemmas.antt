@@ -1,39 +1,31 @@
 -- The summaries by name, as a set grows.
-use Rattle.std.proofs.Common.{◌≡◌, ◌⊎◌, List, [], ◌∷◌, ◌++◌, Option, Some, None, refl, sym, ap, ◌∙◌, subst, inl, inr}
+use Rattle.std.proofs.Common.{◌≡◌, ◌⊎◌, List, [], ◌∷◌, ◌++◌, map, Option, Some, None, sym, ap, subst, inl, inr}
 use Rattle.std.specs.List.{Contains}
-use Rattle.std.specs.Option.{MatchOption, IfSome}
-use Rattle.std.specs.Prelude.{Result, Ok, Err, OnOk}
+use Rattle.std.specs.Option.{MatchOption}
 use Rattle.std.specs.BTreeMap.{BTreeMap, IsOrdered}
 use Rattle.std.proofs.lemmas.List.Elements.{Contains-append_left, Contains-push, Contains-push_cases}
 use Rattle.messages.specs.Fields.{RequestFields, VerdictFields}
-use Rattle.messages.specs.Names.{RequestName, IsNamed, SameMessages, name_of}
+use Rattle.messages.specs.Names.{IsNamed, NobodyAsks, name_cmp, name_meant, name_of}
+use Rattle.messages.specs.declared.request_name.RequestName.{RequestName}
 use Rattle.messages.specs.declared.message.Message.{Message}
 use Rattle.messages.specs.declared.message.Message.TheVariants.{Request, Verdict}
 use Rattle.grants.specs.Summaries.{Kept, StandsFor}
-use Rattle.grants.specs.Voices.{IsMeant, SpeakFor}
-use Rattle.grants.specs.declared.voices.Voices.{Voices}
-use Rattle.grants.proofs.VoiceLemmas.{speak_still}
-use Rattle.desk_outcomes.specs.declared.naming.NameKey.{NameKey}
-use Rattle.desk_outcomes.specs.Gathered.{AreNamed, Gathers, IsSummaryOf, SpeakAt, Waits}
-use Rattle.desk_outcomes.specs.Names.{at_name, key_cmp}
-use Rattle.desk_outcomes.specs.Outcomes.{NobodyAsks}
-use Rattle.desk_outcomes.specs.Parked.{name_meant}
-use Rattle.desk_outcomes.proofs.Membership.{no_member}
-use Rattle.desk_outcomes.proofs.NameMaps.{SetsAt, at_none, same_cases}
-use Rattle.desk_outcomes.proofs.Standing.{Mentions, name_from_named, named_from_name, stands_same, stands_still}
+use Rattle.desk_outcomes.specs.Parked.{IsParked}
+use Rattle.desk_outcomes.specs.private.ByName.{Gathers, IsSummaryOf, at_name}
+use Rattle.desk_outcomes.proofs.Membership.{no_member, Contains-head, Contains-behind, Contains-cases}
+use Rattle.desk_outcomes.proofs.NameMaps.{SetsAt, at_none, at_same, same_cases}
+use Rattle.desk_outcomes.proofs.Standing.{Mentions, name_from_named, named_from_name, stands_in, stands_still}
 
 -- what stands at a name, of a set
 abbrev pub IsAt : List Message → RequestName → Option Kept → Type 0
 IsAt set name o = MatchOption o (NobodyAsks set name) (IsSummaryOf set name)
 
-pub are_named : (set : List Message) (m : BTreeMap NameKey Kept) → Gathers set m → AreNamed m
-are_named set m g = λ name. named_at (at_name m name) name (g.each name)
-  where
-    named_at : (o : Option Kept) (name : RequestName) → IsAt set name o → IfSome o (λ k. IsNamed k.request name)
-    named_at None name is = tt
-    named_at (Some k) name is = is.named
+-- a summary stands at its request's name
+pub named_at : (set : List Message) (m : BTreeMap RequestName Kept) → Gathers set m → (name : RequestName) (k : Kept) → at_name m name ≡ Some k → name_of k.request ≡ name
+named_at set m g name k there =
+    let is : IsSummaryOf set name k = subst (IsAt set name) there (g.each name) in name_from_named k.request name is.named
 
-pub none_gathered : (m : BTreeMap NameKey Kept) → IsOrdered key_cmp m → m.entries ≡ [] → Gathers [] m
+pub none_gathered : (m : BTreeMap RequestName Kept) → IsOrdered name_cmp m → m.entries ≡ [] → Gathers [] m
 none_gathered m ordered empty = record {
   ordered = ordered;
   each = λ name. subst (IsAt [] name) (sym (at_none m name empty)) (λ q h named. no_member (Request q) h);
@@ -53,7 +45,7 @@ still_at set m name other (Some k) is = record {
 }
 
 -- one name is set, to what it is for the longer set, and the others stay
-pub one_more : (set : List Message) (m : Message) (name : RequestName) (old new : BTreeMap NameKey Kept) (k : Kept) → ((other : RequestName) → Mentions m other → name ≡ other) → SetsAt old new name k → IsOrdered key_cmp new → IsSummaryOf (set ++ m ∷ []) name k → Gathers set old → Gathers (set ++ m ∷ []) new
+pub one_more : (set : List Message) (m : Message) (name : RequestName) (old new : BTreeMap RequestName Kept) (k : Kept) → ((other : RequestName) → Mentions m other → name ≡ other) → SetsAt old new name k → IsOrdered name_cmp new → IsSummaryOf (set ++ m ∷ []) name k → Gathers set old → Gathers (set ++ m ∷ []) new
 one_more set m name old new k only sets ordered here g = record { ordered = ordered; each = λ other. at other (same_cases name other) }
   where
     at : (other : RequestName) → (name ≡ other) ⊎ (name ≡ other → ⊥) → IsAt (set ++ m ∷ []) other (at_name new other)
@@ -66,14 +58,93 @@ one_more set m name old new k only sets ordered here g = record { ordered = orde
 request_only : (q : RequestFields) (other : RequestName) → Mentions (Request q) other → name_of q ≡ other
 request_only q other mentions = mentions
 
-pub first_asked : (set : List Message) (q : RequestFields) (old new : BTreeMap NameKey Kept) (k : Kept) → SetsAt old new (name_of q) k → IsOrdered key_cmp new → k.request ≡ q → StandsFor (set ++ Request q ∷ []) k → Gathers set old → Gathers (set ++ Request q ∷ []) new
+-- ---- the first request of a name, after the verdicts that waited for it
+
+one_request : (p q : RequestFields) → ◌≡◌ {A = Message} (Request p) (Request q) → p ≡ q
+one_request p q e = cc
+
+one_verdict : (v w : VerdictFields) → ◌≡◌ {A = Message} (Verdict v) (Verdict w) → v ≡ w
+one_verdict v w e = cc
+
+abbrev pub of_verdict : VerdictFields → Message
+of_verdict v = Verdict v
+
+pub among_messages : (vs : List VerdictFields) (v : VerdictFields) → Contains vs v → Contains (map of_verdict vs) (Verdict v)
+among_messages [] v m = absurd (no_member v m)
+among_messages (w ∷ vs) v m =
+    elim (Contains-cases w vs v m) as (λ _. Contains (map of_verdict (w ∷ vs)) (Verdict v)) [
+      | inl same ↦ subst (λ (x : VerdictFields). Contains (map of_verdict (w ∷ vs)) (Verdict x)) same (Contains-head (Verdict w) (map of_verdict vs))
+      | inr later ↦ Contains-behind (Verdict w) (map of_verdict vs) (Verdict v) (among_messages vs v later)
+    ]
+
+among_verdicts : (vs : List VerdictFields) (v : VerdictFields) → Contains (map of_verdict vs) (Verdict v) → Contains vs v
+among_verdicts [] v m = absurd (no_member (Verdict v) m)
+among_verdicts (w ∷ vs) v m =
+    elim (Contains-cases (Verdict w) (map of_verdict vs) (Verdict v) m) as (λ _. Contains (w ∷ vs) v) [
+      | inl same ↦ subst (Contains (w ∷ vs)) (one_verdict w v same) (Contains-head w vs)
+      | inr later ↦ Contains-behind w vs v (among_verdicts vs v later)
+    ]
+
+no_request : (vs : List VerdictFields) (q : RequestFields) → Contains (map of_verdict vs) (Request q) → ⊥
+no_request [] q m = no_member (Request q) m
+no_request (w ∷ vs) q m =
+    elim (Contains-cases (Verdict w) (map of_verdict vs) (Request q) m) as (λ _. ⊥) [ inl wrong ↦ absurd cc | inr later ↦ no_request vs q later ]
+
+-- a summary of the request alone is its own
+pub of_itself : (q : RequestFields) (k : Kept) → StandsFor (Request q ∷ []) k → k.request ≡ q
+of_itself q k stands =
+    elim (Contains-cases (Request q) [] (Request k.request) stands.asked) as (λ _. k.request ≡ q) [
+      | inl same ↦ sym (one_request q k.request same)
+      | inr none ↦ absurd (no_member (Request k.request) none)
+    ]
+
+-- It stands for the request and those verdicts: so it stands for the set with the request, since that has no other message about the name.
+module _ (set : List Message) (q : RequestFields) (vs : List VerdictFields) (nobody : NobodyAsks set (name_of q)) (waited : (v : VerdictFields) → (Contains vs v → (name_meant v ≡ name_of q) × IsParked set v) × ((name_meant v ≡ name_of q) × IsParked set v → Contains vs v)) where
+  abbrev own : List Message
+  own = Request q ∷ map of_verdict vs
+
+  abbrev longer : List Message
+  longer = set ++ Request q ∷ []
+
+  there : (m : Message) → Mentions m (name_of q) → Contains own m → Contains longer m
+  there (Request p) named m =
+      elim (Contains-cases (Request q) (map of_verdict vs) (Request p) m) as (λ _. Contains longer (Request p)) [
+        | inl same ↦ subst (Contains longer) same (Contains-push set (Request q))
+        | inr later ↦ absurd (no_request vs p later)
+      ]
+  there (Verdict v) named m =
+      elim (Contains-cases (Request q) (map of_verdict vs) (Verdict v) m) as (λ _. Contains longer (Verdict v)) [
+        | inl wrong ↦ absurd cc
+        | inr later ↦ Contains-append_left set (Request q ∷ []) (Verdict v) ((waited v).0 (among_verdicts vs v later)).1.given
+      ]
+
+  back : (m : Message) → Mentions m (name_of q) → Contains longer m → Contains own m
+  back (Request p) named m =
+      elim (Contains-push_cases set (Request q) (Request p) m) as (λ _. Contains own (Request p)) [
+        | inl old ↦ absurd (nobody p old (named_from_name p (name_of q) named))
+        | inr same ↦ subst (Contains own) same (Contains-head (Request q) (map of_verdict vs))
+      ]
+  back (Verdict v) named m =
+      elim (Contains-push_cases set (Request q) (Verdict v) m) as (λ _. Contains own (Verdict v)) [
+        | inl old ↦
+            let waits : NobodyAsks set (name_meant v) = subst (NobodyAsks set) (sym named) nobody in
+            Contains-behind (Request q) (map of_verdict vs) (Verdict v) (among_messages vs v ((waited v).1 (named, record { given = old; waits = waits })))
+        | inr wrong ↦ absurd cc
+      ]
+
+  pub first_stands : (k : Kept) → k.request ≡ q → StandsFor own k → StandsFor longer k
+  first_stands k same stands =
+      let mine : name_of q ≡ name_of k.request = ap name_of (sym same) in
+      stands_in own longer k (subst (λ (n : RequestName). (m : Message) → Mentions m n → Contains own m → Contains longer m) mine there) (subst (λ (n : RequestName). (m : Message) → Mentions m n → Contains longer m → Contains own m) mine back) stands
+
+pub first_asked : (set : List Message) (q : RequestFields) (old new : BTreeMap RequestName Kept) (k : Kept) → SetsAt old new (name_of q) k → IsOrdered name_cmp new → k.request ≡ q → StandsFor (set ++ Request q ∷ []) k → Gathers set old → Gathers (set ++ Request q ∷ []) new
 first_asked set q old new k sets ordered same stands g =
     one_more set (Request q) (name_of q) old new k (request_only q) sets ordered (record {
       named = named_from_name k.request (name_of q) (ap name_of same);
       stands = stands;
     }) g
 
-pub asked_again : (set : List Message) (q : RequestFields) (old new : BTreeMap NameKey Kept) (before after : Kept) → at_name old (name_of q) ≡ Some before → SetsAt old new (name_of q) after → IsOrdered key_cmp new → after.request ≡ before.request → ((s : List Message) → StandsFor s before → StandsFor (s ++ Request q ∷ []) after) → Gathers set old → Gathers (set ++ Request q ∷ []) new
+pub asked_again : (set : List Message) (q : RequestFields) (old new : BTreeMap RequestName Kept) (before after : Kept) → at_name old (name_of q) ≡ Some before → SetsAt old new (name_of q) after → IsOrdered name_cmp new → after.request ≡ before.request → ((s : List Message) → StandsFor s before → StandsFor (s ++ Request q ∷ []) after) → Gathers set old → Gathers (set ++ Request q ∷ []) new
 asked_again set q old new before after found sets ordered same stands g =
     let was : IsSummaryOf set (name_of q) before = subst (IsAt set (name_of q)) found (g.each (name_of q)) in
     one_more set (Request q) (name_of q) old new after (request_only q) sets ordered (record {
@@ -86,7 +157,7 @@ asked_again set q old new before after found sets ordered same stands g =
 verdict_only : (v : VerdictFields) (other : RequestName) → Mentions (Verdict v) other → name_meant v ≡ other
 verdict_only v other mentions = mentions
 
-pub heard : (set : List Message) (v : VerdictFields) (old new : BTreeMap NameKey Kept) (before after : Kept) → at_name old (name_meant v) ≡ Some before → SetsAt old new (name_meant v) after → IsOrdered key_cmp new → after.request ≡ before.request → ((s : List Message) → StandsFor s before → StandsFor (s ++ Verdict v ∷ []) after) → Gathers set old → Gathers (set ++ Verdict v ∷ []) new
+pub heard : (set : List Message) (v : VerdictFields) (old new : BTreeMap RequestName Kept) (before after : Kept) → at_name old (name_meant v) ≡ Some before → SetsAt old new (name_meant v) after → IsOrdered name_cmp new → after.request ≡ before.request → ((s : List Message) → StandsFor s before → StandsFor (s ++ Verdict v ∷ []) after) → Gathers set old → Gathers (set ++ Verdict v ∷ []) new
 heard set v old new before after found sets ordered same stands g =
     let was : IsSummaryOf set (name_meant v) before = subst (IsAt set (name_meant v)) found (g.each (name_meant v)) in
     one_more set (Verdict v) (name_meant v) old new after (verdict_only v) sets ordered (record {
@@ -94,13 +165,8 @@ heard set v old new before after found sets ordered same stands g =
       stands = stands set was.stands;
     }) g
 
--- where memory lasts
-pub ok_heard : {X E : Type 0} (result : Result X E) (set : List Message) (v : VerdictFields) (old new : BTreeMap NameKey Kept) (before after : Kept) → at_name old (name_meant v) ≡ Some before → SetsAt old new (name_meant v) after → IsOrdered key_cmp new → after.request ≡ before.request → ((s : List Message) → StandsFor s before → OnOk result (StandsFor (s ++ Verdict v ∷ []) after)) → Gathers set old → OnOk result (Gathers (set ++ Verdict v ∷ []) new)
-ok_heard (Ok x) set v old new before after found sets ordered same stands g = heard set v old new before after found sets ordered same stands g
-ok_heard (Err e) set v old new before after found sets ordered same stands g = tt
-
 -- without its request it changes nothing
-pub unheard : (set : List Message) (v : VerdictFields) (m : BTreeMap NameKey Kept) → at_name m (name_meant v) ≡ None → Gathers set m → Gathers (set ++ Verdict v ∷ []) m
+pub unheard : (set : List Message) (v : VerdictFields) (m : BTreeMap RequestName Kept) → at_name m (name_meant v) ≡ None → Gathers set m → Gathers (set ++ Verdict v ∷ []) m
 unheard set v m bare g = record { ordered = g.ordered; each = λ other. at other (same_cases (name_meant v) other) }
   where
     nobody : NobodyAsks (set ++ Verdict v ∷ []) (name_meant v)
@@ -112,69 +178,12 @@ unheard set v m bare g = record { ordered = g.ordered; each = λ other. at other
     at other (inl same) = subst (λ (n : RequestName). IsAt (set ++ Verdict v ∷ []) n (at_name m n)) same (subst (IsAt (set ++ Verdict v ∷ []) (name_meant v)) (sym bare) nobody)
     at other (inr differ) = still_at set (Verdict v) other (λ mentions. differ mentions) (at_name m other) (g.each other)
 
--- ---- verdicts that wait
+-- ---- the same stands at each name
 
-pub none_waits : (m : BTreeMap NameKey Voices) → m.entries ≡ [] → Waits [] m
-none_waits m empty = λ name nobody.
-    subst (λ (o : Option Voices). MatchOption o ((v : VerdictFields) → Contains [] (Verdict v) → IsMeant v name → ⊥) (SpeakFor [] name)) (sym (at_none m name empty)) (λ v given meant. no_member (Verdict v) given)
+pub gathers_still : (set : List Message) (old new : BTreeMap RequestName Kept) → IsOrdered name_cmp new → ((name : RequestName) → at_name new name ≡ at_name old name) → Gathers set old → Gathers set new
+gathers_still set old new ordered same g =
+    record { ordered = ordered; each = λ name. subst (IsAt set name) (sym (same name)) (g.each name) }
 
-nobody_before : (set : List Message) (m : Message) (name : RequestName) → NobodyAsks (set ++ m ∷ []) name → NobodyAsks set name
-nobody_before set m name nobody = λ q old named. nobody q (Contains-append_left set (m ∷ []) (Request q) old) named
-
-pub meant_name : (v : VerdictFields) (name : RequestName) → IsMeant v name → name_meant v ≡ name
-meant_name v name meant = rw (meant.0, meant.1) refl
-
-pub name_is_meant : (v : VerdictFields) (name : RequestName) → name_meant v ≡ name → IsMeant v name
-name_is_meant v name same = (ap (λ (n : RequestName). n.by) same, ap (λ (n : RequestName). n.no) same)
-
--- what is said at a name stays, where the message is no verdict on it
-speak_on : (set : List Message) (m : Message) (name : RequestName) → ((v : VerdictFields) → m ≡ Verdict v → IsMeant v name → ⊥) → (o : Option Voices) → MatchOption o ((v : VerdictFields) → Contains set (Verdict v) → IsMeant v name → ⊥) (SpeakFor set name) → MatchOption o ((v : VerdictFields) → Contains (set ++ m ∷ []) (Verdict v) → IsMeant v name → ⊥) (SpeakFor (set ++ m ∷ []) name)
-speak_on set m name other None none = λ v given meant.
-    elim (Contains-push_cases set m (Verdict v) given) as (λ _. ⊥) [ inl old ↦ none v old meant | inr new ↦ other v new meant ]
-speak_on set m name other (Some voices) speak = speak_still set m name voices other speak
-
--- a message comes: at each name but its own what is said stays
-pub waits_on : (set : List Message) (m : Message) (mine : RequestName) (old new : BTreeMap NameKey Voices) → ((v : VerdictFields) → m ≡ Verdict v → name_meant v ≡ mine) → ((other : RequestName) → (mine ≡ other → ⊥) → at_name new other ≡ at_name old other) → (NobodyAsks (set ++ m ∷ []) mine → SpeakAt (set ++ m ∷ []) new mine) → Waits set old → Waits (set ++ m ∷ []) new
-waits_on set m mine old new own others here waits = λ name nobody. at name nobody (same_cases mine name)
-  where
-    at : (name : RequestName) → NobodyAsks (set ++ m ∷ []) name → (mine ≡ name) ⊎ (mine ≡ name → ⊥) → SpeakAt (set ++ m ∷ []) new name
-    at name nobody (inl same) = subst (SpeakAt (set ++ m ∷ []) new) same (here (subst (NobodyAsks (set ++ m ∷ [])) (sym same) nobody))
-    at name nobody (inr differ) =
-        let stays = speak_on set m name (λ v is meant. differ (sym (own v is) ∙ meant_name v name meant)) (at_name old name) (waits name (nobody_before set m name nobody)) in
-        subst (λ (o : Option Voices). MatchOption o ((v : VerdictFields) → Contains (set ++ m ∷ []) (Verdict v) → IsMeant v name → ⊥) (SpeakFor (set ++ m ∷ []) name)) (sym (others name differ)) stays
-
-no_verdict : (q : RequestFields) (v : VerdictFields) → ◌≡◌ {A = Message} (Request q) (Verdict v) → ⊥
-no_verdict q v e = absurd cc
-
--- a request comes
-pub waits_asked : (set : List Message) (q : RequestFields) (old new : BTreeMap NameKey Voices) → ((other : RequestName) → (name_of q ≡ other → ⊥) → at_name new other ≡ at_name old other) → Waits set old → Waits (set ++ Request q ∷ []) new
-waits_asked set q old new others waits =
-    waits_on set (Request q) (name_of q) old new (λ v is. absurd (no_verdict q v is)) others (λ nobody. absurd (nobody q (Contains-push set (Request q)) (refl, refl))) waits
-
-own_name : (v w : VerdictFields) → ◌≡◌ {A = Message} (Verdict v) (Verdict w) → name_meant w ≡ name_meant v
-own_name v w e =
-    let same : v ≡ w = cc in ap name_meant (sym same)
-
--- a verdict comes whose request is there
-pub waits_heard : (set : List Message) (v : VerdictFields) (m : BTreeMap NameKey Voices) → (NobodyAsks set (name_meant v) → ⊥) → Waits set m → Waits (set ++ Verdict v ∷ []) m
-waits_heard set v m asked waits =
-    waits_on set (Verdict v) (name_meant v) m m (λ w is. own_name v w is) (λ other differ. refl) (λ nobody. absurd (asked (nobody_before set (Verdict v) (name_meant v) nobody))) waits
-
--- a verdict comes that has to wait
-pub waits_more : (set : List Message) (v : VerdictFields) (old new : BTreeMap NameKey Voices) → ((other : RequestName) → (name_meant v ≡ other → ⊥) → at_name new other ≡ at_name old other) → (SpeakAt set old (name_meant v) → SpeakAt (set ++ Verdict v ∷ []) new (name_meant v)) → Waits set old → Waits (set ++ Verdict v ∷ []) new
-waits_more set v old new others more waits =
-    waits_on set (Verdict v) (name_meant v) old new (λ w is. own_name v w is) others (λ nobody. more (waits (name_meant v) (nobody_before set (Verdict v) (name_meant v) nobody))) waits
-
--- where memory lasts
-pub ok_waits : {X E : Type 0} (result : Result X E) (set : List Message) (v : VerdictFields) (old new : BTreeMap NameKey Voices) → ((other : RequestName) → (name_meant v ≡ other → ⊥) → OnOk result (at_name new other ≡ at_name old other)) → (SpeakAt set old (name_meant v) → OnOk result (SpeakAt (set ++ Verdict v ∷ []) new (name_meant v))) → Waits set old → OnOk result (Waits (set ++ Verdict v ∷ []) new)
-ok_waits (Ok x) set v old new others more waits = waits_more set v old new others more waits
-ok_waits (Err e) set v old new others more waits = tt
-
--- ---- another list of the same messages
-
-pub gathers_same : (s t : List Message) (m : BTreeMap NameKey Kept) → SameMessages s t → Gathers s m → Gathers t m
-gathers_same s t m same g = record { ordered = g.ordered; each = λ name. at name (at_name m name) (g.each name) }
-  where
-    at : (name : RequestName) (o : Option Kept) → IsAt s name o → IsAt t name o
-    at name None nobody = λ q h named. nobody q ((same (Request q)).1 h) named
-    at name (Some k) is = record { named = is.named; stands = stands_same s t k same is.stands }
+-- with the same entries
+pub gathers_same : (set : List Message) (old new : BTreeMap RequestName Kept) → new.entries ≡ old.entries → IsOrdered name_cmp new → Gathers set old → Gathers set new
+gathers_same set old new same ordered g = gathers_still set old new ordered (λ name. at_same old new name same) g

@@ -1,22 +1,17 @@
 -- What the summaries of a set give in turn.
-use Rattle.std.proofs.Common.{◌≡◌, ℕ, ◌<◌, List, [], ◌∷◌, ◌++◌, Option, Some, None, refl, sym, ap, ◌∙◌, subst, inl, inr, append_assoc}
+use Rattle.std.proofs.Common.{◌≡◌, List, [], ◌∷◌, ◌++◌, Option, Some, None, refl, sym, ap, ◌∙◌, subst, inl, inr, append_assoc}
 use Rattle.std.proofs.lemmas.List.{append-nil}
 use Rattle.std.specs.List.{Contains, AllByRecursion}
 use Rattle.std.specs.List.Sorted.{IsStrictlySortedBy}
 use Rattle.std.specs.Map.{keys_of, values_of}
-use Rattle.std.specs.BTreeMap.{BTreeMap, values, is_at}
-use Rattle.std.specs.Cmp.Lexicographic.{slice_cmp}
-use Rattle.std.specs.Ordering.{MatchOrdering, nat_cmp, ordering_then, is_lt}
-use Rattle.std.specs.declared.cmp.Ordering.{Ordering}
-use Rattle.std.specs.declared.cmp.Ordering.TheVariants.{Less, Equal, Greater}
-use Rattle.std.proofs.lemmas.Cmp.{ranked}
+use Rattle.std.specs.BTreeMap.{BTreeMap, values}
+use Rattle.std.specs.declared.cmp.Ordering.TheVariants.{Less}
 use Rattle.std.proofs.lemmas.List.Elements.{Contains-append_left, Contains-append_right, Contains-append_cases}
-use Rattle.std.proofs.lemmas.Map.Entries.{place_from_lookup, btree_map_get_place}
 use Rattle.std.proofs.lemmas.Map.Keys.{sorted_head, sorted_tail}
-use Rattle.std.proofs.lemmas.Map.Lookups.{exact_bytes}
 use Rattle.sudo_words.specs.declared.cmnd.Cmnd.{Cmnd}
 use Rattle.messages.specs.Fields.{RequestFields}
-use Rattle.messages.specs.Names.{IsNamed, RequestName, name_of}
+use Rattle.messages.specs.Names.{IsNamed, NamePrecedes, name_cmp, name_of}
+use Rattle.messages.specs.declared.request_name.RequestName.{RequestName}
 use Rattle.messages.specs.declared.message.Message.{Message}
 use Rattle.messages.specs.declared.message.Message.TheVariants.{Request}
 use Rattle.roster.specs.Fields.{RosterFields}
@@ -25,80 +20,51 @@ use Rattle.grants.specs.Summaries.{Kept, StandsFor}
 use Rattle.grants.specs.Verdicts.{StandsAlone}
 use Rattle.grants.specs.declared.outcome.Status.{Status}
 use Rattle.grants.proofs.StatusLaws.{one_status}
-use Rattle.desk_outcomes.specs.declared.naming.NameKey.{NameKey}
-use Rattle.desk_outcomes.specs.Gathered.{Adds, Gathers, Give, IsSummaryOf}
-use Rattle.desk_outcomes.specs.Names.{at_name, key_cmp, key_name}
-use Rattle.desk_outcomes.specs.Order.{AreInOrder, NamePrecedes}
+use Rattle.messages.specs.Order.{AreInOrder}
+use Rattle.messages.proofs.NameOrder.{lower_from_less}
+use Rattle.desk_outcomes.specs.Summaries.{SummaryPrecedes}
+use Rattle.desk_outcomes.specs.private.ByName.{Gathers, IsSummaryOf, at_name}
+use Rattle.desk_outcomes.specs.private.InTurn.{Adds, Give}
 use Rattle.desk_outcomes.proofs.GatherLemmas.{IsAt}
-use Rattle.desk_outcomes.proofs.Membership.{no_member, Contains-head, Contains-behind, Contains-cases, Contains-from_get, get_from_Contains}
-use Rattle.desk_outcomes.proofs.NameMaps.{keys_total}
+use Rattle.desk_outcomes.proofs.Membership.{no_member, Contains-head, Contains-behind, Contains-cases}
+use Rattle.desk_outcomes.proofs.NameMaps.{at_entry, value_at, value_from_entry}
 use Rattle.desk_outcomes.proofs.Orders.{behind_each, behind_from_each, ordered_both}
 use Rattle.desk_outcomes.proofs.Standing.{name_from_named}
 
 -- ---- the summaries in turn
 
-abbrev pub KeptPrecedes : (a b : Kept) → Type 0
-KeptPrecedes a b = NamePrecedes (name_of a.request) (name_of b.request)
-
-below_from_less : (m n : ℕ) → nat_cmp m n ≡ Less → m < n
-below_from_less m n h = subst (λ (o : Ordering). MatchOrdering o (m < n) (m ≡ n) (n < m)) h (ranked m n (nat_cmp m n) refl)
-
--- what an order of names says
-lower_by_cases : (a b : RequestName) (o : Ordering) → slice_cmp nat_cmp a.by b.by ≡ o → ordering_then o (nat_cmp a.no b.no) ≡ Less → NamePrecedes a b
-lower_by_cases a b Less was h = inl (ap is_lt was)
-lower_by_cases a b Equal was h = inr (exact_bytes a.by b.by was, below_from_less a.no b.no h)
-lower_by_cases a b Greater was h = absurd cc
-
-value_from_entry : (es : List (NameKey × Kept)) (k : Kept) → Contains (values_of es) k → (e : NameKey × Kept) × Contains es e × (e.1 ≡ k)
-value_from_entry [] k m = absurd (no_member k m)
-value_from_entry (e ∷ es) k m =
-    elim (Contains-cases e.1 (values_of es) k m) as (λ _. (f : NameKey × Kept) × Contains (e ∷ es) f × (f.1 ≡ k)) [
-      | inl same ↦ (e, Contains-head e es, same)
-      | inr later ↦ let found = value_from_entry es k later in (found.0, Contains-behind e es found.0 found.1, found.2)
+name_above : (k : RequestName) (es : List (RequestName × Kept)) → AllByRecursion (λ y. name_cmp k y ≡ Less) (keys_of es) → (e : RequestName × Kept) → Contains es e → name_cmp k e.0 ≡ Less
+name_above k [] all e m = absurd (no_member e m)
+name_above k (f ∷ es) all e m =
+    elim (Contains-cases f es e m) as (λ _. name_cmp k e.0 ≡ Less) [
+      | inl same ↦ subst (λ (x : RequestName × Kept). name_cmp k x.0 ≡ Less) same all.0
+      | inr later ↦ name_above k es all.1 e later
     ]
 
-entry_value : (es : List (NameKey × Kept)) (e : NameKey × Kept) → Contains es e → Contains (values_of es) e.1
-entry_value [] e m = absurd (no_member e m)
-entry_value (f ∷ es) e m =
-    elim (Contains-cases f es e m) as (λ _. Contains (values_of (f ∷ es)) e.1) [
-      | inl same ↦ subst (λ (x : NameKey × Kept). Contains (values_of (f ∷ es)) x.1) same (Contains-head f.1 (values_of es))
-      | inr later ↦ Contains-behind f.1 (values_of es) e.1 (entry_value es e later)
-    ]
+abbrev NamedAll : List (RequestName × Kept) → Type 0
+NamedAll es = (e : RequestName × Kept) → Contains es e → name_of e.1.request ≡ e.0
 
-key_above : (k : NameKey) (es : List (NameKey × Kept)) → AllByRecursion (λ y. key_cmp k y ≡ Less) (keys_of es) → (e : NameKey × Kept) → Contains es e → key_cmp k e.0 ≡ Less
-key_above k [] all e m = absurd (no_member e m)
-key_above k (f ∷ es) all e m =
-    elim (Contains-cases f es e m) as (λ _. key_cmp k e.0 ≡ Less) [
-      | inl same ↦ subst (λ (x : NameKey × Kept). key_cmp k x.0 ≡ Less) same all.0
-      | inr later ↦ key_above k es all.1 e later
-    ]
-
-abbrev NamedAll : List (NameKey × Kept) → Type 0
-NamedAll es = (e : NameKey × Kept) → Contains es e → name_of e.1.request ≡ key_name e.0
-
-entries_in_order : (es : List (NameKey × Kept)) → IsStrictlySortedBy key_cmp (keys_of es) → NamedAll es → AreInOrder KeptPrecedes (values_of es)
+entries_in_order : (es : List (RequestName × Kept)) → IsStrictlySortedBy name_cmp (keys_of es) → NamedAll es → AreInOrder SummaryPrecedes (values_of es)
 entries_in_order [] sorted named = tt
 entries_in_order (e ∷ es) sorted named = (
-  behind_from_each KeptPrecedes e.1 (values_of es) (λ k m.
+  behind_from_each SummaryPrecedes e.1 (values_of es) (λ k m.
       let found = value_from_entry es k m in
-      let less = key_above e.0 es (sorted_head key_cmp e.0 (keys_of es) sorted) found.0 found.1 in
-      let before : NamePrecedes (key_name e.0) (key_name found.0.0) = lower_by_cases (key_name e.0) (key_name found.0.0) (slice_cmp nat_cmp e.0.by found.0.0.by) refl less in
-      let here : name_of e.1.request ≡ key_name e.0 = named e (Contains-head e es) in
-      let there : name_of found.0.1.request ≡ key_name found.0.0 = named found.0 (Contains-behind e es found.0 found.1) in
-      subst (KeptPrecedes e.1) found.2 (subst (λ (n : RequestName). NamePrecedes n (name_of found.0.1.request)) (sym here) (subst (NamePrecedes (key_name e.0)) (sym there) before))),
-  entries_in_order es (sorted_tail key_cmp e.0 (keys_of es) sorted) (λ f m. named f (Contains-behind e es f m)),
+      let less = name_above e.0 es (sorted_head name_cmp e.0 (keys_of es) sorted) found.0 found.1 in
+      let before : NamePrecedes e.0 found.0.0 = lower_from_less e.0 found.0.0 less in
+      let here : name_of e.1.request ≡ e.0 = named e (Contains-head e es) in
+      let there : name_of found.0.1.request ≡ found.0.0 = named found.0 (Contains-behind e es found.0 found.1) in
+      subst (SummaryPrecedes e.1) found.2 (subst (λ (n : RequestName). NamePrecedes n (name_of found.0.1.request)) (sym here) (subst (NamePrecedes e.0) (sym there) before))),
+  entries_in_order es (sorted_tail name_cmp e.0 (keys_of es) sorted) (λ f m. named f (Contains-behind e es f m)),
 )
 
-module _ (set : List Message) (m : BTreeMap NameKey Kept) (g : Gathers set m) where
-  entry_kept : (e : NameKey × Kept) → Contains m.entries e → IsSummaryOf set (key_name e.0) e.1
+module _ (set : List Message) (m : BTreeMap RequestName Kept) (g : Gathers set m) where
+  entry_kept : (e : RequestName × Kept) → Contains m.entries e → IsSummaryOf set e.0 e.1
   entry_kept e among =
-      let place = get_from_Contains m.entries e among in
-      let found : at_name m (key_name e.0) ≡ Some e.1 = btree_map_get_place keys_total m place.0 e.0 e.1 g.ordered place.1 in
-      subst (IsAt set (key_name e.0)) found (g.each (key_name e.0))
+      subst (IsAt set e.0) (at_entry m g.ordered e among) (g.each e.0)
 
-  pub kept_in_order : AreInOrder KeptPrecedes (values m)
+  pub kept_in_order : AreInOrder SummaryPrecedes (values m)
   kept_in_order =
-      entries_in_order m.entries g.ordered (λ e among. let is = entry_kept e among in name_from_named e.1.request (key_name e.0) is.named)
+      entries_in_order m.entries g.ordered (λ e among. let is = entry_kept e among in name_from_named e.1.request e.0 is.named)
 
   pub kept_stands : (k : Kept) → Contains (values m) k → StandsFor set k
   kept_stands k among =
@@ -111,9 +77,7 @@ module _ (set : List Message) (m : BTreeMap NameKey Kept) (g : Gathers set m) wh
     where
       at : (o : Option Kept) → at_name m (name_of q) ≡ o → IsAt set (name_of q) o → (k : Kept) × Contains (values m) k × IsNamed k.request (name_of q)
       at None was nobody = absurd (nobody q asked (refl, refl))
-      at (Some k) was is =
-          let place = place_from_lookup (is_at (λ (x : NameKey). ordering_then (slice_cmp nat_cmp q.by x.by) (nat_cmp q.no x.no))) m.entries k was in
-          (k, entry_value m.entries (place.1, k) (Contains-from_get m.entries place.0 (place.1, k) place.2), is.named)
+      at (Some k) was is = (k, value_at m (name_of q) k was, is.named)
 
   -- a request that stands alone is that of a summary
   pub kept_alone : (q : RequestFields) → StandsAlone set q → (k : Kept) × Contains (values m) k × (k.request ≡ q)
@@ -123,19 +87,19 @@ module _ (set : List Message) (m : BTreeMap NameKey Kept) (g : Gathers set m) wh
 
 -- Summaries of the set, in the order of their names; a request that stands alone is that of one of them.
 pub record IsRoll (set : List Message) (ks : List Kept) : Type 0 where
-  pub in_order : AreInOrder KeptPrecedes ks
+  pub in_order : AreInOrder SummaryPrecedes ks
   pub stands : (k : Kept) → Contains ks k → StandsFor set k
   pub alone : (q : RequestFields) → StandsAlone set q → (k : Kept) × Contains ks k × (k.request ≡ q)
 
-pub is_roll : (set : List Message) (m : BTreeMap NameKey Kept) → Gathers set m → IsRoll set (values m)
+pub is_roll : (set : List Message) (m : BTreeMap RequestName Kept) → Gathers set m → IsRoll set (values m)
 is_roll set m g =
     record { in_order = kept_in_order set m g; stands = kept_stands set m g; alone = kept_alone set m g }
 
 -- ---- one turn of a loop over them
 
-pub turn_split : (seen rest next all : List Kept) (k : Kept) → seen ++ rest ≡ all → rest ≡ k ∷ next → (seen ++ k ∷ []) ++ next ≡ all
-turn_split seen rest next all k split steps =
-    append_assoc seen (k ∷ []) next ∙ ap (λ (ks : List Kept). seen ++ ks) (sym steps) ∙ split
+pub turn_split : {X : Type 0} (seen rest next all : List X) (k : X) → seen ++ rest ≡ all → rest ≡ k ∷ next → (seen ++ k ∷ []) ++ next ≡ all
+turn_split {X} seen rest next all k split steps =
+    append_assoc seen (k ∷ []) next ∙ ap (λ (ks : List X). seen ++ ks) (sym steps) ∙ split
 
 pub turn_among : (seen rest next all : List Kept) (k : Kept) → seen ++ rest ≡ all → rest ≡ k ∷ next → Contains all k
 turn_among seen rest next all k split steps =
@@ -189,10 +153,10 @@ module _ {X : Type 0} (f : RosterFields Cmnd) (set : List Message) (give : Reque
 
   -- in the order of their names, and of what each gives
   module _ (P : X → X → Type 0) (name : X → RequestName) (own : (q : RequestFields) (status : Status) (x : X) → Contains (give q status) x → name x ≡ name_of q) (each : (q : RequestFields) (status : Status) → AreInOrder P (give q status)) (before : (x y : X) → NamePrecedes (name x) (name y) → P x y) where
-    pub given_in_order : (ks : List Kept) (xs : List X) → AreInOrder KeptPrecedes ks → Give f set give ks xs → AreInOrder P xs
+    pub given_in_order : (ks : List Kept) (xs : List X) → AreInOrder SummaryPrecedes ks → Give f set give ks xs → AreInOrder P xs
     given_in_order [] xs o g = subst (AreInOrder P) (sym g) tt
     given_in_order (k ∷ ks) xs o g =
         subst (AreInOrder P) (sym g.4) (ordered_both P (give k.request g.1) g.0 (each k.request g.1) (given_in_order ks g.0 o.1 g.2) (λ x y mx my.
         let found = given_by ks g.0 g.2 y my in
-        let names : NamePrecedes (name_of k.request) (name_of found.k.request) = behind_each KeptPrecedes k ks o.0 found.k found.among in
+        let names : NamePrecedes (name_of k.request) (name_of found.k.request) = behind_each SummaryPrecedes k ks o.0 found.k found.among in
         before x y (subst (λ (n : RequestName). NamePrecedes n (name y)) (sym (own k.request g.1 x mx)) (subst (NamePrecedes (name_of k.request)) (sym (own found.k.request found.status y found.given)) names))))

@@ -7,22 +7,24 @@ use Rattle.std.proofs.lemmas.List.Elements.{Contains-append_left}
 use Rattle.sudo_words.specs.declared.cmnd.Cmnd.{Cmnd}
 use Rattle.sudo_policy.specs.declared.entry.Rule.{Rule}
 use Rattle.messages.specs.Fields.{RequestFields}
-use Rattle.messages.specs.Names.{RequestName, name_of}
+use Rattle.messages.specs.Names.{name_of}
+use Rattle.messages.specs.declared.request_name.RequestName.{RequestName}
 use Rattle.messages.specs.declared.message.Message.{Message}
 use Rattle.roster.specs.Fields.{RosterFields}
-use Rattle.grants.specs.private.Given.{rules_for}
-use Rattle.grants.specs.GrantRules.{grant_rule}
+use Rattle.grants.specs.GrantRules.{grant_rule, rules_for}
 use Rattle.grants.specs.Statuses.{IsFirstMoment, IsLastMoment, IsStatus}
 use Rattle.grants.specs.Summaries.{Kept, StandsFor}
 use Rattle.grants.specs.declared.outcome.Status.{Status}
 use Rattle.grants.specs.declared.outcome.Status.TheVariants.{Disputed, Lapsed, Refused, Waiting, Void, Granted}
 use Rattle.grants.specs.declared.outcome.Window.{Window}
-use Rattle.desk_outcomes.specs.Gathered.{Give}
+use Rattle.desk_outcomes.specs.Summaries.{SummaryPrecedes}
+use Rattle.desk_outcomes.specs.private.Behind.{rules_left}
+use Rattle.desk_outcomes.specs.private.InTurn.{Give}
+use Rattle.messages.specs.Order.{AllAfter, AreInOrder}
 use Rattle.desk_outcomes.specs.HostFile.{Line, IsLine, LinePrecedes, AreLines}
-use Rattle.desk_outcomes.specs.LinesLeft.{lines_left, rules_left, stays}
-use Rattle.desk_outcomes.specs.Order.{AllAfter, AreInOrder}
+use Rattle.desk_outcomes.specs.LinesLeft.{lines_left, stays}
 use Rattle.desk_outcomes.proofs.Filters.{kept, left_in_order, left_of_given, left_of_map, passes, was_there}
-use Rattle.desk_outcomes.proofs.GivenLists.{IsRoll, KeptPrecedes, given_by, given_in_order, gives}
+use Rattle.desk_outcomes.proofs.GivenLists.{IsRoll, given_by, given_in_order, gives}
 use Rattle.desk_outcomes.proofs.Membership.{no_member, Contains-head, Contains-behind, Contains-cases, member_from_test, test_from_member}
 use Rattle.desk_outcomes.proofs.Orders.{lines_strict, no_longer, ordered_front}
 
@@ -192,7 +194,7 @@ granted_name f set q first last a b = record {
 }
 
 module _ (f : RosterFields Cmnd) (set : List Message) (host : List ℕ) where
-  pub lines_ordered : (ks : List Kept) (lines : List Line) → AreInOrder KeptPrecedes ks → Give f set (lines_for host) ks lines → AreInOrder LinePrecedes lines
+  pub lines_ordered : (ks : List Kept) (lines : List Line) → AreInOrder SummaryPrecedes ks → Give f set (lines_for host) ks lines → AreInOrder LinePrecedes lines
   lines_ordered ks lines o g =
       given_in_order f set (lines_for host) LinePrecedes (λ (l : Line). l.name) (own_name host) (each_ordered host) (λ x y b. inl b) ks lines o g
 
@@ -252,7 +254,7 @@ module _ (f : RosterFields Cmnd) (set : List Message) (host : List ℕ) where
     pub some_lines : (after : Option ℕ) (seen rest : List Kept) (rules : List Rule) (all : List Line) → seen ++ rest ≡ ks → Give f set (rules_left after host) seen rules → AreLines f set host all → length rules ≤ length (lines_left after all)
     some_lines after seen rest rules all split given are =
         let found = left_given f set host after seen rules given in
-        let ordered = ordered_front KeptPrecedes seen rest (subst (AreInOrder KeptPrecedes) (sym split) roll.in_order) in
+        let ordered = ordered_front SummaryPrecedes seen rest (subst (AreInOrder SummaryPrecedes) (sym split) roll.in_order) in
         let stands : (k : Kept) → Contains seen k → StandsFor set k = λ k h. roll.stands k (subst (λ (l : List Kept). Contains l k) split (Contains-append_left seen rest k h)) in
         let p : Line → Bool = λ line. stays after line.rule in
         let inside : (line : Line) → Contains (lines_left after found.0) line → Contains (lines_left after all) line = λ line h. kept p all line (are.all line (each_line seen found.0 stands found.1 line (was_there p found.0 line h))) (passes p found.0 line h) in

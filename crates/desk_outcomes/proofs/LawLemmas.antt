@@ -5,7 +5,7 @@ use Rattle.std.proofs.lemmas.Bool.{cases_Bool, leb-true, leb-false}
 use Rattle.std.proofs.lemmas.List.Elements.{Contains-append_left, Contains-push, Contains-push_cases}
 use Rattle.sudo_words.specs.declared.cmnd.Cmnd.{Cmnd}
 use Rattle.messages.specs.Fields.{RequestFields, VerdictFields}
-use Rattle.messages.specs.Names.{IsAbout, SameMessages, SameName, name_of}
+use Rattle.messages.specs.Names.{IsAbout, name_meant, name_of, NobodyAsks, SameMessages, SameName}
 use Rattle.messages.specs.Wire.{IsMessage, wire}
 use Rattle.messages.specs.declared.message.Message.{Message}
 use Rattle.messages.specs.declared.message.Message.TheVariants.{Request, Verdict}
@@ -20,8 +20,7 @@ use Rattle.grants.specs.Verdicts.{ApprovedBy, HasGiven, IsComplete, IsGiven, IsR
 use Rattle.grants.specs.declared.outcome.Status.TheVariants.{Disputed, Refused}
 use Rattle.grants.proofs.CountingLaws.{asked_before, conflicting_duty, given_after, given_before, own_verdict}
 use Rattle.grants.proofs.StatusLaws.{at_least_more}
-use Rattle.desk_outcomes.specs.Outcomes.{NobodyAsks}
-use Rattle.desk_outcomes.specs.Parked.{AreParked, name_meant}
+use Rattle.desk_outcomes.specs.Parked.{AreParked}
 use Rattle.desk_outcomes.specs.Same.{GrantTheSame}
 use Rattle.desk_outcomes.specs.Uncounted.{HoldsConflicting, MayNotRevoke}
 use Rattle.desk_outcomes.proofs.SetLemmas.{Alike, alike_from_given, alike_sets, covers_alike, file_after_alike, file_alike, live_alike, outcome_alike, turned, window_alike}

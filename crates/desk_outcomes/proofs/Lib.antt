@@ -3,6 +3,7 @@ pub mod Orders
 pub mod NameMaps
 pub mod Standing
 pub mod GatherLemmas
+pub mod WaitLemmas
 pub mod GivenLists
 pub mod Filters
 pub mod Windows
@@ -17,3 +18,5 @@ pub mod LawLemmas
 pub mod Existence
 pub mod SummaryLemmas
 pub mod PastGrants
+pub mod ByNameLemmas
+mod WorkedGrant

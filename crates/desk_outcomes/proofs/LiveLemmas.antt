@@ -8,14 +8,14 @@ use Rattle.messages.specs.Fields.{RequestFields}
 use Rattle.messages.specs.Names.{name_of}
 use Rattle.messages.specs.declared.message.Message.{Message}
 use Rattle.roster.specs.Fields.{RosterFields}
-use Rattle.grants.specs.Statuses.{IsStatus}
+use Rattle.grants.specs.Statuses.{IsStatus, window_at}
 use Rattle.grants.specs.Summaries.{Kept, StandsFor}
 use Rattle.grants.specs.declared.outcome.Status.{Status}
 use Rattle.grants.specs.declared.outcome.Status.TheVariants.{Disputed, Lapsed, Refused, Waiting, Void, Granted}
 use Rattle.grants.specs.declared.outcome.Window.{Window}
 use Rattle.grants.proofs.StatusLaws.{one_status}
-use Rattle.desk_outcomes.specs.Gathered.{Give, grant_of, grants_of, live_for, window_at}
-use Rattle.desk_outcomes.specs.Order.{AreInOrder}
+use Rattle.desk_outcomes.specs.private.InTurn.{Give, grant_of, grants_of, live_for}
+use Rattle.messages.specs.Order.{AreInOrder}
 use Rattle.desk_outcomes.specs.Outcomes.{AreLive, IsLive, LiveGrant, LivePrecedes}
 use Rattle.desk_outcomes.proofs.GivenLists.{IsRoll, given_by, given_in_order, gives}
 use Rattle.desk_outcomes.proofs.HostLines.{granted_moments, granted_name}

@@ -1,15 +1,10 @@
 -- Lists in a strict order are determined by their elements.
-use Rattle.std.proofs.Common.{◌≡◌, ℕ, ◌≤◌, true, List, [], ◌∷◌, ◌++◌, length, refl, sym, ap, ◌∙◌, subst, arith, inl, inr, ◌⊎◌}
-use Rattle.std.specs.Cmp.Lexicographic.{slice_cmp}
+use Rattle.std.proofs.Common.{◌≡◌, ◌≤◌, List, [], ◌∷◌, ◌++◌, length, refl, sym, ◌∙◌, subst, arith, inl, inr, ◌⊎◌}
 use Rattle.std.specs.List.{Contains}
-use Rattle.std.specs.Ordering.{nat_cmp, is_lt, ordering_reverse}
-use Rattle.std.specs.declared.cmp.Ordering.{Ordering}
-use Rattle.std.specs.declared.cmp.Ordering.TheVariants.{Less, Equal, Greater}
-use Rattle.std.proofs.lemmas.Cmp.{nat_list_cmp_total}
-use Rattle.messages.specs.Names.{RequestName}
+use Rattle.messages.specs.Order.{AllAfter, AreInOrder}
 use Rattle.desk_outcomes.specs.HostFile.{Line, LinePrecedes}
-use Rattle.desk_outcomes.specs.Order.{AllAfter, AreInOrder, NamePrecedes, TextPrecedes}
 use Rattle.desk_outcomes.specs.Outcomes.{LiveGrant, LivePrecedes}
+use Rattle.messages.proofs.NameOrder.{names_strict, not_precede_same}
 use Rattle.desk_outcomes.proofs.Membership.{no_member, Contains-head, Contains-behind, Contains-cases}
 
 -- ---- any order
@@ -90,32 +85,7 @@ module _ {X : Type 0} (P : X → X → Type 0) (strict : (a b : X) → P a b →
             omega (arith, shorter)
       ]
 
--- ---- texts, names, lines and grants
-
-less_from_test : (o : Ordering) → is_lt o ≡ true → o ≡ Less
-less_from_test Less h = refl
-less_from_test Equal h = absurd cc
-less_from_test Greater h = absurd cc
-
-pub texts_strict : (a b : List ℕ) → TextPrecedes a b → TextPrecedes b a → ⊥
-texts_strict a b f g =
-    let first : slice_cmp nat_cmp a b ≡ Less = less_from_test (slice_cmp nat_cmp a b) f in
-    let second : slice_cmp nat_cmp b a ≡ Less = less_from_test (slice_cmp nat_cmp b a) g in
-    let turned : slice_cmp nat_cmp a b ≡ ordering_reverse (slice_cmp nat_cmp b a) = nat_list_cmp_total.antisymm a b in
-    let wrong : Less ≡ ordering_reverse Less = sym first ∙ turned ∙ ap ordering_reverse second in
-    cc
-
-not_before_same : (a b : List ℕ) → TextPrecedes a b → a ≡ b → ⊥
-not_before_same a b f e = let self : TextPrecedes a a = subst (TextPrecedes a) (sym e) f in texts_strict a a self self
-
-pub names_strict : (a b : RequestName) → NamePrecedes a b → NamePrecedes b a → ⊥
-names_strict a b (inl f) (inl g) = texts_strict a.by b.by f g
-names_strict a b (inl f) (inr g) = not_before_same a.by b.by f (sym g.0)
-names_strict a b (inr f) (inl g) = not_before_same b.by a.by g (sym f.0)
-names_strict a b (inr f) (inr g) = omega (arith, f.1, g.1)
-
-not_precede_same : (a b : RequestName) → NamePrecedes a b → a ≡ b → ⊥
-not_precede_same a b f e = let self : NamePrecedes a a = subst (NamePrecedes a) (sym e) f in names_strict a a self self
+-- ---- lines and grants
 
 pub lines_strict : (a b : Line) → LinePrecedes a b → LinePrecedes b a → ⊥
 lines_strict a b (inl f) (inl g) = names_strict a.name b.name f g

@@ -3,7 +3,8 @@ use Rattle.std.proofs.Common.{◌≡◌, ℕ, List, Option, Some, None, refl, sy
 use Rattle.std.specs.List.{Contains}
 use Rattle.sudo_words.specs.declared.cmnd.Cmnd.{Cmnd}
 use Rattle.messages.specs.Fields.{RequestFields, VerdictFields}
-use Rattle.messages.specs.Names.{RequestName, SameMessages}
+use Rattle.messages.specs.Names.{NobodyAsks, SameMessages}
+use Rattle.messages.specs.declared.request_name.RequestName.{RequestName}
 use Rattle.messages.specs.declared.message.Message.{Message}
 use Rattle.messages.specs.declared.message.Message.TheVariants.{Request, Verdict}
 use Rattle.messages.specs.declared.kind.VerdictKind.{VerdictKind}
@@ -15,13 +16,14 @@ use Rattle.grants.specs.Verdicts.{IsComplete, IsGiven, IsRefused, RevokedBy}
 use Rattle.grants.specs.declared.outcome.Status.{Status}
 use Rattle.grants.specs.declared.outcome.Status.TheVariants.{Disputed, Lapsed, Refused, Waiting, Void, Granted}
 use Rattle.grants.proofs.StatusLaws as statuses
+use Rattle.messages.specs.Order.{TextPrecedes}
 use Rattle.desk_outcomes.specs.Covers.{Covers}
 use Rattle.desk_outcomes.specs.HostFile.{Line, IsLine, AreLines, IsHostFile, IsHostFileAfter}
 use Rattle.desk_outcomes.specs.LinesLeft.{IsFileLeft}
-use Rattle.desk_outcomes.specs.Outcomes.{AreLive, ComesTo, IsLive, LiveGrant, LivePrecedes, NobodyAsks}
+use Rattle.desk_outcomes.specs.Outcomes.{AreLive, ComesTo, IsLive, LiveGrant, LivePrecedes}
 use Rattle.desk_outcomes.specs.Parked.{AreParked, IsParked}
-use Rattle.desk_outcomes.specs.Order.{TextPrecedes}
-use Rattle.desk_outcomes.proofs.Orders.{live_strict, same_lists, texts_strict}
+use Rattle.messages.proofs.NameOrder.{texts_strict}
+use Rattle.desk_outcomes.proofs.Orders.{live_strict, same_lists}
 
 -- ---- two sets that grant the same
 

@@ -3,7 +3,8 @@ use Rattle.std.proofs.Common.{◌≡◌, List, [], ◌∷◌, ◌++◌, refl, sy
 use Rattle.std.specs.List.{Contains}
 use Rattle.std.proofs.lemmas.List.Elements.{Contains-append_left, Contains-push_cases}
 use Rattle.messages.specs.Fields.{RequestFields}
-use Rattle.messages.specs.Names.{RequestName, IsNamed, SameMessages, SameName, name_of}
+use Rattle.messages.specs.Names.{IsNamed, name_meant, name_of, SameMessages, SameName}
+use Rattle.messages.specs.declared.request_name.RequestName.{RequestName}
 use Rattle.messages.specs.declared.message.Message.{Message}
 use Rattle.messages.specs.declared.message.Message.TheVariants.{Request, Verdict}
 use Rattle.messages.specs.declared.kind.VerdictKind.{VerdictKind}
@@ -11,7 +12,6 @@ use Rattle.messages.specs.declared.kind.VerdictKind.TheVariants.{Approve, Refuse
 use Rattle.grants.specs.declared.marks.Mark.{Mark}
 use Rattle.grants.specs.Marks.{Keep, verdict_of}
 use Rattle.grants.specs.Summaries.{Kept, StandsFor}
-use Rattle.desk_outcomes.specs.Parked.{name_meant}
 
 -- the message asks, or is about what is asked, under the name
 abbrev pub Mentions : Message → RequestName → Type 0

@@ -8,12 +8,13 @@ use Rattle.sudo_policy.specs.declared.entry.Entry.TheVariants as entries
 use Rattle.sudo_policy.specs.Printing.{canon}
 use Rattle.sudo_decide.specs.Decision.{is_not_after}
 use Rattle.messages.specs.Fields.{RequestFields}
-use Rattle.messages.specs.Names.{RequestName, name_of}
+use Rattle.messages.specs.Names.{NamePrecedes, name_of}
+use Rattle.messages.specs.declared.request_name.RequestName.{RequestName}
 use Rattle.messages.specs.declared.message.Message.{Message}
 use Rattle.roster.specs.Fields.{RosterFields}
 use Rattle.grants.specs.GrantRules.{grant_rule}
 use Rattle.grants.specs.Statuses.{IsFirstMoment, IsLastMoment}
-use Rattle.desk_outcomes.specs.Order.{AreInOrder, NamePrecedes}
+use Rattle.messages.specs.Order.{AreInOrder}
 
 -- a line's place in the file, by the request's name and the command's place in it, and its rule
 pub record Line : Type 0 where

@@ -6,8 +6,7 @@ pub mod Rights
 pub mod Outcomes
 pub mod Parked
 pub mod Summaries
--- what is known of the messages, by name
-pub mod Names
+-- what is known of the messages
 pub mod Gathered
 -- a host's lines and file, the whole or that after a moment
 pub mod LinesLeft
@@ -15,3 +14,6 @@ pub mod LinesLeft
 pub mod Same
 pub mod Alike
 pub mod Uncounted
+-- a worked case
+pub mod WorkedSet
+pub mod private

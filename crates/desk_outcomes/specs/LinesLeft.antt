@@ -1,33 +1,21 @@
 -- What is left of a host's lines: all of them, or those that end at a moment or later.
-use Rattle.std.specs.Prelude.{◌≡◌, ◌⊎◌, ℕ, ◌<◌, ◌≤◌, Bool, true, List, ◌++◌, filter, length, map, Option, Some, None}
-use Rattle.std.specs.List.{AllByRecursion}
+use Rattle.std.specs.Prelude.{◌≡◌, ◌⊎◌, ℕ, ◌<◌, Bool, true, List, filter, length, Option, Some, None}
 use Rattle.sudo_words.specs.declared.cmnd.Cmnd.{Cmnd}
 use Rattle.sudo_policy.specs.declared.entry.Entry.{Entry}
-use Rattle.sudo_policy.specs.declared.entry.Entry.TheVariants as entries
 use Rattle.sudo_policy.specs.declared.entry.Rule.{Rule}
 use Rattle.sudo_policy.specs.Printing.{canon}
 use Rattle.sudo_policy.specs.Spelling.{Spells}
 use Rattle.sudo_decide.specs.Decision.{is_not_after}
-use Rattle.messages.specs.Fields.{RequestFields}
 use Rattle.messages.specs.declared.message.Message.{Message}
 use Rattle.roster.specs.Fields.{RosterFields}
-use Rattle.grants.specs.private.Given.{rules_for}
-use Rattle.grants.specs.GrantRules.{IsGrantRule}
-use Rattle.grants.specs.Summaries.{Kept}
 use Rattle.grants.specs.declared.host_fault.HostFault.{HostFault}
 use Rattle.grants.specs.declared.host_fault.HostFault.TheVariants.{TooManyRules, NoMemory}
-use Rattle.grants.specs.declared.outcome.Status.{Status}
-use Rattle.desk_outcomes.specs.Gathered.{Give}
 use Rattle.desk_outcomes.specs.HostFile.{Line, AreLines, with_lines}
 
 -- without a moment each rule stays
 abbrev pub stays : Option ℕ → Rule → Bool
 stays None rule = true
 stays (Some moment) rule = is_not_after rule.not_after moment
-
--- of the rules that a request gives the host
-abbrev pub rules_left : Option ℕ → List ℕ → RequestFields → Status → List Rule
-rules_left after host q status = filter (stays after) (rules_for host q status)
 
 -- of the host's lines
 abbrev pub lines_left : Option ℕ → List Line → List Line
@@ -39,14 +27,6 @@ pub record IsFileLeft (f : RosterFields Cmnd) (base : List Entry) (messages : Li
   pub lines_are : AreLines f messages host lines
   pub text_is : text ≡ canon (with_lines base (lines_left after lines))
   pub spelled : Spells text (with_lines base (lines_left after lines))
-
--- After the text stand the lines that are left of the summaries' requests in turn: each is of a rule of a grant, and they are not too many.
-pub record AreBehind (f : RosterFields Cmnd) (messages : List Message) (host : List ℕ) (after : Option ℕ) (summaries : List Kept) (old new : List ℕ) : Type 0 where
-  pub rules : List Rule
-  pub given : Give f messages (rules_left after host) summaries rules
-  pub grants : AllByRecursion IsGrantRule rules
-  pub few : length rules ≤ 8_192
-  pub text_is : new ≡ old ++ canon (map entries.Rule rules)
 
 -- why there are no lines: want of memory, or too many are left
 abbrev pub IsPast : RosterFields Cmnd → List Message → List ℕ → Option ℕ → HostFault → Type 0

@@ -2,14 +2,15 @@
 use Rattle.std.specs.Prelude.{◌≡◌, ℕ, List, Contains, Option, Some, None}
 use Rattle.sudo_words.specs.declared.cmnd.Cmnd.{Cmnd}
 use Rattle.messages.specs.Fields.{RequestFields}
-use Rattle.messages.specs.Names.{RequestName, IsNamed}
+use Rattle.messages.specs.Names.{NamePrecedes, IsNamed}
+use Rattle.messages.specs.declared.request_name.RequestName.{RequestName}
+pub use Rattle.messages.specs.Names.{NobodyAsks}
 use Rattle.messages.specs.declared.message.Message.{Message}
 use Rattle.roster.specs.Fields.{RosterFields}
-pub use Rattle.grants.specs.Voices.{NobodyAsks}
 use Rattle.grants.specs.Statuses.{InWindow, IsFirstMoment, IsLastMoment, IsStatus}
 use Rattle.grants.specs.declared.outcome.Status.{Status}
 use Rattle.grants.specs.declared.outcome.Window.{Window}
-use Rattle.desk_outcomes.specs.Order.{AreInOrder, NamePrecedes}
+use Rattle.messages.specs.Order.{AreInOrder}
 
 -- ---- statuses
 

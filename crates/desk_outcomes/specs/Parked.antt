@@ -1,16 +1,12 @@
 -- Verdicts that wait for their request.
 use Rattle.std.specs.Prelude.{◌≡◌, ℕ, List, Contains}
 use Rattle.messages.specs.Fields.{VerdictFields}
-use Rattle.messages.specs.Names.{RequestName}
+use Rattle.messages.specs.Names.{NobodyAsks}
+pub use Rattle.messages.specs.Names.{name_meant}
 use Rattle.messages.specs.Wire.{wire}
 use Rattle.messages.specs.declared.message.Message.{Message}
 use Rattle.messages.specs.declared.message.Message.TheVariants.{Verdict}
-use Rattle.desk_outcomes.specs.Order.{AreInOrder, TextPrecedes}
-use Rattle.desk_outcomes.specs.Outcomes.{NobodyAsks}
-
--- the name of the request that a verdict is about
-abbrev pub name_meant : VerdictFields → RequestName
-name_meant v = record { by = v.of; no = v.no }
+use Rattle.messages.specs.Order.{AreInOrder, TextPrecedes}
 
 -- The set has the verdict, and no request that it is about.
 pub record IsParked (messages : List Message) (v : VerdictFields) : Type 0 where

@@ -1,11 +1,11 @@
 -- The summaries of a set of messages.
-use Rattle.std.specs.Prelude.{List, Contains}
+use Rattle.std.specs.Prelude.{◌≡◌, false, List, [], ◌∷◌, Contains}
 use Rattle.messages.specs.Fields.{RequestFields}
-use Rattle.messages.specs.Names.{IsNamed, name_of}
+use Rattle.messages.specs.Names.{IsNamed, NamePrecedes, SameName, name_of}
 use Rattle.messages.specs.declared.message.Message.{Message}
 use Rattle.messages.specs.declared.message.Message.TheVariants.{Request}
 use Rattle.grants.specs.Summaries.{Kept, StandsFor}
-use Rattle.desk_outcomes.specs.Order.{AreInOrder, NamePrecedes}
+use Rattle.messages.specs.Order.{AreInOrder}
 
 abbrev pub SummaryPrecedes : (a b : Kept) → Type 0
 SummaryPrecedes a b = NamePrecedes (name_of a.request) (name_of b.request)
@@ -15,3 +15,19 @@ pub record AreSummaries (messages : List Message) (list : List Kept) : Type 0 wh
   pub in_order : AreInOrder SummaryPrecedes list
   pub each : (k : Kept) → Contains list k → StandsFor messages k
   pub all : (q : RequestFields) → Contains messages (Request q) → (k : Kept) × Contains list k × IsNamed k.request (name_of q)
+
+-- Both are of one name and keep the same; where it is disputed they may keep either request.
+pub record KeepTheSame (a b : Kept) : Type 0 where
+  pub named : SameName a.request b.request
+  pub alone : a.is_disputed ≡ false → a.request ≡ b.request
+  pub disputed : a.is_disputed ≡ b.is_disputed
+  pub approvals : a.approvals ≡ b.approvals
+  pub refusals : a.refusals ≡ b.refusals
+  pub revocations : a.revocations ≡ b.revocations
+
+-- so it is of each two in turn, and neither list is longer
+abbrev pub AllKeepTheSame : (a b : List Kept) → Type 0
+AllKeepTheSame [] [] = Unit {0}
+AllKeepTheSame [] (l ∷ ls) = ⊥
+AllKeepTheSame (k ∷ ks) [] = ⊥
+AllKeepTheSame (k ∷ ks) (l ∷ ls) = KeepTheSame k l × AllKeepTheSame ks ls

@@ -1,62 +1,149 @@
-//! What is known of a set of messages, by the names of its requests, as one message after another joins it.
+//! What is known of a set of messages, as one message after another joins it.
 
-ghost use Rattle.std.specs.Prelude.{◌≡◌, List, [], ◌∷◌, ◌++◌, IfOk, OnOk, None};
-ghost use Rattle.messages.specs.Names.{RequestName as AnyName};
+ghost use Rattle.std.specs.Prelude.{◌≡◌, List, [], ◌∷◌, ◌++◌, map, Contains, IfOk, OnOk, OnErr, MatchResult, None};
+ghost use Rattle.std.specs.BTreeMap.{IsOrdered};
+ghost use Rattle.messages.specs.Fields.{VerdictFields};
+ghost use Rattle.messages.specs.Names.{IsAbout, name_cmp, name_of};
+ghost use Rattle.messages.specs.declared.request_name.RequestName.{RequestName as AnyName};
 ghost use Rattle.messages.specs.declared.message.Message.{Message as AnyMessage};
 ghost use Rattle.messages.specs.declared.message.Message.TheVariants as message_of;
-ghost use Rattle.grants.specs.Voices.{IsMeant, SpeakFor};
-ghost use Rattle.desk_outcomes.specs.Gathered.{AreGathered, AreNamed, SpeakAt};
-ghost use Rattle.desk_outcomes.specs.Names.{at_name, key_name};
+ghost use Rattle.grants.specs.Summaries.{StandsFor};
+ghost use Rattle.desk_outcomes.specs.Gathered.{AreGathered};
+ghost use Rattle.desk_outcomes.specs.private.ByName.{AreByName, IsByName, at_name, verdicts_at};
 
-use crate::naming::{NameKey, key_meant, key_of};
-use grants::{Summary, Voices, apply, ask_after, ask_again};
-use messages::{Message, Request, Verdict};
+use grants::{Summary, apply, ask, ask_again};
+use messages::{Message, Request, RequestName, Verdict};
 use std::alloc::Global;
 use std::collections::BTreeMap;
+use std::marker::Model;
 use sudo_words::NoMemory;
 
-/// What is known of a set of messages: of each name that somebody asks under a summary of the messages about it, and of each other
-/// what the verdicts on it say.
+/// What is known of a set of messages: a summary for each name that somebody asks under, and the verdicts that wait for their request.
+/// Both stand by name: a verdict is kept as it is until its request comes, and is part of the summary from then on.
 #[derive(Drop)]
 pub struct Gathered {
     pub(crate) alloc: Global,
-    pub(crate) summaries: BTreeMap<NameKey, Summary>,
-    pub(crate) waiting: BTreeMap<NameKey, Voices>,
+    pub(crate) summaries: BTreeMap<RequestName, Summary>,
+    pub(crate) waiting: BTreeMap<RequestName, Vec<Verdict>>,
 }
 
-/// Takes what the verdicts on a name say that came before its request.
-fn heard_before(alloc: Global, waiting: &mut BTreeMap<NameKey, Voices>, name: &NameKey) -> Voices
-    ensures said { (set : List AnyMessage) → SpeakAt set waiting.old (key_name name.now) → SpeakFor set (key_name name.now) result }
-    ensures taken { at_name waiting.new (key_name name.now) ≡ None }
-    ensures others { (other : AnyName) → (key_name name.now ≡ other → ⊥) → at_name waiting.new other ≡ at_name waiting.old other }
+impl Model for Gathered {
+    ghost use Rattle.std.specs.BTreeMap.{values};
+    ghost use Rattle.desk_outcomes.specs.Gathered.{Known};
+    ghost use Rattle.desk_outcomes.specs.private.ByName.{IsByName, in_turn};
+
+    ghost Value = { Known };
+
+    ghost view = { λ g. record { summaries = values g.summaries; waiting = in_turn (values g.waiting) } };
+
+    ghost invariant = { λ g. IsByName g.summaries g.waiting };
+}
+
+/// The verdicts that wait under a name.
+fn waited<'a>(waiting: &'a BTreeMap<RequestName, Vec<Verdict>>, name: &RequestName) -> &'a [Verdict]
+    ensures { result.now ≡ verdicts_at waiting.now name.now }
 {
-    match waiting.remove(name) {
-        Some(voices) => voices,
-        None => Voices::new(alloc),
+    match waiting.get(name) {
+        Some(verdicts) => verdicts,
+        None => &[],
     }
 }
 
-/// Adds a verdict to those that wait.
+/// The summary of a request with the verdicts that waited for it.
+fn first_of(alloc: Global, request: &Request, verdicts: &[Verdict]) -> Result<Summary, NoMemory>
+    requires { (v : VerdictFields) → Contains verdicts.now v → IsAbout request.now v }
+    ensures stands { IfOk result (StandsFor (message_of.Request request.now ∷ map (λ v. message_of.Verdict v) verdicts.now)) }
+    ensures same_request { IfOk result (λ s. s.request ≡ request.now) }
+{
+    let mut summary = ask(alloc, request)?;
+    for verdict in verdicts {
+        apply(&mut summary, verdict)?;
+    }
+    Ok(summary)
+}
+
+/// Adds the first request of its name: what waited for it is part of its summary, and waits no longer.
+fn put_first(
+    alloc: Global,
+    summaries: &mut BTreeMap<RequestName, Summary>,
+    waiting: &mut BTreeMap<RequestName, Vec<Verdict>>,
+    name: RequestName,
+    request: &Request,
+) -> Result<(), NoMemory>
+    requires known { IsByName summaries.old waiting.old }
+    requires named { name ≡ name_of request.now }
+    requires first { at_name summaries.old name ≡ None }
+    ensures { (set : List AnyMessage) → AreByName set summaries.old waiting.old
+        → MatchResult result (λ _. AreByName (set ++ message_of.Request request.now ∷ []) summaries.new waiting.new) (λ _. AreByName set summaries.new waiting.new) }
+{
+    let summary = first_of(alloc, request, waited(waiting, &name))?;
+    let settled = name.clone()?;
+    summaries.insert(name, summary)?;
+    let _part_of_it = waiting.remove(&settled);
+    Ok(())
+}
+
+/// Adds a request: to the summary of its name, or as the first of it.
+fn put_request(
+    alloc: Global,
+    summaries: &mut BTreeMap<RequestName, Summary>,
+    waiting: &mut BTreeMap<RequestName, Vec<Verdict>>,
+    request: &Request,
+) -> Result<(), NoMemory>
+    requires { IsByName summaries.old waiting.old }
+    ensures { (set : List AnyMessage) → AreByName set summaries.old waiting.old
+        → MatchResult result (λ _. AreByName (set ++ message_of.Request request.now ∷ []) summaries.new waiting.new) (λ _. AreByName set summaries.new waiting.new) }
+{
+    let name = request.name()?;
+    match summaries.get_mut(&name) {
+        Some(summary) => {
+            ask_again(summary, request);
+            Ok(())
+        }
+        None => put_first(alloc, summaries, waiting, name, request),
+    }
+}
+
+/// Adds a verdict to those that wait under its name.
 fn wait(
     alloc: Global,
-    waiting: &mut BTreeMap<NameKey, Voices>,
-    name: NameKey,
+    waiting: &mut BTreeMap<RequestName, Vec<Verdict>>,
+    name: RequestName,
     verdict: &Verdict,
 ) -> Result<(), NoMemory>
-    requires { IsMeant verdict.now (key_name name) }
-    ensures said { (set : List AnyMessage) → SpeakAt set waiting.old (key_name name)
-        → OnOk result (SpeakAt (set ++ message_of.Verdict verdict.now ∷ []) waiting.new (key_name name)) }
-    ensures others { (other : AnyName) → (key_name name ≡ other → ⊥) → OnOk result (at_name waiting.new other ≡ at_name waiting.old other) }
+    ensures waits { OnOk result (verdicts_at waiting.new name ≡ verdicts_at waiting.old name ++ verdict.now ∷ []) }
+    ensures others { (other : AnyName) → (name ≡ other → ⊥) → verdicts_at waiting.new other ≡ verdicts_at waiting.old other }
+    ensures err { OnErr result (verdicts_at waiting.new name ≡ verdicts_at waiting.old name) }
+    ensures ordered { IsOrdered name_cmp waiting.old → IsOrdered name_cmp waiting.new }
 {
+    let copy = verdict.clone()?;
     match waiting.get_mut(&name) {
-        Some(voices) => voices.hear(verdict)?,
+        Some(verdicts) => verdicts.push(copy)?,
         None => {
-            let mut voices = Voices::new(alloc);
-            voices.hear(verdict)?;
-            waiting.insert(name, voices)?;
+            let mut verdicts = Vec::new(alloc);
+            verdicts.push(copy)?;
+            waiting.insert(name, verdicts)?;
         }
     }
     Ok(())
+}
+
+/// Adds a verdict: to the summary of its request, or to those that wait.
+fn put_verdict(
+    alloc: Global,
+    summaries: &mut BTreeMap<RequestName, Summary>,
+    waiting: &mut BTreeMap<RequestName, Vec<Verdict>>,
+    verdict: &Verdict,
+) -> Result<(), NoMemory>
+    requires { IsByName summaries.old waiting.old }
+    ensures { (set : List AnyMessage) → AreByName set summaries.old waiting.old
+        → MatchResult result (λ _. AreByName (set ++ message_of.Verdict verdict.now ∷ []) summaries.new waiting.new) (λ _. AreByName set summaries.new waiting.new) }
+{
+    let name = verdict.name_meant()?;
+    match summaries.get_mut(&name) {
+        Some(summary) => apply(summary, verdict),
+        None => wait(alloc, waiting, name, verdict),
+    }
 }
 
 impl Gathered {
@@ -71,46 +158,25 @@ impl Gathered {
         }
     }
 
-    /// Adds a request: to the summary of its name, or as the first of it.
-    fn ask(&mut self, request: &Request) -> Result<(), NoMemory>
-        requires { AreNamed self.old.summaries }
-        ensures { (set : List AnyMessage) → AreGathered set self.old
-            → OnOk result (AreGathered (set ++ message_of.Request request.now ∷ []) self.new) }
-    {
-        let name = key_of(request)?;
-        match self.summaries.get_mut(&name) {
-            Some(summary) => ask_again(summary, request),
-            None => {
-                let voices = heard_before(self.alloc, &mut self.waiting, &name);
-                let summary = ask_after(request, voices)?;
-                self.summaries.insert(name, summary)?;
-            }
-        }
-        Ok(())
-    }
-
-    /// Adds a verdict: to the summary of its request, or to those that wait.
-    fn hear(&mut self, verdict: &Verdict) -> Result<(), NoMemory>
-        requires { AreNamed self.old.summaries }
-        ensures { (set : List AnyMessage) → AreGathered set self.old
-            → OnOk result (AreGathered (set ++ message_of.Verdict verdict.now ∷ []) self.new) }
-    {
-        let name = key_meant(verdict)?;
-        match self.summaries.get_mut(&name) {
-            Some(summary) => apply(summary, verdict),
-            None => wait(self.alloc, &mut self.waiting, name, verdict),
-        }
-    }
-
-    /// Adds a message: what is known is then that of the set with the message. Where memory runs out, it may be of neither set.
+    /// Adds a message: what is known is then that of the set with the message. Where memory runs out, it is still that of the set.
     pub fn take(&mut self, message: &Message) -> Result<(), NoMemory>
-        requires { AreNamed self.old.summaries }
-        ensures { (set : List AnyMessage) → AreGathered set self.old
+        ensures ok { (set : List AnyMessage) → AreGathered set self.old
             → OnOk result (AreGathered (set ++ message.now ∷ []) self.new) }
+        ensures err { (set : List AnyMessage) → AreGathered set self.old → OnErr result (AreGathered set self.new) }
     {
         match message {
-            Message::Request(request) => self.ask(request),
-            Message::Verdict(verdict) => self.hear(verdict),
+            Message::Request(request) => put_request(
+                self.alloc,
+                &mut self.summaries,
+                &mut self.waiting,
+                request,
+            ),
+            Message::Verdict(verdict) => put_verdict(
+                self.alloc,
+                &mut self.summaries,
+                &mut self.waiting,
+                verdict,
+            ),
         }
     }
 

@@ -4,7 +4,8 @@ ghost use Rattle.std.specs.Prelude.{◌≡◌, ◌≢◌, ◌↔◌, ◌<◌, �
 ghost use Rattle.sudo_words.specs.declared.cmnd.Cmnd.{Cmnd};
 ghost use Rattle.sudo_policy.specs.declared.entry.Entry.{Entry};
 ghost use Rattle.messages.specs.Fields.{RequestFields, VerdictFields};
-ghost use Rattle.messages.specs.Names.{RequestName as AnyName, IsAbout, SameMessages, SameName, name_of};
+ghost use Rattle.messages.specs.Names.{IsAbout, SameMessages, SameName, name_of};
+ghost use Rattle.messages.specs.declared.request_name.RequestName.{RequestName as AnyName};
 ghost use Rattle.messages.specs.Wire.{IsMessage, wire};
 ghost use Rattle.messages.specs.declared.message.Message.{Message};
 ghost use Rattle.messages.specs.declared.message.Message.TheVariants.{Request, Verdict};
@@ -15,6 +16,7 @@ ghost use Rattle.grants.specs.Admission.{AdmitsRequest};
 ghost use Rattle.grants.specs.Bases.{FitsBase};
 ghost use Rattle.grants.specs.Counting.{NeverCounts};
 ghost use Rattle.grants.specs.Statuses.{InWindow, IsStatus};
+ghost use Rattle.grants.specs.Summaries.{Kept};
 ghost use Rattle.grants.specs.Verdicts.{IsComplete, IsGiven, StandsAlone};
 ghost use Rattle.grants.specs.declared.outcome.Status.{Status};
 ghost use Rattle.grants.specs.declared.outcome.Status.TheVariants.{Disputed, Refused};
@@ -23,22 +25,26 @@ ghost use Rattle.desk_outcomes.specs.Outcomes.{AreLive, ComesTo, LiveGrant, Nobo
 ghost use Rattle.desk_outcomes.specs.Parked.{AreParked, name_meant};
 ghost use Rattle.desk_outcomes.specs.Rights.{GivesRights, GivesRightsAfter};
 ghost use Rattle.desk_outcomes.specs.Same.{GrantTheSame};
+ghost use Rattle.desk_outcomes.specs.Summaries.{AllKeepTheSame, AreSummaries};
 ghost use Rattle.desk_outcomes.specs.Uncounted.{HoldsConflicting, MayNotRevoke};
 
-/// Two lists of the same messages grant the same, and the same verdicts are parked: neither order nor repeats mean anything.
+/// Two lists of the same messages grant the same, the same verdicts are parked, and the same summaries are theirs: neither order nor
+/// repeats mean anything.
 pub fn order_free()
     ensures grants { (f : RosterFields Cmnd) (s t : List Message) → SameMessages s t → GrantTheSame f s t }
     ensures parked { (s t : List Message) (texts : List (List ℕ)) → SameMessages s t → AreParked s texts → AreParked t texts }
+    ensures summaries { (s t : List Message) (list : List Kept) → SameMessages s t → AreSummaries s list → AreSummaries t list }
 {}
 
-/// A set of messages gives a name one status, or none; a moment one list of grants; one list of parked texts; and a host one file
-/// after each base, and one after each moment.
+/// A set of messages gives a name one status, or none; a moment one list of grants; one list of parked texts; one list of summaries, but
+/// for which request a disputed one keeps; and a host one file after each base, and one after each moment.
 pub fn one_of_each()
     ensures status { (f : RosterFields Cmnd) (set : List Message) (name : AnyName) (a b : Option Status) →
         ComesTo f set name a → ComesTo f set name b → a ≡ b }
     ensures live { (f : RosterFields Cmnd) (set : List Message) (moment : ℕ) (a b : List LiveGrant) →
         AreLive f set moment a → AreLive f set moment b → a ≡ b }
     ensures parked { (set : List Message) (a b : List (List ℕ)) → AreParked set a → AreParked set b → a ≡ b }
+    ensures summaries { (set : List Message) (a b : List Kept) → AreSummaries set a → AreSummaries set b → AllKeepTheSame a b }
     ensures file { (f : RosterFields Cmnd) (base : List Entry) (set : List Message) (host a b : List ℕ) →
         IsHostFile f base set host a → IsHostFile f base set host b → a ≡ b }
     ensures file_after { (f : RosterFields Cmnd) (base : List Entry) (set : List Message) (host : List ℕ) (moment : ℕ) (a b : List ℕ) →
@@ -46,7 +52,7 @@ pub fn one_of_each()
 {}
 
 /// Each set of messages has them all, where a roster's text says who may do what: a name its status or none, a moment its grants,
-/// a host its lines and so its file after each base, the whole and that after each moment; and it has its parked texts.
+/// a host its lines and so its file after each base, the whole and that after each moment; and it has its parked texts and its summaries.
 pub fn each_has_one()
     ensures status { (text : List ℕ) (f : RosterFields Cmnd) (set : List Message) (name : AnyName) →
         IsRosterText text f → ((m : Message) → Contains set m → IsMessage m) → (o : Option Status) × ComesTo f set name o }
@@ -57,6 +63,8 @@ pub fn each_has_one()
     ensures file_after { (text : List ℕ) (f : RosterFields Cmnd) (base : List Entry) (set : List Message) (host : List ℕ) (moment : ℕ) →
         IsRosterText text f → ((m : Message) → Contains set m → IsMessage m) → (file : List ℕ) × IsHostFileAfter f base set host moment file }
     ensures parked { (set : List Message) → (texts : List (List ℕ)) × AreParked set texts }
+    ensures summaries { (set : List Message) →
+        ((m : Message) → Contains set m → IsMessage m) → (list : List Kept) × AreSummaries set list }
 {}
 
 /// What is a host's file gives its rights: read by the rules of sudoers(5) it allows what a grant of the set covers, and decides

@@ -5,13 +5,15 @@ ghost use Rattle.std.specs.BTreeMap.{values};
 ghost use Rattle.messages.specs.declared.message.Message.{Message as AnyMessage};
 ghost use Rattle.grants.specs.Bases.{FitsBase};
 ghost use Rattle.grants.specs.declared.host_fault.HostFault.TheVariants as fault;
-ghost use Rattle.desk_outcomes.specs.Gathered.{AreGathered, Gathers};
+ghost use Rattle.desk_outcomes.specs.Gathered.{AreGathered};
 ghost use Rattle.desk_outcomes.specs.HostFile.{Line, AreLines};
 ghost use Rattle.desk_outcomes.specs.LinesLeft as left;
+ghost use Rattle.desk_outcomes.specs.private.Behind.{AreBehind};
+ghost use Rattle.desk_outcomes.specs.private.ByName.{Gathers};
 
 use crate::gathering::Gathered;
-use crate::naming::NameKey;
 use grants::{HostFault, Summary, push_lines};
+use messages::RequestName;
 use roster::Roster;
 use std::alloc::Global;
 use std::collections::BTreeMap;
@@ -26,12 +28,12 @@ fn push_all(
     alloc: Global,
     text: &mut String,
     roster: &Roster,
-    summaries: &BTreeMap<NameKey, Summary>,
+    summaries: &BTreeMap<RequestName, Summary>,
     host: &HostName,
     after: &Option<Moment>,
 ) -> Result<(), HostFault>
     ensures ok { (set : List AnyMessage) → Gathers set summaries.now
-        → OnOk result (left.AreBehind roster.now.says set host.now after.now (values summaries.now) (string_bytes text.old) (string_bytes text.new)) }
+        → OnOk result (AreBehind roster.now.says set host.now after.now (values summaries.now) (string_bytes text.old) (string_bytes text.new)) }
     ensures err { (set : List AnyMessage) → Gathers set summaries.now → IfErr result (left.IsPast roster.now.says set host.now after.now) }
 {
     let mut count = 0;

@@ -6,11 +6,11 @@ mod gathering;
 mod grant_laws;
 mod host_file;
 mod live;
-mod naming;
 mod outcomes;
 mod parked;
 mod past_laws;
 mod summaries;
+mod worked;
 
 pub use gathering::Gathered;
 pub use grant_laws::{
@@ -19,8 +19,9 @@ pub use grant_laws::{
 };
 pub use host_file::host_file_in;
 pub use live::{Live, live_in};
-pub use naming::RequestName;
+pub use messages::RequestName;
 pub use outcomes::status_in;
 pub use parked::parked_in;
 pub use past_laws::past_grants_stay;
 pub use summaries::summaries_in;
+pub use worked::worked_set;

@@ -4,13 +4,14 @@ ghost use Rattle.std.specs.Prelude.{◌≡◌, List, IfOk, OnOk};
 ghost use Rattle.std.specs.BTreeMap.{values};
 ghost use Rattle.messages.specs.declared.message.Message.{Message as AnyMessage};
 ghost use Rattle.grants.specs.Summaries.{StandsFor};
-ghost use Rattle.desk_outcomes.specs.Gathered.{Adds, AreGathered, Gathers, Give, grant_of, live_for, window_at};
+ghost use Rattle.desk_outcomes.specs.Gathered.{AreGathered};
 ghost use Rattle.desk_outcomes.specs.Outcomes.{AreLive};
+ghost use Rattle.desk_outcomes.specs.private.ByName.{Gathers};
+ghost use Rattle.desk_outcomes.specs.private.InTurn.{Adds, Give, grant_of, live_for};
 
 use crate::gathering::Gathered;
-use crate::naming::{NameKey, RequestName};
-use grants::{Status, Summary, Window, status};
-use messages::Request;
+use grants::{Summary, Window, status};
+use messages::{Request, RequestName};
 use roster::Roster;
 use std::alloc::Global;
 use std::collections::BTreeMap;
@@ -41,23 +42,10 @@ fn grant(request: &Request, window: Window) -> Result<Live, NoMemory>
     ensures { IfOk result (λ l. l ≡ grant_of request.now window) }
 {
     Ok(Live {
-        name: RequestName {
-            by: request.by().clone()?,
-            no: request.no(),
-        },
+        name: request.name()?,
         ceiling: request.ceiling().clone()?,
         window,
     })
-}
-
-/// The window of what is granted, where it holds the moment.
-fn holding(status: Status, at: Moment) -> Option<Window>
-    ensures { result ≡ window_at at status }
-{
-    match status {
-        Status::Granted(window) if window.start <= at && at <= window.end => Some(window),
-        _ => None,
-    }
 }
 
 /// Adds the grant of a summary's request, where it is in force at the moment.
@@ -70,7 +58,7 @@ fn push_live(
     ensures { (set : List AnyMessage) → StandsFor set summary.now
         → OnOk result (Adds roster.now.says set (live_for at) summary.now list.old.items list.new.items) }
 {
-    let Some(window) = holding(status(roster, summary), at) else {
+    let Some(window) = status(roster, summary).window_at(at) else {
         return Ok(());
     };
     match summary.request() {
@@ -86,7 +74,7 @@ fn push_live(
 fn live_among(
     alloc: Global,
     roster: &Roster,
-    summaries: &BTreeMap<NameKey, Summary>,
+    summaries: &BTreeMap<RequestName, Summary>,
     at: Moment,
 ) -> Result<Vec<Live>, NoMemory>
     ensures { (set : List AnyMessage) → Gathers set summaries.now

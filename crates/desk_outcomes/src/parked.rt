@@ -1,58 +1,48 @@
 //! Verdicts that wait for their request.
 
-ghost use Rattle.std.specs.Prelude.{◌≡◌, ◌++◌, IfOk, OnOk, map, string_bytes};
-ghost use Rattle.desk_outcomes.specs.Gathered.{parked_for, parked_of};
+ghost use Rattle.std.specs.Prelude.{◌≡◌, ◌++◌, List, IfOk, OnOk, map, string_bytes};
+ghost use Rattle.std.specs.BTreeMap.{values};
+ghost use Rattle.messages.specs.Wire as wires;
+ghost use Rattle.messages.specs.declared.message.Message.{Message as AnyMessage};
+ghost use Rattle.desk_outcomes.specs.Gathered.{AreGathered};
 ghost use Rattle.desk_outcomes.specs.Parked.{AreParked};
+ghost use Rattle.desk_outcomes.specs.private.ByName.{in_turn};
 
 use crate::gathering::Gathered;
-use crate::naming::{NameKey, key_meant};
-use grants::Summary;
-use messages::{Message, text};
+use messages::{RequestName, Verdict, verdict_text};
 use std::alloc::Global;
 use std::collections::BTreeMap;
 use sudo_words::NoMemory;
 
-/// Adds the message's text, where it is a verdict without its request.
-fn push_parked(
-    alloc: Global,
-    texts: &mut Vec<String>,
-    asked: &BTreeMap<NameKey, Summary>,
-    message: &Message,
-) -> Result<(), NoMemory>
-    ensures { OnOk result (map string_bytes texts.new.items ≡ map string_bytes texts.old.items ++ parked_for asked.now message.now) }
+/// Adds the texts of the verdicts.
+fn push_texts(alloc: Global, texts: &mut Vec<String>, verdicts: &[Verdict]) -> Result<(), NoMemory>
+    ensures { OnOk result (map string_bytes texts.new.items ≡ map string_bytes texts.old.items ++ map wires.verdict_text verdicts.now) }
 {
-    let Message::Verdict(verdict) = message else {
-        return Ok(());
-    };
-    let name = key_meant(verdict)?;
-    if asked.contains_key(&name) {
-        return Ok(());
+    for verdict in verdicts {
+        texts.push(verdict_text(alloc, verdict)?)?;
     }
-    texts.push(text(alloc, message)?)?;
     Ok(())
 }
 
-/// The texts of the verdicts without their request, in the order of the set.
-fn parked_among(
+/// The texts of the verdicts that wait, by the names that they are about.
+fn texts_of(
     alloc: Global,
-    set: &[Message],
-    asked: &BTreeMap<NameKey, Summary>,
+    waiting: &BTreeMap<RequestName, Vec<Verdict>>,
 ) -> Result<Vec<String>, NoMemory>
-    ensures { IfOk result (λ texts. map string_bytes texts.items ≡ parked_of asked.now set.now) }
+    ensures { IfOk result (λ texts. map string_bytes texts.items ≡ map wires.verdict_text (in_turn (values waiting.now))) }
 {
     let mut texts = Vec::new(alloc);
-    for message in set {
-        push_parked(alloc, &mut texts, asked, message)?;
+    for verdicts in waiting.values() {
+        push_texts(alloc, &mut texts, verdicts)?;
     }
     Ok(texts)
 }
 
 /// The texts of the set's verdicts without their request, each once, in byte order.
-pub fn parked_in(alloc: Global, set: &[Message]) -> Result<Vec<String>, NoMemory>
-    ensures { IfOk result (λ texts. AreParked set.now (map string_bytes texts.items)) }
+pub fn parked_in(alloc: Global, gathered: &Gathered) -> Result<Vec<String>, NoMemory>
+    ensures { (set : List AnyMessage) → AreGathered set gathered.now → IfOk result (λ texts. AreParked set (map string_bytes texts.items)) }
 {
-    let gathered = Gathered::of(alloc, set)?;
-    let mut texts = parked_among(alloc, set, &gathered.summaries)?;
+    let mut texts = texts_of(alloc, &gathered.waiting)?;
     texts.sort_unstable();
     texts.dedup();
     Ok(texts)

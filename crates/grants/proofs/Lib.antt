@@ -11,7 +11,6 @@ pub mod SomeAnswer
 pub mod WorkedSite
 pub mod MarkLemmas
 pub mod StandLemmas
-pub mod VoiceLemmas
 pub mod FirstLemmas
 pub mod NthLemmas
 pub mod StatusLemmas

@@ -14,8 +14,8 @@ use Rattle.messages.specs.Fields.{RequestFields, IsRequest}
 use Rattle.messages.specs.Names.{IsNamed, name_of}
 use Rattle.messages.specs.declared.message.Message.{Message}
 use Rattle.roster.specs.Fields.{RosterFields}
-use Rattle.grants.specs.private.Given.{EndsInTime, rules_for}
-use Rattle.grants.specs.GrantRules.{AreRules, IsGrantRule, grant_rule}
+use Rattle.grants.specs.private.Given.{EndsInTime}
+use Rattle.grants.specs.GrantRules.{AreRules, IsGrantRule, grant_rule, rules_for}
 use Rattle.grants.specs.Statuses.{InWindow, IsFirstMoment, IsLastMoment, IsStatus}
 use Rattle.grants.specs.Summaries.{Kept, StandsFor}
 use Rattle.grants.specs.Verdicts.{StandsAlone}

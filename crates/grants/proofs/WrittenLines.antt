@@ -14,11 +14,12 @@ use Rattle.messages.specs.Fields.{RequestFields, IsRequest}
 use Rattle.messages.specs.Names.{name_of}
 use Rattle.messages.specs.declared.message.Message.{Message}
 use Rattle.roster.specs.Fields.{RosterFields}
-use Rattle.grants.specs.GrantRules.{IsGrantRule, grant_rule}
+use Rattle.grants.specs.GrantLines.{AreAdded, AreWritten, rules_left, stays}
+use Rattle.grants.specs.GrantRules.{IsGrantRule, grant_rule, rules_for}
 use Rattle.grants.specs.Statuses.{IsStatus}
 use Rattle.grants.specs.Summaries.{Kept, StandsFor}
-use Rattle.grants.specs.private.Given.{EndsInTime, rules_for}
-use Rattle.grants.specs.private.Lines.{AreAdded, AreWritten, is_left, lines_text, may_have, names, rules_left, stays, when, who}
+use Rattle.grants.specs.private.Given.{EndsInTime}
+use Rattle.grants.specs.private.Lines.{is_left, lines_text, may_have, names, when, who}
 use Rattle.grants.specs.declared.outcome.Status.{Status}
 use Rattle.grants.specs.declared.outcome.Status.TheVariants.{Disputed, Lapsed, Refused, Waiting, Void, Granted}
 use Rattle.grants.specs.declared.outcome.Window.{Window}

@@ -1,5 +1,7 @@
 -- The rules of a grant: one for each command of a request that is in force, on a host that it names.
-use Rattle.std.specs.Prelude.{◌≡◌, ℕ, Bool, true, false, List, [], ◌∷◌, Contains, Option, Some, IfSome, map}
+use Rattle.std.specs.Prelude.{◌≡◌, ℕ, Bool, true, false, if◌then◌else◌, List, [], ◌∷◌, Contains, Option, Some, IfSome, map}
+use Rattle.std.specs.List.{list_any}
+use Rattle.std.specs.Str.{bytes_eq}
 use Rattle.sudo_words.specs.Command.{IsLawful}
 use Rattle.sudo_words.specs.Moment.{IsMoment}
 use Rattle.sudo_words.specs.Word.{is_name, is_host_name}
@@ -9,9 +11,12 @@ use Rattle.sudo_policy.specs.declared.entry.Item.TheVariants as items
 use Rattle.sudo_policy.specs.declared.entry.CmndItem.TheVariants as cmnds
 use Rattle.sudo_policy.specs.declared.entry.Rule.{Rule}
 use Rattle.messages.specs.Fields.{RequestFields}
+use Rattle.messages.specs.Names.{name_of}
 use Rattle.messages.specs.declared.message.Message.{Message}
 use Rattle.roster.specs.Fields.{RosterFields}
-use Rattle.grants.specs.Statuses.{InWindow, IsFirstMoment, IsLastMoment}
+use Rattle.grants.specs.Statuses.{InWindow, IsFirstMoment, IsLastMoment, IsStatus}
+use Rattle.grants.specs.declared.outcome.Status.{Status}
+use Rattle.grants.specs.declared.outcome.Status.TheVariants.{Disputed, Lapsed, Refused, Waiting, Void, Granted}
 
 -- a list of one item, which is not negated
 abbrev pub one : {X : Type 0} → X → List (Signed X)
@@ -57,3 +62,20 @@ pub record AreRules (f : RosterFields Cmnd) (messages : List Message) (q : Reque
       → rules ≡ map (grant_rule host q first last) q.cmnds
   pub other_host : ¬ Contains q.hosts host → rules ≡ []
   pub never : ((moment : ℕ) → ¬ InWindow f messages q moment) → rules ≡ []
+
+-- ---- from what the request has come to
+
+abbrev pub rules_for : List ℕ → RequestFields → Status → List Rule
+rules_for host q Disputed = []
+rules_for host q Lapsed = []
+rules_for host q Refused = []
+rules_for host q Waiting = []
+rules_for host q Void = []
+rules_for host q (Granted w) =
+    if list_any (λ h. bytes_eq h host) q.hosts then map (grant_rule host q w.start w.end) q.cmnds else []
+
+-- the rules of what the set's messages come to
+pub record AreGiven (f : RosterFields Cmnd) (messages : List Message) (q : RequestFields) (host : List ℕ) (rules : List Rule) : Type 0 where
+  pub status : Status
+  pub status_is : IsStatus f messages (name_of q) status
+  pub rules_are : rules ≡ rules_for host q status

@@ -14,9 +14,9 @@ pub mod WorkedStatuses
 -- what a summary keeps of them
 pub mod Marks
 pub mod Summaries
-pub mod Voices
 -- the rules of a host's file
 pub mod GrantRules
+pub mod GrantLines
 pub mod Bases
 pub mod HostFaults
 pub mod private

@@ -1,13 +1,15 @@
 -- When a request's grant is in force, and what the messages about a name come to.
-use Rattle.std.specs.Prelude.{ℕ, ◌≤◌, List}
+use Rattle.std.specs.Prelude.{ℕ, ◌≤◌, nat_le, ◌&&◌, if◌then◌else◌, List, Option, Some, None}
 use Rattle.sudo_words.specs.declared.cmnd.Cmnd.{Cmnd}
 use Rattle.messages.specs.Fields.{RequestFields}
-use Rattle.messages.specs.Names.{RequestName, IsNamed}
+use Rattle.messages.specs.Names.{IsNamed}
+use Rattle.messages.specs.declared.request_name.RequestName.{RequestName}
 use Rattle.messages.specs.declared.message.Message.{Message}
 use Rattle.roster.specs.Fields.{RosterFields}
 use Rattle.grants.specs.Admission.{AdmitsRequest}
 use Rattle.grants.specs.Verdicts.{StandsAlone, IsDisputed, IsComplete, IsRefused, RevokedBy}
 use Rattle.grants.specs.declared.outcome.Status.{Status}
+use Rattle.grants.specs.declared.outcome.Window.{Window}
 use Rattle.grants.specs.declared.outcome.Status.TheVariants.{Disputed, Lapsed, Refused, Waiting, Void, Granted}
 
 -- ---- windows: the moments at which a request's grant is in force
@@ -69,3 +71,14 @@ IsStatus f messages name Waiting = IsAdmitted f messages name (λ q. (¬ IsRefus
 IsStatus f messages name Void = IsAdmitted f messages name (IsVoid f messages)
 IsStatus f messages name (Granted w) =
     IsAdmitted f messages name (λ q. IsFirstMoment f messages q w.start × IsLastMoment f messages q w.end)
+
+-- ---- what is in force at a moment
+
+-- the window of what is granted, where it holds the moment
+abbrev pub window_at : ℕ → Status → Option Window
+window_at at Disputed = None
+window_at at Lapsed = None
+window_at at Refused = None
+window_at at Waiting = None
+window_at at Void = None
+window_at at (Granted w) = if nat_le w.start at && nat_le at w.end then Some w else None

@@ -17,7 +17,6 @@ mod rules;
 mod status_laws;
 mod summary;
 mod summary_laws;
-mod voices;
 mod voters;
 mod within;
 mod within_laws;
@@ -42,6 +41,5 @@ pub use status_laws::{
 };
 pub use summary::{Summary, apply, ask, ask_again};
 pub use summary_laws::one_summary;
-pub use voices::{Voices, ask_after};
 pub use within::is_inside;
 pub use within_laws::{each_reaches_something, forms_of_inclusion, worked_inclusions};

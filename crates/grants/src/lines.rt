@@ -1,6 +1,6 @@
 //! The lines of a grant, written after a text: those of its rules, which it does not build.
 
-ghost use Rattle.std.specs.Prelude.{◌≡◌, ◌++◌, IfOk, List, OnOk, map, string_bytes, true};
+ghost use Rattle.std.specs.Prelude.{◌≡◌, ◌++◌, IfOk, List, OnErr, OnOk, map, string_bytes, true};
 ghost use Rattle.sudo_words.specs.Command.{IsLawful};
 ghost use Rattle.sudo_policy.specs.Printing.{line_text};
 ghost use Rattle.sudo_policy.specs.declared.entry.Entry.TheVariants as entries;
@@ -8,6 +8,7 @@ ghost use Rattle.messages.specs.Fields.{IsRequest};
 ghost use Rattle.messages.specs.Names.{name_of};
 ghost use Rattle.messages.specs.declared.message.Message.{Message as AnyMessage};
 ghost use Rattle.grants.specs.private.Lines as lines;
+ghost use Rattle.grants.specs.GrantLines.{AreAdded, AreWritten, rules_left};
 ghost use Rattle.grants.specs.GrantRules.{grant_rule};
 ghost use Rattle.grants.specs.Statuses.{IsStatus};
 ghost use Rattle.grants.specs.Summaries.{StandsFor};
@@ -72,7 +73,7 @@ fn push_commands(
     request: &Request,
     window: &Window,
 ) -> Result<usize, NoMemory>
-    ensures { IfOk result (λ count. lines.AreAdded (map (grant_rule host.now request.now window.now.start window.now.end) request.now.cmnds)
+    ensures { IfOk result (λ count. AreAdded (map (grant_rule host.now request.now window.now.start window.now.end) request.now.cmnds)
         (string_bytes text.old) (string_bytes text.new) count) }
 {
     for cmnd in request.cmnds() {
@@ -109,7 +110,7 @@ fn push_left(
     after: &Option<Moment>,
 ) -> Result<usize, NoMemory>
     requires { lines.names request.now host.now ≡ true }
-    ensures { IfOk result (λ count. lines.AreAdded (lines.rules_left after.now host.now request.now status)
+    ensures { IfOk result (λ count. AreAdded (rules_left after.now host.now request.now status)
         (string_bytes text.old) (string_bytes text.new) count) }
 {
     match status {
@@ -118,6 +119,26 @@ fn push_left(
         }
         _ => Ok(0),
     }
+}
+
+/// The same lines, all or none: where memory runs out, the text is as it was.
+fn push_whole(
+    alloc: Global,
+    text: &mut String,
+    host: &HostName,
+    request: &Request,
+    status: Status,
+    after: &Option<Moment>,
+) -> Result<usize, NoMemory>
+    requires { lines.names request.now host.now ≡ true }
+    ensures ok { IfOk result (λ count. AreAdded (rules_left after.now host.now request.now status)
+        (string_bytes text.old) (string_bytes text.new) count) }
+    ensures err { OnErr result (string_bytes text.new ≡ string_bytes text.old) }
+{
+    let mut lines = String::new(alloc);
+    let count = push_left(alloc, &mut lines, host, request, status, after)?;
+    text.push_str(lines.as_str())?;
+    Ok(count)
 }
 
 /// The request has come to something, whether it is looked up or not.
@@ -139,11 +160,13 @@ pub fn push_lines(
     after: Option<Moment>,
 ) -> Result<usize, NoMemory>
     // They come from what the messages come to of each set that the summary stands for, and are lines of rules of grants.
-    ensures { (set : List AnyMessage) → StandsFor set s.now → IfOk result
-        (lines.AreWritten roster.now.says set s.now.request host.now after (string_bytes text.old) (string_bytes text.new)) }
+    ensures ok { (set : List AnyMessage) → StandsFor set s.now → IfOk result
+        (AreWritten roster.now.says set s.now.request host.now after (string_bytes text.old) (string_bytes text.new)) }
+    // Where memory runs out, the text is as it was.
+    ensures err { OnErr result (string_bytes text.new ≡ string_bytes text.old) }
 {
     if may_have(&s.request, host, &after) {
-        push_left(alloc, text, host, &s.request, status(roster, s), &after)
+        push_whole(alloc, text, host, &s.request, status(roster, s), &after)
     } else {
         has_status(roster, s);
         Ok(0)

@@ -3,7 +3,7 @@
 ghost use Rattle.std.specs.Prelude.{◌≡◌, map, IfOk, OnOk, OnErr};
 ghost use Rattle.grants.specs.private.Noting as spec;
 
-use std::alloc::Global;
+use std::alloc::{AllocError, Global};
 use std::collections::BTreeSet;
 use sudo_words::{Moment, Name, NoMemory};
 
@@ -12,6 +12,24 @@ use sudo_words::{Moment, Name, NoMemory};
 pub struct Mark {
     pub person: Name,
     pub at: Moment,
+}
+
+impl Clone for Mark {
+    ghost is_clone = { λ mark copy. copy ≡ mark };
+
+    fn clone(&self) -> Result<Mark, AllocError> {
+        Ok(Mark {
+            person: self.person.clone()?,
+            at: self.at,
+        })
+    }
+}
+
+/// The same marks.
+pub(crate) fn copied(marks: &BTreeSet<Mark>) -> Result<BTreeSet<Mark>, AllocError>
+    ensures { IfOk result (λ copy. copy.keys ≡ marks.now.keys) }
+{
+    marks.clone()
 }
 
 /// Adds a verdict of the person's. A refusal of memory changes nothing.

@@ -4,7 +4,7 @@ ghost use Rattle.std.specs.Prelude.{◌≡◌, ◌↔◌, ◌≤◌, ℕ, List};
 ghost use Rattle.sudo_words.specs.declared.cmnd.Cmnd.{Cmnd};
 ghost use Rattle.sudo_policy.specs.declared.entry.Rule.{Rule};
 ghost use Rattle.messages.specs.Fields.{RequestFields, VerdictFields};
-ghost use Rattle.messages.specs.Names.{RequestName};
+ghost use Rattle.messages.specs.declared.request_name.RequestName.{RequestName};
 ghost use Rattle.messages.specs.declared.message.Message.{Message};
 ghost use Rattle.roster.specs.Agreement.{AgreeUntil};
 ghost use Rattle.roster.specs.Fields.{CeilingFields, RosterFields};

@@ -1,5 +1,8 @@
 //! What a request can come to.
 
+ghost use Rattle.std.specs.Prelude.{◌≡◌};
+ghost use Rattle.grants.specs.Statuses as statuses;
+
 use sudo_words::Moment;
 
 /// An unbroken run of moments, by its first and its last.
@@ -26,4 +29,16 @@ pub enum Status {
     Void,
     /// It is in force within this window.
     Granted(Window),
+}
+
+impl Status {
+    /// The window of what is granted, where it holds the moment.
+    pub fn window_at(self, at: Moment) -> Option<Window>
+        ensures { result ≡ statuses.window_at at self }
+    {
+        match self {
+            Status::Granted(window) if window.start <= at && at <= window.end => Some(window),
+            _ => None,
+        }
+    }
 }

@@ -5,8 +5,9 @@ ghost use Rattle.std.specs.List.{AllByRecursion};
 ghost use Rattle.sudo_policy.specs.declared.entry.Item.TheVariants as items;
 ghost use Rattle.sudo_policy.specs.declared.entry.CmndItem.TheVariants as cmnds;
 ghost use Rattle.messages.specs.declared.message.Message.{Message as AnyMessage};
-ghost use Rattle.grants.specs.private.Given as given;
-ghost use Rattle.grants.specs.GrantRules.{AreRules, IsGrantRule, grant_rule, one};
+ghost use Rattle.grants.specs.private.Given.{EndsInTime};
+ghost use Rattle.grants.specs.GrantRules as given;
+ghost use Rattle.grants.specs.GrantRules.{AreGiven, AreRules, IsGrantRule, grant_rule, one};
 ghost use Rattle.grants.specs.Summaries.{StandsFor};
 
 use crate::outcome::{Status, Window};
@@ -94,7 +95,7 @@ fn rules_for(
     status: Status,
 ) -> Result<Vec<Rule>, NoMemory>
     ensures rules { IfOk result (λ v. v.items ≡ given.rules_for host.now request.now status) }
-    ensures grants { given.EndsInTime request.now status → IfOk result (λ v. AllByRecursion IsGrantRule v.items) }
+    ensures grants { EndsInTime request.now status → IfOk result (λ v. AllByRecursion IsGrantRule v.items) }
 {
     match status {
         Status::Granted(window) if request.hosts().contains(host) => {
@@ -115,7 +116,7 @@ pub fn rules_of(
     // They are those of each set that the summary stands for.
     ensures rules { (set : List AnyMessage) → StandsFor set s.now → IfOk result (λ v. AreRules roster.now.says set s.now.request host.now v.items) }
     // They come from what its messages come to.
-    ensures given { (set : List AnyMessage) → StandsFor set s.now → IfOk result (λ v. given.AreGiven roster.now.says set s.now.request host.now v.items) }
+    ensures given { (set : List AnyMessage) → StandsFor set s.now → IfOk result (λ v. AreGiven roster.now.says set s.now.request host.now v.items) }
     // And they may stand after a base.
     ensures grants { (set : List AnyMessage) → StandsFor set s.now → IfOk result (λ v. AllByRecursion IsGrantRule v.items) }
 {

@@ -3,7 +3,8 @@
 ghost use Rattle.std.specs.Prelude.{◌≡◌, ◌≢◌, ◌↔◌, ◌≤◌, ◌+◌, max, Some, [], ◌∷◌, ◌++◌, ℕ, List, true, false, codes};
 ghost use Rattle.sudo_words.specs.declared.cmnd.Cmnd.{Cmnd};
 ghost use Rattle.messages.specs.Fields.{RequestFields, VerdictFields};
-ghost use Rattle.messages.specs.Names.{RequestName, SameMessages, name_of};
+ghost use Rattle.messages.specs.Names.{SameMessages, name_of};
+ghost use Rattle.messages.specs.declared.request_name.RequestName.{RequestName};
 ghost use Rattle.messages.specs.declared.message.Message.{Message};
 ghost use Rattle.messages.specs.declared.message.Message.TheVariants.{Request, Verdict};
 ghost use Rattle.messages.specs.declared.kind.VerdictKind.TheVariants as kinds;

@@ -7,9 +7,9 @@ ghost use Rattle.messages.specs.declared.message.Message.TheVariants as message_
 ghost use Rattle.grants.specs.Summaries.{AreApprovals, StandsFor};
 ghost use Rattle.grants.specs.Verdicts.{IsDisputed, StandsAlone};
 
-use crate::marks::{Mark, note, shown};
+use crate::marks::{Mark, copied, note, shown};
 use messages::{Request, Verdict, VerdictKind};
-use std::alloc::Global;
+use std::alloc::{AllocError, Global};
 use std::collections::BTreeSet;
 use std::marker::Model;
 use sudo_words::{Moment, Name, NoMemory};
@@ -60,6 +60,21 @@ impl Summary {
         ensures { (set : List AnyMessage) → StandsFor set self.now → IfOk result (λ list. AreApprovals set self.now.request list.items) }
     {
         shown(self.alloc, &self.approvals)
+    }
+}
+
+impl Clone for Summary {
+    ghost is_clone = { λ summary copy. copy ≡ summary };
+
+    fn clone(&self) -> Result<Summary, AllocError> {
+        Ok(Summary {
+            alloc: self.alloc,
+            request: self.request.clone()?,
+            is_disputed: self.is_disputed,
+            approvals: copied(&self.approvals)?,
+            refusals: copied(&self.refusals)?,
+            revocations: copied(&self.revocations)?,
+        })
     }
 }
 

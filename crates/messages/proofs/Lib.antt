@@ -4,3 +4,4 @@ pub mod Readings
 pub mod Uniqueness
 pub mod KindLemmas
 mod WorkedTexts
+pub mod NameOrder

@@ -3,6 +3,7 @@ pub mod Fields
 pub mod Names
 pub mod Shown
 pub mod Wire
+pub mod WorkedTexts
 pub mod Canonical
 pub mod Faults
 pub mod private

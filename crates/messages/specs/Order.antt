@@ -1,11 +1,28 @@
--- The byte order of texts, and lists of texts that rise strictly in it.
+-- Lists in a strict order; the byte order of texts, and lists of texts that rise strictly in it.
 use Rattle.std.specs.Prelude.{◌≡◌, ℕ, Bool, true, ◌&&◌, List, [], ◌∷◌}
 use Rattle.std.specs.Ordering.{nat_cmp, is_lt}
 use Rattle.std.specs.Cmp.Lexicographic.{slice_cmp}
 
+-- ---- lists in a strict order
+
+-- the element precedes each of the list
+abbrev pub AllAfter : {X : Type 0} → (X → X → Type 0) → X → List X → Type 0
+AllAfter Precedes x [] = Unit {0}
+AllAfter Precedes x (y ∷ ys) = Precedes x y × AllAfter Precedes x ys
+
+-- each element precedes all after it
+abbrev pub AreInOrder : {X : Type 0} → (X → X → Type 0) → List X → Type 0
+AreInOrder Precedes [] = Unit {0}
+AreInOrder Precedes (x ∷ more) = AllAfter Precedes x more × AreInOrder Precedes more
+
+-- ---- texts in byte order
+
 -- One text stands before another: at the first byte where they differ its byte is the lower, or it is a front of the other.
 abbrev pub is_before : List ℕ → List ℕ → Bool
 is_before low high = is_lt (slice_cmp nat_cmp low high)
+
+abbrev pub TextPrecedes : (a b : List ℕ) → Type 0
+TextPrecedes a b = is_before a b ≡ true
 
 -- `low` stands before the first text, and each text before the next
 abbrev pub rises_from : List ℕ → List (List ℕ) → Bool

@@ -1,9 +1,13 @@
 //! Laws of messages and their texts, each the contract of a function that does nothing.
 
-ghost use Rattle.std.specs.Prelude.{◌≡◌};
+ghost use Rattle.std.specs.Prelude.{◌≡◌, ◌⊎◌, ◌↔◌};
+ghost use Rattle.std.specs.declared.cmp.Ordering.TheVariants.{Less};
 ghost use Rattle.messages.specs.Canonical.{IsCanonicalText};
+ghost use Rattle.messages.specs.Names.{NamePrecedes, RequestName as AnyName};
 ghost use Rattle.messages.specs.Wire.{wire, IsMessage};
 ghost use Rattle.messages.specs.declared.message.Message.{Message as AnyMessage};
+
+use crate::request_name::RequestName;
 
 /// No text is that of two messages: messages are equal exactly where their texts are.
 pub fn one_message()
@@ -13,4 +17,13 @@ pub fn one_message()
 /// The text of a message is canonical.
 pub fn wire_is_canonical()
     ensures { (m : AnyMessage) → IsMessage m → IsCanonicalText (wire m) }
+{}
+
+/// Names are compared by the asker in byte order, then by the number. That is a strict order: of two names either one stands before the
+/// other, or they are the same.
+pub fn names_in_order()
+    ensures order { (a b : AnyName) → (⟦<RequestName as Ord>⟧.cmp a b ≡ Less) ↔ NamePrecedes a b }
+    ensures one { (a b : AnyName) → NamePrecedes a b ⊎ ((a ≡ b) ⊎ NamePrecedes b a) }
+    ensures strict { (a b : AnyName) → NamePrecedes a b → ¬ NamePrecedes b a }
+    ensures behind { (a b c : AnyName) → NamePrecedes a b → NamePrecedes b c → NamePrecedes a c }
 {}

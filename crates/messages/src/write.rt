@@ -207,6 +207,15 @@ fn push_verdict(out: &mut String, v: &Verdict) -> Result<(), AllocError>
     out.push_str("}")
 }
 
+/// The text of a verdict's message.
+pub fn verdict_text(alloc: Global, v: &Verdict) -> Result<String, NoMemory>
+    ensures { IfOk result (λ s. string_bytes s ≡ wires.verdict_text v.now) }
+{
+    let mut out = String::new(alloc);
+    push_verdict(&mut out, v)?;
+    Ok(out)
+}
+
 /// The text of a message, which `read_message` reads as this message.
 pub fn text(alloc: Global, m: &Message) -> Result<String, NoMemory>
     ensures { IfOk result (λ s. string_bytes s ≡ wires.wire m.now) }

@@ -9,7 +9,8 @@ use Rattle.std.specs.declared.cmp.Ordering.{Ordering}
 use Rattle.std.specs.declared.cmp.Ordering.TheVariants.{Less, Equal, Greater}
 use Rattle.std.proofs.Common.{◌∙◌, ap, ap₂, inl, inr, subst, sym}
 use Rattle.std.proofs.lemmas.List.Elements.{Contains-append_right}
-use Rattle.messages.specs.Names.{RequestName, name_of}
+use Rattle.messages.specs.Names.{name_of}
+use Rattle.messages.specs.declared.request_name.RequestName.{RequestName}
 use Rattle.messages.specs.declared.message.Message.{Message}
 use Rattle.grants.specs.Summaries.{Kept, StandsFor}
 use Rattle.desk_outcomes.specs.Order.{AllAfter, AreInOrder, NamePrecedes, TextPrecedes}

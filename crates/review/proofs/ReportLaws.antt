@@ -12,7 +12,8 @@ use Rattle.sudo_decide.specs.declared.invocation.Invocation.{Invocation}
 use Rattle.sudo_decide.specs.Decision.{Decides}
 use Rattle.sudo_decide.proofs.Speakers.{some_decision}
 use Rattle.messages.specs.Fields.{RequestFields, VerdictFields}
-use Rattle.messages.specs.Names.{RequestName, IsAbout}
+use Rattle.messages.specs.Names.{IsAbout}
+use Rattle.messages.specs.declared.request_name.RequestName.{RequestName}
 use Rattle.messages.specs.declared.message.Message.{Message}
 use Rattle.messages.specs.declared.message.Message.TheVariants.{Verdict}
 use Rattle.messages.specs.declared.kind.VerdictKind.{VerdictKind}

@@ -9,12 +9,13 @@ use Rattle.std.proofs.lemmas.Cmp.{nat_cmp_total, on_total, then_total}
 use Rattle.sudo_words.specs.declared.cmnd.Cmnd.{Cmnd}
 use Rattle.sudo_policy.specs.declared.entry.Entry.{Entry}
 use Rattle.messages.specs.Fields.{RequestFields}
-use Rattle.messages.specs.Names.{RequestName, SameMessages}
+use Rattle.messages.specs.Names.{SameMessages}
+use Rattle.messages.specs.declared.request_name.RequestName.{RequestName}
 use Rattle.messages.specs.declared.message.Message.{Message}
 use Rattle.messages.specs.declared.message.Message.TheVariants.{Request, Verdict}
 use Rattle.roster.specs.Fields.{CeilingFields, RosterFields}
 use Rattle.roster.specs.Relations.{pair_order}
-use Rattle.grants.specs.Statuses.{IsStatus}
+use Rattle.grants.specs.Statuses.{IsStatus, window_at}
 use Rattle.grants.specs.declared.outcome.Status.{Status}
 use Rattle.grants.specs.declared.outcome.Window.{Window}
 use Rattle.grants.proofs.StatusLaws.{one_status, order_free}
@@ -24,7 +25,7 @@ use Rattle.review.specs.Barred.{AreBarredLines, HasApproved, HasApprovedAt, IsWh
 use Rattle.sudo_beyond.specs.Cases.{AreParts, text_order}
 use Rattle.review.specs.Columns.{lines_text}
 use Rattle.review.specs.Needs.{IsNeedOn, grant_scope, own_policy}
-use Rattle.review.specs.Report.{AreAll, AreBarred, AreBarredUnder, AreBroadLines, AreInForce, BarredLines, IsAsked, IsLiveLine, IsOnlyRequest, IsParkedText, IsReport, LinesInForce, conflicts_of, is_open, lesser_first, live_line, name_order, report_lines, window_at}
+use Rattle.review.specs.Report.{AreAll, AreBarred, AreBarredUnder, AreBroadLines, AreInForce, BarredLines, IsAsked, IsLiveLine, IsOnlyRequest, IsParkedText, IsReport, LinesInForce, conflicts_of, is_open, lesser_first, live_line, name_order, report_lines}
 use Rattle.review.proofs.NeedLemmas.{one_need_beyond, one_need_over}
 use Rattle.sudo_beyond.proofs.OneList.{one_once, one_sorted}
 

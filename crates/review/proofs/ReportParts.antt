@@ -3,18 +3,19 @@ use Rattle.std.proofs.Common.{◌≡◌, ℕ, Bool, true, false, List, [], ◌++
 use Rattle.std.proofs.lemmas.List.{append-nil}
 use Rattle.sudo_words.specs.declared.cmnd.Cmnd.{Cmnd}
 use Rattle.messages.specs.Fields.{RequestFields}
-use Rattle.messages.specs.Names.{RequestName, name_of}
+use Rattle.messages.specs.Names.{name_of}
+use Rattle.messages.specs.declared.request_name.RequestName.{RequestName}
 use Rattle.messages.specs.declared.message.Message.{Message}
 use Rattle.roster.specs.Fields.{RosterFields}
 use Rattle.roster.specs.Relations.{ceiling_at}
 use Rattle.grants.specs.Admission.{AdmitsRequest}
-use Rattle.grants.specs.Statuses.{IsStatus}
+use Rattle.grants.specs.Statuses.{IsStatus, window_at}
 use Rattle.grants.specs.Verdicts.{StandsAlone}
 use Rattle.grants.specs.declared.outcome.Status.{Status}
 use Rattle.grants.specs.declared.outcome.Status.TheVariants.{Disputed, Lapsed, Refused, Waiting, Void, Granted}
 use Rattle.grants.specs.declared.outcome.Window.{Window}
 use Rattle.review.specs.Columns.{lines_text}
-use Rattle.review.specs.Report.{AreBarred, AreBarredUnder, AreInForce, BarredLines, IsOnlyRequest, LinesInForce, is_open, window_at}
+use Rattle.review.specs.Report.{AreBarred, AreBarredUnder, AreInForce, BarredLines, IsOnlyRequest, LinesInForce, is_open}
 use Rattle.review.specs.private.Reporting.{AddsLines}
 
 module _ (f : RosterFields Cmnd) (set : List Message) (name : RequestName) (old new : List ℕ) where

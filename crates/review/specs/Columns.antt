@@ -1,7 +1,7 @@
 -- The columns of a report's lines, and its lines as one text.
 use Rattle.std.specs.Prelude.{ℕ, ◌-◌, List, ◌++◌, length, replicate, codes, decimal}
 use Rattle.std.specs.List.{flat_map}
-use Rattle.messages.specs.Names.{RequestName}
+use Rattle.messages.specs.declared.request_name.RequestName.{RequestName}
 
 abbrev pub spaces : ℕ → List ℕ
 spaces count = replicate count 32

@@ -11,13 +11,14 @@ use Rattle.sudo_words.specs.declared.cmnd.Cmnd.{Cmnd}
 use Rattle.sudo_words.specs.declared.cmnd.Cmnd.TheVariants.{All, Path, Dir}
 use Rattle.sudo_policy.specs.declared.entry.Entry.{Entry as PolicyEntry}
 use Rattle.messages.specs.Fields.{RequestFields, VerdictFields}
-use Rattle.messages.specs.Names.{RequestName, IsNamed, IsAbout, name_of}
+use Rattle.messages.specs.Names.{IsNamed, IsAbout, name_of}
+use Rattle.messages.specs.declared.request_name.RequestName.{RequestName}
 use Rattle.messages.specs.Wire.{wire}
 use Rattle.messages.specs.declared.message.Message.{Message}
 use Rattle.messages.specs.declared.message.Message.TheVariants.{Request, Verdict}
 use Rattle.roster.specs.Fields.{CeilingFields, Entry, RosterFields}
 use Rattle.roster.specs.Relations.{ceiling_at, holds, is_before, pair_order}
-use Rattle.grants.specs.Statuses.{IsStatus}
+use Rattle.grants.specs.Statuses.{IsStatus, window_at}
 use Rattle.grants.specs.Summaries.{Kept, StandsFor}
 use Rattle.grants.specs.Verdicts.{StandsAlone}
 use Rattle.grants.specs.declared.outcome.Status.{Status}
@@ -53,15 +54,6 @@ pub record IsAsked (messages : List Message) (name : RequestName) : Type 0 where
 pub record IsOnlyRequest (messages : List Message) (name : RequestName) (q : RequestFields) : Type 0 where
   pub named : IsNamed q name
   pub alone : StandsAlone messages q
-
--- the window of what is granted, where it holds the moment
-abbrev pub window_at : ℕ → Status → Option Window
-window_at at Disputed = None
-window_at at Lapsed = None
-window_at at Refused = None
-window_at at Waiting = None
-window_at at Void = None
-window_at at (Granted w) = if nat_le w.start at && nat_le at w.end then Some w else None
 
 -- the lines of a grant that is in force, and none elsewhere
 abbrev pub LinesInForce : (RequestFields → Window → List (List ℕ) → Type 0) → List Message → RequestName → Option Window → List (List ℕ) → Type 0

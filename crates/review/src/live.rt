@@ -16,20 +16,6 @@ use std::fmt::Write as _;
 use sudo_policy::Policy;
 use sudo_words::{Moment, NoMemory};
 
-/// The window of what is granted, where it holds the moment.
-fn holding(status: &Status, at: Moment) -> Option<Window>
-    ensures window { result ≡ report.window_at at status.now }
-    ensures span { IfSome result IsSpan }
-{
-    match status {
-        Status::Granted(window)
-            if window.start.secs() <= at.secs() && at.secs() <= window.end.secs() => {
-            Some(*window)
-        }
-        _ => None,
-    }
-}
-
 /// A request whose grant is in force, and its window.
 #[derive(Clone, Copy)]
 pub(crate) struct InForce<'s> {
@@ -42,7 +28,7 @@ pub(crate) fn in_force<'s>(summary: &'s Summary, status: &Status, at: Moment) ->
     ensures given { (f : RosterFields Cmnd) (set : List AnyMessage) → IsOutcome f set summary.now status.now → IsInForceOf f set at summary.now result }
     ensures span { IfSome result (λ grant. IsSpan grant.window) }
 {
-    let window = holding(status, at)?;
+    let window = status.window_at(at)?;
     let request = summary.request()?;
     Some(InForce { request, window })
 }

@@ -21,8 +21,10 @@ use Rattle.sudo_words.specs.declared.cmnd.Cmnd.{Cmnd}
 use Rattle.sudo_words.specs.declared.cmnd.Cmnd.TheVariants.{All, Path, Dir}
 use Rattle.sudo_words.specs.declared.cmnd.ArgRule.{ArgRule}
 use Rattle.sudo_words.specs.declared.cmnd.ArgRule.TheVariants.{Any, Empty, Exactly}
-use Rattle.roster.specs.Commands.{args_order, AreCmndsInOrder, cmnd_order, is_at, is_dir, is_file, place, Place, place_order, rank}
-use Rattle.roster.specs.Relations.{IsInOrder, text_order}
+use Rattle.roster.specs.Commands.{is_dir, is_file}
+use Rattle.roster.specs.private.LookupOrders.{args_order, AreCmndsInOrder, cmnd_order, is_at, place, Place, place_order, rank}
+use Rattle.roster.specs.Relations.{text_order}
+use Rattle.roster.specs.private.LookupOrders.{IsInOrder}
 use Rattle.roster.proofs.DutyLemmas.{any_same}
 use Rattle.roster.proofs.Listed.{absent}
 use Rattle.roster.proofs.PairLemmas.{greater, less}

@@ -11,7 +11,8 @@ use Rattle.std.proofs.lemmas.List.Folds.{list_any_at}
 use Rattle.std.proofs.lemmas.List.Sorted.{list_any-IsPermutation, searchable_from_sorted}
 use Rattle.sudo_words.specs.declared.cmnd.Cmnd.{Cmnd}
 use Rattle.roster.specs.Fields.{RosterFields}
-use Rattle.roster.specs.Relations.{text_order, AreTextsInOrder, IsInOrder}
+use Rattle.roster.specs.Relations.{text_order}
+use Rattle.roster.specs.private.LookupOrders.{AreTextsInOrder, IsInOrder}
 use Rattle.roster.specs.Rules.{are_known, is_among, is_known_ceiling, is_known_entry, is_known_pair, is_known_person, names_only}
 
 pub absent : {X : Type 0} (test : X → Bool) (xs : List X) → ((k : ℕ) (d : X) → k < length xs → test (get_or xs k d) ≡ false) → list_any test xs ≡ false

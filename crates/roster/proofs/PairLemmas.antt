@@ -8,7 +8,8 @@ use Rattle.std.specs.Ordering.{is_eq, ordering_index}
 use Rattle.std.proofs.lemmas.Bool.{cases_lt}
 use Rattle.std.proofs.lemmas.List.Folds.{list_any_at}
 use Rattle.std.proofs.lemmas.List.Sorted.{list_any-IsPermutation, searchable_from_sorted}
-use Rattle.roster.specs.Relations.{is_pair, joins, pair_order, AreInOrder, IsInOrder}
+use Rattle.roster.specs.Relations.{is_pair, joins, pair_order}
+use Rattle.roster.specs.private.LookupOrders.{AreInOrder, IsInOrder}
 use Rattle.roster.proofs.Listed.{absent}
 use Rattle.roster.proofs.Rising.{same_place}
 

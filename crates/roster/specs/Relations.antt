@@ -1,7 +1,7 @@
 -- Who holds which duty when, which duties conflict, who may approve and who may revoke (NIST SP 800-53 AC-5).
 use Rattle.std.specs.Prelude.{◌≡◌, ℕ, List, [], ◌∷◌, Option, Some, None, if◌then◌else◌, Bool, true, not, ◌&&◌, ◌||◌, is_some, nat_le}
 use Rattle.std.specs.List.{list_all, list_any}
-use Rattle.std.specs.List.Sorted.{IsPermutation, IsSorted, IsStrictlySortedBy}
+use Rattle.std.specs.List.Sorted.{IsStrictlySortedBy}
 use Rattle.std.specs.Map.{keys_of}
 use Rattle.std.specs.declared.cmp.Ordering.{Ordering}
 use Rattle.std.specs.Ordering.{nat_cmp, is_lt, ordering_then}
@@ -102,14 +102,3 @@ text_order = slice_cmp nat_cmp
 -- pairs by the first of the two, then by the second
 abbrev pub pair_order : (p q : List ℕ × List ℕ) → Ordering
 pair_order p q = ordering_then (text_order p.0 q.0) (text_order p.1 q.1)
-
-abbrev pub AreTextsInOrder : List (List ℕ) → Type 0
-AreTextsInOrder texts = IsSorted text_order texts
-
-abbrev pub AreInOrder : List (List ℕ × List ℕ) → Type 0
-AreInOrder pairs = IsSorted pair_order pairs
-
--- the same items, in that order
-pub record IsInOrder {X : Type 0} (order : X → X → Ordering) (items ordered : List X) : Type 0 where
-  pub same : IsPermutation items ordered
-  pub rising : IsSorted order ordered

@@ -27,9 +27,9 @@ impl Model for Ceiling {
     ghost use Rattle.std.specs.Prelude.{All};
     ghost use Rattle.sudo_words.specs.Command.{IsLawful};
     ghost use Rattle.sudo_words.specs.declared.cmnd.Cmnd.{Cmnd};
-    ghost use Rattle.roster.specs.Commands.{cmnd_order};
+    ghost use Rattle.roster.specs.private.LookupOrders.{cmnd_order};
     ghost use Rattle.roster.specs.Fields.{CeilingFields};
-    ghost use Rattle.roster.specs.Relations.{IsInOrder};
+    ghost use Rattle.roster.specs.private.LookupOrders.{IsInOrder};
 
     ghost Value = { CeilingFields Cmnd };
 

@@ -3,8 +3,7 @@
 ghost use Rattle.std.specs.Prelude.{◌≡◌, IfOk};
 ghost use Rattle.std.specs.List.{list_any};
 ghost use Rattle.sudo_words.specs.declared.cmnd.Cmnd.TheVariants as cmnd_of;
-ghost use Rattle.roster.specs.Commands as commands;
-ghost use Rattle.roster.specs.Relations.{IsInOrder};
+ghost use Rattle.roster.specs.private.LookupOrders as orders;
 
 use std::alloc::AllocError;
 use std::cmp::Ordering;
@@ -23,7 +22,7 @@ pub(crate) enum Kind {
 
 impl Kind {
     fn rank(self) -> u8
-        ensures { result ≡ commands.rank self }
+        ensures { result ≡ orders.rank self }
     {
         match self {
             Kind::Everything => 0,
@@ -44,16 +43,16 @@ pub(crate) struct Place<'p> {
 }
 
 impl<'p> Model for Place<'p> {
-    ghost use Rattle.roster.specs.Commands as commands;
+    ghost use Rattle.roster.specs.private.LookupOrders as orders;
 
-    ghost Value = { commands.Place };
+    ghost Value = { orders.Place };
 
     ghost view = { λ p. record { kind = p.kind; path = p.path.now; args = p.args.now } };
 }
 
 /// Where the file stands with the rule.
 pub(crate) fn place_of_file<'p>(file: &'p FilePath, rule: &'p ArgRule) -> Place<'p>
-    ensures { result ≡ commands.place (cmnd_of.Path file.now rule.now) }
+    ensures { result ≡ orders.place (cmnd_of.Path file.now rule.now) }
 {
     let path = file.as_str().as_bytes();
     match rule {
@@ -77,7 +76,7 @@ pub(crate) fn place_of_file<'p>(file: &'p FilePath, rule: &'p ArgRule) -> Place<
 
 /// Where a directory of this path stands.
 pub(crate) fn place_of_dir<'p>(path: &'p [u8]) -> Place<'p>
-    ensures { result ≡ commands.place (cmnd_of.Dir path.now) }
+    ensures { result ≡ orders.place (cmnd_of.Dir path.now) }
 {
     Place {
         kind: Kind::Directory,
@@ -87,7 +86,7 @@ pub(crate) fn place_of_dir<'p>(path: &'p [u8]) -> Place<'p>
 }
 
 fn place_of<'p>(cmnd: &'p Cmnd) -> Place<'p>
-    ensures { result ≡ commands.place cmnd.now }
+    ensures { result ≡ orders.place cmnd.now }
 {
     match cmnd {
         Cmnd::All => Place {
@@ -101,7 +100,7 @@ fn place_of<'p>(cmnd: &'p Cmnd) -> Place<'p>
 }
 
 fn compare(one: &Place<'_>, other: &Place<'_>) -> Ordering
-    ensures { result ≡ commands.place_order one.now other.now }
+    ensures { result ≡ orders.place_order one.now other.now }
 {
     match one.kind.rank().cmp(&other.kind.rank()) {
         Ordering::Equal => match one.path.cmp(&other.path) {
@@ -120,7 +119,7 @@ fn copy_cmnds(cmnds: &Items<Cmnd>) -> Result<Items<Cmnd>, AllocError>
 
 /// The same commands in their order; an error where memory runs out.
 pub(crate) fn in_order(cmnds: &Items<Cmnd>) -> Result<Items<Cmnd>, AllocError>
-    ensures { IfOk result (IsInOrder commands.cmnd_order cmnds.now) }
+    ensures { IfOk result (orders.IsInOrder orders.cmnd_order cmnds.now) }
 {
     let mut ordered = copy_cmnds(cmnds)?.into_vec();
     ordered.sort_unstable_by(|c, d| compare(&place_of(c), &place_of(d)));
@@ -129,8 +128,8 @@ pub(crate) fn in_order(cmnds: &Items<Cmnd>) -> Result<Items<Cmnd>, AllocError>
 
 /// Whether one of the commands stands at the place.
 pub(crate) fn has(ordered: &[Cmnd], wanted: &Place<'_>) -> bool
-    requires { commands.AreCmndsInOrder ordered.now }
-    ensures { result ≡ list_any (commands.is_at wanted.now) ordered.now }
+    requires { orders.AreCmndsInOrder ordered.now }
+    ensures { result ≡ list_any (orders.is_at wanted.now) ordered.now }
 {
     let mut low = 0;
     let mut high = ordered.len();

@@ -19,7 +19,8 @@ pub(crate) struct Conflicts {
 
 impl Model for Conflicts {
     ghost use Rattle.std.specs.Prelude.{List, ℕ};
-    ghost use Rattle.roster.specs.Relations.{pair_order, IsInOrder};
+    ghost use Rattle.roster.specs.Relations.{pair_order};
+    ghost use Rattle.roster.specs.private.LookupOrders.{IsInOrder};
 
     ghost Value = { List (List ℕ × List ℕ) };
 

@@ -3,6 +3,7 @@
 ghost use Rattle.std.specs.Prelude.{◌≡◌, IfOk};
 ghost use Rattle.std.specs.List.{list_any};
 ghost use Rattle.roster.specs.Relations as relations;
+ghost use Rattle.roster.specs.private.LookupOrders as orders;
 
 use std::alloc::AllocError;
 use std::cmp::Ordering;
@@ -10,7 +11,7 @@ use sudo_words::{Items, Label};
 
 /// The same pairs in their order; an error where memory runs out.
 pub(crate) fn in_order(pairs: &Items<(Label, Label)>) -> Result<Items<(Label, Label)>, AllocError>
-    ensures { IfOk result (relations.IsInOrder relations.pair_order pairs.now) }
+    ensures { IfOk result (orders.IsInOrder relations.pair_order pairs.now) }
 {
     let mut ordered = pairs.clone()?.into_vec();
     ordered.sort_unstable();
@@ -25,7 +26,7 @@ fn compare(pair: &(Label, Label), first: &Label, second: &Label) -> Ordering
 
 /// Whether one of the pairs is of the two duties, this way round.
 fn has_pair(ordered: &[(Label, Label)], first: &Label, second: &Label) -> bool
-    requires { relations.AreInOrder ordered.now }
+    requires { orders.AreInOrder ordered.now }
     ensures { result ≡ list_any (relations.is_pair first.now second.now) ordered.now }
 {
     let mut low = 0;
@@ -45,7 +46,7 @@ fn has_pair(ordered: &[(Label, Label)], first: &Label, second: &Label) -> bool
 /// Whether one of the pairs is of the two duties, either way round.
 #[tactic(auto, using(crate::proofs::PairLemmas::either_way_round))]
 pub(crate) fn are_paired(ordered: &[(Label, Label)], first: &Label, second: &Label) -> bool
-    requires { relations.AreInOrder ordered.now }
+    requires { orders.AreInOrder ordered.now }
     ensures { result ≡ list_any (relations.joins first.now second.now) ordered.now }
 {
     has_pair(ordered, first, second) || has_pair(ordered, second, first)

@@ -3,7 +3,8 @@
 ghost use Rattle.std.specs.Prelude.{◌≡◌, ◌&&◌, IfOk, length, nat_le};
 ghost use Rattle.std.specs.List.{list_all, list_any};
 ghost use Rattle.std.specs.Str.{bytes_eq};
-ghost use Rattle.roster.specs.Relations.{text_order, AreTextsInOrder, IsInOrder};
+ghost use Rattle.roster.specs.Relations.{text_order};
+ghost use Rattle.roster.specs.private.LookupOrders.{AreTextsInOrder, IsInOrder};
 ghost use Rattle.roster.specs.Rules as rules;
 
 use crate::ceiling::Ceiling;

@@ -2,11 +2,12 @@
 use Rattle.std.specs.Prelude.{◌≡◌, ℕ, true, false, List, ◌++◌, Option, Some, None}
 use Rattle.sudo_words.specs.Moment.{IsMoment}
 use Rattle.sudo_words.specs.declared.cmnd.Cmnd.{Cmnd}
-use Rattle.messages.specs.Names.{RequestName, name_of}
+use Rattle.messages.specs.Names.{name_of}
+use Rattle.messages.specs.declared.request_name.RequestName.{RequestName}
 use Rattle.messages.specs.declared.message.Message.{Message}
 use Rattle.roster.specs.Fields.{RosterFields}
 use Rattle.roster.specs.Relations.{ceiling_at}
-use Rattle.grants.specs.Statuses.{IsStatus}
+use Rattle.grants.specs.Statuses.{IsStatus, window_at}
 use Rattle.grants.specs.Summaries.{Kept, StandsFor}
 use Rattle.grants.specs.declared.outcome.Status.{Status}
 use Rattle.grants.specs.declared.outcome.Window.{Window}
@@ -15,7 +16,7 @@ use Rattle.review.specs.declared.live.InForce.{InForce}
 use Rattle.review.specs.declared.need.Need.{Need}
 use Rattle.review.specs.declared.need.Need.TheVariants.{Needed, Needless, Unknown}
 use Rattle.review.specs.Columns.{lines_text}
-use Rattle.review.specs.Report.{IsOnlyRequest, is_open, window_at}
+use Rattle.review.specs.Report.{IsOnlyRequest, is_open}
 
 -- these lines are added
 abbrev pub AddsLines : (List (List ℕ) → Type 0) → (old new : List ℕ) → Type 0

@@ -1,4 +1,4 @@
-use Rattle.desk.proofs.AnswerLemmas.{same_count, same_count_after, same_file, same_file_after, same_live, same_parked, same_status, same_texts}
+use Rattle.desk.proofs.AnswerLemmas.{same_count, same_count_after, same_file, same_file_after, same_live, same_parked, same_status, same_summaries, same_texts}
 use Rattle.desk.proofs.answer_laws.runs_answer_alike.Goals as goal
 
 pub returns-clause-status : goal.returns-clause-status
@@ -21,6 +21,9 @@ returns-clause-file_after c = same_file_after
 
 pub returns-clause-count_after : goal.returns-clause-count_after
 returns-clause-count_after c = same_count_after
+
+pub returns-clause-summaries : goal.returns-clause-summaries
+returns-clause-summaries c = same_summaries
 
 pub returns-clause-texts : goal.returns-clause-texts
 returns-clause-texts c = same_texts

@@ -5,4 +5,4 @@ use Rattle.desk_outcomes.specs.Gathered.{AreGathered}
 use Rattle.desk.proofs.loading.with_message.Goals as goal
 
 pub returns-in-Ok-clause-more : goal.returns-in-Ok-clause-more
-returns-in-Ok-clause-more c = λ set of. c.in-Ok.ensures set (subst (λ (o : Option Gathered). IfSome o (AreGathered set)) c.in-Some.is of)
+returns-in-Ok-clause-more c = λ set of. c.in-Ok.ensures.ok set (subst (λ (o : Option Gathered). IfSome o (AreGathered set)) c.in-Some.is of)

@@ -1,4 +1,4 @@
-use Rattle.desk_outcomes.proofs.Existence.{some_file, some_file_after, some_live, some_outcome, some_parked}
+use Rattle.desk_outcomes.proofs.Existence.{some_file, some_file_after, some_live, some_outcome, some_parked, some_summaries}
 use Rattle.desk_outcomes.proofs.grant_laws.each_has_one.Goals as goal
 
 pub returns-clause-status : goal.returns-clause-status
@@ -15,3 +15,6 @@ returns-clause-file_after c = λ text f base set host moment roster known. some_
 
 pub returns-clause-parked : goal.returns-clause-parked
 returns-clause-parked c = some_parked
+
+pub returns-clause-summaries : goal.returns-clause-summaries
+returns-clause-summaries c = some_summaries

@@ -1,5 +1,6 @@
 use Rattle.desk_outcomes.proofs.FileLemmas.{one_file, one_file_after}
 use Rattle.desk_outcomes.proofs.SetLemmas.{one_live, one_outcome, one_parked}
+use Rattle.desk_outcomes.proofs.SummaryLemmas.{one_of_summaries}
 use Rattle.desk_outcomes.proofs.grant_laws.one_of_each.Goals as goal
 
 pub returns-clause-status : goal.returns-clause-status
@@ -16,3 +17,6 @@ returns-clause-file c = one_file
 
 pub returns-clause-file_after : goal.returns-clause-file_after
 returns-clause-file_after c = one_file_after
+
+pub returns-clause-summaries : goal.returns-clause-summaries
+returns-clause-summaries c = one_of_summaries

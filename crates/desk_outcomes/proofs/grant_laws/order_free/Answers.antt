@@ -1,5 +1,6 @@
 use Rattle.desk_outcomes.proofs.LawLemmas.{order_free}
 use Rattle.desk_outcomes.proofs.SetLemmas.{parked_of_set}
+use Rattle.desk_outcomes.proofs.SummaryLemmas.{summaries_of_set}
 use Rattle.desk_outcomes.proofs.grant_laws.order_free.Goals as goal
 
 pub returns-clause-grants : goal.returns-clause-grants
@@ -7,3 +8,6 @@ returns-clause-grants c = order_free
 
 pub returns-clause-parked : goal.returns-clause-parked
 returns-clause-parked c = λ s t texts same are. parked_of_set s t texts same are
+
+pub returns-clause-summaries : goal.returns-clause-summaries
+returns-clause-summaries c = λ s t list same are. summaries_of_set s t list same are

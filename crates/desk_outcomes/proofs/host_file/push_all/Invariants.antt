@@ -8,8 +8,9 @@ use Rattle.sudo_policy.specs.Printing.{canon}
 use Rattle.messages.specs.declared.message.Message.{Message}
 use Rattle.grants.specs.GrantRules.{IsGrantRule}
 use Rattle.grants.specs.Summaries.{Kept}
-use Rattle.desk_outcomes.specs.Gathered.{Gathers, Give}
-use Rattle.desk_outcomes.specs.LinesLeft.{rules_left}
+use Rattle.desk_outcomes.specs.private.Behind.{rules_left}
+use Rattle.desk_outcomes.specs.private.ByName.{Gathers}
+use Rattle.desk_outcomes.specs.private.InTurn.{Give}
 use Rattle.desk_outcomes.proofs.host_file.push_all.Given as goal
 
 abbrev pub invariant-loop-summary : goal.invariant-loop-summary

@@ -1,6 +1,6 @@
 use Rattle.std.proofs.Common.{[], ◌∷◌, ◌++◌}
 use Rattle.std.specs.BTreeMap.{values}
-use Rattle.desk_outcomes.specs.Gathered.{live_for}
+use Rattle.desk_outcomes.specs.private.InTurn.{live_for}
 use Rattle.desk_outcomes.proofs.GivenLists.{kept_stands, one_given, turn_among, turn_split}
 use Rattle.desk_outcomes.proofs.live.live_among.Goals as goal
 

@@ -2,7 +2,8 @@ use Rattle.std.proofs.Common.{◌≡◌, ◌++◌, List}
 use Rattle.std.specs.BTreeMap.{values}
 use Rattle.messages.specs.declared.message.Message.{Message}
 use Rattle.grants.specs.Summaries.{Kept}
-use Rattle.desk_outcomes.specs.Gathered.{Gathers, Give, live_for}
+use Rattle.desk_outcomes.specs.private.ByName.{Gathers}
+use Rattle.desk_outcomes.specs.private.InTurn.{Give, live_for}
 use Rattle.desk_outcomes.proofs.live.live_among.Given as goal
 
 abbrev pub invariant-loop-summary : goal.invariant-loop-summary

@@ -1,7 +1,8 @@
 use Rattle.std.proofs.Common.{◌≡◌, List, true, false, sym, ap, subst, ◌∙◌}
 use Rattle.std.specs.Prelude.{IfOk, string_bytes}
 use Rattle.sudo_policy.specs.declared.entry.Rule.{Rule}
-use Rattle.grants.specs.private.Lines.{AreAdded, is_left, rules_left}
+use Rattle.grants.specs.GrantLines.{AreAdded, rules_left}
+use Rattle.grants.specs.private.Lines.{is_left}
 use Rattle.grants.specs.declared.outcome.Status.{Status}
 use Rattle.grants.proofs.WrittenLines.{all_left, none_left, none_added}
 use Rattle.grants.proofs.lines.push_left.Goals as goal

@@ -2,23 +2,24 @@ use Rattle.std.proofs.Common.{◌≡◌, false, sym, subst, ◌∙◌}
 use Rattle.std.specs.Prelude.{IfOk, string_bytes}
 use Rattle.std.proofs.lemmas.Result.{IfOk-weaker}
 use Rattle.messages.specs.Fields.{IsRequest}
+use Rattle.grants.specs.GrantLines.{AreAdded, rules_left}
 use Rattle.grants.specs.Summaries.{Kept}
-use Rattle.grants.specs.private.Lines.{AreAdded, may_have, rules_left}
+use Rattle.grants.specs.private.Lines.{may_have}
 use Rattle.grants.proofs.WrittenLines.{none_written, written}
 use Rattle.grants.proofs.lines.push_lines.Goals as goal
 
-pub returns-then-may_have : goal.returns-then-may_have
-returns-then-may_have c = λ set s.
+pub returns-then-may_have-clause-ok : goal.returns-then-may_have-clause-ok
+returns-then-may_have-clause-ok c = λ set s.
     let host = c.args.host.now in
     let status = c.status.result in
     let old = string_bytes c.args.text.now in
-    let new = string_bytes c.push_left.new.text in
+    let new = string_bytes c.push_whole.new.text in
     let is = subst (λ (x : Kept). IsRequest x.request) c.s.view_is c.may_have.ensures.request in
-    let added = subst (λ (x : Kept). IfOk c.push_left.result (λ count. AreAdded (rules_left c.args.after host x.request status) old new count)) c.s.view_is c.push_left.ensures in
-    IfOk-weaker c.push_left.result _ _ (written c.args.roster.now.says set c.args.s.now s is host c.args.after status (c.status.ensures set s) old new) added
+    let added = subst (λ (x : Kept). IfOk c.push_whole.result (λ count. AreAdded (rules_left c.args.after host x.request status) old new count)) c.s.view_is c.push_whole.ensures.ok in
+    IfOk-weaker c.push_whole.result _ _ (written c.args.roster.now.says set c.args.s.now s is host c.args.after status (c.status.ensures set s) old new) added
 
-pub returns-else-may_have : goal.returns-else-may_have
-returns-else-may_have c = λ set s.
+pub returns-else-may_have-clause-ok : goal.returns-else-may_have-clause-ok
+returns-else-may_have-clause-ok c = λ set s.
     let host = c.args.host.now in
     let is = subst (λ (x : Kept). IsRequest x.request) c.s.view_is c.may_have.ensures.request in
     let gone = subst (λ (x : Kept). may_have c.args.after host x.request ≡ false) c.s.view_is (sym c.may_have.ensures.value ∙ c.if-may_have.false) in

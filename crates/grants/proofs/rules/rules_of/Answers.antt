@@ -1,6 +1,7 @@
 use Rattle.std.proofs.Common.{ap, sym, subst, ◌∙◌}
 use Rattle.std.proofs.lemmas.Result.{IfOk-weaker}
-use Rattle.grants.specs.private.Given.{EndsInTime, rules_for}
+use Rattle.grants.specs.GrantRules.{rules_for}
+use Rattle.grants.specs.private.Given.{EndsInTime}
 use Rattle.grants.specs.Summaries.{Kept}
 use Rattle.grants.proofs.RuleLemmas.{are_rules_for, ends_in_time}
 use Rattle.grants.proofs.rules.rules_of.Goals as goal

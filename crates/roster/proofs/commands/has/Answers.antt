@@ -1,5 +1,5 @@
 use Rattle.std.proofs.Common.{◌+◌, ◌-◌, ◌/◌, ◌∙◌, arith, sym, ap}
-use Rattle.roster.specs.Commands.{place_order}
+use Rattle.roster.specs.private.LookupOrders.{place_order}
 use Rattle.roster.proofs.CommandLemmas.{all_greater, all_less, none_there, one_there}
 use Rattle.roster.proofs.commands.has.Goals as goal
 

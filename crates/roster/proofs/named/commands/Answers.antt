@@ -4,8 +4,8 @@ use Rattle.std.proofs.lemmas.List.{take_more, map_push}
 use Rattle.std.proofs.lemmas.List.Elements.{All-get_or, All-same, All-push}
 use Rattle.std.proofs.lemmas.Result.{err_from_is_err_and}
 use Rattle.sudo_words.specs.Command.{IsLawful, cmnd_text}
-use Rattle.roster.specs.Commands.{cmnd_order}
-use Rattle.roster.specs.Relations.{IsInOrder}
+use Rattle.roster.specs.private.LookupOrders.{cmnd_order}
+use Rattle.roster.specs.private.LookupOrders.{IsInOrder}
 use Rattle.roster.specs.Rules.{IsCmndText}
 use Rattle.roster.proofs.named.commands.Goals as goal
 

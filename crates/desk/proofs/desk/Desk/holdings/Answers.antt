@@ -4,7 +4,7 @@ use Rattle.desk_store.specs.Sets.{Lists}
 use Rattle.std.specs.Prelude.{map, string_bytes}
 use Rattle.desk_outcomes.specs.Parked.{AreParked}
 use Rattle.desk_outcomes.specs.Summaries.{AreSummaries}
-use Rattle.desk.proofs.QueryLemmas.{same_messages}
+use Rattle.desk.proofs.QueryLemmas.{same_listed}
 use Rattle.desk_outcomes.proofs.SetLemmas.{parked_of_set}
 use Rattle.desk_outcomes.proofs.SummaryLemmas.{summaries_of_set}
 use Rattle.desk.proofs.desk.Desk.holdings.Goals as goal
@@ -13,24 +13,22 @@ pub returns-clause-summaries : goal.returns-clause-summaries
 returns-clause-summaries g c =
     let K = g.K.Keeper in
     let old = c.self.inside.keeper in
-    let new = c.load.new.keeper in
-    let lent = c.messages-set.result.now in
-    let list = c.in_ok-holdings_in.field-0.summaries.items in
+    let new = c.known_of.new.keeper in
+    let known = c.in_ok-known.ensures.known in
+    let list = c.in_ok-held.field-0.summaries.items in
     let answer : (set : List Message) → K.is_up new → Lists (K.holds old) set → AreSummaries set list = λ set up lists.
-    let done = c.in_ok-load.ensures in
-    let same = same_messages (K.holds old) (K.holds new) lent set (done.set up) (c.messages-set.ensures (done.loaded up)) lists in
-    summaries_of_set lent set list same c.in_ok-holdings_in.ensures.summaries in
+    let same = same_listed (K.holds old) known.0 set (known.2 up) lists in
+    summaries_of_set known.0 set list same (c.in_ok-held.ensures.summaries known.0 known.1) in
     rw (← c.self.view_is) answer
 
 pub returns-clause-parked : goal.returns-clause-parked
 returns-clause-parked g c =
     let K = g.K.Keeper in
     let old = c.self.inside.keeper in
-    let new = c.load.new.keeper in
-    let lent = c.messages-set.result.now in
-    let texts = map string_bytes c.in_ok-holdings_in.field-0.parked.items in
+    let new = c.known_of.new.keeper in
+    let known = c.in_ok-known.ensures.known in
+    let texts = map string_bytes c.in_ok-held.field-0.parked.items in
     let answer : (set : List Message) → K.is_up new → Lists (K.holds old) set → AreParked set texts = λ set up lists.
-    let done = c.in_ok-load.ensures in
-    let same = same_messages (K.holds old) (K.holds new) lent set (done.set up) (c.messages-set.ensures (done.loaded up)) lists in
-    parked_of_set lent set texts same c.in_ok-holdings_in.ensures.parked in
+    let same = same_listed (K.holds old) known.0 set (known.2 up) lists in
+    parked_of_set known.0 set texts same (c.in_ok-held.ensures.parked known.0 known.1) in
     rw (← c.self.view_is) answer

@@ -3,7 +3,7 @@ use Rattle.messages.specs.declared.message.Message.{Message}
 use Rattle.desk_store.specs.Sets.{Lists}
 use Rattle.std.specs.Prelude.{map, string_bytes}
 use Rattle.desk_outcomes.specs.Parked.{AreParked}
-use Rattle.desk.proofs.QueryLemmas.{same_messages}
+use Rattle.desk.proofs.QueryLemmas.{same_listed}
 use Rattle.desk_outcomes.proofs.SetLemmas.{parked_of_set}
 use Rattle.desk.proofs.desk.Desk.parked.Goals as goal
 
@@ -11,10 +11,9 @@ pub returns-clause-parked : goal.returns-clause-parked
 returns-clause-parked g c =
     let K = g.K.Keeper in
     let old = c.self.inside.keeper in
-    let new = c.load.new.keeper in
-    let lent = c.messages-set.result.now in
-    let answer : (set : List Message) → K.is_up new → Lists (K.holds old) set → AreParked set (map string_bytes c.in_ok-parked_in.field-0.items) = λ set up lists.
-    let done = c.in_ok-load.ensures in
-    let same = same_messages (K.holds old) (K.holds new) lent set (done.set up) (c.messages-set.ensures (done.loaded up)) lists in
-    parked_of_set lent set (map string_bytes c.in_ok-parked_in.field-0.items) same c.in_ok-parked_in.ensures in
+    let new = c.known_of.new.keeper in
+    let known = c.in_ok-known.ensures.known in
+    let answer : (set : List Message) → K.is_up new → Lists (K.holds old) set → AreParked set (map string_bytes c.in_ok-texts.field-0.items) = λ set up lists.
+    let same = same_listed (K.holds old) known.0 set (known.2 up) lists in
+    parked_of_set known.0 set (map string_bytes c.in_ok-texts.field-0.items) same (c.in_ok-texts.ensures known.0 known.1) in
     rw (← c.self.view_is) answer

@@ -2,7 +2,7 @@ use Rattle.std.proofs.Common.{List}
 use Rattle.messages.specs.declared.message.Message.{Message}
 use Rattle.desk_store.specs.Sets.{Lists}
 use Rattle.desk_outcomes.specs.Summaries.{AreSummaries}
-use Rattle.desk.proofs.QueryLemmas.{same_messages}
+use Rattle.desk.proofs.QueryLemmas.{same_listed}
 use Rattle.desk_outcomes.proofs.SummaryLemmas.{summaries_of_set}
 use Rattle.desk.proofs.desk.Desk.summaries.Goals as goal
 
@@ -10,10 +10,9 @@ pub returns-clause-summaries : goal.returns-clause-summaries
 returns-clause-summaries g c =
     let K = g.K.Keeper in
     let old = c.self.inside.keeper in
-    let new = c.load.new.keeper in
-    let lent = c.messages-set.result.now in
-    let answer : (set : List Message) → K.is_up new → Lists (K.holds old) set → AreSummaries set c.in_ok-summaries_in.field-0.items = λ set up lists.
-    let done = c.in_ok-load.ensures in
-    let same = same_messages (K.holds old) (K.holds new) lent set (done.set up) (c.messages-set.ensures (done.loaded up)) lists in
-    summaries_of_set lent set c.in_ok-summaries_in.field-0.items same c.in_ok-summaries_in.ensures in
+    let new = c.known_of.new.keeper in
+    let known = c.in_ok-known.ensures.known in
+    let answer : (set : List Message) → K.is_up new → Lists (K.holds old) set → AreSummaries set c.in_ok-list.field-0.items = λ set up lists.
+    let same = same_listed (K.holds old) known.0 set (known.2 up) lists in
+    summaries_of_set known.0 set c.in_ok-list.field-0.items same (c.in_ok-list.ensures known.0 known.1) in
     rw (← c.self.view_is) answer

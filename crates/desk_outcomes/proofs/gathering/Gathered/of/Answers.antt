@@ -3,18 +3,14 @@ use Rattle.std.proofs.lemmas.List.{take_all}
 use Rattle.messages.specs.declared.message.Message.{Message}
 use Rattle.sudo_decide.proofs.AnswerLemmas.{take_one_more}
 use Rattle.desk_outcomes.specs.Gathered.{AreGathered}
-use Rattle.desk_outcomes.proofs.GatherLemmas.{are_named}
 use Rattle.desk_outcomes.proofs.gathering.Gathered.of.Goals as goal
-
-pub take-requires : goal.take-requires
-take-requires c = are_named _ c.loop-message.gathered.summaries c.loop-message.invariant.summaries
 
 pub loop-message-preserved : goal.loop-message-preserved
 loop-message-preserved c =
     let set = c.args.set.now in
     let i = c.loop-message.message-index in
     let item = c.message-item.result in
-    subst (λ (seen : List Message). AreGathered seen c.take.new.self) (sym (take_one_more set i item c.loop-message-test.true c.message-item.is)) (c.in_ok-take.ensures (take i set) c.loop-message.invariant)
+    subst (λ (seen : List Message). AreGathered seen c.take.new.self) (sym (take_one_more set i item c.loop-message-test.true c.message-item.is)) (c.in_ok-take.ensures.ok (take i set) c.loop-message.invariant)
 
 pub returns : goal.returns
 returns c =

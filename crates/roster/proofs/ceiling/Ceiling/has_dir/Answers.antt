@@ -2,7 +2,8 @@ use Rattle.std.proofs.Common.{◌∙◌, ap, ap₂}
 use Rattle.std.specs.List.{list_any}
 use Rattle.sudo_words.specs.declared.cmnd.Cmnd.{Cmnd}
 use Rattle.sudo_words.specs.declared.cmnd.Cmnd.TheVariants.{Dir}
-use Rattle.roster.specs.Commands.{is_dir, is_at, place}
+use Rattle.roster.specs.Commands.{is_dir}
+use Rattle.roster.specs.private.LookupOrders.{is_at, place}
 use Rattle.roster.specs.Fields.{CeilingFields}
 use Rattle.roster.proofs.CommandLemmas.{at_dir, found_in_order}
 use Rattle.roster.proofs.ceiling.Ceiling.has_dir.Goals as goal
