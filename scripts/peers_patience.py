@@ -26,8 +26,8 @@ IDLE = 1_000
 SOON, AT_ONCE = 15, 2
 # the seconds in which a request has to come, and a reply to go out; and what a test's own clock may be off
 TO_ASK, TO_ANSWER, OFF = 10, 30, 3
-# requests with their approvals, each of sixteen long commands: 8,192 lines of a host's file
-GRANTS = 512
+# Requests with their approvals, each of fourteen long commands: a host's file of 3.3 MB, which is more than the kernel keeps of a reply.
+GRANTS, COMMANDS = 230, 14
 RUDE = 6_000
 
 
@@ -44,8 +44,9 @@ def approval(number):
 
 
 def long_request(number):
-    """A request of sixteen commands of 200 bytes."""
-    commands = b",".join(b'"/usr/local/sbin/%s"' % (b"%03d-%02d-" % (number, at) + b"x" * 180) for at in range(16))
+    """A request of commands of 940 bytes."""
+    words = b" ".join([b"y" * 60] * 15)
+    commands = b",".join(b'"/usr/local/sbin/%03d-%02d %s"' % (number, at, words) for at in range(COMMANDS))
     return (
         b'{"at":"20260105060000Z","by":"ann","ceiling":"db-care","cmnds":[%s],"from":"20260105090000Z","hosts":["db1"],"kind":"request","no":%d,"runas":"root",'
         b'"until":"20260105110000Z"}' % (commands, number)
@@ -174,7 +175,7 @@ def slow_reader(count, words):
         count.holds("the grants are there", done.stdout == b"ack\n" * (2 * GRANTS), done.stdout[-80:])
         with Server(words, store) as server:
             whole, took = server.reply(asked(b"/v1/hosts/db1/sudoers"))
-            count.holds("a large file", len(whole) > 2_000_000 and whole.startswith(b"HTTP/1.1 200 OK\r\n"), f"{took:.1f} s, {len(whole)} bytes")
+            count.holds("a large file", len(whole) > 3_000_000 and whole.startswith(b"HTTP/1.1 200 OK\r\n"), f"{took:.1f} s, {len(whole)} bytes")
             with contextlib.ExitStack() as kept:
                 peers = [kept.enter_context(server.connect(room=4096)) for _ in range(4)]
                 begun = time.monotonic()

@@ -27,7 +27,7 @@ fn keeper(rt: &HostRuntime, path: &Text) -> Result<Stored, Refusal> {
         Ok(conn) => Ok(SqliteKeeper::new(rt.alloc(), conn)),
         Err((Error::SqliteFailure(ErrorCode::OutOfMemory), _)) => Err(Refusal::NoMemory),
         Err((Error::SqliteFailure(ErrorCode::SystemIoFailure | ErrorCode::DiskFull), Some(_))) => {
-            Err(Refusal::Storage)
+            Err(Refusal::Desk(desk::Refusal::Storage))
         }
         Err(_) => Err(Refusal::FileFailed),
     }

@@ -41,8 +41,10 @@ pub(crate) enum Next {
 /// What a request is looked at for again.
 #[derive(Clone, Copy)]
 enum Awaited {
-    /// The end of a line.
+    /// The end of the first line.
     Line,
+    /// The end of an empty line, which ends a head.
+    EmptyLine,
     /// So many bytes in all.
     Bytes(usize),
 }
@@ -68,11 +70,38 @@ pub(crate) struct Connection {
     stage: Stage,
 }
 
-/// Whether what is awaited came with these bytes, the last of so many.
-fn has_come(awaited: Awaited, last: &[u8], total: usize) -> bool {
+/// Whether the byte at a place ends an empty line.
+fn ends_empty_line(come: &[u8], at: usize) -> bool {
+    if at == 0 || at >= come.len() || come[at] != b'\n' {
+        return false;
+    }
+    come[at - 1] == b'\n' || (at >= 2 && come[at - 1] == b'\r' && come[at - 2] == b'\n')
+}
+
+/// Whether one of the bytes from a place on ends a line.
+fn has_line(come: &[u8], from: usize) -> bool {
+    match come.get(from..) {
+        Some(bytes) => bytes.contains(&b'\n'),
+        None => false,
+    }
+}
+
+/// Whether one of the bytes from a place on ends an empty line.
+fn has_empty_line(come: &[u8], from: usize) -> bool {
+    for at in from..come.len() {
+        if ends_empty_line(come, at) {
+            return true;
+        }
+    }
+    false
+}
+
+/// Whether what is awaited came with the bytes from a place on.
+fn has_come(awaited: Awaited, come: &[u8], from: usize) -> bool {
     match awaited {
-        Awaited::Line => total >= MOST_HEAD_BYTES || last.contains(&b'\n'),
-        Awaited::Bytes(most) => total >= most,
+        Awaited::Line => come.len() >= MOST_HEAD_BYTES || has_line(come, from),
+        Awaited::EmptyLine => come.len() >= MOST_HEAD_BYTES || has_empty_line(come, from),
+        Awaited::Bytes(most) => come.len() >= most,
     }
 }
 
@@ -80,6 +109,7 @@ fn has_come(awaited: Awaited, last: &[u8], total: usize) -> bool {
 fn look(routes: &Routes, come: &[u8]) -> Option<Awaited> {
     match wanted_so_far(routes, come).more {
         More::Nothing => None,
+        More::Head if come.contains(&b'\n') => Some(Awaited::EmptyLine),
         More::Head => Some(Awaited::Line),
         More::Content(lacking) => Some(Awaited::Bytes(come.len().saturating_add(lacking))),
     }
@@ -101,14 +131,14 @@ fn take_request(
             Err(error) if error.kind() == ErrorKind::Interrupted => 0,
             Err(_) => return Next::Fails(ServeFault::ReadFailed),
         };
-        let last = &chunk[..count];
-        if come.extend_from_slice(last).is_err() {
+        let from = come.len();
+        if come.extend_from_slice(&chunk[..count]).is_err() {
             return Next::Fails(ServeFault::NoMemory);
         }
         if come.len() >= MOST_ASKED {
             return Next::IsWhole;
         }
-        if has_come(*awaited, last, come.len()) {
+        if has_come(*awaited, come.as_slice(), from) {
             match look(routes, come.as_slice()) {
                 Some(more) => *awaited = more,
                 None => return Next::IsWhole,
