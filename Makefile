@@ -48,6 +48,7 @@ peers: desk
 	python3 scripts/peers_policies.py
 	python3 scripts/peers_requests.py
 	python3 scripts/peers_http.py
+	python3 scripts/peers_patience.py
 	python3 scripts/peers_store.py
 	python3 scripts/peers_front.py
 	python3 scripts/peers_monitoring.py

@@ -6,6 +6,10 @@
 #   fetch-sudoers.sh --cert host.pem --key host.key --ca ca.pem https://desk.example db1
 #   /etc/sudoers.d/desk
 #
+# It asks for the file as it is without the lines that ended over an hour ago, so that it stays small
+# however long the desk has been in use. A desk or a front that has not this route is asked for the
+# whole file.
+#
 # Several desks are asked in turn: the first that answers with a file that visudo accepts is taken,
 # and each before it is named on the standard error.
 #
@@ -89,6 +93,11 @@ compare_clocks() {
     fi
 }
 
+# The moment of an hour ago, by this host's clock, as sudo tests the lines by it.
+an_hour_ago() {
+    date -u -d "@$(($(date +%s) - 3600))" +%Y%m%d%H%M%SZ
+}
+
 # Asks one desk. A refusal is a fault, and its text is no file; so is a reply that is cut short.
 ask() {
     set -- "$1" --fail --silent --show-error --max-time 60 --dump-header "$new.head" --output "$new"
@@ -98,10 +107,15 @@ ask() {
     desk=$1
     shift
     chmod 0600 "$new" && : > "$new"
-    if ! curl "$@" "$desk/v1/hosts/$host/sudoers" 2> "$new.said"; then
+    if ! curl "$@" "$desk/v1/hosts/$host/sudoers/$(an_hour_ago)" 2> "$new.said"; then
+        case $(cat "$new.said") in
+            *' 403'* | *' 404'*) curl "$@" "$desk/v1/hosts/$host/sudoers" 2> "$new.said" ;;
+            *) false ;;
+        esac
+    fi || {
         say "$desk did not answer with a file: $(head -n 1 "$new.said")$(hint)"
         return 1
-    fi
+    }
     chmod 0440 "$new"
     if ! visudo -c -q -f "$new" > /dev/null 2>&1; then
         say "$host: visudo refuses what came from $desk: $(visudo -c -f "$new" 2>&1 | head -n 1)"

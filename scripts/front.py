@@ -46,7 +46,7 @@ def free_port() -> int:
 def desk(words: list[str], store: str) -> Iterator[str]:
     """A desk over the store: its address."""
     asked = [*words, "serve", ROSTER, BASE, store, "127.0.0.1:0"]
-    with subprocess.Popen(asked, stdout=subprocess.PIPE, text=True) as server:
+    with subprocess.Popen(asked, stdout=subprocess.PIPE, stderr=subprocess.DEVNULL, text=True) as server:
         try:
             first = server.stdout.readline().split()
             if len(first) != 2 or first[0] != "listening":

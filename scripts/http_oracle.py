@@ -19,9 +19,11 @@ MOST_BODY = 16_384
 # Each route with its method, and what it asks.
 ROUTES = (
     (rb"/v1/relays/([^/]+)/messages", "POST", "deliver"),
+    (rb"/v1/messages", "GET", "messages"),
     (rb"/v1/grants/([^/]+)", "GET", "grants"),
     (rb"/v1/parked", "GET", "parked"),
     (rb"/v1/hosts/([^/]+)/sudoers", "GET", "file"),
+    (rb"/v1/hosts/([^/]+)/sudoers/([^/]+)", "GET", "file after"),
     (rb"/v1/reviews/([^/]+)", "GET", "report"),
 )
 
@@ -73,7 +75,7 @@ def body_fault(given, fields, at):
 
 def asks(given):
     """What the bytes ask: a refusal as its status, its code with its name and what `Allow` says, or what they ask of the desk, as a word
-    and what the route's `{..}` holds; and whether the reply goes without its body."""
+    and what the route's first `{..}` holds; and whether the reply goes without its body."""
     head = head_of(given)
     if not head:
         return ("400 Bad Request", "T1 BadHead", None), False
@@ -93,6 +95,6 @@ def asks(given):
         return ("405 Method Not Allowed", "T4 BadMethod", "POST" if wanted == "POST" else "GET, HEAD"), bare
     if what == "deliver" and (fault := body_fault(given, fields, at)):
         return (*fault, None), bare
-    if what in ("grants", "report") and not is_moment(found[1]):
+    if what in ("grants", "report", "file after") and not is_moment(found[found.re.groups]):
         return ("400 Bad Request", "T8 BadMoment", None), bare
     return (what, found[1] if found.groups() else None), bare

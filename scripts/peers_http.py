@@ -8,6 +8,8 @@ the old one. The servers listen at port 0; one ends by itself after as many conn
 """
 
 import contextlib
+import datetime
+import hashlib
 import http.client
 import os
 import random
@@ -78,6 +80,21 @@ ASKED = [
     (["/v1/grants/20260105085959Z"], ("200 OK", b"")),
     (["--head", "/v1/grants/20260105093000Z"], ("200 OK", b"")),
     (["--head", "/v1/hosts/db1/sudoers"], ("200 OK", b"")),
+    (["/v1/messages"], ("200 OK", REQUEST + b"\n" + APPROVAL + b"\n")),
+    (["--head", "/v1/messages"], ("200 OK", b"")),
+    (["/v1/messages/"], ("404 Not Found", b"T3 NoRoute\n")),
+    (["/v1/messages?x"], ("400 Bad Request", b"T2 BadTarget\n")),
+    (["-X", "DELETE", "/v1/messages"], ("405 Method Not Allowed", b"T4 BadMethod\n")),
+    (post("chat", APPROVAL)[:-1] + ["/v1/messages"], ("405 Method Not Allowed", b"T4 BadMethod\n")),
+    (["--head", "/v1/hosts/db1/sudoers/20260105110000Z"], ("200 OK", b"")),
+    (["/v1/hosts/db9/sudoers/20260105110000Z"], ("404 Not Found", b"P2 UnknownHost\n")),
+    (["/v1/hosts/db9/sudoers/20260105"], ("400 Bad Request", b"T8 BadMoment\n")),
+    (["/v1/hosts/db1/sudoers/2026010504-0500"], ("400 Bad Request", b"T8 BadMoment\n")),
+    (["/v1/hosts/db1/sudoers/20260105110000z"], ("400 Bad Request", b"T8 BadMoment\n")),
+    (["/v1/hosts/db1/sudoers/"], ("404 Not Found", b"T3 NoRoute\n")),
+    (["/v1/hosts/db1/sudoers/20260105110000Z/"], ("404 Not Found", b"T3 NoRoute\n")),
+    (["/v1/hosts//sudoers/20260105110000Z"], ("404 Not Found", b"T3 NoRoute\n")),
+    (["-X", "DELETE", "/v1/hosts/db1/sudoers/20260105"], ("405 Method Not Allowed", b"T4 BadMethod\n")),
     (["/v1/hosts/db9/sudoers"], ("404 Not Found", b"P2 UnknownHost\n")),
     (["/v1/hosts/d%20b/sudoers"], ("400 Bad Request", b"T2 BadTarget\n")),
     (["/v1/grants/2026010509Z"], ("400 Bad Request", b"T8 BadMoment\n")),
@@ -144,6 +161,7 @@ def exchanges(request):
     heading, ends = b"REVIEW 20260105093000Z\nLIVE\n", b"BARRED\nCONFLICTS\nBROAD\nPARKED\n"
     report = heading + b"ann%s7 db-root%s20260105090000Z 20260105110000Z needed\n" % (b" " * 38, b" " * 26) + ends
     bad = b"400 Bad Request"
+    both = b"".join(text + b"\n" for text in sorted([APPROVAL, request]))
     return [
         # what is refused is not stored
         (posted(b"web", spaced), reply(bad, b"M2 NotCanonical\n")),
@@ -163,6 +181,12 @@ def exchanges(request):
         (asked(b"POST", b"/v1/reviews/20260105093000Z"), reply(b"405 Method Not Allowed", b"T4 BadMethod\n", None, b"Allow: GET, HEAD\r\n")),
         (asked(b"GET", b"/v1/parked"), reply(b"200 OK", b"")),
         (asked(b"GET", b"/v1/hosts/db9/sudoers"), reply(b"404 Not Found", b"P2 UnknownHost\n")),
+        (asked(b"GET", b"/v1/messages"), reply(b"200 OK", both)),
+        (asked(b"HEAD", b"/v1/messages"), reply(b"200 OK", b"", len(both))),
+        (asked(b"POST", b"/v1/messages"), reply(b"405 Method Not Allowed", b"T4 BadMethod\n", None, b"Allow: GET, HEAD\r\n")),
+        (asked(b"HEAD", b"/v1/hosts/db9/sudoers/20260105110000Z"), reply(b"404 Not Found", b"", 15)),
+        (asked(b"HEAD", b"/v1/hosts/db9/sudoers/20260105"), reply(bad, b"", 13)),
+        (asked(b"PUT", b"/v1/hosts/db9/sudoers/20260105"), reply(b"405 Method Not Allowed", b"T4 BadMethod\n", None, b"Allow: GET, HEAD\r\n")),
         (asked(b"POST", b"/v1/parked"), reply(b"405 Method Not Allowed", b"T4 BadMethod\n", None, b"Allow: GET, HEAD\r\n")),
         (asked(b"GET", b"/v1/grants/2026010509Z"), reply(bad, b"T8 BadMoment\n")),
         (asked(b"GET", b"/v1/parked?x"), reply(bad, b"T2 BadTarget\n")),
@@ -248,9 +272,13 @@ def serving(roster, base, requests=None):
         finally:
             server.kill()
         said.seek(0)
-        lines = set(said.read().splitlines())
-        if status != (0 if requests else -signal.SIGTERM) or not lines <= {"H1 ReadFailed", "H2 WriteFailed"}:
-            sys.exit(f"the desk ends with status {status}: {sorted(lines)}")
+        begun, *lines = said.read().splitlines()
+        with open(roster, "rb") as file:
+            digest = hashlib.sha256(file.read()).hexdigest()
+        last = lines[-1:] if requests else ["ended: all connections that were asked for are served"]
+        is_right = begun == f"serving 0 messages, roster {digest}" and last == ["ended: all connections that were asked for are served"]
+        if status != (0 if requests else -signal.SIGTERM) or not is_right or not {*lines} <= {"H1 ReadFailed", "H2 WriteFailed", *last}:
+            sys.exit(f"the desk ends with status {status}: {begun}, {sorted({*lines})}")
 
 
 def ask_exactly():
@@ -372,7 +400,7 @@ def is_reply_to(given, whole):
         return (status == "200 OK" and body == b"ack\n" or re.match(rb"[APM][1-8] ", body) is not None) and is_known == (body != b"P1 UnknownRelay\n")
     if what == "report" and not bare:
         return status == "200 OK" and body.startswith(b"REVIEW %s\nLIVE\n" % part)
-    if what == "file" and part != b"db1":
+    if what in ("file", "file after") and part != b"db1":
         return status in ("200 OK", "404 Not Found") and (bare or status == "200 OK" or body == b"P2 UnknownHost\n")
     return status == "200 OK" and not (bare and body)
 
@@ -387,6 +415,8 @@ def change_requests(address):
         asked(b"HEAD", b"/v1/hosts/db1/sudoers"),
         asked(b"GET", b"/v1/parked"),
         asked(b"GET", b"/v1/reviews/20260105093000Z"),
+        asked(b"GET", b"/v1/hosts/db1/sudoers/20260105110000Z"),
+        asked(b"GET", b"/v1/messages"),
         b"POST /v1/relays/chat/messages HTTP/1.1\r\nhOST: desk\r\nA:b\r\nContent-length: \t70 \r\nTransfer-encoding: x\r\n\r\n" + APPROVAL,
         b"\r\nHEAD /v1/relays/chat/messages HTTP/1.0\n\n",
         b"PUT /v1/grants/20991231235959Z HTTP/1.1\nHost:\n\n",
@@ -432,6 +462,15 @@ def check_file(address):
     return 1, 0
 
 
+def ask_later_files(address):
+    """The host's file after a moment: a grant's line is there up to the last moment of its window, and not after it; all else stays."""
+    _, _, whole = reply_of(by_curl(address, ["/v1/hosts/db1/sudoers"]))
+    wrong, rows = 0, [("19700101000000Z", whole), ("20260105110000Z", whole), ("20260105110001Z", whole.removesuffix(LINE)), ("20991231235959Z", whole.removesuffix(LINE))]
+    for moment, wanted in rows:
+        wrong += not check(f"the file after {moment}", by_curl(address, [f"/v1/hosts/db1/sudoers/{moment}"]), ("200 OK", wanted))
+    return len(rows), wrong
+
+
 def answer_once(whole):
     """The address of a server that is no desk: it gives one peer these bytes."""
     listener = socket.create_server(("127.0.0.1", 0))
@@ -454,16 +493,49 @@ def fetch(words, file):
     return ran.returncode, ran.stdout.decode()
 
 
-def fetch_rows(address):
+def stamp(hours):
+    """The moment so many hours from now."""
+    return (datetime.datetime.now(datetime.timezone.utc) + datetime.timedelta(hours=hours)).strftime("%Y%m%d%H%M%SZ").encode("ascii")
+
+
+def grant_now(address):
+    """Grants db1 a right that ended half an hour ago, and answers its line: the last of the host's file as fetch-sudoers.sh fetches it."""
+    asked_at, first, last = stamp(-3), stamp(-2), stamp(-0.5)
+    for body in (
+        REQUEST.replace(b"20260105060000Z", asked_at).replace(b"20260105090000Z", first).replace(b"20260105110000Z", last).replace(b'"no":7', b'"no":8'),
+        APPROVAL.replace(b"20260105083000Z", asked_at).replace(b'"no":7', b'"no":8'),
+    ):
+        if by_bytes(address, posted(b"chat", body)) != reply(b"200 OK", b"ack\n"):
+            sys.exit(f"the desk does not take {body!r}")
+    return LINE.replace(b"20260105090000Z", first).replace(b"20260105110000Z", last)
+
+
+def answer_old(whole):
+    """The address of a desk that has no file after a moment, and gives each peer the whole file."""
+    listener = socket.create_server(("127.0.0.1", 0))
+
+    def answer():
+        with listener:
+            while True:
+                with listener.accept()[0] as peer:
+                    target = peer.recv(65536).split(b" ")[1]
+                    peer.sendall(reply(b"200 OK", whole) if target == b"/v1/hosts/db1/sudoers" else reply(b"404 Not Found", b"T3 NoRoute\n"))
+
+    threading.Thread(target=answer, daemon=True).start()
+    return "127.0.0.1:%d" % listener.getsockname()[1]
+
+
+def fetch_rows(address, line):
     """What fetch-sudoers.sh is given, its status, and a part of what it says; None is silence. A server that is no desk answers once."""
     desk, nobody = f"http://{address}", "http://127.0.0.1:1"
     no_sudoers = b"HTTP/1.1 200 OK\r\nContent-Length: 12\r\n\r\nann db1 = (\n"
     cut_short = b"HTTP/1.1 200 OK\r\nContent-Length: 99\r\n\r\nann db1 = /bin/ls\n"
-    long_ago = b"HTTP/1.1 200 OK\r\nDate: Mon, 05 Jan 2026 09:00:00 GMT\r\nContent-Length: %d\r\n\r\n%s" % (len(LINE), LINE)
+    long_ago = b"HTTP/1.1 200 OK\r\nDate: Mon, 05 Jan 2026 09:00:00 GMT\r\nContent-Length: %d\r\n\r\n%s" % (len(line), line)
     bad = lambda: f"http://{answer_once(no_sudoers)}"
     return [
         ("a host's file", [desk, "db1"], 0, None),
         ("the same again", [desk, "db1"], 0, None),
+        ("a desk without the file after a moment", [f"http://{answer_old(line)}", "db1"], 0, None),
         ("a host that the roster lacks", [desk, "db9"], 1, "the desk's roster has no host db9"),
         ("what is no sudoers file", [bad(), "db1"], 1, "db1: visudo refuses what came from http://127.0.0.1:"),
         ("and visudo's fault", [bad(), "db1"], 1, ":1:12: syntax error"),
@@ -487,7 +559,8 @@ def fetch_rows(address):
 
 def fetch_files(address):
     """examples/fetch-sudoers.sh puts the host's file in place, and on any fault keeps the old one and leaves nothing else."""
-    wrong, rows = 0, fetch_rows(address)
+    line = grant_now(address)
+    wrong, rows = 0, fetch_rows(address, line)
     with tempfile.TemporaryDirectory() as folder:
         file = os.path.join(folder, "desk")
         for what, words, status, says in rows:
@@ -495,7 +568,8 @@ def fetch_files(address):
                 os.utime(file, (0, 0))
             ended, said = fetch(words, file)
             with open(file, "rb") as found:
-                is_right = found.read().endswith(LINE) and os.listdir(folder) == ["desk"] and os.stat(file).st_mode & 0o777 == 0o440
+                text = found.read()
+                is_right = text.endswith(line) and LINE not in text and os.listdir(folder) == ["desk"] and os.stat(file).st_mode & 0o777 == 0o440
             # (the file's time is that of the last fetch that succeeded)
             is_right = is_right and (os.stat(file).st_mtime > 0) == (status == 0)
             if ended != status or not is_right or (says or "") not in said or says is None and said:
@@ -507,7 +581,7 @@ def fetch_files(address):
 def main():
     counts = [ask_exactly(), ask_reports()]
     with serving(ROSTER, BASE) as address:
-        for part in (ask_all, ask_as_python, check_file, fetch_files, leave_at_each_byte, change_requests):
+        for part in (ask_all, ask_as_python, check_file, ask_later_files, fetch_files, leave_at_each_byte, change_requests):
             counts.append(part(address))
     asks, wrong = (sum(each) for each in zip(*counts, strict=True))
     print(f"over HTTP the desk was asked {asks} times: {wrong} otherwise than they say")

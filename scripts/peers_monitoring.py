@@ -70,7 +70,7 @@ def serving(folder: str, roster: str, base: str, messages: list[str]) -> Iterato
         with contextlib.suppress(FileNotFoundError):
             os.unlink(places[2] + end)
     with subprocess.Popen(
-        [*DESK, "serve", *places, "127.0.0.1:0"], stdout=subprocess.PIPE, text=True
+        [*DESK, "serve", *places, "127.0.0.1:0"], stdout=subprocess.PIPE, stderr=subprocess.DEVNULL, text=True
     ) as server:
         try:
             address = server.stdout.readline().split()[1]

@@ -150,7 +150,25 @@ def serve_over(count, folder):
         count.same("post again", replied(port, "POST", "/v1/relays/mail/messages", APPROVAL), (200, "ack\n"))
         end(server, how)
     count.same("the messages served", store_files.read(store)[1], sorted([REQUEST, APPROVAL]))
+    list_messages(count, folder)
     kill_serving(count, store)
+
+
+def list_messages(count, folder):
+    """`GET /v1/messages` is what `sqlite3` reads of the same file, in its order of bytes; posted to a second desk it is the same there."""
+    first, second = (os.path.join(folder, f"{name}.db") for name in ("first", "second"))
+    lines = [REQUEST, *map(approval, range(1_200)), APPROVAL.replace("approve", "refuse"), APPROVAL.replace("20260105083000Z", "20260104235959Z")]
+    desk("deliver", first, "chat", lines)
+    server, port = serving(first)
+    listed = replied(port, "GET", "/v1/messages")
+    count.same("messages of a head", replied(port, "HEAD", "/v1/messages"), (200, ""))
+    end(server, signal.SIGTERM)
+    count.same("all messages", listed, (200, told(first, "SELECT body FROM messages ORDER BY body")))
+    count.same("all messages, sorted here", listed[1].encode().splitlines(), sorted(line.encode() for line in {*lines}))
+    count.same("delivered to a second desk", desk("deliver", second, "mail", listed[1].splitlines()), ("ack\n" * len({*lines}), "", 0))
+    server, port = serving(second)
+    count.same("all messages of the second desk", replied(port, "GET", "/v1/messages"), listed)
+    end(server, signal.SIGTERM)
 
 
 def kill_serving(count, store):

@@ -52,7 +52,7 @@ cases() {
 }
 
 peers() {
-    python3 scripts/peers.py && python3 scripts/peers_policies.py && python3 scripts/peers_requests.py && python3 scripts/peers_http.py &&
+    python3 scripts/peers.py && python3 scripts/peers_policies.py && python3 scripts/peers_requests.py && python3 scripts/peers_http.py && python3 scripts/peers_patience.py &&
         python3 scripts/peers_store.py && python3 scripts/peers_monitoring.py
 }
 

@@ -13,9 +13,11 @@ use Rattle.desk_outcomes.specs.Outcomes.{AreLive, ComesTo, LiveGrant}
 use Rattle.desk_outcomes.specs.Parked.{AreParked}
 use Rattle.desk_outcomes.specs.Summaries.{AllKeepTheSame, AreSummaries}
 use Rattle.desk.specs.Runs.{Event, IsRun, SameAcked}
+use Rattle.desk.specs.Texts.{AreTexts}
 use Rattle.desk_outcomes.proofs.FileLemmas.{one_file, one_file_after, one_lines}
 use Rattle.desk_outcomes.proofs.SummaryLemmas.{one_of_summaries, summaries_of_set}
 use Rattle.desk.proofs.RunLemmas.{runs_agree}
+use Rattle.desk.proofs.TextLemmas.{one_texts}
 use Rattle.desk_outcomes.proofs.SetLemmas.{Alike, alike_sets, file_after_alike, file_alike, lines_alike, live_alike, one_live, one_outcome, one_parked, outcome_alike, parked_of_set}
 
 module _ (f : RosterFields Cmnd) (old s t : List Message) (r u : List Event) (acked : SameAcked r u) (first : IsRun f old r s) (second : IsRun f old u t) where
@@ -48,3 +50,6 @@ module _ (f : RosterFields Cmnd) (old s t : List Message) (r u : List Event) (ac
 
   pub same_count_after : (host : List ℕ) (moment : ℕ) (a b : List Line) → AreLines f s host a → AreLines f t host b → length (lines_after moment a) ≡ length (lines_after moment b)
   same_count_after host moment a b x y = ap (λ (lines : List Line). length (lines_after moment lines)) (one_lines f t host a b (lines_alike f s t left_alike host a x) y)
+
+  pub same_texts : (a b : List (List ℕ)) → AreTexts s a → AreTexts t b → a ≡ b
+  same_texts a b x y = one_texts s t a b same_left x y

@@ -8,3 +8,4 @@ pub mod CrashLemmas
 pub mod RestartLemmas
 pub mod KnownLemmas
 pub mod RefusalLemmas
+pub mod TextLemmas

@@ -10,6 +10,7 @@ use Rattle.desk.specs.Opening.{Opens}
 use Rattle.desk.specs.Same.{AnswerAlike}
 use Rattle.desk_outcomes.proofs.LawLemmas.{order_free}
 use Rattle.desk_outcomes.proofs.SetLemmas.{parked_of_set}
+use Rattle.desk.proofs.TextLemmas.{texts_of_set}
 
 listed : (S T : Message → Type 0) → SameSet S T → (s t : List Message) → Lists S s → Lists T t → SameMessages s t
 listed S T same s t x y m = (λ c. (y m).0 ((same m).0 ((x m).1 c)), λ c. (x m).0 ((same m).1 ((y m).1 c)))
@@ -20,6 +21,7 @@ back S T same s t x y m = (λ c. (x m).0 ((same m).1 ((y m).1 c)), λ c. (y m).0
 pub same_answers : (f : RosterFields Cmnd) (S T : Message → Type 0) → SameSet S T → AnswerAlike f S T
 same_answers f S T same = record {
   grants = λ s t x y. order_free f s t (listed S T same s t x y);
+  texts = λ s t texts x y. (λ are. texts_of_set s t texts (listed S T same s t x y) are, λ are. texts_of_set t s texts (back S T same s t x y) are);
   parked = λ s t texts x y. (λ are. parked_of_set s t texts (listed S T same s t x y) are, λ are. parked_of_set t s texts (back S T same s t x y) are);
 }
 

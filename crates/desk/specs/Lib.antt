@@ -3,6 +3,7 @@ pub mod State
 pub mod Refusals
 pub mod Opening
 pub mod Delivery
+pub mod Texts
 pub mod Crash
 -- laws: runs, and sets that answer alike
 pub mod Runs

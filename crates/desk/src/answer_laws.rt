@@ -13,10 +13,12 @@ ghost use Rattle.desk_outcomes.specs.Outcomes.{AreLive, ComesTo, LiveGrant};
 ghost use Rattle.desk_outcomes.specs.Parked.{AreParked};
 ghost use Rattle.desk_outcomes.specs.Summaries.{AllKeepTheSame, AreSummaries};
 ghost use Rattle.desk.specs.Runs.{Event, IsRun, SameAcked};
+ghost use Rattle.desk.specs.Texts.{AreTexts};
 
 /// After two runs that begin with the same messages and acknowledge the same, every question is answered alike: each name's status,
 /// the grants of each moment, what is parked, the summaries (but for which request a disputed one keeps), each host's file, the whole and that after each moment, and how many lines it has, so whether these
 /// are too many.
+/// So are the texts of all messages.
 pub fn runs_answer_alike()
     ensures status { (f : RosterFields AnyCmnd) (old s t : List AnyMessage) (r u : List Event) → SameAcked r u → IsRun f old r s → IsRun f old u t →
         (name : AnyName) (a b : Option AnyStatus) → ComesTo f s name a → ComesTo f t name b → a ≡ b }
@@ -35,4 +37,6 @@ pub fn runs_answer_alike()
     ensures count_after { (f : RosterFields AnyCmnd) (old s t : List AnyMessage) (r u : List Event) → SameAcked r u → IsRun f old r s → IsRun f old u t →
         (host : List ℕ) (moment : ℕ) (a b : List Line) → AreLines f s host a → AreLines f t host b →
         length (lines_after moment a) ≡ length (lines_after moment b) }
+    ensures texts { (f : RosterFields AnyCmnd) (old s t : List AnyMessage) (r u : List Event) → SameAcked r u → IsRun f old r s → IsRun f old u t →
+        (a b : List (List ℕ)) → AreTexts s a → AreTexts t b → a ≡ b }
 {}

@@ -13,6 +13,7 @@ mod queries;
 mod refusal;
 mod reopening;
 mod run_laws;
+mod texts;
 
 pub use ack::Ack;
 pub use answer_laws::runs_answer_alike;
@@ -27,3 +28,4 @@ pub use holdings::Holdings;
 pub use refusal::Refusal;
 pub use reopening::{restart, restart_over};
 pub use run_laws::{one_answer, run_free};
+pub use texts::one_text_list;

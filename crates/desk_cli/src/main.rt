@@ -5,7 +5,7 @@
 mod tests;
 
 use desk_commands::{JobFault, Refusal, Status, code, job, refuse, show};
-use desk_process::work;
+use desk_process::{hold_streams, work};
 use std::process::ExitCode;
 use std::{env, io};
 
@@ -34,6 +34,7 @@ fn outcome(rt: &HostRuntime) -> Result<Status, Refusal> {
 }
 
 fn main(rt: HostRuntime) -> ExitCode {
+    hold_streams(&rt);
     let status = match outcome(&rt) {
         Ok(status) => status,
         Err(refusal) => refuse(refusal, &mut rt.stderr()),

@@ -55,7 +55,7 @@ of_text (w ∷ vs) text m =
 
 -- ---- each once, in byte order
 
-in_texts : (xs : List (String Global)) (x : String Global) → Contains xs x → Contains (map string_bytes xs) (string_bytes x)
+pub in_texts : (xs : List (String Global)) (x : String Global) → Contains xs x → Contains (map string_bytes xs) (string_bytes x)
 in_texts [] x m = absurd (no_member x m)
 in_texts (y ∷ ys) x m =
     elim (Contains-cases y ys x m) as (λ _. Contains (string_bytes y ∷ map string_bytes ys) (string_bytes x)) [
@@ -63,7 +63,7 @@ in_texts (y ∷ ys) x m =
       | inr later ↦ Contains-behind (string_bytes y) (map string_bytes ys) (string_bytes x) (in_texts ys x later)
     ]
 
-from_texts : (xs : List (String Global)) (text : List ℕ) → Contains (map string_bytes xs) text → (x : String Global) × Contains xs x × (string_bytes x ≡ text)
+pub from_texts : (xs : List (String Global)) (text : List ℕ) → Contains (map string_bytes xs) text → (x : String Global) × Contains xs x × (string_bytes x ≡ text)
 from_texts [] text m = absurd (no_member text m)
 from_texts (y ∷ ys) text m =
     elim (Contains-cases (string_bytes y) (map string_bytes ys) text m) as (λ _. (x : String Global) × Contains (y ∷ ys) x × (string_bytes x ≡ text)) [
@@ -75,7 +75,7 @@ texts_behind : (x : String Global) (xs : List (String Global)) → AllByRecursio
 texts_behind x [] all = tt
 texts_behind x (y ∷ ys) all = (ap is_lt all.0, texts_behind x ys all.1)
 
-texts_in_order : (xs : List (String Global)) → IsStrictlySortedBy string_cmp xs → AreInOrder TextPrecedes (map string_bytes xs)
+pub texts_in_order : (xs : List (String Global)) → IsStrictlySortedBy string_cmp xs → AreInOrder TextPrecedes (map string_bytes xs)
 texts_in_order [] s = tt
 texts_in_order (x ∷ xs) s =
     (texts_behind x xs (sorted_head string_cmp x xs s), texts_in_order xs (sorted_tail string_cmp x xs s))

@@ -4,6 +4,8 @@
 mod files;
 mod serving;
 mod stores;
+mod streams;
 mod working;
 
+pub use streams::hold_streams;
 pub use working::work;

@@ -2,6 +2,26 @@
 
 use desk::Keeper;
 use desk_commands::{Refusal, Status, open_over};
+use sha2::{Digest, Sha256};
+use std::alloc::Global;
+use std::io;
+
+/// The SHA-256 digest of the roster's text, as hex.
+fn digest_of(alloc: Global, roster: &[u8]) -> Result<String, Refusal> {
+    match hex::encode(alloc, Sha256::digest(roster)) {
+        Ok(text) => Ok(text),
+        Err(_) => Err(Refusal::NoMemory),
+    }
+}
+
+/// What an end of the service comes to.
+fn status_of(served: io::Result<()>) -> Result<Status, Refusal> {
+    match served {
+        Ok(()) => Ok(Status::Done),
+        Err(error) if error.kind() == io::ErrorKind::OutOfMemory => Err(Refusal::NoMemory),
+        Err(_) => Err(Refusal::FileFailed),
+    }
+}
 
 /// Serves the desk that the files make over what the keeper keeps, at the address, and hands the keeper on.
 ///
@@ -16,14 +36,14 @@ pub(crate) fn serve<K: Keeper>(
     let [roster, base, ..] = files else {
         return (Err(Refusal::FileFailed), keeper);
     };
+    let digest = match digest_of(rt.alloc(), roster.as_slice()) {
+        Ok(digest) => digest,
+        Err(refusal) => return (Err(refusal), keeper),
+    };
     match open_over(rt.alloc(), roster.as_slice(), base.as_slice(), keeper) {
         Ok(mut desk) => {
-            let served = desk_server::serve(rt, &mut desk, addr, requests);
-            let answer = match served {
-                Ok(()) => Ok(Status::Done),
-                Err(_) => Err(Refusal::FileFailed),
-            };
-            (answer, desk.into_keeper())
+            let served = desk_server::serve(rt, &mut desk, digest.as_str(), addr, requests);
+            (status_of(served), desk.into_keeper())
         }
         Err((refusal, keeper)) => (Err(refusal), keeper),
     }

@@ -1,45 +1,99 @@
-//! Listening, and serving what connects.
+//! Listening, and what is said as a service begins and ends.
 
-use crate::connection::serve_stream;
+use crate::log::Log;
+use crate::service::{Service, events};
 use desk::{Desk, Keeper};
-use relay_http::Room;
-use std::io;
-use std::net::TcpListener;
+use mio::net::TcpListener;
+use std::net::{self, SocketAddr};
+use std::{fmt, io};
 
-/// Serves so many connections. A fault of one is printed on the standard error.
-fn serve_streams<K: Keeper>(
-    rt: &HostRuntime,
-    desk: &mut Desk<K>,
-    listener: &TcpListener,
-    requests: usize,
-) -> io::Result<()> {
-    let mut room = Room::new();
-    for stream in listener.incoming().take(requests) {
-        if let Err(fault) = serve_stream(rt.alloc(), desk, &mut room, &stream?) {
-            let _ = eprintln!(rt; "{fault}");
+/// What is served, as a line.
+#[derive(Clone, Copy)]
+struct Serving<'a> {
+    roster: &'a str,
+    messages: Option<usize>,
+}
+
+impl fmt::Display for Serving<'_> {
+    fn fmt<W: fmt::Write>(&self, f: &mut fmt::Formatter<W>) -> fmt::Result {
+        match self.messages {
+            Some(messages) => write!(f, "serving {messages} messages, roster {}", self.roster),
+            None => write!(
+                f,
+                "serving messages that were not counted, roster {}",
+                self.roster
+            ),
         }
     }
-    Ok(())
 }
 
-/// Listens at the address, and prints it.
+/// The warning of an address that other machines may reach.
+#[derive(Clone, Copy)]
+struct Warning(SocketAddr);
+
+impl fmt::Display for Warning {
+    fn fmt<W: fmt::Write>(&self, f: &mut fmt::Formatter<W>) -> fmt::Result {
+        write!(
+            f,
+            "WARNING: {} IS NOT LOOPBACK. WHOEVER REACHES IT CAN POST AS ANY RELAY AND READ EVERY FILE",
+            self.0
+        )
+    }
+}
+
+/// Why a service ended, as a line.
+#[derive(Clone, Copy)]
+struct Ended<'a>(&'a io::Result<()>);
+
+impl fmt::Display for Ended<'_> {
+    fn fmt<W: fmt::Write>(&self, f: &mut fmt::Formatter<W>) -> fmt::Result {
+        match self.0 {
+            Ok(()) => f.write_str("ended: all connections that were asked for are served"),
+            Err(error) => write!(f, "ended: {error}"),
+        }
+    }
+}
+
+/// Listens at the address.
 fn listen(rt: &HostRuntime, addr: &str) -> io::Result<TcpListener> {
-    let listener = TcpListener::bind(rt, addr)?;
-    let at = listener.local_addr()?;
-    println!(rt; "listening {at}")?;
-    Ok(listener)
+    let listener = net::TcpListener::bind(rt, addr)?;
+    listener.set_nonblocking(true)?;
+    Ok(TcpListener::from_std(listener))
 }
 
-/// Serves the desk at the address, `HOST:PORT` with port 0 for any free one: so many connections, one after the other; without a number, until the process ends.
+/// How many messages the desk has, where memory and the storage allow to count them.
+fn count<K: Keeper>(desk: &mut Desk<K>) -> Option<usize> {
+    match desk.texts() {
+        Ok(texts) => Some(texts.len()),
+        Err(_) => None,
+    }
+}
+
+/// Serves the desk at the address, `HOST:PORT` with port 0 for any free one: so many connections; without a number, until the process ends. Their exchanges are made
+/// one after the other, each once its request is there.
 ///
-/// It prints `listening` and the address, once it listens there. A peer that stalls for 10 seconds ends its own connection alone. It is an error where
-/// the address cannot be listened at, where nothing can be printed, and where a connection cannot be accepted.
+/// It prints `listening` and the address, once it listens there. On the standard error it says what it serves, of the roster of this digest; a warning where the address is not
+/// loopback; each 503 that is answered; each connection that is let go before its reply is out; and why it ended. It is an error where the address cannot be listened at,
+/// where nothing can be printed, and where a connection cannot be accepted though no other is open.
 pub fn serve<K: Keeper>(
     rt: &HostRuntime,
     desk: &mut Desk<K>,
+    roster: &str,
     addr: &str,
     requests: Option<u64>,
 ) -> io::Result<()> {
     let listener = listen(rt, addr)?;
-    serve_streams(rt, desk, &listener, requests.unwrap_or(u64::MAX) as usize)
+    let at = listener.local_addr()?;
+    let mut events = events(rt)?;
+    let mut service = Service::new(rt, listener, requests.unwrap_or(u64::MAX))?;
+    let mut log = Log::new(rt);
+    println!(rt; "listening {at}")?;
+    if !at.ip().is_loopback() {
+        log.say(rt, &Warning(at));
+    }
+    let messages = count(desk);
+    log.say(rt, &Serving { roster, messages });
+    let served = service.run(rt, desk, &mut log, &mut events);
+    log.say(rt, &Ended(&served));
+    served
 }

@@ -5,12 +5,13 @@ use Rattle.std.specs.Prelude.{◌↔◌, ◌≢◌, IfOk, IfErr, MatchResult, st
 use Rattle.std.specs.declared.alloc.Global.{Global}
 use Rattle.sudo_words.specs.Word.{is_host_name}
 use Rattle.sudo_words.specs.declared.cmnd.Cmnd.{Cmnd}
+use Rattle.sudo_policy.specs.Printing.{canon}
 use Rattle.sudo_policy.specs.declared.entry.Entry.{Entry}
 use Rattle.messages.specs.declared.message.Message.{Message}
 use Rattle.roster.specs.Fields.{RosterFields}
 use Rattle.roster.specs.Rules.{is_among}
 use Rattle.grants.specs.declared.denial.Denial.TheVariants as denials
-use Rattle.desk_outcomes.specs.HostFile.{Line, AreLines, IsHostFile}
+use Rattle.desk_outcomes.specs.HostFile.{Line, AreLines, IsHostFile, IsHostFileAfter, lines_after, with_lines}
 use Rattle.desk.specs.Refusals.{IsWant}
 use Rattle.desk.specs.declared.refusal.Refusal.{Refusal}
 use Rattle.desk.specs.declared.refusal.Refusal.TheVariants.{UnknownRelay, UnknownHost, TooLong, NotCanonical, BadField, Denied, TooManyRules, RosterChanged, NotADesk, Storage, NoMemory, BaseTooLarge}
@@ -85,29 +86,44 @@ among : (f : RosterFields Cmnd) (host : List ℕ) (r : Result (String Global) Re
 among f host r differs unknown =
     elim (cases_Bool (is_among f.hosts host)) as (λ _. is_among f.hosts host ≡ true) [ inl there ↦ there | inr lacking ↦ absurd (differs (unknown.1 lacking)) ]
 
-pub file_right : (f : RosterFields Cmnd) (base : List Entry) (set : List Message) (host : List ℕ) (r : Result (String Global) Refusal)
-    → is_host_name host ≡ true
-    → IfOk r (λ s. IsHostFile f base set host (string_bytes s))
-    → ((ls : List Line) → AreLines f set host ls → length ls ≤ 8_192 → IfErr r (λ e. (e ≡ UnknownHost) ⊎ IsWant e))
-    → ((ls : List Line) → AreLines f set host ls → 8_192 < length ls → MatchResult r (λ _. ⊥) (λ e. (e ≡ UnknownHost) ⊎ (e ≡ TooManyRules) ⊎ IsWant e))
-    → Unknown f host r
-    → IfErr r (λ e. (e ≡ UnknownHost) ⊎ (e ≡ TooManyRules) ⊎ IsWant e)
-    → IsFileReply f base set host (to_question r) ⊎ IsWanting (to_question r)
-file_right f base set host (Ok s) name file few many unknown err =
-    let there = among f host (Ok s) (λ e. cc) unknown in
-    let short : length file.lines ≤ 8_192 = elim (cases_Bool (nat_le (length file.lines) 8_192)) as (λ _. length file.lines ≤ 8_192) [
-      | inl le ↦ leb-true (length file.lines) 8_192 le
-      | inr gt ↦ absurd (many file.lines file.lines_are (leb-false (length file.lines) 8_192 gt))
-    ] in
-    inl (inr (inl (known_is f host name ∙ there, (file.lines, file.lines_are, short, ap done file.text_is))))
-file_right f base set host (Err e) name file few many unknown (inl none) =
-    inl (inl (known_is f host name ∙ unknown.0 (ap (λ (x : Refusal). Err x) none), ap refusal none))
-file_right f base set host (Err e) name file few many unknown (inr (inl past)) =
-    let there = among f host (Err e) (λ same. let wrong : e ≡ UnknownHost = cc in absurd cc) unknown in
-    let long : (ls : List Line) → AreLines f set host ls → 8_192 < length ls = λ ls are.
-    elim (cases_Bool (nat_le (length ls) 8_192)) as (λ _. 8_192 < length ls) [
-      | inl le ↦ elim (few ls are (leb-true (length ls) 8_192 le)) as (λ _. 8_192 < length ls) [ inl x ↦ absurd cc | inr (inl x) ↦ absurd cc | inr (inr x) ↦ absurd cc ]
-      | inr gt ↦ leb-false (length ls) 8_192 gt
-    ] in
-    inl (inr (inr (known_is f host name ∙ there, long, ap refusal past)))
-file_right f base set host (Err e) name file few many unknown (inr (inr want)) = inr (wanting e want)
+module _ (left : List Line → List Line) (f : RosterFields Cmnd) (base : List Entry) (set : List Message) (host : List ℕ) where
+  -- the text is the base with the lines that are left
+  abbrev pub Left : (text : List ℕ) → Type 0
+  Left text = (lines : List Line) × AreLines f set host lines × (text ≡ canon (with_lines base (left lines)))
+
+  pub file_right : (r : Result (String Global) Refusal)
+      → is_host_name host ≡ true
+      → IfOk r (λ s. Left (string_bytes s))
+      → ((ls : List Line) → AreLines f set host ls → length (left ls) ≤ 8_192 → IfErr r (λ e. (e ≡ UnknownHost) ⊎ IsWant e))
+      → ((ls : List Line) → AreLines f set host ls → 8_192 < length (left ls) → MatchResult r (λ _. ⊥) (λ e. (e ≡ UnknownHost) ⊎ (e ≡ TooManyRules) ⊎ IsWant e))
+      → Unknown f host r
+      → IfErr r (λ e. (e ≡ UnknownHost) ⊎ (e ≡ TooManyRules) ⊎ IsWant e)
+      → IsFileReply left f base set host (to_question r) ⊎ IsWanting (to_question r)
+  file_right (Ok s) name file few many unknown err =
+      let there = among f host (Ok s) (λ e. cc) unknown in
+      let short : length (left file.0) ≤ 8_192 = elim (cases_Bool (nat_le (length (left file.0)) 8_192)) as (λ _. length (left file.0) ≤ 8_192) [
+        | inl le ↦ leb-true (length (left file.0)) 8_192 le
+        | inr gt ↦ absurd (many file.0 file.1 (leb-false (length (left file.0)) 8_192 gt))
+      ] in
+      inl (inr (inl (known_is f host name ∙ there, (file.0, file.1, short, ap done file.2))))
+  file_right (Err e) name file few many unknown (inl none) =
+      inl (inl (known_is f host name ∙ unknown.0 (ap (λ (x : Refusal). Err x) none), ap refusal none))
+  file_right (Err e) name file few many unknown (inr (inl past)) =
+      let there = among f host (Err e) (λ same. let wrong : e ≡ UnknownHost = cc in absurd cc) unknown in
+      let long : (ls : List Line) → AreLines f set host ls → 8_192 < length (left ls) = λ ls are.
+      elim (cases_Bool (nat_le (length (left ls)) 8_192)) as (λ _. 8_192 < length (left ls)) [
+        | inl le ↦ elim (few ls are (leb-true (length (left ls)) 8_192 le)) as (λ _. 8_192 < length (left ls)) [ inl x ↦ absurd cc | inr (inl x) ↦ absurd cc | inr (inr x) ↦ absurd cc ]
+        | inr gt ↦ leb-false (length (left ls)) 8_192 gt
+      ] in
+      inl (inr (inr (known_is f host name ∙ there, long, ap refusal past)))
+  file_right (Err e) name file few many unknown (inr (inr want)) = inr (wanting e want)
+
+pub left_whole : (f : RosterFields Cmnd) (base : List Entry) (set : List Message) (host : List ℕ) (r : Result (String Global) Refusal)
+    → IfOk r (λ s. IsHostFile f base set host (string_bytes s)) → IfOk r (λ s. Left (λ lines. lines) f base set host (string_bytes s))
+left_whole f base set host (Ok s) file = (file.lines, file.lines_are, file.text_is)
+left_whole f base set host (Err e) file = tt
+
+pub left_after : (f : RosterFields Cmnd) (base : List Entry) (set : List Message) (host : List ℕ) (at : ℕ) (r : Result (String Global) Refusal)
+    → IfOk r (λ s. IsHostFileAfter f base set host at (string_bytes s)) → IfOk r (λ s. Left (lines_after at) f base set host (string_bytes s))
+left_after f base set host at (Ok s) file = (file.lines, file.lines_are, file.text_is)
+left_after f base set host at (Err e) file = tt

@@ -11,7 +11,7 @@ use Rattle.sudo_policy.specs.declared.entry.Entry.{Entry}
 use Rattle.messages.specs.declared.message.Message.{Message}
 use Rattle.roster.specs.Fields.{RosterFields}
 use Rattle.desk_store.specs.Keeping.{HasFailed}
-use Rattle.relay_http.specs.Asked.{Asked, Request, deliver, grants, parked, host_file, report, refused}
+use Rattle.relay_http.specs.Asked.{Asked, Request, deliver, all_messages, grants, parked, host_file, host_file_after, report, refused}
 use Rattle.relay_http.specs.Counting.{most_failures, one_failure}
 use Rattle.relay_http.specs.Exchange.{IsAcknowledged, IsExchange, IsPost}
 use Rattle.relay_http.specs.Replies.{Leaves, Reply}
@@ -48,12 +48,24 @@ holds_of_all P (Some all) bytes asked asks more here = λ request wanted. subst 
 
 dated_delivery : (asked : Asked (List ℕ)) (relay body : List ℕ) → Dates asked (deliver relay body) → asked ≡ deliver relay body
 dated_delivery (deliver r b) relay body e =
-    let texts : Asked ℕ → Asked (List ℕ) = λ a. elim a [ deliver x y ↦ deliver x y | grants at ↦ parked | parked ↦ parked | host_file host ↦ parked | report at ↦ parked | refused fault ↦ parked ] in
+    let texts : Asked ℕ → Asked (List ℕ) = λ a. elim a [
+      | deliver x y ↦ deliver x y
+      | all_messages ↦ parked
+      | grants at ↦ parked
+      | parked ↦ parked
+      | host_file host ↦ parked
+      | host_file_after host at ↦ parked
+      | report at ↦ parked
+      | refused fault ↦ parked
+    ] in
     sym (ap texts e)
+dated_delivery all_messages relay body e = absurd cc
 dated_delivery (grants at) relay body (inl x) = absurd (let wrong : ◌≡◌ {A = Asked ℕ} (deliver relay body) (grants x.0) = x.2 in cc)
 dated_delivery (grants at) relay body (inr x) = absurd (let wrong = x.1 in cc)
 dated_delivery parked relay body e = absurd cc
 dated_delivery (host_file host) relay body e = absurd cc
+dated_delivery (host_file_after host at) relay body (inl x) = absurd (let wrong : ◌≡◌ {A = Asked ℕ} (deliver relay body) (host_file_after host x.0) = x.2 in cc)
+dated_delivery (host_file_after host at) relay body (inr x) = absurd (let wrong = x.1 in cc)
 dated_delivery (report at) relay body (inl x) = absurd (let wrong : ◌≡◌ {A = Asked ℕ} (deliver relay body) (report x.0) = x.2 in cc)
 dated_delivery (report at) relay body (inr x) = absurd (let wrong = x.1 in cc)
 dated_delivery (refused fault) relay body e = absurd cc
@@ -94,9 +106,11 @@ only_done_leaves Same old new (deliver relay body) reply left =
       | inl done ↦ inr (relay, body, refl, done)
       | inr other ↦ inl (left.1 other)
     ]
+only_done_leaves Same old new all_messages reply left = inl left
 only_done_leaves Same old new (grants at) reply left = inl left
 only_done_leaves Same old new parked reply left = inl left
 only_done_leaves Same old new (host_file host) reply left = inl left
+only_done_leaves Same old new (host_file_after host at) reply left = inl left
 only_done_leaves Same old new (report at) reply left = inl left
 only_done_leaves Same old new (refused fault) reply left = inl left
 

@@ -5,7 +5,7 @@ use Rattle.std.proofs.lemmas.Bool.Decides.{nat_tests}
 use Rattle.std.proofs.lemmas.Slice.Eq.{bytes_eq-Decides}
 use Rattle.matchit.specs.Router.{RouteOf}
 use Rattle.matchit.specs.Seek.{first}
-use Rattle.relay_http.specs.Asked.{Asked, Request, deliver, grants, parked, host_file, report, refused}
+use Rattle.relay_http.specs.Asked.{Asked, Request, deliver, all_messages, grants, parked, host_file, host_file_after, report, refused}
 use Rattle.relay_http.specs.Content.{by_lengths, content, content_of, is_length, most_content, sized}
 use Rattle.relay_http.specs.Fields.{Fields, values, is_bad_host}
 use Rattle.relay_http.specs.Routes.{routes, part}
@@ -14,7 +14,7 @@ use Rattle.relay_http.specs.Wanted.{Asks, AsksByHead, Dates, allow, asked_by, at
 use Rattle.relay_http.specs.declared.fault.RequestFault.{RequestFault}
 use Rattle.relay_http.specs.declared.fault.RequestFault.TheVariants.{BadHead, BadLength, BadMethod, BadTarget, ShortBody, TooLong}
 use Rattle.relay_http.specs.declared.place.Place.{Place}
-use Rattle.relay_http.specs.declared.place.Place.TheVariants.{Messages, Grants, Parked, HostFile, Report}
+use Rattle.relay_http.specs.declared.place.Place.TheVariants.{Messages, AllMessages, Grants, Parked, HostFile, HostFileAfter, Report}
 use Rattle.relay_http.proofs.SettleLemmas.{kept}
 
 pub rest_ignored : (bytes more : List ℕ) (request : Request ℕ) → AsksByHead bytes request → (request.asked ≡ refused ShortBody → ⊥) → Asks (bytes ++ more) request
@@ -24,9 +24,11 @@ rest_ignored bytes more request x whole =
 head_at : (place : Place) (named : List ℕ → List ℕ) (fields : Fields) (rest : List ℕ)
     → at_place place (codes "HEAD") named fields rest ≡ at_place place (codes "GET") named fields rest
 head_at Messages named fields rest = refl
+head_at AllMessages named fields rest = refl
 head_at Grants named fields rest = refl
 head_at Parked named fields rest = refl
 head_at HostFile named fields rest = refl
+head_at HostFileAfter named fields rest = refl
 head_at Report named fields rest = refl
 
 head_on : (route : Option (RouteOf Place)) (target : List ℕ) (fields : Fields) (rest : List ℕ)
@@ -43,9 +45,11 @@ head_asks target minor fields rest =
 -- what is said of a delivery
 abbrev IsPosted : (method rest : List ℕ) → Asked (List ℕ) → Type 0
 IsPosted method rest (deliver relay body) = (method ≡ codes "POST") × (length body ≤ 16384) × (body ≡ take (length body) rest)
+IsPosted method rest all_messages = Unit {0}
 IsPosted method rest (grants at) = Unit {0}
 IsPosted method rest parked = Unit {0}
 IsPosted method rest (host_file host) = Unit {0}
+IsPosted method rest (host_file_after host at) = Unit {0}
 IsPosted method rest (report at) = Unit {0}
 IsPosted method rest (refused fault) = Unit {0}
 
@@ -89,9 +93,11 @@ module _ (rest : List ℕ) where
       by : (place : Place) (b : Bool) → allow (methods_of place) method ≡ b → IsPosted method rest (cond b (sought place named fields rest) (refused (BadMethod (methods_of place))))
       by place false e = tt
       by Messages true e = posted method (named (codes "relay")) ((bytes_eq-Decides method (codes "POST")).0 e) _ (is_content (values (codes "transfer-encoding") fields) (values (codes "content-length") fields))
+      by AllMessages true e = tt
       by Grants true e = tt
       by Parked true e = tt
       by HostFile true e = tt
+      by HostFileAfter true e = tt
       by Report true e = tt
 
   posted_on : (route : Option (RouteOf Place)) (method target : List ℕ) (fields : Fields) → IsPosted method rest (on_route route method target fields rest)
@@ -115,9 +121,11 @@ only_post_delivers method target minor fields rest relay body e =
 -- what is said of the route of a delivery
 abbrev IsOfMessages : Option (RouteOf Place) → Asked (List ℕ) → Type 0
 IsOfMessages found (deliver relay body) = (route : RouteOf Place) × (found ≡ Some route) × (route.value ≡ Messages)
+IsOfMessages found all_messages = Unit {0}
 IsOfMessages found (grants at) = Unit {0}
 IsOfMessages found parked = Unit {0}
 IsOfMessages found (host_file host) = Unit {0}
+IsOfMessages found (host_file_after host at) = Unit {0}
 IsOfMessages found (report at) = Unit {0}
 IsOfMessages found (refused fault) = Unit {0}
 
@@ -131,9 +139,11 @@ module _ (method target rest : List ℕ) (fields : Fields) where
       → (b : Bool) → IsOfMessages (Some route) (cond b (sought place named fields rest) (refused (BadMethod (methods_of place))))
   messages_at route named place is false = tt
   messages_at route named Messages is true = messages_delivered route (named (codes "relay")) is (content_of fields rest)
+  messages_at route named AllMessages is true = tt
   messages_at route named Grants is true = tt
   messages_at route named Parked is true = tt
   messages_at route named HostFile is true = tt
+  messages_at route named HostFileAfter is true = tt
   messages_at route named Report is true = tt
 
   messages_on : (found : Option (RouteOf Place)) → IsOfMessages found (on_route found method target fields rest)

@@ -5,36 +5,41 @@ use Rattle.sudo_policy.specs.Printing.{canon}
 use Rattle.sudo_policy.specs.declared.entry.Entry.{Entry}
 use Rattle.messages.specs.declared.message.Message.{Message}
 use Rattle.roster.specs.Fields.{RosterFields}
-use Rattle.desk_outcomes.specs.HostFile.{Line, with_lines}
+use Rattle.desk_outcomes.specs.HostFile.{Line, lines_after, with_lines}
 use Rattle.desk_outcomes.specs.Outcomes.{LiveGrant}
 use Rattle.desk.proofs.DeliveryLemmas.{one_answer}
+use Rattle.desk.proofs.TextLemmas.{one_texts}
 use Rattle.desk_outcomes.proofs.FileLemmas.{one_lines}
 use Rattle.desk_outcomes.proofs.SetLemmas.{one_live, one_parked}
 use Rattle.review.proofs.ReportOne.{one_report}
-use Rattle.relay_http.specs.Asked.{Asked, deliver, grants, parked, host_file, report, refused}
+use Rattle.relay_http.specs.Asked.{Asked, deliver, all_messages, grants, parked, host_file, host_file_after, report, refused}
 use Rattle.relay_http.specs.Replies.{IsFileReply, IsReply, Reply, delivery, done, is_known_host, each_on_a_line, live_line, to_delivery}
 
 -- a host is known, or it is not
 one_known : (f : RosterFields Cmnd) (host : List ℕ) → is_known_host f host ≡ false → is_known_host f host ≡ true → ⊥
 one_known f host lacking known = let wrong : false ≡ true = sym lacking ∙ known in absurd cc
 
-one_file_reply : (f : RosterFields Cmnd) (base : List Entry) (set : List Message) (host : List ℕ) (a b : Reply) → IsFileReply f base set host a → IsFileReply f base set host b → a ≡ b
-one_file_reply f base set host a b (inl x) (inl y) = x.1 ∙ sym y.1
-one_file_reply f base set host a b (inl x) (inr (inl y)) = absurd (one_known f host x.0 y.0)
-one_file_reply f base set host a b (inl x) (inr (inr y)) = absurd (one_known f host x.0 y.0)
-one_file_reply f base set host a b (inr (inl x)) (inl y) = absurd (one_known f host y.0 x.0)
-one_file_reply f base set host a b (inr (inr x)) (inl y) = absurd (one_known f host y.0 x.0)
-one_file_reply f base set host a b (inr (inl x)) (inr (inl y)) =
-    x.1.3 ∙ ap (λ (ls : List Line). done (canon (with_lines base ls))) (one_lines f set host x.1.0 y.1.0 x.1.1 y.1.1) ∙ sym y.1.3
-one_file_reply f base set host a b (inr (inl x)) (inr (inr y)) = absurd (omega (arith, x.1.2, y.1 x.1.0 x.1.1))
-one_file_reply f base set host a b (inr (inr x)) (inr (inl y)) = absurd (omega (arith, y.1.2, x.1 y.1.0 y.1.1))
-one_file_reply f base set host a b (inr (inr x)) (inr (inr y)) = x.2 ∙ sym y.2
+one_file_reply : (left : List Line → List Line) (f : RosterFields Cmnd) (base : List Entry) (set : List Message) (host : List ℕ) (a b : Reply)
+    → IsFileReply left f base set host a → IsFileReply left f base set host b → a ≡ b
+one_file_reply left f base set host a b (inl x) (inl y) = x.1 ∙ sym y.1
+one_file_reply left f base set host a b (inl x) (inr (inl y)) = absurd (one_known f host x.0 y.0)
+one_file_reply left f base set host a b (inl x) (inr (inr y)) = absurd (one_known f host x.0 y.0)
+one_file_reply left f base set host a b (inr (inl x)) (inl y) = absurd (one_known f host y.0 x.0)
+one_file_reply left f base set host a b (inr (inr x)) (inl y) = absurd (one_known f host y.0 x.0)
+one_file_reply left f base set host a b (inr (inl x)) (inr (inl y)) =
+    x.1.3 ∙ ap (λ (ls : List Line). done (canon (with_lines base (left ls)))) (one_lines f set host x.1.0 y.1.0 x.1.1 y.1.1) ∙ sym y.1.3
+one_file_reply left f base set host a b (inr (inl x)) (inr (inr y)) = absurd (omega (arith, x.1.2, y.1 x.1.0 x.1.1))
+one_file_reply left f base set host a b (inr (inr x)) (inr (inl y)) = absurd (omega (arith, y.1.2, x.1 y.1.0 y.1.1))
+one_file_reply left f base set host a b (inr (inr x)) (inr (inr y)) = x.2 ∙ sym y.2
 
 pub one_reply : (f : RosterFields Cmnd) (base : List Entry) (set : List Message) (asked : Asked ℕ) (a b : Reply) → IsReply f base set asked a → IsReply f base set asked b → a ≡ b
 one_reply f base set (deliver relay body) a b x y = x.2 ∙ ap to_delivery (one_answer f (delivery relay body) x.0 y.0 x.1 y.1) ∙ sym y.2
+one_reply f base set all_messages a b x y =
+    x.2 ∙ ap (λ (texts : List (List ℕ)). done (each_on_a_line texts)) (one_texts set set x.0 y.0 (λ m. (λ held. held, λ held. held)) x.1 y.1) ∙ sym y.2
 one_reply f base set (grants at) a b x y =
     x.2 ∙ ap (λ (list : List LiveGrant). done (each_on_a_line (map live_line list))) (one_live f set at x.0 y.0 x.1 y.1) ∙ sym y.2
 one_reply f base set parked a b x y = x.2 ∙ ap (λ (texts : List (List ℕ)). done (each_on_a_line texts)) (one_parked set x.0 y.0 x.1 y.1) ∙ sym y.2
-one_reply f base set (host_file host) a b x y = one_file_reply f base set host a b x y
+one_reply f base set (host_file host) a b x y = one_file_reply (λ lines. lines) f base set host a b x y
+one_reply f base set (host_file_after host at) a b x y = one_file_reply (lines_after at) f base set host a b x y
 one_reply f base set (report at) a b x y = x.2 ∙ ap done (one_report f base set set at x.0 y.0 (λ m. (λ held. held, λ held. held)) x.1 y.1) ∙ sym y.2
 one_reply f base set (refused fault) a b x y = x ∙ sym y

@@ -8,7 +8,7 @@ use Rattle.matchit.specs.declared.error.InsertError.{InsertError}
 use Rattle.matchit.specs.declared.error.InsertError.TheVariants.{Conflict, InvalidCatchAll, InvalidParam, InvalidParamSegment, OutOfMemory}
 use Rattle.matchit.proofs.RenameLemmas.{first-rename}
 use Rattle.relay_http.specs.declared.place.Place.{Place}
-use Rattle.relay_http.specs.declared.place.Place.TheVariants.{Messages, Grants, Parked, HostFile, Report}
+use Rattle.relay_http.specs.declared.place.Place.TheVariants.{Messages, AllMessages, Grants, Parked, HostFile, HostFileAfter, Report}
 use Rattle.relay_http.specs.Routes.{IsFree, routes, added, with_route}
 use Rattle.relay_http.specs.Target.{is_plain, is_plain_byte}
 use Rattle.matchit.specs.Route.{parse_route}
@@ -63,6 +63,14 @@ pub free_report : IsFree (parse_route (codes "/v1/reviews/{at}")) (with_route (c
 unfolding scan
 free_report = refl
 
+pub free_host_file_after : IsFree (parse_route (codes "/v1/hosts/{host}/sudoers/{at}")) (with_route (codes "/v1/reviews/{at}") Report (with_route (codes "/v1/hosts/{host}/sudoers") HostFile (with_route (codes "/v1/parked") Parked (with_route (codes "/v1/grants/{at}") Grants (with_route (codes "/v1/relays/{relay}/messages") Messages [])))))
+unfolding scan
+free_host_file_after = refl
+
+pub free_all_messages : IsFree (parse_route (codes "/v1/messages")) (with_route (codes "/v1/hosts/{host}/sudoers/{at}") HostFileAfter (with_route (codes "/v1/reviews/{at}") Report (with_route (codes "/v1/hosts/{host}/sudoers") HostFile (with_route (codes "/v1/parked") Parked (with_route (codes "/v1/grants/{at}") Grants (with_route (codes "/v1/relays/{relay}/messages") Messages []))))))
+unfolding scan
+free_all_messages = refl
+
 and_true_left : (a b : Bool) → (a && b) ≡ true → a ≡ true
 and_true_left true b h = refl
 and_true_left false b h = h
@@ -86,9 +94,11 @@ plain_ascii target h = below_ascii target (plain_below target (and_true_right _ 
 -- the route of a place, by its text
 abbrev pub text_for : Place → List ℕ
 text_for Messages = codes "/v1/relays/{relay}/messages"
+text_for AllMessages = codes "/v1/messages"
 text_for Grants = codes "/v1/grants/{at}"
 text_for Parked = codes "/v1/parked"
 text_for HostFile = codes "/v1/hosts/{host}/sudoers"
+text_for HostFileAfter = codes "/v1/hosts/{host}/sudoers/{at}"
 text_for Report = codes "/v1/reviews/{at}"
 
 abbrev pub from_scan : Result Scan InsertError → Place → RouteOf Place
@@ -126,9 +136,11 @@ all_text pattern text path (name ∷ names) token at t p = (part_utf8 text _ _ t
 text_ascii : (place : Place) → IsAscii (route_for place).text
 unfolding scan
 text_ascii Messages = below_ascii (route_for Messages).text refl
+text_ascii AllMessages = below_ascii (route_for AllMessages).text refl
 text_ascii Grants = below_ascii (route_for Grants).text refl
 text_ascii Parked = below_ascii (route_for Parked).text refl
 text_ascii HostFile = below_ascii (route_for HostFile).text refl
+text_ascii HostFileAfter = below_ascii (route_for HostFileAfter).text refl
 text_ascii Report = below_ascii (route_for Report).text refl
 
 pub texts : (target : List ℕ) (e : RouteOf Place) → first routes target ≡ Some e → IsTrue (is_plain target)

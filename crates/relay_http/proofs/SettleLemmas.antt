@@ -18,7 +18,7 @@ use Rattle.relay_http.specs.Wanted.{Asks, AsksByHead, Dates, DatesRequest, HasHe
 use Rattle.relay_http.specs.declared.fault.RequestFault.{RequestFault}
 use Rattle.relay_http.specs.declared.fault.RequestFault.TheVariants.{BadHead, BadLength, BadMethod, BadTarget, ShortBody, TooLong}
 use Rattle.relay_http.specs.declared.place.Place.{Place}
-use Rattle.relay_http.specs.declared.place.Place.TheVariants.{Messages, Grants, Parked, HostFile, Report}
+use Rattle.relay_http.specs.declared.place.Place.TheVariants.{Messages, AllMessages, Grants, Parked, HostFile, HostFileAfter, Report}
 
 -- the content is there, or as many bytes as any content may have
 abbrev pub Enough : Result (List ℕ) RequestFault → List ℕ → Type 0
@@ -65,9 +65,11 @@ module _ (rest more : List ℕ) where
   sought_more Messages named fields h =
       ap (λ (r : Result (List ℕ) RequestFault). delivered (named (codes "relay")) r)
       (content_more (values (codes "transfer-encoding") fields) (values (codes "content-length") fields) (enough_content (named (codes "relay")) (content_of fields rest) h))
+  sought_more AllMessages named fields h = refl
   sought_more Grants named fields h = refl
   sought_more Parked named fields h = refl
   sought_more HostFile named fields h = refl
+  sought_more HostFileAfter named fields h = refl
   sought_more Report named fields h = refl
 
   place_more : (place : Place) (method : List ℕ) (named : List ℕ → List ℕ) (fields : Fields) → EnoughAsked (at_place place method named fields rest) rest

@@ -12,7 +12,7 @@ use Rattle.httparse.specs.Grammar.{RequestHead, ReadsRequest, Field}
 use Rattle.httparse.proofs.GrammarLemmas.{request_unique}
 use Rattle.sudo_words.proofs.MomentLemmas.{stamp_spells}
 use Rattle.sudo_words.proofs.MomentTexts.{one_spelled}
-use Rattle.relay_http.specs.Asked.{Asked, Request, deliver, grants, parked, host_file, report, refused}
+use Rattle.relay_http.specs.Asked.{Asked, Request, deliver, all_messages, grants, parked, host_file, host_file_after, report, refused}
 use Rattle.relay_http.specs.Wanted.{Asks, AsksByHead, Dates, DatesAt, DatesRequest, front, request_by, asks_by}
 
 take_at_most : (xs : List ℕ) (n k : ℕ) → n ≡ min (length xs) k → take n xs ≡ take k xs
@@ -66,9 +66,11 @@ one_dated_at question at a b (inr x) (inr y) = x.1 ∙ sym y.1
 -- so one thing is asked
 one_dated : (r : Asked (List ℕ)) (a b : Asked ℕ) → Dates r a → Dates r b → a ≡ b
 one_dated (deliver relay body) a b x y = x ∙ sym y
+one_dated all_messages a b x y = x ∙ sym y
 one_dated (grants at) a b x y = one_dated_at grants at a b x y
 one_dated parked a b x y = x ∙ sym y
 one_dated (host_file host) a b x y = x ∙ sym y
+one_dated (host_file_after host at) a b x y = one_dated_at (λ t. host_file_after host t) at a b x y
 one_dated (report at) a b x y = one_dated_at report at a b x y
 one_dated (refused fault) a b x y = x ∙ sym y
 

@@ -2,15 +2,17 @@
 use Rattle.std.specs.Prelude.{ℕ, List, Bool}
 use Rattle.relay_http.specs.declared.fault.RequestFault.{RequestFault}
 use Rattle.relay_http.specs.declared.asked.Ask.{Ask}
-use Rattle.relay_http.specs.declared.asked.Ask.TheVariants.{Deliver, Grants, Parked, HostFile, Report, Refused}
+use Rattle.relay_http.specs.declared.asked.Ask.TheVariants.{Deliver, AllMessages, Grants, Parked, HostFile, HostFileAfter, Report, Refused}
 use Rattle.relay_http.specs.declared.asked.Wanted.{Wanted}
 
 -- A delivery by a relay, a query, or the first fault that applies. `At` is what stands for a moment: its seconds, or a text that is still to be read.
 pub data Asked (At : Type 0) : Type 0 where
   deliver : (relay body : List ℕ) → Asked At
+  all_messages : Asked At
   grants : (at : At) → Asked At
   parked : Asked At
   host_file : (host : List ℕ) → Asked At
+  host_file_after : (host : List ℕ) → (at : At) → Asked At
   report : (at : At) → Asked At
   refused : RequestFault → Asked At
 
@@ -22,9 +24,11 @@ pub record Request (At : Type 0) : Type 0 where
 -- the same of the program's values, without where they lie
 abbrev pub asked_of : Ask → Asked ℕ
 asked_of (Deliver relay body) = deliver relay.now body.now
+asked_of AllMessages = all_messages
 asked_of (Grants at) = grants at
 asked_of Parked = parked
 asked_of (HostFile host) = host_file host.now
+asked_of (HostFileAfter host at) = host_file_after host.now at
 asked_of (Report at) = report at
 asked_of (Refused fault) = refused fault
 

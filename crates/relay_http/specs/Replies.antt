@@ -13,15 +13,16 @@ use Rattle.roster.specs.Rules.{is_among}
 use Rattle.grants.specs.declared.outcome.Window.{Window}
 use Rattle.desk_store.specs.Sets.{SameSet}
 use Rattle.desk.specs.Delivery.{Answers, Delivery}
-use Rattle.desk_outcomes.specs.HostFile.{Line, AreLines, with_lines}
+use Rattle.desk_outcomes.specs.HostFile.{Line, AreLines, lines_after, with_lines}
 use Rattle.desk_outcomes.specs.Outcomes.{AreLive, LiveGrant}
 use Rattle.desk_outcomes.specs.Parked.{AreParked}
 use Rattle.desk.specs.Refusals.{refusal_text}
+use Rattle.desk.specs.Texts.{AreTexts}
 use Rattle.desk.specs.declared.ack.Ack.{Ack}
 use Rattle.desk.specs.declared.refusal.Refusal.{Refusal}
 use Rattle.desk.specs.declared.refusal.Refusal.TheVariants.{UnknownRelay, UnknownHost, TooLong, NotCanonical, BadField, Denied, TooManyRules, RosterChanged, NotADesk, Storage, NoMemory, BaseTooLarge}
 use Rattle.review.specs.Report.{IsReport}
-use Rattle.relay_http.specs.Asked.{Asked, deliver, grants, parked, host_file, report, refused}
+use Rattle.relay_http.specs.Asked.{Asked, deliver, all_messages, grants, parked, host_file, host_file_after, report, refused}
 use Rattle.relay_http.specs.Reply.{fault_line, status_of}
 use Rattle.relay_http.specs.declared.status.Status.{Status}
 use Rattle.relay_http.specs.declared.status.Status.TheVariants as status
@@ -97,19 +98,23 @@ delivery relay body = record { relay = relay; body = body }
 abbrev pub is_known_host : RosterFields Cmnd → List ℕ → Bool
 is_known_host f host = is_host_name host && is_among f.hosts host
 
--- The reply to who asks for a host's file: the roster lacks the host; or its lines are few enough, and it is the file; or they are too many.
-abbrev pub IsFileReply : RosterFields Cmnd → (base : List Entry) → List Message → (host : List ℕ) → Reply → Type 0
-IsFileReply f base set host reply =
+-- The reply to who asks for a host's file, of which some lines are left: the roster lacks the host; or few enough lines are left, and it is the base with
+-- these; or too many are.
+abbrev pub IsFileReply : (left : List Line → List Line) → RosterFields Cmnd → (base : List Entry) → List Message → (host : List ℕ) → Reply → Type 0
+IsFileReply left f base set host reply =
     ((is_known_host f host ≡ false) × (reply ≡ refusal UnknownHost))
-    ⊎ ((is_known_host f host ≡ true) × ((lines : List Line) × AreLines f set host lines × (length lines ≤ 8192) × (reply ≡ done (canon (with_lines base lines)))))
-    ⊎ ((is_known_host f host ≡ true) × ((lines : List Line) → AreLines f set host lines → 8192 < length lines) × (reply ≡ refusal TooManyRules))
+    ⊎ ((is_known_host f host ≡ true)
+    × ((lines : List Line) × AreLines f set host lines × (length (left lines) ≤ 8192) × (reply ≡ done (canon (with_lines base (left lines))))))
+    ⊎ ((is_known_host f host ≡ true) × ((lines : List Line) → AreLines f set host lines → 8192 < length (left lines)) × (reply ≡ refusal TooManyRules))
 
 -- The reply to what is asked, by a roster, a base and the messages of a set, where memory lasts and the storage holds: at most one, by a law.
 abbrev pub IsReply : RosterFields Cmnd → (base : List Entry) → List Message → Asked ℕ → Reply → Type 0
 IsReply f base set (deliver relay body) reply = (answer : Result Ack Refusal) × Answers f (delivery relay body) answer × (reply ≡ to_delivery answer)
+IsReply f base set all_messages reply = (texts : List (List ℕ)) × AreTexts set texts × (reply ≡ done (each_on_a_line texts))
 IsReply f base set (grants at) reply = (list : List LiveGrant) × AreLive f set at list × (reply ≡ done (each_on_a_line (map live_line list)))
 IsReply f base set parked reply = (texts : List (List ℕ)) × AreParked set texts × (reply ≡ done (each_on_a_line texts))
-IsReply f base set (host_file host) reply = IsFileReply f base set host reply
+IsReply f base set (host_file host) reply = IsFileReply (λ lines. lines) f base set host reply
+IsReply f base set (host_file_after host at) reply = IsFileReply (lines_after at) f base set host reply
 IsReply f base set (report at) reply = (text : List ℕ) × IsReport f base set at text × (reply ≡ done text)
 IsReply f base set (refused fault) reply = reply ≡ record { status = status_of fault; body = fault_line fault }
 
@@ -127,8 +132,10 @@ Stores body reply m = IsMessage m × (body ≡ wire m) × (reply.status ≡ stat
 -- one reply 200 to a delivery.
 abbrev pub Leaves : (Same : Type 0) → (old new : Message → Type 0) → Asked ℕ → Reply → Type 0
 Leaves Same old new (deliver relay body) reply = SameSet (λ m. old m ⊎ Stores body reply m) new × (reply.status ≢ status.Done → Same)
+Leaves Same old new all_messages reply = Same
 Leaves Same old new (grants at) reply = Same
 Leaves Same old new parked reply = Same
 Leaves Same old new (host_file host) reply = Same
+Leaves Same old new (host_file_after host at) reply = Same
 Leaves Same old new (report at) reply = Same
 Leaves Same old new (refused fault) reply = Same

@@ -1,6 +1,6 @@
 -- When the content is not there yet, and how many bytes may count. Of the program alone: no promise cites it.
 use Rattle.std.specs.Prelude.{◌++◌, ℕ, List, Bool, true, false}
-use Rattle.relay_http.specs.Asked.{Asked, Request, deliver, grants, parked, host_file, report, refused}
+use Rattle.relay_http.specs.Asked.{Asked, Request, deliver, all_messages, grants, parked, host_file, host_file_after, report, refused}
 use Rattle.relay_http.specs.Wanted.{Asks}
 use Rattle.relay_http.specs.declared.fault.RequestFault.{RequestFault}
 use Rattle.relay_http.specs.declared.fault.RequestFault.TheVariants.{BadHead, BadTarget, NoRoute, BadMethod, LengthRequired, BadLength, TooLong, ShortBody, BadMoment}
@@ -18,9 +18,11 @@ is_short_body BadMoment = false
 
 abbrev pub lacks_content : {At : Type 0} → Asked At → Bool
 lacks_content (deliver relay body) = false
+lacks_content all_messages = false
 lacks_content (grants at) = false
 lacks_content parked = false
 lacks_content (host_file host) = false
+lacks_content (host_file_after host at) = false
 lacks_content (report at) = false
 lacks_content (refused fault) = is_short_body fault
 

@@ -7,7 +7,7 @@ use Rattle.httparse.specs.Spans.{name_and_value}
 use Rattle.matchit.specs.Router.{RouteOf}
 use Rattle.matchit.specs.Seek.{first}
 use Rattle.sudo_words.specs.Moment.{IsStamp}
-use Rattle.relay_http.specs.Asked.{Asked, Request, deliver, grants, parked, host_file, report, refused}
+use Rattle.relay_http.specs.Asked.{Asked, Request, deliver, all_messages, grants, parked, host_file, host_file_after, report, refused}
 use Rattle.relay_http.specs.Fields.{Fields, values, is_bad_host}
 use Rattle.relay_http.specs.Content.{content_of}
 use Rattle.relay_http.specs.Target.{is_plain}
@@ -15,7 +15,7 @@ use Rattle.relay_http.specs.Routes.{routes, part}
 use Rattle.relay_http.specs.declared.fault.RequestFault.{RequestFault}
 use Rattle.relay_http.specs.declared.fault.RequestFault.TheVariants.{BadHead, BadTarget, NoRoute, BadMethod, BadMoment}
 use Rattle.relay_http.specs.declared.place.Place.{Place}
-use Rattle.relay_http.specs.declared.place.Place.TheVariants.{Messages, Grants, Parked, HostFile, Report}
+use Rattle.relay_http.specs.declared.place.Place.TheVariants.{Messages, AllMessages, Grants, Parked, HostFile, HostFileAfter, Report}
 use Rattle.relay_http.specs.declared.place.Methods.{Methods}
 use Rattle.relay_http.specs.declared.place.Methods.TheVariants.{Post, GetOrHead}
 
@@ -32,9 +32,11 @@ is_head method = bytes_eq method (codes "HEAD")
 -- the methods that a place has; GET stands with HEAD
 abbrev pub methods_of : Place → Methods
 methods_of Messages = Post
+methods_of AllMessages = GetOrHead
 methods_of Grants = GetOrHead
 methods_of Parked = GetOrHead
 methods_of HostFile = GetOrHead
+methods_of HostFileAfter = GetOrHead
 methods_of Report = GetOrHead
 
 -- methods are compared with case (RFC 9110, section 9.1)
@@ -50,9 +52,11 @@ delivered relay (Err fault) = refused fault
 -- what is sought at a place, where the route's parameter of a name took this part of the target
 abbrev pub sought : Place → (List ℕ → List ℕ) → Fields → (rest : List ℕ) → Asked (List ℕ)
 sought Messages part_named fields rest = delivered (part_named (codes "relay")) (content_of fields rest)
+sought AllMessages part_named fields rest = all_messages
 sought Grants part_named fields rest = grants (part_named (codes "at"))
 sought Parked part_named fields rest = parked
 sought HostFile part_named fields rest = host_file (part_named (codes "host"))
+sought HostFileAfter part_named fields rest = host_file_after (part_named (codes "host")) (part_named (codes "at"))
 sought Report part_named fields rest = report (part_named (codes "at"))
 
 -- what is asked of a place by a method
@@ -89,9 +93,11 @@ DatesAt question at asked =
 -- what is asked, once its moment is read
 abbrev pub Dates : Asked (List ℕ) → Asked ℕ → Type 0
 Dates (deliver relay body) asked = asked ≡ deliver relay body
+Dates all_messages asked = asked ≡ all_messages
 Dates (grants at) asked = DatesAt grants at asked
 Dates parked asked = asked ≡ parked
 Dates (host_file host) asked = asked ≡ host_file host
+Dates (host_file_after host at) asked = DatesAt (λ t. host_file_after host t) at asked
 Dates (report at) asked = DatesAt report at asked
 Dates (refused fault) asked = asked ≡ refused fault
 

@@ -5,7 +5,7 @@ ghost use Rattle.messages.specs.declared.message.Message.{Message as AnyMessage}
 ghost use Rattle.desk_store.specs.Keeping.{HasFailed};
 ghost use Rattle.desk_store.specs.Sets.{Lists};
 ghost use Rattle.desk.specs.private.Serving.{IsServed};
-ghost use Rattle.relay_http.specs.Asked.{asked_of, deliver, grants, host_file, parked, report};
+ghost use Rattle.relay_http.specs.Asked.{all_messages, asked_of, deliver, grants, host_file, host_file_after, parked, report};
 ghost use Rattle.relay_http.specs.Exchange.{IsAnswered};
 ghost use Rattle.relay_http.specs.Prepared.{reply_of, to_question};
 
@@ -27,6 +27,25 @@ fn delivered<K: Keeper>(desk: &mut Desk<K>, relay: &str, body: &[u8]) -> Answer
         (K.failures desk.old.keeper) (K.failures desk.new.keeper) }
 {
     to_delivery(desk.deliver(relay, body))
+}
+
+/// The lines of all messages.
+fn all_messages<K: Keeper>(alloc: Global, desk: &mut Desk<K>) -> Result<String, Refusal>
+    ensures answered { IsAnswered desk.old.roster.says desk.old.base (K.is_up desk.new.keeper) (K.holds desk.old.keeper) (K.holds desk.new.keeper)
+        (K.is_same desk.old.keeper desk.new.keeper) (HasFailed (K.failures desk.old.keeper) (K.failures desk.new.keeper))
+        all_messages (to_question result) }
+    ensures roster { desk.new.roster ≡ desk.old.roster }
+    ensures base { desk.new.base ≡ desk.old.base }
+    ensures served { IsServed (K.is_up desk.old.keeper) (K.is_clean desk.old.keeper) (K.is_up desk.new.keeper) (K.is_clean desk.new.keeper)
+        (K.failures desk.old.keeper) (K.failures desk.new.keeper) }
+{
+    match desk.texts() {
+        Ok(texts) => match lines_text(alloc, &texts) {
+            Ok(text) => Ok(text),
+            Err(_) => Err(Refusal::NoMemory),
+        },
+        Err(refusal) => Err(refusal),
+    }
 }
 
 /// The lines of the grants in force.
@@ -84,6 +103,28 @@ fn host_file<K: Keeper>(alloc: Global, desk: &mut Desk<K>, host: &str) -> Result
     }
 }
 
+/// The host's file after the moment.
+fn host_file_after<K: Keeper>(
+    alloc: Global,
+    desk: &mut Desk<K>,
+    host: &str,
+    at: Moment,
+) -> Result<String, Refusal>
+    ensures answered { IsAnswered desk.old.roster.says desk.old.base (K.is_up desk.new.keeper) (K.holds desk.old.keeper) (K.holds desk.new.keeper)
+        (K.is_same desk.old.keeper desk.new.keeper) (HasFailed (K.failures desk.old.keeper) (K.failures desk.new.keeper))
+        (host_file_after host.now at) (to_question result) }
+    ensures roster { desk.new.roster ≡ desk.old.roster }
+    ensures base { desk.new.base ≡ desk.old.base }
+    ensures served { IsServed (K.is_up desk.old.keeper) (K.is_clean desk.old.keeper) (K.is_up desk.new.keeper) (K.is_clean desk.new.keeper)
+        (K.failures desk.old.keeper) (K.failures desk.new.keeper) }
+{
+    match HostName::read(alloc, host) {
+        Ok(host) => desk.host_file_after(&host, at),
+        Err(WordFault::BadWord) => Err(Refusal::UnknownHost),
+        Err(WordFault::NoMemory) => Err(Refusal::NoMemory),
+    }
+}
+
 /// The report of what the desk holds.
 fn report<K: Keeper>(desk: &mut Desk<K>, at: Moment) -> Result<String, Refusal>
     ensures answered { IsAnswered desk.old.roster.says desk.old.base (K.is_up desk.new.keeper) (K.holds desk.old.keeper) (K.holds desk.new.keeper)
@@ -109,9 +150,11 @@ pub fn answered<K: Keeper>(alloc: Global, desk: &mut Desk<K>, ask: Ask<'_>) -> A
 {
     match ask {
         Ask::Deliver { relay, body } => delivered(desk, relay, body),
+        Ask::AllMessages => to_question(all_messages(alloc, desk)),
         Ask::Grants(at) => to_question(live(alloc, desk, at)),
         Ask::Parked => to_question(parked(alloc, desk)),
         Ask::HostFile(host) => to_question(host_file(alloc, desk, host)),
+        Ask::HostFileAfter(host, at) => to_question(host_file_after(alloc, desk, host, at)),
         Ask::Report(at) => to_question(report(desk, at)),
         Ask::Refused(fault) => to_fault(fault),
     }

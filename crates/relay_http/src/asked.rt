@@ -8,12 +8,16 @@ use sudo_words::Moment;
 pub enum Ask<'b> {
     /// The delivery of a message by a relay, whatever the relay's name and the message's form.
     Deliver { relay: &'b str, body: &'b [u8] },
+    /// Every message.
+    AllMessages,
     /// The grants that are live at the moment.
     Grants(Moment),
     /// The verdicts whose request has not come.
     Parked,
     /// The sudoers file of a host, whatever the form of its name.
     HostFile(&'b str),
+    /// The same without the lines that end before the moment.
+    HostFileAfter(&'b str, Moment),
     /// The report at the moment.
     Report(Moment),
     /// Nothing: the first fault that applies.

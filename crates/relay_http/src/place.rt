@@ -5,12 +5,16 @@
 pub enum Place {
     /// The messages that a relay delivers.
     Messages,
+    /// Every message.
+    AllMessages,
     /// The grants that are live at a moment.
     Grants,
     /// The verdicts whose request has not come.
     Parked,
     /// The sudoers file of a host.
     HostFile,
+    /// The sudoers file of a host after a moment.
+    HostFileAfter,
     /// The report at a moment.
     Report,
 }
@@ -25,7 +29,12 @@ impl Place {
     {
         match self {
             Place::Messages => Methods::Post,
-            Place::Grants | Place::Parked | Place::HostFile | Place::Report => Methods::GetOrHead,
+            Place::AllMessages
+            | Place::Grants
+            | Place::Parked
+            | Place::HostFile
+            | Place::HostFileAfter
+            | Place::Report => Methods::GetOrHead,
         }
     }
 }

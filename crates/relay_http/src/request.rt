@@ -2,9 +2,9 @@
 
 ghost use Rattle.std.specs.Prelude.{◌≡◌, ◌≤◌, ◌++◌, ℕ, List, length, map, All, false};
 ghost use Rattle.httparse.specs.Spans.{IsHeaderWithin, header_bytes};
-ghost use Rattle.relay_http.specs.Asked.{Asked, Request, asked_of, grants, report, request_of};
+ghost use Rattle.relay_http.specs.Asked.{Asked, Request, asked_of, grants, host_file_after, report, request_of};
 ghost use Rattle.relay_http.specs.Content.{content_of};
-ghost use Rattle.relay_http.specs.Routes.{parameter};
+ghost use Rattle.relay_http.specs.Routes.{moment_parameter, parameter};
 ghost use Rattle.relay_http.specs.Settled.{is_short};
 ghost use Rattle.relay_http.specs.declared.request.More.TheVariants as more;
 ghost use Rattle.relay_http.specs.Wanted.{Asks, Dates, DatesRequest, asked_by, at_place, delivered, request_by};
@@ -45,6 +45,16 @@ fn grants_at<'b>(at: &str) -> Ask<'b>
     }
 }
 
+/// The host's file after the moment of this text.
+fn host_file_after<'b>(host: &'b str, at: &str) -> Ask<'b>
+    ensures { Dates (host_file_after host.now at.now) (asked_of result) }
+{
+    match Moment::read_stamp(at) {
+        Some(moment) => Ask::HostFileAfter(host, moment),
+        None => Ask::Refused(RequestFault::BadMoment),
+    }
+}
+
 /// The report at the moment of this text.
 fn report_at<'b>(at: &str) -> Ask<'b>
     ensures { Dates (report at.now) (asked_of result) }
@@ -68,17 +78,18 @@ fn delivery<'b>(relay: &'b str, buf: &'b [u8], headers: &[HeaderSpan], rest: &'b
     }
 }
 
-/// What is asked of a place, where its route's parameter took this text.
+/// What is asked of a place, where its route's parameters took these texts.
 fn at_place<'b>(
     place: Place,
     taken: &'b str,
+    moment: &'b str,
     method: &[u8],
     buf: &'b [u8],
     headers: &[HeaderSpan],
     rest: &'b [u8],
 ) -> Ask<'b>
     requires { All (IsHeaderWithin (length buf.now)) headers.now }
-    ensures { (part_named : List ℕ → List ℕ) → part_named (parameter place) ≡ taken.now
+    ensures { (part_named : List ℕ → List ℕ) → part_named (parameter place) ≡ taken.now → part_named (moment_parameter place) ≡ moment.now
         → Dates (at_place place method.now part_named (map (header_bytes buf.now) headers.now) rest.now) (asked_of result) }
 {
     if !allow(place.methods(), method) {
@@ -86,9 +97,11 @@ fn at_place<'b>(
     }
     match place {
         Place::Messages => delivery(taken, buf, headers, rest),
+        Place::AllMessages => Ask::AllMessages,
         Place::Grants => grants_at(taken),
         Place::Parked => Ask::Parked,
         Place::HostFile => Ask::HostFile(taken),
+        Place::HostFileAfter => host_file_after(taken, moment),
         Place::Report => report_at(taken),
     }
 }
@@ -113,7 +126,9 @@ fn asked_by<'b>(
         return Ask::Refused(RequestFault::BadTarget);
     }
     match routes.find(target) {
-        Some((place, taken)) => at_place(place, taken, method, buf, headers, rest),
+        Some((place, taken, moment)) => {
+            at_place(place, taken, moment, method, buf, headers, rest)
+        }
         None => Ask::Refused(RequestFault::NoRoute),
     }
 }

@@ -4,7 +4,7 @@ ghost use Rattle.std.specs.Prelude.{◌≡◌, [], IfOk, IsTrue, OnOk, option_ma
 ghost use Rattle.matchit.specs.Params.{AllText, named, walk};
 ghost use Rattle.matchit.specs.Route.{parse_route};
 ghost use Rattle.matchit.specs.Seek.{first};
-ghost use Rattle.relay_http.specs.Routes.{IsFree, Takes, parameter, routes, with_route};
+ghost use Rattle.relay_http.specs.Routes.{IsFree, Takes, moment_parameter, parameter, routes, with_route};
 ghost use Rattle.relay_http.specs.Target.{is_plain};
 
 use crate::place::Place;
@@ -38,13 +38,17 @@ impl Routes {
         })
     }
 
-    /// The place that a target's route leads to, with what the route's parameter took.
-    pub(crate) fn find<'b>(&self, target: &'b str) -> Option<(Place, &'b str)>
+    /// The place that a target's route leads to, with what the route's parameters took: the first, and the moment behind it.
+    pub(crate) fn find<'b>(&self, target: &'b str) -> Option<(Place, &'b str, &'b str)>
         requires { IsTrue (is_plain target.now) }
-        ensures { Takes (first routes target.now) target.now (option_map (λ x. (x.0, x.1.now)) result) }
+        ensures { Takes (first routes target.now) target.now (option_map (λ x. (x.0, x.1.now, x.2.now)) result) }
     {
         match self.router.at(target) {
-            Ok(found) => Some((*found.value, taken(*found.value, &found.params))),
+            Ok(found) => Some((
+                *found.value,
+                taken(*found.value, &found.params),
+                moment_taken(*found.value, &found.params),
+            )),
             Err(_) => None,
         }
     }
@@ -73,25 +77,54 @@ fn router(alloc: Global) -> Result<Router<Place>, NoMemory>
     add(&mut router, "/v1/parked", Place::Parked)?;
     add(&mut router, "/v1/hosts/{host}/sudoers", Place::HostFile)?;
     add(&mut router, "/v1/reviews/{at}", Place::Report)?;
+    add(
+        &mut router,
+        "/v1/hosts/{host}/sudoers/{at}",
+        Place::HostFileAfter,
+    )?;
+    add(&mut router, "/v1/messages", Place::AllMessages)?;
     Ok(router)
 }
 
-/// The name of the parameter in the route of a place.
+/// The name of the first parameter in the route of a place.
 fn parameter(place: Place) -> &'static str
     ensures { result.now ≡ parameter place }
 {
     match place {
         Place::Messages => "relay",
         Place::Grants | Place::Report => "at",
-        Place::Parked => "",
-        Place::HostFile => "host",
+        Place::AllMessages | Place::Parked => "",
+        Place::HostFile | Place::HostFileAfter => "host",
     }
 }
 
-/// What the parameter of a place's route took.
+/// The name of the moment behind it.
+fn moment_parameter(place: Place) -> &'static str
+    ensures { result.now ≡ moment_parameter place }
+{
+    match place {
+        Place::HostFileAfter => "at",
+        Place::Messages
+        | Place::AllMessages
+        | Place::Grants
+        | Place::Parked
+        | Place::HostFile
+        | Place::Report => "",
+    }
+}
+
+/// What the first parameter of a place's route took.
 fn taken<'b>(place: Place, params: &Params<'_, 'b>) -> &'b str
     requires { AllText (walk params.now.pattern.now params.now.text.now params.now.path.now params.now.names.now 0 0) }
     ensures { result.now ≡ unwrap_or (named (parameter place) (walk params.now.pattern.now params.now.text.now params.now.path.now params.now.names.now 0 0)) [] }
 {
     params.get(parameter(place)).unwrap_or("")
+}
+
+/// What the moment behind it took.
+fn moment_taken<'b>(place: Place, params: &Params<'_, 'b>) -> &'b str
+    requires { AllText (walk params.now.pattern.now params.now.text.now params.now.path.now params.now.names.now 0 0) }
+    ensures { result.now ≡ unwrap_or (named (moment_parameter place) (walk params.now.pattern.now params.now.text.now params.now.path.now params.now.names.now 0 0)) [] }
+{
+    params.get(moment_parameter(place)).unwrap_or("")
 }

@@ -1,7 +1,7 @@
 //! Worked requests and replies: what literal texts ask for, by the definitions alone, and the bytes of replies.
 
 ghost use Rattle.std.specs.Prelude.{◌≡◌, ◌++◌, ◌∷◌, [], codes, false, true};
-ghost use Rattle.relay_http.specs.Asked.{deliver, grants, host_file, parked, refused, report};
+ghost use Rattle.relay_http.specs.Asked.{all_messages, deliver, grants, host_file, host_file_after, parked, refused, report};
 ghost use Rattle.relay_http.specs.Reply.{fault_line, status_of, written};
 ghost use Rattle.relay_http.specs.Wanted.{Asks};
 ghost use Rattle.relay_http.specs.Worked.{approval, asked_with_host, lines, posted};
@@ -10,13 +10,16 @@ ghost use Rattle.relay_http.specs.declared.fault.RequestFault.TheVariants.{Lengt
 ghost use Rattle.relay_http.specs.declared.place.Methods.TheVariants.{GetOrHead, Post};
 ghost use Rattle.relay_http.specs.declared.status.Status.TheVariants as status;
 
-/// Requests that are answered by the desk: a delivery, one with zeros before its length, the grants of a moment by HEAD, a host's file, the
-/// report at a moment, and a query of HTTP/1.0 without Host.
+/// Requests that are answered by the desk: a delivery, one with zeros before its length, all messages, the grants of a moment by HEAD, a host's file, the
+/// same after a moment, the report at a moment, and a query of HTTP/1.0 without Host.
 pub fn worked_requests()
     ensures delivery { Asks (posted (codes "70")) (record { with_body = true; asked = deliver (codes "web") approval }) }
     ensures zeros { Asks (posted (codes "0070")) (record { with_body = true; asked = deliver (codes "web") approval }) }
+    ensures all_messages { Asks (asked_with_host (codes "GET /v1/messages HTTP/1.1")) (record { with_body = true; asked = all_messages }) }
     ensures grants { Asks (asked_with_host (codes "HEAD /v1/grants/20260105093000Z HTTP/1.1")) (record { with_body = false; asked = grants 1_767_605_400 }) }
     ensures host_file { Asks (asked_with_host (codes "GET /v1/hosts/db9/sudoers HTTP/1.1")) (record { with_body = true; asked = host_file (codes "db9") }) }
+    ensures host_file_after { Asks (asked_with_host (codes "GET /v1/hosts/db9/sudoers/20260105093000Z HTTP/1.1"))
+        (record { with_body = true; asked = host_file_after (codes "db9") 1_767_605_400 }) }
     ensures report { Asks (asked_with_host (codes "GET /v1/reviews/20260105093000Z HTTP/1.1")) (record { with_body = true; asked = report 1_767_605_400 }) }
     ensures old { Asks (lines (codes "GET /v1/parked HTTP/1.0" ∷ [] ∷ [])) (record { with_body = true; asked = parked }) }
 {}
@@ -33,6 +36,8 @@ pub fn worked_refusals()
     ensures gets { Asks (asked_with_host (codes "GET /v1/relays/web/messages HTTP/1.1")) (record { with_body = true; asked = refused (BadMethod Post) }) }
     ensures moment { Asks (asked_with_host (codes "GET /v1/grants/2026010509Z HTTP/1.1")) (record { with_body = true; asked = refused BadMoment }) }
     ensures moment_with_offset { Asks (asked_with_host (codes "GET /v1/grants/2026010504-0500 HTTP/1.1")) (record { with_body = true; asked = refused BadMoment }) }
+    ensures file_after_day { Asks (asked_with_host (codes "GET /v1/hosts/db9/sudoers/20260105 HTTP/1.1")) (record { with_body = true; asked = refused BadMoment }) }
+    ensures file_after_nothing { Asks (asked_with_host (codes "GET /v1/hosts/db9/sudoers/ HTTP/1.1")) (record { with_body = true; asked = refused NoRoute }) }
     ensures report_by_day { Asks (asked_with_host (codes "HEAD /v1/reviews/20260105 HTTP/1.1")) (record { with_body = false; asked = refused BadMoment }) }
     ensures posts_report { Asks (asked_with_host (codes "POST /v1/reviews/20260105093000Z HTTP/1.1")) (record { with_body = true; asked = refused (BadMethod GetOrHead) }) }
     ensures no_length { Asks (asked_with_host (codes "POST /v1/relays/web/messages HTTP/1.1")) (record { with_body = true; asked = refused LengthRequired }) }

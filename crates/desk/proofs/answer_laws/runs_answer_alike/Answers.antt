@@ -1,4 +1,4 @@
-use Rattle.desk.proofs.AnswerLemmas.{same_count, same_count_after, same_file, same_file_after, same_live, same_parked, same_status, same_summaries}
+use Rattle.desk.proofs.AnswerLemmas.{same_count, same_count_after, same_file, same_file_after, same_live, same_parked, same_status, same_summaries, same_texts}
 use Rattle.desk.proofs.answer_laws.runs_answer_alike.Goals as goal
 
 pub returns-clause-status : goal.returns-clause-status
@@ -24,3 +24,6 @@ returns-clause-count_after c = same_count_after
 
 pub returns-clause-summaries : goal.returns-clause-summaries
 returns-clause-summaries c = same_summaries
+
+pub returns-clause-texts : goal.returns-clause-texts
+returns-clause-texts c = same_texts

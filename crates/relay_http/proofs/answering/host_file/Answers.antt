@@ -1,6 +1,6 @@
 use Rattle.std.proofs.Common.{◌≡◌, ◌⊎◌, ℕ, List, true, sym, subst}
 use Rattle.sudo_words.specs.Word.{is_host_name}
-use Rattle.relay_http.proofs.AnswerLemmas.{file_right, text_cause}
+use Rattle.relay_http.proofs.AnswerLemmas.{file_right, left_whole, text_cause}
 use Rattle.relay_http.specs.Asked.{host_file}
 use Rattle.relay_http.specs.Prepared.{to_question}
 use Rattle.relay_http.specs.Replies.{IsReply, IsWanting}
@@ -15,8 +15,8 @@ returns-in-Ok-clause-answered g c =
     let name : is_host_name c.in-Ok.host ≡ true = subst (λ (h : List ℕ). is_host_name h ≡ true) (sym found.0) found.1 in
     record {
       right = λ set up lists. subst (λ (h : List ℕ). IsReply f base set (host_file h) (to_question c.host_file.result) ⊎ IsWanting (to_question c.host_file.result)) found.0
-          (file_right f base set c.in-Ok.host c.host_file.result name
-          (done.file set up lists) (λ ls. done.few set ls up lists) (λ ls. done.many set ls up lists) done.unknown done.err);
+          (file_right (λ lines. lines) f base set c.in-Ok.host c.host_file.result name
+          (left_whole f base set c.in-Ok.host c.host_file.result (done.file set up lists)) (λ ls. done.few set ls up lists) (λ ls. done.many set ls up lists) done.unknown done.err);
       leaves = done.unchanged;
       cause = λ failed. done.cause (text_cause c.host_file.result failed);
     }

@@ -1,0 +1,69 @@
+//! All messages of a desk, as their texts.
+
+ghost use Rattle.std.specs.Prelude.{◌≡◌, ◌⊎◌, ◌≤◌, ℕ, List, map, Contains, IfOk, IfErr, Err, string_bytes};
+ghost use Rattle.messages.specs.Names.{SameMessages};
+ghost use Rattle.messages.specs.Wire.{IsMessage, wire};
+ghost use Rattle.messages.specs.declared.message.Message.{Message as AnyMessage};
+ghost use Rattle.desk_store.specs.Keeping.{HasFailed};
+ghost use Rattle.desk_store.specs.Sets.{Lists};
+ghost use Rattle.desk.specs.Refusals.{IsWant};
+ghost use Rattle.desk.specs.Texts.{AreTexts};
+ghost use Rattle.desk.specs.declared.refusal.Refusal.TheVariants as refusal;
+
+use crate::desk::Desk;
+use crate::loading::load;
+use crate::refusal::Refusal;
+use desk_store::Keeper;
+use messages::{Message, text};
+use std::alloc::Global;
+use sudo_words::NoMemory;
+
+impl<K: Keeper> Desk<K> {
+    /// The texts of all messages, each once, in byte order: delivered to another desk of the same roster they make the same set.
+    pub fn texts(&mut self) -> Result<Vec<String>, Refusal>
+        ensures texts { (set : List AnyMessage) → K.is_up self.new.keeper → Lists (K.holds self.old.keeper) set
+            → IfOk result (λ texts. AreTexts set (map string_bytes texts.items)) }
+        ensures err { IfErr result IsWant }
+        ensures unchanged { K.is_up self.new.keeper → K.is_same self.old.keeper self.new.keeper }
+        ensures roster { self.new.roster ≡ self.old.roster }
+        ensures base { self.new.base ≡ self.old.base }
+        ensures was_up { K.is_up self.new.keeper → K.is_up self.old.keeper }
+        ensures was_clean { K.is_clean self.new.keeper → K.is_clean self.old.keeper }
+        ensures shuts { K.is_up self.old.keeper → K.is_clean self.new.keeper
+            → K.is_up self.new.keeper ⊎ HasFailed (K.failures self.old.keeper) (K.failures self.new.keeper) }
+        ensures counts { K.failures self.old.keeper ≤ K.failures self.new.keeper }
+        ensures cause { result ≡ Err refusal.Storage → HasFailed (K.failures self.old.keeper) (K.failures self.new.keeper) }
+    {
+        load(&mut self.keeper, &self.known)?;
+        let set = self.keeper.messages();
+        Ok(texts_in(self.alloc, set)?)
+    }
+}
+
+/// The text of each message, in the order of the list.
+fn texts_of(alloc: Global, set: &[Message]) -> Result<Vec<String>, NoMemory>
+    ensures { IfOk result (λ texts. map string_bytes texts.items ≡ map wire set.now) }
+{
+    let mut texts = Vec::new(alloc);
+    for message in set {
+        texts.push(text(alloc, message)?)?;
+    }
+    Ok(texts)
+}
+
+/// The texts of the messages, each once, in byte order.
+fn texts_in(alloc: Global, set: &[Message]) -> Result<Vec<String>, NoMemory>
+    ensures { IfOk result (λ texts. AreTexts set.now (map string_bytes texts.items)) }
+{
+    let mut texts = texts_of(alloc, set)?;
+    texts.sort_unstable();
+    texts.dedup();
+    Ok(texts)
+}
+
+/// Lists of the same messages have one list of texts, and one list of texts is that of one set of messages.
+pub fn one_text_list()
+    ensures texts { (s t : List AnyMessage) (a b : List (List ℕ)) → SameMessages s t → AreTexts s a → AreTexts t b → a ≡ b }
+    ensures set { (s t : List AnyMessage) (a : List (List ℕ)) → ((m : AnyMessage) → Contains s m → IsMessage m) → ((m : AnyMessage) → Contains t m → IsMessage m)
+        → AreTexts s a → AreTexts t a → SameMessages s t }
+{}

@@ -1,0 +1,67 @@
+//! A reply on its way out.
+
+use mio::net::TcpStream;
+use std::alloc::Global;
+use std::io::{self, Write};
+
+/// What is said of a reply by the first bytes that are written of it, which are all of a 503. A reply to HEAD has no code.
+fn wanting_of(bytes: &[u8]) -> Option<&'static str> {
+    if !bytes.starts_with(b"HTTP/1.1 503 ") {
+        None
+    } else if bytes.ends_with(b"K4 Storage\n") {
+        Some("answered K4 Storage")
+    } else if bytes.ends_with(b"K5 NoMemory\n") {
+        Some("answered K5 NoMemory")
+    } else if bytes.ends_with(b"G1 TooManyRules\n") {
+        Some("answered G1 TooManyRules")
+    } else {
+        Some("answered 503")
+    }
+}
+
+/// Writes a reply to a socket as far as that takes it at once, and keeps the rest.
+#[derive(Drop)]
+pub(crate) struct Outgoing<'a> {
+    stream: &'a TcpStream,
+    is_begun: bool,
+    /// What the socket has not taken yet.
+    pub(crate) rest: Vec<u8>,
+    /// What is said of a 503.
+    pub(crate) wanting: Option<&'static str>,
+}
+
+impl<'a> Outgoing<'a> {
+    /// Nothing is written yet, and no memory is taken.
+    pub(crate) fn new(alloc: Global, stream: &'a TcpStream) -> Outgoing<'a> {
+        Outgoing {
+            stream,
+            is_begun: false,
+            rest: Vec::new(alloc),
+            wanting: None,
+        }
+    }
+}
+
+impl<'a> Write for Outgoing<'a> {
+    fn write(&mut self, buf: &[u8]) -> io::Result<usize> {
+        if !self.is_begun {
+            self.is_begun = true;
+            self.wanting = wanting_of(buf);
+        }
+        if self.rest.is_empty() {
+            let mut stream = self.stream;
+            match stream.write(buf) {
+                Err(error) if error.kind() == io::ErrorKind::WouldBlock => {}
+                taken => return taken,
+            }
+        }
+        match self.rest.extend_from_slice(buf) {
+            Ok(()) => Ok(buf.len()),
+            Err(_) => Err(io::Error::from(io::ErrorKind::OutOfMemory)),
+        }
+    }
+
+    fn flush(&mut self) -> io::Result<()> {
+        Ok(())
+    }
+}
