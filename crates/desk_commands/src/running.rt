@@ -65,11 +65,7 @@ fn check(alloc: Global, file: &mut Vec<u8>) -> Result<Answer, Refusal>
 }
 
 /// What the policy decides, once it is compiled, and given back on the way.
-fn decision_of(
-    alloc: Global,
-    policy: Policy,
-    invocation: &Invocation,
-) -> Result<Decision, NoMemory>
+fn decision_of(alloc: Global, policy: Policy, invocation: &Invocation) -> Result<Decision, NoMemory>
     ensures { IfOk result (λ d. Decides policy invocation.now d) }
 {
     let compiled = compile_owned(alloc, policy)?;
