@@ -152,7 +152,7 @@ class Import:
             if found and fits("name", found[1]):
                 self.target = found[1]
                 self.note(place, f"runas_default={found[1]}", "it is written into each rule that names no target", is_left_out=False)
-            self.note(place, line, HOLD if words & HOLDS_BACK else KEEP)
+            self.note(place, " ".join(line.split()), HOLD if words & HOLDS_BACK else KEEP)
 
     # ---- words
 
@@ -318,6 +318,16 @@ class Import:
         place, where = places
         name = item if isinstance(item, str) else item["command"]
         text = item if isinstance(item, str) else self.said(item)
+        alias = list(self.written_out(item, negated)) if isinstance(item, str) else []
+        is_mixed = any(sign != negated for sign, _ in alias)
+        lists = self.lists(place, spec, part, is_wide=negated)
+        if lists is None:
+            return
+        if is_mixed and (self.holds_back(options, item) or not all(it.is_exact for it in lists)):
+            # (what it denies has to be denied to more, and what it allows allowed to fewer)
+            for sign, each in alias:
+                self.one(places, spec, part, options, sign, each)
+            return
         if not negated and (text is None or self.held_back(place, name, options, item)):
             if text is None:
                 self.note(where, name, self.why_not(item))
@@ -331,15 +341,7 @@ class Import:
             self.note(where, f"!{name}", self.why_not(item) + more)
         if text is None:
             return
-        lists = self.lists(place, spec, part, is_wide=negated)
-        if lists is None:
-            return
-        alias = list(self.written_out(item, negated)) if isinstance(item, str) else []
-        if any(sign != negated for sign, _ in alias) and not all(it.is_exact for it in lists):
-            # (what the alias denies has to be denied to more, and what it allows allowed to fewer)
-            for sign, each in alias:
-                self.one(places, spec, part, options, sign, each)
-        elif all(it.says_yes() for it in lists):
+        if all(it.says_yes() for it in lists):
             users, hosts, targets = lists
             said = [f"NOTBEFORE={options['notbefore']}"] if "notbefore" in options else []
             said += [f"NOTAFTER={options['notafter']}"] if "notafter" in options else []
@@ -368,14 +370,19 @@ class Import:
             self.names(place, RUNAS, targets, is_wide) if targets is not None else Words([self.target]),
         )
 
-    def held_back(self, place: Place, name: str, options: dict[str, Any], item: Any) -> bool:
-        """Whether an option stands against the command: without it the rule would give more."""
+    def holds_back(self, options: dict[str, Any], item: Any) -> str | None:
+        """Why an option stands against the command: without it the rule would give more. None where none does."""
         for key, why in OPTIONS.items():
             if key in options and options[key] is not False:
-                self.note(place, name, why)
-                return True
+                return why
         if options.get("setenv") is False and self.has_all(item):
-            self.note(place, name, "NOSETENV cannot be said, and ALL lets its user set the environment: list the commands")
+            return "NOSETENV cannot be said, and ALL lets its user set the environment: list the commands"
+        return None
+
+    def held_back(self, place: Place, name: str, options: dict[str, Any], item: Any) -> bool:
+        why = self.holds_back(options, item)
+        if why is not None:
+            self.note(place, name, why)
             return True
         for key, why in HARMLESS.items():
             if options.get(key) and not (key == "setenv" and name == "ALL"):

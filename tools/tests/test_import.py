@@ -77,6 +77,8 @@ def made(imports, desk, tmp_path, monkeypatch):
         ("Cmnd_Alias C = /bin/l*, /bin/kill\nann ALL = /bin/ps, !C\n", "ann ALL = (root) /bin/ps\nann ALL = (root) !/bin/\nann ALL = (root) !/bin/kill\n"),
         ("ann ALL = NOEXEC: /bin/ls, EXEC: /bin/kill, NOSETENV: ALL\n", "ann ALL = (root) /bin/kill\n"),
         ("ann ALL = CWD=/tmp /bin/ls, TIMEOUT=10 /bin/kill\n", ""),
+        ("Cmnd_Alias C = /bin/a, !/bin/b\nann ALL = ALL, NOEXEC: C\n", "Cmnd_Alias C = /bin/a, !/bin/b\nann ALL = (root) ALL\nann ALL = (root) !/bin/b\n"),
+        ("Cmnd_Alias C = /bin/a, !/bin/b\nann ALL = NOEXEC: !C\n", "Cmnd_Alias C = /bin/a, !/bin/b\nann ALL = (root) !/bin/a\n"),
         ("ann ALL = (: op) /bin/ls, () /bin/kill, (op : op) /bin/ps\n", "ann ALL = (op) /bin/ps\n"),
     ],
 )
@@ -100,13 +102,15 @@ ann ALL = \\
     found, said = made(text, "--report", str(report), status=1)
     assert found == ""
     assert [line.split(": ")[:3] for line in said[:-1]] == [
-        ["sudoers:2", "left out", "Defaults env_reset,      mail_badpass"],
+        ["sudoers:2", "left out", "Defaults env_reset, mail_badpass"],
         ["sudoers:4", "left out", "Defaults:ann !requiretty"],
         ["sudoers:5", "left out", "/usr/bin/less"],
         ["sudoers:5", "left out", "/bin/cat"],
+        ["sudoers:8", "left out", "%odd"],
+        ["sudoers:8", "left out", "%nothing"],
         ["sudoers:8", "left out", "sudoedit /etc/motd"],
     ]
-    assert "may open a shell" in said[2] and said[-1] == "0 entries; 5 things are left out"
+    assert "may open a shell" in said[2] and said[-1] == "0 entries; 7 things are left out"
     assert report.read_text().replace(str(tmp_path / "sudoers"), "sudoers").splitlines() == said
 
 
