@@ -96,6 +96,7 @@ deb: build/desk
 pages: build/desk
 	python3 scripts/make_pages.py build/pages
 	python3 scripts/check_pages.py
+	python3 scripts/check_readme.py
 
 package-test: build/desk
 	bash scripts/deb.sh

@@ -61,7 +61,7 @@ front() {
 }
 
 pages() {
-    python3 scripts/make_pages.py build/pages && python3 scripts/check_pages.py
+    python3 scripts/make_pages.py build/pages && python3 scripts/check_pages.py && python3 scripts/check_readme.py
 }
 
 package_test() {
