@@ -73,6 +73,11 @@ def chained(count):
     return "User_Alias X1 = ann\n" + "".join(f"User_Alias X{n} = X{n - 1}\n" for n in range(2, count + 1))
 
 
+def turned(count):
+    """So many aliases: `X1` of a user, and each other of the one before, negated."""
+    return "User_Alias X1 = ann\n" + "".join(f"User_Alias X{n} = !X{n - 1}\n" for n in range(2, count + 1))
+
+
 def counted(text, count):
     """The text so many times, with 0, 1, .. in the place of its `{}`, or 000, 001, .. in that of its `{:03}`."""
     return "".join(text.replace("{}", str(n)).replace("{:03}", f"{n:03}") for n in range(count))
@@ -91,7 +96,7 @@ def piece(part):
     if isinstance(part, list):
         text, times = part
         return text * times
-    makers = {"doubled": doubled, "chained": chained, "counted": lambda made: counted(*made)}
+    makers = {"doubled": doubled, "chained": chained, "turned": turned, "counted": lambda made: counted(*made)}
     [(maker, count)] = part.items()
     return makers[maker](count)
 

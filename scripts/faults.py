@@ -56,13 +56,37 @@ MESSAGES = b"""{"at":"20260105083000Z","by":"bob","kind":"approve","no":7,"of":"
 """
 
 
+def heavy():
+    """Policies whose aliases are 64 deep with a sign at each depth, and of the greatest weight as one rule and as 8,000."""
+    deep = ["User_Alias X1 = ann", *(f"User_Alias X{n} = !X{n - 1}" for n in range(2, 65)), "!X64 db1 = ALL"]
+    doubled = ["User_Alias X1 = a, a", *(f"User_Alias X{n} = X{n - 1}, X{n - 1}" for n in range(2, 17))]
+    one = [*doubled, f"{', '.join(f'X{n}' for n in range(16, 1, -1))}, ann db1 = (root) ALL"]
+    many = [*doubled[:11], "User_Alias T = X3, X2, ann", *(f"T db{n} = (root) /bin/c{n}" for n in range(7_999)), "X11, X10, X3, X2, bob db1 = (root) ALL"]
+    return {"deep": deep, "one": one, "many": many}
+
+
+def tried(requests):
+    """Which requests are refused, one in each run: each, or of more than 2,000 the first and the last 300, and some 600 of those between."""
+    if requests <= 2_000:
+        return range(1, requests + 1)
+    return [*range(1, 301), *range(301, requests - 299, (requests - 600) // 600), *range(requests - 299, requests + 1)]
+
+
 def commands(folder):
     """The command lines to run, each with its standard input."""
     base, roster = os.path.join(folder, "base.sudo"), os.path.join(folder, "roster.toml")
     for path, text in ((base, POLICY), (roster, ROSTER)):
         with open(path, "w") as file:
             file.write(text)
+    weighty = []
+    for name, lines in heavy().items():
+        path = os.path.join(folder, f"{name}.sudo")
+        with open(path, "w") as file:
+            file.write("\n".join(lines) + "\n")
+        weighty.append((["decide", path, "ann", "db1", "root", "20260105093000Z", "/bin/c1"], b""))
+    weighty.append((["beyond", os.path.join(folder, "deep.sudo"), base], b""))
     return [
+        *weighty,
         (["print", roster, base, "-", "db1"], MESSAGES),
         (["print", roster, base, "-", "db1", "--after", "20260105110001Z"], MESSAGES),
         (["review", roster, base, "-", "20260105093000Z"], MESSAGES),
@@ -231,7 +255,7 @@ def main():
             plain = run(words, given, shim, 0, count)
             with open(count) as file:
                 requests = int(file.read())
-            for failing in range(1, requests + 1):
+            for failing in tried(requests):
                 got = run(words, given, shim, failing, count)
                 runs += 1
                 if got == plain:

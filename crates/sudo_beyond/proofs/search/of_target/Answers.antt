@@ -19,11 +19,11 @@ pub returns : goal.returns
 returns c =
     let a : List PlainRule = c.args.a.now in
     let b : List PlainRule = c.args.b.now in
-    let x : List PlainRule = c.bearing_on.result.now in
-    let y : List PlainRule = c.bearing_on-2.result.now in
+    let x : List PlainRule = c.bearing_on-allowing.result.now in
+    let y : List PlainRule = c.bearing_on-refusing.result.now in
     let i : Invocation = c.in_ok-i.i in
-    let by_a : AnswerAlike a x i = subst (λ (rules : List PlainRule). AnswerAlike rules x i) c.rules.ensures c.bearing_on.ensures in
-    let by_b : AnswerAlike b y i = subst (λ (rules : List PlainRule). AnswerAlike rules y i) c.rules-2.ensures c.bearing_on-2.ensures in
+    let by_a : AnswerAlike a x i = subst (λ (rules : List PlainRule). AnswerAlike rules x i) c.rules-allowing.ensures c.bearing_on-allowing.ensures in
+    let by_b : AnswerAlike b y i = subst (λ (rules : List PlainRule). AnswerAlike rules y i) c.rules-refusing.ensures c.bearing_on-refusing.ensures in
     if_ok c.try_runs.result
     (λ found first.
     subst (λ (is : List Invocation). FirstOf (IsAnsweredGap a b) is found) (ap (λ (j : Invocation). of_target c.args.cases.now j.user j.host j.runas) c.in_ok-i.ensures)
