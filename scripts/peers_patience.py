@@ -204,12 +204,20 @@ def read_slowly(peer, begun):
 def late_sender(count, words):
     """One that goes on sending, a byte at a time, once it is answered."""
     with Server(words) as server, server.connect() as late:
+        stop = threading.Event()
         late.sendall(asked(b"/v1/parked"))
-        for _ in range(4):
-            time.sleep(0.5)
-            with contextlib.suppress(OSError):
-                late.send(b"x")
+
+        def send():
+            while not stop.wait(0.5):
+                with contextlib.suppress(OSError):
+                    late.send(b"x")
+
+        sender = threading.Thread(target=send)
+        sender.start()
+        time.sleep(1)
         server.is_honest(count, "one that sends after its reply", AT_ONCE)
+        stop.set()
+        sender.join()
 
 
 def unread_error(count, words):

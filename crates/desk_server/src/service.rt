@@ -137,7 +137,7 @@ impl Service {
         if self.places.len() >= MOST_CONNECTIONS || self.places.push(None).is_err() {
             return None;
         }
-        Some(self.places.len() - 1)
+        self.places.len().checked_sub(1)
     }
 
     /// The connection that has waited longest without a byte, or else the one that is due first.
