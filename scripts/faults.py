@@ -66,10 +66,10 @@ def heavy():
 
 
 def tried(requests):
-    """Which requests are refused, one in each run: each, or of more than 2,000 the first and the last 300, and some 600 of those between."""
+    """Which requests are refused, one in each run: each, or of more than 2,000 the first and the last 150, and some 300 of those between."""
     if requests <= 2_000:
         return range(1, requests + 1)
-    return [*range(1, 301), *range(301, requests - 299, (requests - 600) // 600), *range(requests - 299, requests + 1)]
+    return [*range(1, 151), *range(151, requests - 149, (requests - 300) // 300), *range(requests - 149, requests + 1)]
 
 
 def commands(folder):

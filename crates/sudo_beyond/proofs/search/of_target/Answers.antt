@@ -22,8 +22,8 @@ returns c =
     let x : List PlainRule = c.bearing_on-allowing.result.now in
     let y : List PlainRule = c.bearing_on-refusing.result.now in
     let i : Invocation = c.in_ok-i.i in
-    let by_a : AnswerAlike a x i = subst (λ (rules : List PlainRule). AnswerAlike rules x i) c.rules-allowing.ensures c.bearing_on-allowing.ensures in
-    let by_b : AnswerAlike b y i = subst (λ (rules : List PlainRule). AnswerAlike rules y i) c.rules-refusing.ensures c.bearing_on-refusing.ensures in
+    let by_a : AnswerAlike a x i = subst (λ (rules : List PlainRule). AnswerAlike rules x i) c.rules.ensures c.bearing_on-allowing.ensures in
+    let by_b : AnswerAlike b y i = subst (λ (rules : List PlainRule). AnswerAlike rules y i) c.rules-2.ensures c.bearing_on-refusing.ensures in
     if_ok c.try_runs.result
     (λ found first.
     subst (λ (is : List Invocation). FirstOf (IsAnsweredGap a b) is found) (ap (λ (j : Invocation). of_target c.args.cases.now j.user j.host j.runas) c.in_ok-i.ensures)
