@@ -233,7 +233,7 @@ class Import:
                 where, inner = self.sudoers.aliases[kind][item[key]]
                 yield from self.items(where, kind, inner, negated, (*above, item[key]))
             elif kind == COMMAND or item[key] in above:
-                self.note(place, item[key], f"no {KINDS[kind]} of that name is defined, so it stands for nothing")
+                self.note(place, item[key], f"no {KINDS[kind]} of that name is defined, or it names itself: it stands for nothing")
             else:
                 # (sudo takes it for a name then)
                 yield place, negated, {"hostname" if kind == HOST else "username": item[key]}
@@ -349,13 +349,14 @@ class Import:
             self.has_nopasswd = self.has_nopasswd or said[-1:] == ["NOPASSWD:"]
             self.lines.append(" ".join([f"{users} {hosts} = ({targets})", *said, f"{'!' if negated else ''}{text}"]))
 
-    def written_out(self, alias: str, sign: bool) -> Iterator[tuple[bool, dict[str, Any]]]:
+    def written_out(self, alias: str, sign: bool, above: tuple[str, ...] = ()) -> Iterator[tuple[bool, dict[str, Any]]]:
+        """The commands of an alias and of those that it names, each with its sign."""
         for item in self.sudoers.aliases[COMMAND][alias][1]:
-            negated = sign != bool(item.get("negated"))
-            if "cmndalias" in item and item["cmndalias"] in self.sudoers.aliases[COMMAND]:
-                yield from self.written_out(item["cmndalias"], negated)
-            elif "cmndalias" not in item:
+            negated, named = sign != bool(item.get("negated")), item.get("cmndalias")
+            if named is None:
                 yield negated, item
+            elif named in self.sudoers.aliases[COMMAND] and named not in (alias, *above):
+                yield from self.written_out(named, negated, (alias, *above))
 
     def lists(self, place: Place, spec: dict[str, Any], part: dict[str, Any], is_wide: bool) -> tuple[Words, Words, Words] | None:
         targets = part.get("runasusers")

@@ -20,6 +20,18 @@ def whole(pattern: str) -> re.Pattern[str]:
     return re.compile(pattern.replace("$", r"\Z"), re.ASCII)
 
 
+def inlined(node: Any, named: dict[str, Any]) -> Any:
+    """A schema in which each definition stands where it is referred to: to look one up at each value takes most of the time."""
+    if isinstance(node, list):
+        return [inlined(it, named) for it in node]
+    if not isinstance(node, dict):
+        return node
+    found = {key: inlined(it, named) for key, it in node.items() if key != "$ref"}
+    if "$ref" in node:
+        return inlined(named[node["$ref"].removeprefix("#/$defs/")], named) | found
+    return found
+
+
 @cache
 def validator(name: str) -> Any:
     try:
@@ -38,5 +50,4 @@ def validator(name: str) -> Any:
     strict = validators.extend(Draft202012Validator, {"pattern": pattern}, type_checker=checker)
     with open(os.path.join(FOLDER, f"{name}.schema.json"), encoding="utf-8") as file:
         schema = json.load(file)
-    strict.check_schema(schema)
-    return strict(schema)
+    return strict(inlined(schema, schema["$defs"]))

@@ -65,19 +65,15 @@ class Site:
     def conflicts_with(self, duty: str) -> set[str]:
         return {other for pair in self.conflicts if duty in pair for other in pair if other != duty}
 
-    def approvers(self, duty: str, day: str) -> set[str]:
-        """Whoever's approval counts on a day, but for the asker's."""
-        against = self.conflicts_with(duty)
-        return {person for person in self.people if duty in (held := self.held(person, day)) and not held & against}
+    def ever(self, person: str) -> set[str]:
+        """The duties that a person holds on some day."""
+        return {entry if isinstance(entry, str) else entry["duty"] for entry in self.people[person]}
 
-    def holders(self, duty: str, day: str) -> set[str]:
-        return {person for person in self.people if duty in self.held(person, day)}
-
-    def spans(self, today: str) -> list[tuple[str, str]]:
-        """From today on: the spans of days in which nobody's duties change."""
+    def spans(self, today: str, people: list[str]) -> list[tuple[str, str]]:
+        """From today on: the spans of days in which the duties of none of these people change."""
         begins = {today}
-        for entries in self.people.values():
-            for entry in entries:
+        for person in people:
+            for entry in self.people[person]:
                 if isinstance(entry, dict):
                     begins |= {day for day in (entry["from"], after(entry["until"])) if day is not None and day > today}
         days = sorted(begins)

@@ -4,7 +4,7 @@ import os
 import tomllib
 from collections.abc import Iterator
 from functools import cache
-from typing import Any
+from typing import Any, NamedTuple
 
 from desk_tools.found import Warning, dotted
 from desk_tools.site import LAST, Command, Site, command
@@ -32,14 +32,24 @@ def risk(read: Command) -> str | None:
     return str(row["why"])
 
 
+class Span(NamedTuple):
+    """Days in which nothing changes, and who may ask and approve then."""
+
+    first: str
+    last: str
+    askers: set[str]
+    approvers: set[str]
+
+
 class Warnings:
     """Looks through a roster that is read, as it stands from a day on."""
 
     def __init__(self, document: Document, today: str) -> None:
         self.document, self.today = document, today
         self.site = Site(document.value)
-        self.spans = self.site.spans(today)
         self.found: list[Warning] = []
+        self.ever = {person: self.site.ever(person) for person in self.site.people}
+        self.known: dict[tuple[str, str], list[Span]] = {}
 
     def add(self, path: Path, kind: str, said: str, is_note: bool = False) -> None:
         self.found.append(Warning(self.document.line(path), kind, dotted(path), said, is_note))
@@ -54,6 +64,19 @@ class Warnings:
         self.people()
         return sorted(self.found)
 
+    def of_duties(self, ask: str, approve: str) -> list["Span"]:
+        """Who may ask and who may approve, from today on."""
+        if (ask, approve) not in self.known:
+            people = [person for person, duties in self.ever.items() if duties & {ask, approve}]
+            against, found = self.site.conflicts_with(approve), []
+            for first, last in self.site.spans(self.today, people):
+                held = {person: self.site.held(person, first) for person in people}
+                askers = {person for person in people if ask in held[person]}
+                approvers = {person for person in people if approve in held[person] and not held[person] & against}
+                found.append(Span(first, last, askers, approvers))
+            self.known[ask, approve] = found
+        return self.known[ask, approve]
+
     def words(self, first: str, last: str) -> str:
         """Which days a span has, for a sentence."""
         until = "" if last == LAST else f" up to {last}"
@@ -64,8 +87,7 @@ class Warnings:
         ceiling = self.site.ceilings[label]
         ask, approve, needs = ceiling["ask"], ceiling["approve"], ceiling["needs"]
         said: set[str] = set()
-        for first, last in self.spans:
-            askers, approvers = self.site.holders(ask, first), self.site.approvers(approve, first)
+        for first, last, askers, approvers in self.of_duties(ask, approve):
             left_out = sorted(asker for asker in askers if len(approvers - {asker}) < needs)
             if not askers:
                 what, said_so = "nobody", f"nobody may ask under it: nobody holds {ask}"
@@ -90,7 +112,8 @@ class Warnings:
         for duty in sorted({ceiling["approve"] for ceiling in self.site.ceilings.values()}):
             against = self.site.conflicts_with(duty)
             for person in self.site.people:
-                held = [duties for first, _ in self.spans if duty in (duties := self.site.held(person, first))]
+                spans = self.site.spans(self.today, [person]) if duty in self.ever[person] else []
+                held = [duties for first, _ in spans if duty in (duties := self.site.held(person, first))]
                 if held and all(duties & against for duties in held):
                     others = ", ".join(sorted(set.union(*held) & against))
                     self.add(("people", person), "conflict", f"an approval as {duty} never counts: {others} conflicts with it on each of its days")
@@ -103,7 +126,8 @@ class Warnings:
 
     def duties(self) -> None:
         """A duty that nobody holds from today on, and entries that have ended."""
-        held = {duty for person in self.site.people for first, _ in self.spans for duty in self.site.held(person, first)}
+        held = {entry["duty"] for _, _, entry in self.entries() if entry["until"] >= self.today}
+        held |= {entry for entries in self.site.people.values() for entry in entries if isinstance(entry, str)}
         for place, duty in enumerate(self.site.duties):
             if duty not in held:
                 self.add(("duties", place), "duty", f"nobody holds {duty}")
@@ -122,9 +146,8 @@ class Warnings:
         parts = {ceiling[key] for ceiling in self.site.ceilings.values() for key in ("ask", "approve")}
         parts |= {duty for pair in self.site.conflicts for duty in pair}
         for person in self.site.people:
-            ever = {entry if isinstance(entry, str) else entry["duty"] for entry in self.site.people[person]}
-            if not ever & parts:
-                what = f"no ceiling admits {person}" + (": no duty is held" if not ever else "")
+            if not self.ever[person] & parts:
+                what = f"no ceiling admits {person}" + (": no duty is held" if not self.ever[person] else "")
                 self.add(("people", person), "person", what)
 
 

@@ -35,6 +35,21 @@ def test_rosters(desk, tmp_path, pytestconfig):
     assert pytestconfig.getoption("rosters") < 400 or len(seen) == 8, seen
 
 
+def test_limits(desk, tmp_path):
+    """Each name, number and count at its limit, and one past it."""
+    path, wrong, seen = tmp_path / "roster", [], collections.Counter()
+    for what, text in texts.limits():
+        path.write_text(text, encoding="utf-8")
+        ran = answer(desk, str(path))
+        theirs = ran.stderr.decode().strip() if ran.returncode else "read"
+        code = first_code(roster_faults.Roster(text.encode()).look())
+        seen[theirs] += 1
+        if theirs != (coded(code) if code else "read"):
+            wrong.append((what, theirs, code))
+    assert not wrong, wrong
+    assert seen["read"] > 20 and seen["O4 BadName"] > 20 and seen["O7 OutOfRange"] > 10, seen
+
+
 def test_messages(desk, pytestconfig):
     with open(EXAMPLE, "rb") as file:
         site = Site(roster_faults.Roster(file.read()).document.value)

@@ -212,7 +212,10 @@ def test_schemas():
                 yield from undescribed(it, (*path, key))
 
     for name in ("roster", "message"):
-        assert not list(undescribed(schema.validator(name).schema, ()))
+        with open(os.path.join(schema.FOLDER, f"{name}.schema.json"), encoding="utf-8") as file:
+            text = json.load(file)
+        schema.validator(name).check_schema(text)
+        assert not list(undescribed(text, ()))
     with open(ROSTER, "rb") as file:
         document = toml_text.read(file.read())
     assert schema.validator("roster").is_valid(document.value)
