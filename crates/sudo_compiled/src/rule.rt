@@ -39,14 +39,16 @@ pub(crate) fn is_about(rule: &PlainRule, i: &Invocation) -> bool
             .unwrap_or(false)
 }
 
-/// What the rule says: nothing outside its dates, or where it is not about the invocation; else what its commands say.
+/// What the rule says: nothing outside its dates, or where it is not about the invocation; else what its commands say. These are asked before
+/// names are, since most rules have other commands.
 fn says(rule: &PlainRule, i: &Invocation) -> Option<bool>
     ensures { result ≡ compiled.says rule.now i.now }
 {
-    if !takes_part(rule, i.at) || !is_about(rule, i) {
+    if !takes_part(rule, i.at) {
         return None;
     }
-    rule.cmnds.says_of_run(&i.path, i.args.as_slice())
+    let said = rule.cmnds.says_of_run(&i.path, i.args.as_slice())?;
+    if is_about(rule, i) { Some(said) } else { None }
 }
 
 /// What the rule decides by its answer.
