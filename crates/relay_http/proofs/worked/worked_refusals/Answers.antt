@@ -63,11 +63,6 @@ unfolding is_token_byte print_request trim_ows scan param_step seek part routes
 returns-clause-file_after_day c =
     worked (spelled (codes "GET") (codes "/v1/hosts/db9/sudoers/20260105") 1 ((codes "Host", codes "desk") ∷ [])) [] _ _ refl refl refl refl (refl, inr (no_day, refl))
 
-pub returns-clause-file_after_nothing : goal.returns-clause-file_after_nothing
-unfolding is_token_byte print_request trim_ows scan param_step seek part routes
-returns-clause-file_after_nothing c =
-    worked (spelled (codes "GET") (codes "/v1/hosts/db9/sudoers/") 1 ((codes "Host", codes "desk") ∷ [])) [] _ _ refl refl refl refl (refl, refl)
-
 pub returns-clause-report_by_day : goal.returns-clause-report_by_day
 unfolding is_token_byte print_request trim_ows scan param_step seek part routes
 returns-clause-report_by_day c =
