@@ -150,7 +150,10 @@ fn take_request(
 
 /// Writes what the socket takes of the rest of a reply. It ends once all of it is out.
 fn send_rest(mut stream: &TcpStream, rest: &[u8], sent: &mut usize) -> Next {
-    while *sent < rest.len() {
+    for _ in 0..=rest.len() {
+        if *sent >= rest.len() {
+            break;
+        }
         match stream.write(&rest[*sent..]) {
             Ok(0) => return Next::Fails(ServeFault::WriteFailed),
             Ok(count) => *sent += count,
@@ -164,7 +167,10 @@ fn send_rest(mut stream: &TcpStream, rest: &[u8], sent: &mut usize) -> Next {
 /// Takes what the peer still sends, so that it can read the reply before the connection is closed.
 fn read_last(mut stream: &TcpStream, reads: &mut usize) -> Next {
     let mut chunk = [0; 1024];
-    while *reads < MOST_READS {
+    for _ in 0..MOST_READS {
+        if *reads >= MOST_READS {
+            break;
+        }
         match stream.read(&mut chunk) {
             Ok(0) => return Next::Ends,
             Ok(_) => *reads += 1,

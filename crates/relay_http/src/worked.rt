@@ -37,7 +37,6 @@ pub fn worked_refusals()
     ensures moment { Asks (asked_with_host (codes "GET /v1/grants/2026010509Z HTTP/1.1")) (record { with_body = true; asked = refused BadMoment }) }
     ensures moment_with_offset { Asks (asked_with_host (codes "GET /v1/grants/2026010504-0500 HTTP/1.1")) (record { with_body = true; asked = refused BadMoment }) }
     ensures file_after_day { Asks (asked_with_host (codes "GET /v1/hosts/db9/sudoers/20260105 HTTP/1.1")) (record { with_body = true; asked = refused BadMoment }) }
-    ensures file_after_nothing { Asks (asked_with_host (codes "GET /v1/hosts/db9/sudoers/ HTTP/1.1")) (record { with_body = true; asked = refused NoRoute }) }
     ensures report_by_day { Asks (asked_with_host (codes "HEAD /v1/reviews/20260105 HTTP/1.1")) (record { with_body = false; asked = refused BadMoment }) }
     ensures posts_report { Asks (asked_with_host (codes "POST /v1/reviews/20260105093000Z HTTP/1.1")) (record { with_body = true; asked = refused (BadMethod GetOrHead) }) }
     ensures no_length { Asks (asked_with_host (codes "POST /v1/relays/web/messages HTTP/1.1")) (record { with_body = true; asked = refused LengthRequired }) }

@@ -18,29 +18,80 @@ no_day t h = let size : length (codes "20260105") ≡ 15 = length_stamped _ t h 
 no_offset : (t : ℕ) → IsStamp (codes "2026010504-0500") t → ⊥
 no_offset t h = offset_not_stamped (codes "2026010504-0500") t (lit< tt) h
 
-pub returns : goal.returns
+pub returns-clause-no_host : goal.returns-clause-no_host
 unfolding is_token_byte print_request trim_ows scan param_step seek part routes
-returns c = record {
-  no_host = worked (spelled (codes "GET") (codes "/v1/parked") 1 []) [] _ _ refl refl refl refl (refl, refl);
-  two_hosts = worked (spelled (codes "HEAD") (codes "/v1/parked") 0 ((codes "Host", codes "desk") ∷ (codes "hOST", codes "desk") ∷ [])) [] _ _ refl refl refl refl (refl, refl);
-  query = worked (spelled (codes "GET") (codes "/v1/parked?x") 1 ((codes "Host", codes "desk") ∷ [])) [] _ _ refl refl refl refl (refl, refl);
-  slash = worked (spelled (codes "GET") (codes "/v1/parked/") 1 ((codes "Host", codes "desk") ∷ [])) [] _ _ refl refl refl refl (refl, refl);
-  posts = worked (spelled (codes "POST") (codes "/v1/parked") 1 ((codes "Host", codes "desk") ∷ [])) [] _ _ refl refl refl refl (refl, refl);
-  gets = worked (spelled (codes "GET") (codes "/v1/relays/web/messages") 1 ((codes "Host", codes "desk") ∷ [])) [] _ _ refl refl refl refl (refl, refl);
-  moment = worked (spelled (codes "GET") (codes "/v1/grants/2026010509Z") 1 ((codes "Host", codes "desk") ∷ [])) [] _ _ refl refl refl refl (refl, inr (no_moment, refl));
-  moment_with_offset = worked (spelled (codes "GET") (codes "/v1/grants/2026010504-0500") 1 ((codes "Host", codes "desk") ∷ [])) [] _ _ refl refl refl refl (refl, inr (no_offset, refl));
-  file_after_day = worked (spelled (codes "GET") (codes "/v1/hosts/db9/sudoers/20260105") 1 ((codes "Host", codes "desk") ∷ [])) [] _ _ refl refl refl refl (refl, inr (no_day, refl));
-  file_after_nothing = worked (spelled (codes "GET") (codes "/v1/hosts/db9/sudoers/") 1 ((codes "Host", codes "desk") ∷ [])) [] _ _ refl refl refl refl (refl, refl);
-  report_by_day = worked (spelled (codes "HEAD") (codes "/v1/reviews/20260105") 1 ((codes "Host", codes "desk") ∷ [])) [] _ _ refl refl refl refl (refl, inr (no_day, refl));
-  posts_report = worked (spelled (codes "POST") (codes "/v1/reviews/20260105093000Z") 1 ((codes "Host", codes "desk") ∷ [])) [] _ _ refl refl refl refl (refl, refl);
-  no_length = worked (spelled (codes "POST") (codes "/v1/relays/web/messages") 1 ((codes "Host", codes "desk") ∷ [])) [] _ _ refl refl refl refl (refl, refl);
-  signed =
-      worked (spelled (codes "POST") (codes "/v1/relays/web/messages") 1 ((codes "Host", codes "desk") ∷ (codes "Content-Length", codes "+70") ∷ [])) approval
-      _ _ refl refl refl refl (refl, refl);
-  short =
-      worked (spelled (codes "POST") (codes "/v1/relays/web/messages") 1 ((codes "Host", codes "desk") ∷ (codes "Content-Length", codes "71") ∷ [])) approval
-      _ _ refl refl refl refl (refl, refl);
-  long =
-      worked (spelled (codes "POST") (codes "/v1/relays/web/messages") 1 ((codes "Host", codes "desk") ∷ (codes "Content-Length", codes "16385") ∷ [])) approval
-      _ _ refl refl refl refl (refl, refl);
-}
+returns-clause-no_host c =
+    worked (spelled (codes "GET") (codes "/v1/parked") 1 []) [] _ _ refl refl refl refl (refl, refl)
+
+pub returns-clause-two_hosts : goal.returns-clause-two_hosts
+unfolding is_token_byte print_request trim_ows scan param_step seek part routes
+returns-clause-two_hosts c =
+    worked (spelled (codes "HEAD") (codes "/v1/parked") 0 ((codes "Host", codes "desk") ∷ (codes "hOST", codes "desk") ∷ [])) [] _ _ refl refl refl refl (refl, refl)
+
+pub returns-clause-query : goal.returns-clause-query
+unfolding is_token_byte print_request trim_ows scan param_step seek part routes
+returns-clause-query c =
+    worked (spelled (codes "GET") (codes "/v1/parked?x") 1 ((codes "Host", codes "desk") ∷ [])) [] _ _ refl refl refl refl (refl, refl)
+
+pub returns-clause-slash : goal.returns-clause-slash
+unfolding is_token_byte print_request trim_ows scan param_step seek part routes
+returns-clause-slash c =
+    worked (spelled (codes "GET") (codes "/v1/parked/") 1 ((codes "Host", codes "desk") ∷ [])) [] _ _ refl refl refl refl (refl, refl)
+
+pub returns-clause-posts : goal.returns-clause-posts
+unfolding is_token_byte print_request trim_ows scan param_step seek part routes
+returns-clause-posts c =
+    worked (spelled (codes "POST") (codes "/v1/parked") 1 ((codes "Host", codes "desk") ∷ [])) [] _ _ refl refl refl refl (refl, refl)
+
+pub returns-clause-gets : goal.returns-clause-gets
+unfolding is_token_byte print_request trim_ows scan param_step seek part routes
+returns-clause-gets c =
+    worked (spelled (codes "GET") (codes "/v1/relays/web/messages") 1 ((codes "Host", codes "desk") ∷ [])) [] _ _ refl refl refl refl (refl, refl)
+
+pub returns-clause-moment : goal.returns-clause-moment
+unfolding is_token_byte print_request trim_ows scan param_step seek part routes
+returns-clause-moment c =
+    worked (spelled (codes "GET") (codes "/v1/grants/2026010509Z") 1 ((codes "Host", codes "desk") ∷ [])) [] _ _ refl refl refl refl (refl, inr (no_moment, refl))
+
+pub returns-clause-moment_with_offset : goal.returns-clause-moment_with_offset
+unfolding is_token_byte print_request trim_ows scan param_step seek part routes
+returns-clause-moment_with_offset c =
+    worked (spelled (codes "GET") (codes "/v1/grants/2026010504-0500") 1 ((codes "Host", codes "desk") ∷ [])) [] _ _ refl refl refl refl (refl, inr (no_offset, refl))
+
+pub returns-clause-file_after_day : goal.returns-clause-file_after_day
+unfolding is_token_byte print_request trim_ows scan param_step seek part routes
+returns-clause-file_after_day c =
+    worked (spelled (codes "GET") (codes "/v1/hosts/db9/sudoers/20260105") 1 ((codes "Host", codes "desk") ∷ [])) [] _ _ refl refl refl refl (refl, inr (no_day, refl))
+
+pub returns-clause-report_by_day : goal.returns-clause-report_by_day
+unfolding is_token_byte print_request trim_ows scan param_step seek part routes
+returns-clause-report_by_day c =
+    worked (spelled (codes "HEAD") (codes "/v1/reviews/20260105") 1 ((codes "Host", codes "desk") ∷ [])) [] _ _ refl refl refl refl (refl, inr (no_day, refl))
+
+pub returns-clause-posts_report : goal.returns-clause-posts_report
+unfolding is_token_byte print_request trim_ows scan param_step seek part routes
+returns-clause-posts_report c =
+    worked (spelled (codes "POST") (codes "/v1/reviews/20260105093000Z") 1 ((codes "Host", codes "desk") ∷ [])) [] _ _ refl refl refl refl (refl, refl)
+
+pub returns-clause-no_length : goal.returns-clause-no_length
+unfolding is_token_byte print_request trim_ows scan param_step seek part routes
+returns-clause-no_length c =
+    worked (spelled (codes "POST") (codes "/v1/relays/web/messages") 1 ((codes "Host", codes "desk") ∷ [])) [] _ _ refl refl refl refl (refl, refl)
+
+pub returns-clause-signed : goal.returns-clause-signed
+unfolding is_token_byte print_request trim_ows scan param_step seek part routes
+returns-clause-signed c =
+    worked (spelled (codes "POST") (codes "/v1/relays/web/messages") 1 ((codes "Host", codes "desk") ∷ (codes "Content-Length", codes "+70") ∷ [])) approval
+    _ _ refl refl refl refl (refl, refl)
+
+pub returns-clause-short : goal.returns-clause-short
+unfolding is_token_byte print_request trim_ows scan param_step seek part routes
+returns-clause-short c =
+    worked (spelled (codes "POST") (codes "/v1/relays/web/messages") 1 ((codes "Host", codes "desk") ∷ (codes "Content-Length", codes "71") ∷ [])) approval
+    _ _ refl refl refl refl (refl, refl)
+
+pub returns-clause-long : goal.returns-clause-long
+unfolding is_token_byte print_request trim_ows scan param_step seek part routes
+returns-clause-long c =
+    worked (spelled (codes "POST") (codes "/v1/relays/web/messages") 1 ((codes "Host", codes "desk") ∷ (codes "Content-Length", codes "16385") ∷ [])) approval
+    _ _ refl refl refl refl (refl, refl)
