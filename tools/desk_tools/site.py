@@ -36,11 +36,18 @@ def lies_inside(asked: Command, wide: Command) -> bool:
     return asked.path == wide.path and wide.rule == "any"
 
 
-def after(day: str) -> str | None:
+def moved(day: str, days: int) -> str:
+    return (date(int(day[:4]), int(day[4:6]), int(day[6:])) + timedelta(days=days)).strftime("%Y%m%d")
+
+
+def day_after(day: str) -> str | None:
     """The next day; None behind the last."""
-    if day == LAST:
-        return None
-    return (date(int(day[:4]), int(day[4:6]), int(day[6:])) + timedelta(days=1)).strftime("%Y%m%d")
+    return None if day == LAST else moved(day, 1)
+
+
+def day_before(day: str | None) -> str:
+    """The day before; the last one where there is no day."""
+    return LAST if day is None else moved(day, -1)
 
 
 class Site:
@@ -69,13 +76,10 @@ class Site:
         """The duties that a person holds on some day."""
         return {entry if isinstance(entry, str) else entry["duty"] for entry in self.people[person]}
 
-    def spans(self, today: str, people: list[str]) -> list[tuple[str, str]]:
-        """From today on: the spans of days in which the duties of none of these people change."""
-        begins = {today}
-        for person in people:
-            for entry in self.people[person]:
-                if isinstance(entry, dict):
-                    begins |= {day for day in (entry["from"], after(entry["until"])) if day is not None and day > today}
-        days = sorted(begins)
-        ends = [(date(int(day[:4]), int(day[4:6]), int(day[6:])) - timedelta(days=1)).strftime("%Y%m%d") for day in days[1:]]
-        return list(zip(days, [*ends, LAST]))
+    def changes(self, person: str, today: str) -> dict[str, set[str]]:
+        """From today on: each day on which a person's duties may change, and those held from then on."""
+        days = {today}
+        for entry in self.people[person]:
+            if isinstance(entry, dict):
+                days |= {day for day in (entry["from"], day_after(entry["until"])) if day is not None and day > today}
+        return {day: self.held(person, day) for day in sorted(days)}

@@ -7,7 +7,7 @@ from functools import cache
 from typing import Any, NamedTuple
 
 from desk_tools.found import Warning, dotted
-from desk_tools.site import LAST, Command, Site, command
+from desk_tools.site import LAST, Command, Site, command, day_before
 from desk_tools.toml_text import Document, Path
 
 TABLE = os.path.join(os.path.dirname(os.path.abspath(__file__)), "runs_others.toml")
@@ -41,6 +41,16 @@ class Span(NamedTuple):
     approvers: set[str]
 
 
+def spans(events: dict[str, list[tuple[str, bool, bool]]]) -> Iterator[Span]:
+    """The spans between days on which somebody may begin or cease to ask or approve."""
+    days, askers, approvers = sorted(events), set(), set()
+    for day, following in zip(days, [*days[1:], None]):
+        for person, asks, approves in events[day]:
+            (askers.add if asks else askers.discard)(person)
+            (approvers.add if approves else approvers.discard)(person)
+        yield Span(day, day_before(following), set(askers), set(approvers))
+
+
 class Warnings:
     """Looks through a roster that is read, as it stands from a day on."""
 
@@ -49,6 +59,11 @@ class Warnings:
         self.site = Site(document.value)
         self.found: list[Warning] = []
         self.ever = {person: self.site.ever(person) for person in self.site.people}
+        self.changes = {person: self.site.changes(person, today) for person in self.site.people}
+        self.holders: dict[str, list[str]] = {}
+        for person, duties in self.ever.items():
+            for duty in duties:
+                self.holders.setdefault(duty, []).append(person)
         self.known: dict[tuple[str, str], list[Span]] = {}
 
     def add(self, path: Path, kind: str, said: str, is_note: bool = False) -> None:
@@ -67,14 +82,11 @@ class Warnings:
     def of_duties(self, ask: str, approve: str) -> list["Span"]:
         """Who may ask and who may approve, from today on."""
         if (ask, approve) not in self.known:
-            people = [person for person, duties in self.ever.items() if duties & {ask, approve}]
-            against, found = self.site.conflicts_with(approve), []
-            for first, last in self.site.spans(self.today, people):
-                held = {person: self.site.held(person, first) for person in people}
-                askers = {person for person in people if ask in held[person]}
-                approvers = {person for person in people if approve in held[person] and not held[person] & against}
-                found.append(Span(first, last, askers, approvers))
-            self.known[ask, approve] = found
+            against, events = self.site.conflicts_with(approve), {self.today: []}
+            for person in {*self.holders.get(ask, []), *self.holders.get(approve, [])}:
+                for day, held in self.changes[person].items():
+                    events.setdefault(day, []).append((person, ask in held, approve in held and not held & against))
+            self.known[ask, approve] = list(spans(events))
         return self.known[ask, approve]
 
     def words(self, first: str, last: str) -> str:
@@ -111,9 +123,8 @@ class Warnings:
         """Somebody whose approval counts on none of the days on which the duty is held."""
         for duty in sorted({ceiling["approve"] for ceiling in self.site.ceilings.values()}):
             against = self.site.conflicts_with(duty)
-            for person in self.site.people:
-                spans = self.site.spans(self.today, [person]) if duty in self.ever[person] else []
-                held = [duties for first, _ in spans if duty in (duties := self.site.held(person, first))]
+            for person in self.holders.get(duty, []):
+                held = [duties for duties in self.changes[person].values() if duty in duties]
                 if held and all(duties & against for duties in held):
                     others = ", ".join(sorted(set.union(*held) & against))
                     self.add(("people", person), "conflict", f"an approval as {duty} never counts: {others} conflicts with it on each of its days")

@@ -172,19 +172,25 @@ def at(document: dict[str, Any], path: str, value: Any) -> str:
 def limits() -> list[tuple[str, str]]:
     """A small roster with each of its values at a limit, or just past it."""
     ceiling = {"ask": "ask", "approve": "ok", "needs": 1, "hosts": ["db1"], "runas": ["root"], "commands": ["ALL"], "longest": 60}
-    document: dict[str, Any] = {"relays": ["chat"], "hosts": ["db1"], "duties": ["ask", "ok"], "conflicts": [], "people": {"ann": ["ask"]}, "ceilings": {"c": ceiling}}
+    document: dict[str, Any] = {"relays": ["chat"], "hosts": ["db1"], "duties": ["ask", "ok"], "conflicts": []}
+    document |= {"people": {"ann": ["ask"]}, "ceilings": {"c": ceiling}}
     names = ["a" * 32, "a" * 33, "a-", "-a", "A", "1a", "a1", "a.b", "a_b", "_a", "é", "sudoedit", "sha224", "sha512", "sha1", "a b", "", "a\n"]
     found = [(path, word) for path in ("relays/0", "people/ann=", "ceilings/c=", "ceilings/c/runas/0") for word in names]
     rows: list[tuple[str, Any]] = [*found]
-    commands = ["ALL", "all", "/a", "/a/", "/", "//a", "/a//", "/.", "/..", "/a/../b", "/.a", "/a/sudoedit", "/sudoedit/", "/a/sudoedit/b", "/a ", " /a", '/a ""', "/a b", "/a  b"]
+    commands = ["ALL", "all", "/a", "/a/", "/", "//a", "/a//", "/.", "/..", "/a/../b", "/.a", "/a/sudoedit", "/sudoedit/", "/a/sudoedit/b"]
+    commands += ["/a ", " /a", '/a ""', "/a b", "/a  b"]
     commands += ["/a \\,", "/a ,", "/a \\:b", "/a a\\=b", "/a \\a", '/a "" b', "/a/ b", "ALL b", "/a *", "/a\t", "/a b\n", "/a " + "b" * 64, "/a " + "b" * 65]
     commands += ["/" + "a" * 254, "/" + "a" * 255, "/" + "a" * 253 + "/", "/" + "a" * 254 + "/", "/a" + " b" * 16, "/a" + " b" * 17]
-    commands += ["/" + "a" * 45 + (" " + "b" * 60) * 16, "/" + "a" * 46 + (" " + "b" * 60) * 16, "/" + "a" * 47 + (" " + "b" * 60) * 16, "/a " + "\\," * 64, "/a " + "\\," * 65]
+    commands += ["/" + "a" * count + (" " + "b" * 60) * 16 for count in (45, 46, 47, 48)]
+    commands += ["/a " + "\\," * 64, "/a " + "\\," * 65]
     rows += [("ceilings/c/commands/0", command) for command in commands]
-    rows += [("ceilings/c/needs", number) for number in (0, 1, 3, 4, -1, 1.0, "1", True)] + [("ceilings/c/longest", number) for number in (0, 1, 2_592_000, 2_592_001)]
-    for first, last in (("19700101", "20991231"), ("19691231", "20991231"), ("19700101", "21000101"), ("20240229", "20240229"), ("20250229", "20250301"), ("20250302", "20250301")):
+    rows += [("ceilings/c/needs", number) for number in (0, 1, 3, 4, -1, 1.0, "1", True)]
+    rows += [("ceilings/c/longest", number) for number in (0, 1, 2_592_000, 2_592_001)]
+    days = "19700101 20991231, 19691231 20991231, 19700101 21000101, 20240229 20240229, 20250229 20250301, 20250302 20250301"
+    for first, last in map(str.split, days.split(", ")):
         rows.append(("people/ann", [{"duty": "ask", "from": first, "until": last}]))
-    for path, word, most in (("relays", "chat", 64), ("hosts", "db1", 1024), ("duties", "ok", 254), ("conflicts", ["ask", "ok"], 4096), ("people/ann", "ask", 256)):
+    counts: list[tuple[str, Any, int]] = [("relays", "chat", 64), ("hosts", "db1", 1024), ("duties", "ok", 254), ("people/ann", "ask", 256)]
+    for path, word, most in [*counts, ("conflicts", ["ask", "ok"], 4096)]:
         start = ["ask", "ok"] if path == "duties" else []
         rows += [(path, start + [word] * count) for count in (0, 1, most, most + 1)]
     for path in ("hosts", "runas", "commands"):
