@@ -1,13 +1,16 @@
 -- What holds the same set of messages answers alike.
-use Rattle.std.proofs.Common.{◌≡◌, inl, inr, ℕ, List, Result, Ok, Err, subst}
+use Rattle.std.proofs.Common.{◌≡◌, ◌≢◌, ◌⊎◌, ◌∙◌, inl, inr, ℕ, List, Result, Ok, Err, refl, sym, subst}
 use Rattle.std.specs.Prelude.{IfOk, IfErr, MatchResult}
 use Rattle.sudo_words.specs.declared.cmnd.Cmnd.{Cmnd}
 use Rattle.messages.specs.Names.{SameMessages}
 use Rattle.messages.specs.declared.message.Message.{Message}
 use Rattle.roster.specs.Fields.{RosterFields}
 use Rattle.desk_store.specs.Sets.{Lists, SameSet}
-use Rattle.desk.specs.Opening.{Opens}
+use Rattle.desk.specs.Opening.{Opens, Refuses}
+use Rattle.desk.specs.Refusals.{IsWant}
 use Rattle.desk.specs.Same.{AnswerAlike}
+use Rattle.desk.specs.declared.refusal.Refusal.{Refusal}
+use Rattle.desk.specs.declared.refusal.Refusal.TheVariants.{UnknownRelay, UnknownHost, TooLong, NotCanonical, BadField, Denied, TooManyRules, RosterChanged, NotADesk, Storage, NoMemory, BaseTooLarge}
 use Rattle.desk_outcomes.proofs.LawLemmas.{order_free}
 use Rattle.desk_outcomes.proofs.SetLemmas.{parked_of_set}
 use Rattle.desk.proofs.TextLemmas.{texts_of_set}
@@ -34,6 +37,23 @@ held_again Empty Desk recorded text S T U desk same (inr found) = λ m. (λ h. (
 pub recorded_text : (Empty Desk : Type 0) (recorded text : List ℕ) (S T : Message → Type 0) → Desk → Opens Empty Desk recorded text S T → recorded ≡ text
 recorded_text Empty Desk recorded text S T desk (inl none) = absurd (none.1 desk)
 recorded_text Empty Desk recorded text S T desk (inr found) = found.2
+
+-- and is refused for its base or for its roster, if it is: what was recorded is a desk
+pub refused_again : (Fits Empty Desk : Type 0) (recorded said text : List ℕ) (e : Refusal) → Desk → said ≡ recorded → IsWant e ⊎ Refuses Fits Empty Desk recorded text e
+    → IsWant e ⊎ ((e ≡ BaseTooLarge) × (¬ Fits)) ⊎ ((e ≡ RosterChanged) × (said ≢ text))
+refused_again Fits Empty Desk recorded said text e desk same (inl want) = inl want
+refused_again Fits Empty Desk recorded said text BaseTooLarge desk same (inr large) = inr (inl (refl, large))
+refused_again Fits Empty Desk recorded said text RosterChanged desk same (inr why) = inr (inr (refl, λ is. why.2 (sym same ∙ is)))
+refused_again Fits Empty Desk recorded said text NotADesk desk same (inr why) = absurd (why.2 desk)
+refused_again Fits Empty Desk recorded said text UnknownRelay desk same (inr none) = absurd none
+refused_again Fits Empty Desk recorded said text UnknownHost desk same (inr none) = absurd none
+refused_again Fits Empty Desk recorded said text TooLong desk same (inr none) = absurd none
+refused_again Fits Empty Desk recorded said text NotCanonical desk same (inr none) = absurd none
+refused_again Fits Empty Desk recorded said text BadField desk same (inr none) = absurd none
+refused_again Fits Empty Desk recorded said text (Denied denial) desk same (inr none) = absurd none
+refused_again Fits Empty Desk recorded said text TooManyRules desk same (inr none) = absurd none
+refused_again Fits Empty Desk recorded said text Storage desk same (inr none) = absurd none
+refused_again Fits Empty Desk recorded said text NoMemory desk same (inr none) = absurd none
 
 -- what is said of one thing and of a thing that is the same
 pub set_of_same : {A : Type 0} (a b : A) → a ≡ b → (H : A → Message → Type 0) (T : Message → Type 0) → SameSet (H a) T → SameSet (H b) T

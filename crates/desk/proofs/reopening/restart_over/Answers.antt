@@ -1,11 +1,14 @@
-use Rattle.std.proofs.Common.{◌≡◌, ◌∙◌, ap, sym}
+use Rattle.std.proofs.Common.{◌≡◌, ◌≢◌, ◌⊎◌, ◌∙◌, ap, sym}
 use Rattle.sqlite.specs.Held.{state}
 use Rattle.desk_store.specs.Sets.{SameSet}
 use Rattle.desk_store.specs.SqliteStates.{IsUp}
 use Rattle.desk_store.specs.Stored.{HoldsText, IsDeskDatabase, IsFree, content_of}
-use Rattle.desk.specs.Opening.{Opens}
+use Rattle.grants.specs.Bases.{FitsBase}
+use Rattle.desk.specs.Opening.{Opens, Refuses}
+use Rattle.desk.specs.Refusals.{IsWant}
 use Rattle.desk.specs.Same.{AnswerAlike}
-use Rattle.desk.proofs.RestartLemmas.{held_again, of_err, of_ok, of_opened, recorded_text, same_answers, set_of_same}
+use Rattle.desk.specs.declared.refusal.Refusal.TheVariants.{BaseTooLarge, RosterChanged}
+use Rattle.desk.proofs.RestartLemmas.{held_again, of_err, of_ok, of_opened, of_refused, recorded_text, refused_again, same_answers, set_of_same}
 use Rattle.desk.proofs.reopening.restart_over.Goals as goal
 
 pub returns-clause-held : goal.returns-clause-held
@@ -67,3 +70,23 @@ returns-clause-unchanged g c =
     (λ r. IsUp (state S r.1.conn) → (state S r.1.conn).now ≡ (state S old.conn).now)
     (λ r same up. same up ∙ c.renewed.ensures.database ∙ ap (λ x. (state S x.conn).now) c.into_keeper-keeper.ensures.same)
     c.open.ensures.unchanged
+
+pub returns-clause-refused : goal.returns-clause-refused
+returns-clause-refused g c =
+    let S = g.S.Store in
+    let said = c.args.desk.roster.text in
+    let text = c.args.roster.text in
+    let k = state S c.renewed.result.conn in
+    let Fits = FitsBase c.args.base in
+    of_refused c.open.result
+    (λ r. IsUp (state S r.1.conn) → IsWant r.0 ⊎ Refuses Fits (IsFree k.now.schema) (IsDeskDatabase k.now) (content_of k.now).roster text r.0)
+    (λ r. IsUp (state S r.1.conn) → IsUp k)
+    (λ r. IsUp (state S r.1.conn) → IsWant r.0 ⊎ ((r.0 ≡ BaseTooLarge) × (¬ Fits)) ⊎ ((r.0 ≡ RosterChanged) × (said ≢ text)))
+    (λ d. IsUp (state S d.keeper.conn) → IsUp k)
+    (λ r refused was up.
+    let given = c.renewed.ensures.up.0 (was up) in
+    let desk = c.renewed.ensures.desk.1 (c.into_keeper-keeper.ensures.desk given) in
+    refused_again Fits (IsFree k.now.schema) (IsDeskDatabase k.now) (content_of k.now).roster said text r.0 desk
+    (sym (c.into_keeper-keeper.ensures.roster given) ∙ sym c.renewed.ensures.roster) (refused up))
+    c.open.ensures.refused
+    c.open.ensures.was_up
