@@ -3,6 +3,7 @@
 
 What the desk wrote must be whole for `sqlite3` (`pragma integrity_check`), with the desk's tables and the messages that were acknowledged, and the
 desk must go on over what `sqlite3` wrote, merged, or left in its log. Two programs must not have the file at once: the one that comes second is refused by name.
+A command or a server that ends in order leaves one file: copied without its log it is the whole store.
 A server that is killed must have kept each message that it acknowledged, and answer alike when it is started again over the file.
 Last, `deliver` is killed (SIGKILL) at 200 random moments while it takes 1,500 messages: after each, the file must open and hold a beginning of what was sent;
 delivered once more, each line must be acknowledged, and the file hold what it holds after a run that nobody stopped.
@@ -114,9 +115,9 @@ def write_by_sqlite(count, folder):
     count.same("print of what sqlite3 has left", desk("print", store, "db1"), (bare() + LINE, "", 0))
 
 
-def serving(store):
+def serving(store, *words):
     """A server over the file, and its port."""
-    server = subprocess.Popen([*DESK, "serve", ROSTER, BASE, store, "127.0.0.1:0"], stdout=subprocess.PIPE, stderr=subprocess.PIPE, text=True)
+    server = subprocess.Popen([*DESK, "serve", ROSTER, BASE, store, "127.0.0.1:0", *words], stdout=subprocess.PIPE, stderr=subprocess.PIPE, text=True)
     return server, int(server.stdout.readline().rpartition(":")[2] or 0)
 
 
@@ -130,6 +131,36 @@ def replied(port, method, target, body=None):
 def end(server, how):
     server.send_signal(how)
     server.communicate(timeout=20)
+
+
+def alone(store):
+    """The messages of the file, read without the log beside it."""
+    with tempfile.TemporaryDirectory(dir=os.path.dirname(store)) as apart:
+        copy = shutil.copy(store, apart)
+        return told(copy, "SELECT body FROM messages ORDER BY body").splitlines()
+
+
+def rest_as_one_file(count, folder):
+    """What ends in order leaves the whole store in one file; what is killed leaves a log, which the next command merges."""
+    store, first = os.path.join(folder, "rest.db"), [REQUEST, approval(1)]
+    desk("deliver", store, "chat", first)
+    count.same("one file after deliver", alone(store), sorted(first))
+    done = desk("deliver", store, "chat", ["{}", APPROVAL])
+    count.same("one line refused", done, ("M3 BadField\nack\n", "", 2))
+    count.same("one file after a refused line", alone(store), sorted([*first, APPROVAL]))
+    server, port = serving(store, "--requests", "1")
+    count.same("post", replied(port, "POST", "/v1/relays/chat/messages", approval(2)), (200, "ack\n"))
+    server.communicate(timeout=20)
+    count.same("one file after serve", alone(store), sorted([*first, APPROVAL, approval(2)]))
+    server, port = serving(store)
+    count.same("post", replied(port, "POST", "/v1/relays/chat/messages", approval(3)), (200, "ack\n"))
+    end(server, signal.SIGKILL)
+    count.same("the log after a kill is not merged", approval(3) in alone(store), False)
+    desk("print", store, "db1")
+    count.same("one file after print", alone(store), sorted([*first, APPROVAL, approval(2), approval(3)]))
+    before = open(store, "rb").read()
+    desk("print", store, "db1")
+    count.same("a question leaves the file as it was", open(store, "rb").read() == before, True)
 
 
 def serve_over(count, folder):
@@ -240,7 +271,7 @@ def main():
         sys.exit("sqlite3 is missing: install Debian's package sqlite3")
     count = Count()
     with tempfile.TemporaryDirectory(dir="/dev/shm" if os.path.isdir("/dev/shm") else None) as folder:
-        for part in (read_by_sqlite, write_by_sqlite, serve_over, kill_delivering):
+        for part in (read_by_sqlite, write_by_sqlite, rest_as_one_file, serve_over, kill_delivering):
             try:
                 part(count, folder)
             except sqlite3.DatabaseError as error:

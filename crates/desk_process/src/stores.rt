@@ -40,3 +40,10 @@ pub(crate) fn kept(rt: &HostRuntime, job: &Job) -> Result<Option<Stored>, Refusa
         Some(Store::Memory) | None => Ok(None),
     }
 }
+
+/// Copies what stands in the database's log into its file, so that the file alone is the store. Where that fails the log keeps it.
+pub(crate) fn merge_log(kept: Option<Stored>) {
+    if let Some(keeper) = kept {
+        let _ = keeper.into_connection().close();
+    }
+}
