@@ -1,0 +1,41 @@
+use Rattle.std.proofs.Common.{rules, ◌≡◌, ◌∙◌, ap, subst}
+use Rattle.std.specs.Prelude.{ℕ, List}
+use Rattle.grants.specs.Bases.{FitsBase}
+use Rattle.desk.specs.Opening.{Opens}
+use Rattle.desk.proofs.KnownLemmas.{at_first}
+use Rattle.desk.proofs.OpeningLemmas.{refused_over}
+use Rattle.desk.proofs.desk.Desk.open.Goals as goal
+
+-- ---- the desk that is opened
+
+pub invariant_of-result : goal.invariant_of-result
+invariant_of-result g c =
+    let K = g.K.Keeper in
+    let new = c.find_or_make.new.keeper in
+    let fits : FitsBase c.args.base = search rules in
+    let text : c.text.result.now ≡ c.args.roster.text = search rules in
+    (
+        fits,
+        c.in-Ok.ensures.desk,
+        λ up. c.in-Ok.ensures.roster up ∙ text,
+        c.in-Ok.ensures.durable,
+        at_first (K.is_up new) (K.holds new) c.in-Ok.origin c.known_at_first.result c.known_at_first.ensures c.in-Ok.ensures.made
+    )
+
+pub returns-in-Ok-clause-opens : goal.returns-in-Ok-clause-opens
+returns-in-Ok-clause-opens g c up =
+    let K = g.K.Keeper in
+    let old = c.args.keeper in
+    let text : c.text.result.now ≡ c.args.roster.text = search rules in
+    subst (λ t. Opens (K.is_empty old) (K.is_desk old) (K.roster old) t (K.holds old) (K.holds c.find_or_make.new.keeper)) text (c.in-Ok.ensures.opens up)
+
+-- ---- and why there is none
+
+pub returns-in-Err-clause-refused : goal.returns-in-Err-clause-refused
+returns-in-Err-clause-refused g c up =
+    let K = g.K.Keeper in
+    let old = c.args.keeper in
+    let fits : FitsBase c.args.base = search rules in
+    let text : c.text.result.now ≡ c.args.roster.text = search rules in
+    refused_over (FitsBase c.args.base) (K.is_empty old) (K.is_desk old) (K.roster old) c.text.result.now c.args.roster.text c.in-Err.refusal fits text
+    c.in-Err.ensures.fits (c.in-Err.ensures.refused up)
