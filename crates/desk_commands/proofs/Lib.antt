@@ -1,5 +1,6 @@
 pub mod LineLemmas
 pub mod KeepingLemmas
+pub mod OpenedLemmas
 pub mod ComplaintLemmas
 pub mod AnswerLines
 pub mod BroughtLemmas
