@@ -1,5 +1,4 @@
-use Rattle.std.proofs.Common.{rules, ◌≡◌, ◌∙◌, ap, subst}
-use Rattle.std.specs.Prelude.{ℕ, List}
+use Rattle.std.proofs.Common.{rules, ◌≡◌, ◌∙◌, subst}
 use Rattle.grants.specs.Bases.{FitsBase}
 use Rattle.desk.specs.Opening.{Opens}
 use Rattle.desk.proofs.KnownLemmas.{at_first}
@@ -14,13 +13,8 @@ invariant_of-result g c =
     let new = c.find_or_make.new.keeper in
     let fits : FitsBase c.args.base = search rules in
     let text : c.text.result.now ≡ c.args.roster.text = search rules in
-    (
-        fits,
-        c.in-Ok.ensures.desk,
-        λ up. c.in-Ok.ensures.roster up ∙ text,
-        c.in-Ok.ensures.durable,
-        at_first (K.is_up new) (K.holds new) c.in-Ok.origin c.known_at_first.result c.known_at_first.ensures c.in-Ok.ensures.made
-    )
+    let known = at_first (K.is_up new) (K.holds new) c.in-Ok.origin c.known_at_first.result c.known_at_first.ensures c.in-Ok.ensures.made in
+    (fits, c.in-Ok.ensures.desk, λ up. c.in-Ok.ensures.roster up ∙ text, c.in-Ok.ensures.durable, known)
 
 pub returns-in-Ok-clause-opens : goal.returns-in-Ok-clause-opens
 returns-in-Ok-clause-opens g c up =
