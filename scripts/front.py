@@ -193,9 +193,15 @@ def exchange(
                     time.sleep(pause)
                 while piece := peer.recv(65536):
                     whole += piece
-                    # (a front that keeps the connection says no more)
-                    peer.settimeout(1)
+                    # (a front that keeps the connection says no more once each request is answered)
+                    if answers(whole) >= given.count(b" HTTP/1.1"):
+                        peer.settimeout(1)
     return whole
+
+
+def answers(whole: bytes) -> int:
+    """How many replies begin in these bytes; `100 Continue` is none yet."""
+    return len(re.findall(rb"(?m)^HTTP/1\.[01] [2-5]", whole))
 
 
 def log_lines(folder: str) -> list[dict[str, str]]:
