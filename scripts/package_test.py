@@ -33,15 +33,19 @@ STORE = "/var/lib/desk/desk.db"
 DPKG = ["dpkg", "--force-unsafe-io", "--no-triggers"]  # quick: the root is thrown away
 DESK = ["setpriv", "--reuid", "desk", "--regid", "desk", "--clear-groups", "desk"]
 FILES = [f"{DOC}/examples/roster.toml", f"{DOC}/examples/site.sudo"]
-# who may run what on db1 as root at a moment, with the grant of the examples
+# the day of the examples, and tomorrow, to which the served grant is moved: a host does not fetch the
+# lines that ended over an hour ago
+EXAMPLE, TOMORROW = "20260105", time.gmtime(time.time() + 86_400)
+DAY = time.strftime("%Y%m%d", TOMORROW)
+# who may run what on db1 as root at a time of that day, with the grant of the examples
 RIGHTS = [
-    ("2026-01-05 09:30:00", "ann", ["/usr/bin/id"], True),
-    ("2026-01-05 09:15:00", "ann", ["/usr/bin/id"], True),
-    ("2026-01-05 09:14:59", "ann", ["/usr/bin/id"], False),
-    ("2026-01-05 11:00:00", "ann", ["/usr/bin/id"], True),
-    ("2026-01-05 11:00:01", "ann", ["/usr/bin/id"], False),
-    ("2026-01-05 09:30:00", "ann", ["/usr/bin/env"], False),
-    ("2026-01-05 09:30:00", "bob", ["/usr/bin/id"], False),
+    ("09:30:00", "ann", ["/usr/bin/id"], True),
+    ("09:15:00", "ann", ["/usr/bin/id"], True),
+    ("09:14:59", "ann", ["/usr/bin/id"], False),
+    ("11:00:00", "ann", ["/usr/bin/id"], True),
+    ("11:00:01", "ann", ["/usr/bin/id"], False),
+    ("09:30:00", "ann", ["/usr/bin/env"], False),
+    ("09:30:00", "bob", ["/usr/bin/id"], False),
 ]
 
 
@@ -241,6 +245,13 @@ def traced(trial: Trial) -> None:
     trace = "/var/lib/desk/trace"
     running = Service(trial, before=["strace", "-f", "-qq", "-o", trace])
     trial.check("it starts, traced", b"READY=1" in running.wait_ready())
+    # (it takes a connection, and writes to its store, only where somebody asks)
+    desk = "http://127.0.0.1:8080/v1"
+    for line in trial.read(f"{DOC}/examples/approved.messages").splitlines():
+        words = ["--data-binary", line, f"{desk}/relays/chat/messages"]
+        trial.does("it keeps a message, traced", "curl", "-sS", "-m", "60", *words, says="^ack\n$")
+    file = ["curl", "-sS", "-m", "60", f"{desk}/hosts/db1/sudoers"]
+    trial.does("it answers, traced", *file, says="NOTAFTER=20260105110000Z /usr/bin/id\n")
     os.kill(child(trial, running.process), signal.SIGTERM)
     status, said = running.end()
     trial.check("it ends, traced", status == 0 and "ended, as it was asked to" in said, said)
@@ -394,7 +405,7 @@ def fetch(trial: Trial, before: list[str] | None = None) -> tuple[int, str]:
 
 
 def through_the_front(trial: Trial) -> None:
-    for line in trial.read(f"{DOC}/examples/approved.messages").splitlines():
+    for line in trial.read(f"{DOC}/examples/approved.messages").replace(EXAMPLE, DAY).splitlines():
         said = by_curl(trial, "relay-chat", "/v1/relays/chat/messages", "--data-binary", line)
         trial.check("a relay posts", said == "ack\n 200", said)
     said = by_curl(trial, "host-db1", "/v1/relays/chat/messages", "--data-binary", "{}")
@@ -409,9 +420,9 @@ def through_the_front(trial: Trial) -> None:
         "the file's owner", "stat", "-c", "%U:%G %a", "/etc/sudoers.d/desk", says="^root:root 440$"
     )
     trial.does("visudo", "visudo", "-c", says="/etc/sudoers.d/desk: parsed OK")
-    said = by_curl(trial, "auditor-carol", "/v1/grants/20260105093000Z")
+    said = by_curl(trial, "auditor-carol", f"/v1/grants/{DAY}093000Z")
     trial.check(
-        "an auditor reads", said == "ann 7 db-care 20260105091500Z 20260105110000Z\n 200", said
+        "an auditor reads", said == f"ann 7 db-care {DAY}091500Z {DAY}110000Z\n 200", said
     )
     monitored(trial)
 
@@ -437,7 +448,9 @@ def rights(trial: Trial) -> None:
     """What sudo allows, at moments of its own."""
     for name in ("ann", "bob"):
         trial.run("useradd", name)
-    for moment, user, command, is_right in RIGHTS:
+    day = time.strftime("%Y-%m-%d", TOMORROW)
+    for hour, user, command, is_right in RIGHTS:
+        moment = f"{day} {hour}"
         ran = trial.run(
             "faketime",
             "-f",
@@ -549,7 +562,7 @@ def answer(trial: Trial) -> str:
 def later_on(trial: Trial) -> None:
     """Upgraded, removed, installed again and purged: what was acknowledged is there after each."""
     was, deb = answer(trial), the_deb()
-    trial.check("what was acknowledged", "NOTAFTER=20260105110000Z /usr/bin/id\n" in was, was)
+    trial.check("what was acknowledged", f"NOTAFTER={DAY}110000Z /usr/bin/id\n" in was, was)
     trial.write("/etc/desk/serve.conf", trial.read("/etc/desk/serve.conf") + "# ours\n")
     for what, words, is_there in (
         ("upgrade", ["--force-confdef", "--force-confold", "-i", remade(trial)], True),

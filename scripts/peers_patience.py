@@ -263,7 +263,8 @@ def limited_file(count, words):
     `desk-serve` of the package does."""
     with tempfile.TemporaryDirectory() as folder:
         store = os.path.join(folder, "desk.db")
-        before = ["sh", "-c", "trap '' XFSZ; ulimit -f 512; exec \"$@\"", "sh"]
+        # 1 MiB: a new store's log has some 260 KB at once, and the messages are 2.9 MB
+        before = ["prlimit", f"--fsize={2**20}:{2**20}", "sh", "-c", "trap '' XFSZ; exec \"$@\"", "sh"]
         with Server(words, store, before, stderr=subprocess.PIPE) as server:
             bodies = [server.reply(posted(long_request(number)))[0] for number in range(200)]
             ends = [body.endswith(b"\r\n\r\nack\n") for body in bodies]

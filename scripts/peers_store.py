@@ -60,18 +60,18 @@ class Count:
 def desk(command, store, word, lines=()):
     """What the desk answers: its output, its standard error and its status."""
     given = "".join(line + "\n" for line in lines)
-    done = subprocess.run([*DESK, command, ROSTER, BASE, store, word], input=given, capture_output=True, text=True, timeout=60, check=False)
+    done = subprocess.run([*DESK, command, ROSTER, BASE, store, word], input=given, capture_output=True, text=True, timeout=300, check=False)
     return done.stdout, done.stderr, done.returncode
 
 
 def told(store, text):
     """What `sqlite3` answers, or says."""
-    done = subprocess.run(["sqlite3", "-batch", store, text], stdin=subprocess.DEVNULL, capture_output=True, text=True, timeout=60, check=False)
+    done = subprocess.run(["sqlite3", "-batch", store, text], stdin=subprocess.DEVNULL, capture_output=True, text=True, timeout=300, check=False)
     return done.stdout + done.stderr
 
 
 def bare():
-    return subprocess.run([*DESK, "check", BASE], capture_output=True, text=True, timeout=60, check=True).stdout
+    return subprocess.run([*DESK, "check", BASE], capture_output=True, text=True, timeout=300, check=True).stdout
 
 
 def read_by_sqlite(count, folder):
