@@ -3,11 +3,12 @@
 # that has none. It keeps all that it makes in the folder DIR; DIR/ca.key is what everything hangs
 # on.
 #
-#   front-ca.sh DIR init                        the authority: ca.pem, ca.key, crl.pem
-#   front-ca.sh DIR server NAME [ADDRESS]       server.pem and server.key, for the front at that
-#   host name front-ca.sh DIR relay|host|auditor NAME     KIND-NAME.pem and KIND-NAME.key, for a
-#   client front-ca.sh DIR revoke KIND-NAME            takes a client's certificate back: copy
-#   crl.pem to the front
+#   front-ca.sh DIR init                     the authority: ca.pem, ca.key, crl.pem
+#   front-ca.sh DIR server NAME [ADDRESS]    server.pem and server.key, for the front at that
+#                                            host name
+#   front-ca.sh DIR relay|host|auditor NAME  KIND-NAME.pem and KIND-NAME.key, for a client
+#   front-ca.sh DIR revoke KIND-NAME         takes a client's certificate back: copy crl.pem to
+#                                            the front
 #
 # DAYS in the environment is how long a certificate holds (365), or FROM and UNTIL are its dates,
 # yyyymmddhhmmssZ.
