@@ -172,7 +172,8 @@ class Import:
             rows = getent("passwd", str(item["userid"]))
             names = [row[0] for row in rows if fits("name", row[0])]
             self.note(place, f"#{item['userid']}", f"it is {', '.join(names) or 'nobody'} here, by getent", is_left_out=not names)
-            return names
+            # (elsewhere it may be somebody)
+            return names or None
         what = "+" + item["netgroup"] if "netgroup" in item else str(next(iter(item.values())))
         self.note(place, what, "netgroups and groups of other systems cannot be said: name their users")
         return None
@@ -180,8 +181,8 @@ class Import:
     def group(self, place: Place, group: str, shown: str) -> list[str] | None:
         found = members(group)
         if found is None:
-            self.note(place, shown, "there is no such group here, by getent, so it has nobody: import where the group is known")
-            return []
+            self.note(place, shown, "there is no such group here, by getent: import where the group is known")
+            return None
         odd = [name for name in found if not fits("name", name)]
         if odd:
             self.note(place, shown, f"no user of the desk has the names {', '.join(odd)}")
@@ -198,7 +199,7 @@ class Import:
         if self.hosts and (found := self.listed(item)) is not None:
             what = name or item["networkaddr"]
             self.note(place, what, f"it is {', '.join(found) or 'no host'} by the list of hosts", is_left_out=not found)
-            return found
+            return found or None
         what = str(name or next(iter(item.values())))
         self.note(place, what, "only short host names can be said: name the hosts, or give --host-list a file of them, as /etc/hosts")
         return None

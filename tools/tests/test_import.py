@@ -69,6 +69,11 @@ def made(imports, desk, tmp_path, monkeypatch):
         ("ann, +net ALL = /bin/ls\n", "ann ALL = (root) /bin/ls\n"),
         ("ALL, !+net, bob ALL = /bin/ls\n", "bob ALL = (root) /bin/ls\n"),
         ("ann ALL = ALL, !/bin/l*\n", "ann ALL = (root) ALL\nann ALL = (root) !/bin/\n"),
+        # a group or a number that is not known here may be anybody's elsewhere
+        ("ann ALL = ALL\n%nothing ALL = !/bin/ls\n", "ann ALL = (root) ALL\nALL ALL = (root) !/bin/ls\n"),
+        ("ann ALL = ALL\n#4242 ALL = !/bin/ls\n", "ann ALL = (root) ALL\nALL ALL = (root) !/bin/ls\n"),
+        ("ALL, !%nothing, bob ALL = /bin/ls\n", "bob ALL = (root) /bin/ls\n"),
+        ("ann ALL = (ALL, !#4242) ALL\nann, %nothing ALL = /bin/ls\n", "ann ALL = (root) /bin/ls\n"),
         ("ann ALL = ALL, !/bin/ls -*\n", "ann ALL = (root) ALL\nann ALL = (root) !/bin/ls\n"),
         ("ann ALL = ALL, !/*/ls\n", "ann ALL = (root) ALL\nann ALL = (root) !ALL\n"),
         ("ann ALL = ALL\n+net 10.0.0.0/8 = (ALL, !op) !/bin/ls\n", "ann ALL = (root) ALL\nALL ALL = (ALL, !op) !/bin/ls\n"),
@@ -120,6 +125,9 @@ def test_hosts_of_a_list(made, tmp_path):
     text = "ann 10.0.0.0/24, !db1.example.org = /bin/ls\nann db* = /bin/kill\nann 203.0.113.0/24 = ALL\n"
     assert made(text, *words)[0] == "ann db1, db2, !db1 = (root) /bin/ls\nann db1, db2 = (root) /bin/kill\n"
     assert made(text)[0] == ""
+    # a host that the list lacks may be any
+    text = "ann ALL = ALL\nann 203.0.113.0/24 = !/bin/ls\nann ALL, !web9.example.org = /bin/kill\n"
+    assert made(text, *words)[0] == "ann ALL = (root) ALL\nann ALL = (root) !/bin/ls\n"
 
 
 def test_included_files(made, tmp_path):
