@@ -57,7 +57,7 @@ done
 for conf in serve.conf fetch.conf; do
     [ -e "$root/etc/desk/$conf" ] || put 0644 "packaging/$conf" "/etc/desk/$conf"
 done
-for text in README.md CHANGELOG.md docs/{OPERATING,RUNBOOKS,HTTP,AUDITING,ROSTER,SUDOERS,MESSAGES,STORE,CODES,PROOFS,LINT,IMPORT}.md; do
+for text in README.md CHANGELOG.md docs/{OPERATING,RUNBOOKS,HTTP,RELAYS,AUDITING,ROSTER,SUDOERS,MESSAGES,STORE,CODES,PROOFS,LINT,IMPORT}.md; do
     put 0644 "$text" "$doc/$(basename "$text")"
 done
 files=$(cd examples && find . -type f ! -path './peers/*' ! -name 'demo.expected' ! -name '*.pyc')

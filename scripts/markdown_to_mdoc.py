@@ -16,7 +16,16 @@ PAGES = {
     "LINT.md": "desk-lint(1)",
     "IMPORT.md": "desk-import(1)",
 }
-INSTALLED = ("README.md", "CHANGELOG.md", "OPERATING.md", "HTTP.md", "AUDITING.md")
+INSTALLED = (
+    "README.md",
+    "CHANGELOG.md",
+    "OPERATING.md",
+    "RUNBOOKS.md",
+    "HTTP.md",
+    "AUDITING.md",
+    "RELAYS.md",
+    "PROOFS.md",
+)
 
 
 def document(name: str, doc: str) -> str:

@@ -34,7 +34,7 @@ def parser() -> argparse.ArgumentParser:
 
 
 def program(said: str | None) -> str:
-    for path in (said, shutil.which("desk"), os.path.join(HERE, "..", "..", "build", "desk")):
+    for path in (said,) if said else (shutil.which("desk"), os.path.join(HERE, "..", "..", "build", "desk")):
         if path and os.path.exists(path):
             return path
     raise Failed("it needs the program desk: --desk PROGRAM")
