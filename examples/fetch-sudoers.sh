@@ -3,8 +3,8 @@
 # old file stays, and the status is 1. For a timer, as root:
 #
 #   fetch-sudoers.sh http://127.0.0.1:8080 db1 /etc/sudoers.d/desk
-#   fetch-sudoers.sh --cert host.pem --key host.key --ca ca.pem https://desk.example db1 \
-#       /etc/sudoers.d/desk
+#   fetch-sudoers.sh --cert host.pem --key host.key --ca ca.pem \
+#       https://desk.example db1 /etc/sudoers.d/desk
 #
 # It asks for the file as it is without the lines that ended over an hour ago, so that it stays small
 # however long the desk has been in use. A desk or a front that has not this route is asked for the

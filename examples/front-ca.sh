@@ -1,14 +1,13 @@
 #!/bin/sh
-# A small certificate authority for the front, by openssl: for the tour, for tests, and for a site
-# that has none. It keeps all that it makes in the folder DIR; DIR/ca.key is what everything hangs
-# on.
+# A small certificate authority for the front, by openssl: for a tour, for tests, and for a site
+# that has none. It keeps all that it makes in the folder DIR; whoever has DIR/ca.key has it all.
 #
-#   front-ca.sh DIR init                     the authority: ca.pem, ca.key, crl.pem
-#   front-ca.sh DIR server NAME [ADDRESS]    server.pem and server.key, for the front at that
-#                                            host name
-#   front-ca.sh DIR relay|host|auditor NAME  KIND-NAME.pem and KIND-NAME.key, for a client
-#   front-ca.sh DIR revoke KIND-NAME         takes a client's certificate back: copy crl.pem to
-#                                            the front
+#   front-ca.sh DIR init                    the authority: ca.pem, ca.key, crl.pem
+#   front-ca.sh DIR server NAME [ADDRESS]   server.pem, server.key: for the front of that host name
+#   front-ca.sh DIR relay NAME              relay-NAME.pem, relay-NAME.key: for a client; and so
+#                                           with `host` or `auditor` in the place of `relay`
+#   front-ca.sh DIR revoke KIND-NAME        takes a client's certificate back, by a new crl.pem:
+#                                           copy it to the front, and reload that
 #
 # DAYS in the environment is how long a certificate holds (365), or FROM and UNTIL are its dates,
 # yyyymmddhhmmssZ.
