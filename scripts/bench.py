@@ -8,8 +8,8 @@ admit a request of 16 commands under a ceiling of 256; and what it costs to say 
 person 100,000 times.
 Then `desk deliver` of 1,000, 10,000 and 100,000 shuffled messages, with the memory of a message, beside what it costs to read them alone; and a host's file of
 8,000 grants beside what it costs to print that policy alone. No command does one of these two alone: `deliver` over a roster that lists nobody
-reads each message whole and keeps none (both also split the input into lines), and `check` of the file costs beyond `decide` by it what printing
-costs, but for the decision.
+reads each message whole and keeps none (both also split the input into lines), and `check` of the file costs what printing costs beyond a desk over it
+as a base, which is read whole and refused then.
 Then `desk review` of 8,000 grants beside a base of 100 rules, and `desk print` of the same.
 Then `desk beyond` on two policies with 1,000,000 cases, all of which are tried.
 Prints of each the instructions that it executes (counted by valgrind's callgrind, so that the machine's load does not matter; none where
@@ -323,15 +323,17 @@ def grants(folder, base):
     with open(given, "rb") as source:
         done = subprocess.run([DESK, "print", people, base, "-", "db1"], stdin=source, stdout=subprocess.PIPE, check=True, text=True)
     file = stored(folder, "host.sudo", done.stdout)
+    # a base of so many rules is read whole, and refused then (`K6`)
+    empty, none = stored(folder, "empty.sudo", ""), stored(folder, "none", "")
     costs = [
         instructions([DESK, "print", people, base, "-", "db1"], given),
         instructions([DESK, "deliver", people, base, "-", "web"], given),
-        instructions([DESK, "check", file]),
-        instructions([DESK, "decide", file, "nobody", "db1", "root", "20260601120000Z", "/bin/ls"]),
+        *(instructions([DESK, "check", policy]) for policy in (file, empty)),
+        *(instructions([DESK, "deliver", people, policy, "-", "web"], none) for policy in (file, empty)),
     ]
     if None in costs:
         return 0
-    made, printed = costs[0] - costs[1], costs[2] - costs[3]
+    made, printed = costs[0] - costs[1], (costs[2] - costs[3]) - (costs[4] - costs[5])
     print(f"host's file of 8,000 grants: {made / 1e6:.1f} million instructions, and to print it alone {printed / 1e6:.1f}")
     return judged("host's file: 8,000 grants against printing it alone", made / printed, 2.0)
 
