@@ -1,14 +1,14 @@
 # The commands of the repository. `rt` is the toolchain's command.
 
-.PHONY: all desk demo test quick try cases gate-times edits peers bench faults relays-test relays-demo tools-test several install deb pages package-test clean
+.PHONY: all desk demo test quick try cases gate-times edits docs contracts peers bench faults soak relays-test relays-demo tools-test several install deb pages package-test clean
 
 all: desk
 
-# The proved program, at build/desk.
+# The proved programs, at build/desk and build/desk-audit.
 desk:
 	bash scripts/build.sh
 
-# The program without any proof, at build/desk-unproved, in some three minutes: for trying a change out.
+# The programs without any proof, at build/desk-unproved and build/desk-audit-unproved, in some three minutes: for trying a change out.
 try:
 	bash scripts/try.sh
 
@@ -18,10 +18,12 @@ demo: desk
 	bash scripts/demo.sh
 
 # The program on each case of cases/: files, words and inputs, with all that it answers. Then reports of random sets of messages, beside a second
-# reading of the rules.
+# reading of the rules; and the same of desk-audit.
 cases: desk
 	python3 scripts/cases.py
 	python3 scripts/random_reports.py
+	python3 scripts/cases_audit.py
+	/usr/bin/python3 scripts/random_audits.py
 
 # The whole gate (docs/GATE.md): `rt ci`, which proves everything from nothing, tries the edits that must be refused and runs the tests; then,
 # over the program that it left at build/desk, the demo, the cases, peers and faults. What it needs of Debian is installed where this is root; with
@@ -29,7 +31,7 @@ cases: desk
 test:
 	WHOLE=$(WHOLE) bash scripts/test.sh
 
-# What can be seen in seconds, without a proof: the layout, that each edit fits its file, and what the documents say of edits.
+# What can be seen in seconds, without a proof: the layout, that each edit fits its file, what the documents say of edits, the files that they name, and the scripts' own layout.
 quick:
 	python3 scripts/quick.py
 
@@ -40,6 +42,15 @@ gate-times:
 # The edits of crates/NAME/more-edits/, which the prover must refuse as well: of all crates, or of those that CRATES names.
 edits:
 	python3 scripts/edits.py $(CRATES)
+
+# What docs/WRONG_BODIES.md and docs/PROMISES.md say of the edits, made from the lines at the head of each edit; `make quick` tests that it is.
+docs:
+	python3 scripts/make_docs.py
+
+# The clauses of each public function, at build/contracts.txt: `diff` of the lists of two trees shows what a change of the code does to contracts.
+contracts:
+	mkdir -p build
+	python3 scripts/contracts.py > build/contracts.txt
 
 # What the desk decides beside what sudo itself answers (as root; Debian's packages sudo and faketime), and of 2,200 random policies; and what sudo reads of the files of 2,000
 # random requests of odd words; nothing of the machine changes. Then `desk serve` asked over loopback (curl), the file of a desk beside Debian's `sqlite3`, and a desk that is killed while it takes messages.
@@ -65,6 +76,14 @@ bench: desk
 faults: desk
 	python3 scripts/faults.py
 
+# Reads and writes of the program that fail, disks that fill and files that change under it, each place; the program killed 400 times over 20,000 messages; and
+# a million inputs changed at random, each answer beside a second reading. The last line has the counts. `make test` runs a short form of each.
+soak: desk
+	bash scripts/tools.sh
+	python3 scripts/peers_faults.py --whole
+	python3 scripts/peers_kills.py
+	/usr/bin/python3 scripts/soak.py
+
 # The relays (docs/RELAYS.md): a real sshd, a real browser behind nginx, and relays that are killed, over build/desk or the program that DESK names. What
 # it needs of Debian is installed where this is root.
 relays-test:
@@ -84,13 +103,13 @@ relays-demo:
 PREFIX ?= /usr/local
 export PREFIX DESTDIR
 
-build/desk:
+build/desk build/desk-audit &:
 	bash scripts/build.sh
 
-install: build/desk
+install: build/desk build/desk-audit
 	bash scripts/install.sh
 
-deb: build/desk
+deb: build/desk build/desk-audit
 	bash scripts/deb.sh
 
 pages: build/desk
@@ -98,7 +117,7 @@ pages: build/desk
 	python3 scripts/check_pages.py
 	python3 scripts/check_readme.py
 
-package-test: build/desk
+package-test: build/desk build/desk-audit
 	bash scripts/deb.sh
 	bash scripts/package_lint.sh
 	python3 scripts/package_test.py

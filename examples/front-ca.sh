@@ -8,6 +8,8 @@
 #                                           with `host` or `auditor` in the place of `relay`
 #   front-ca.sh DIR revoke KIND-NAME        takes a client's certificate back, by a new crl.pem:
 #                                           copy it to the front, and reload that
+#   front-ca.sh DIR renew                   a new crl.pem of the same revocations, before the old
+#                                           one ends after 365 days: copy and reload as well
 #
 # DAYS in the environment is how long a certificate holds (365), or FROM and UNTIL are its dates,
 # yyyymmddhhmmssZ.
@@ -15,7 +17,7 @@ set -eu
 umask 077
 
 usage() {
-    sed -n '2,11s/^# \{0,1\}//p' "$0" >&2
+    sed -n '2,13s/^# \{0,1\}//p' "$0" >&2
     exit 2
 }
 [ $# -ge 2 ] || usage
@@ -102,6 +104,11 @@ subjectAltName=DNS:$1${2:+,IP:$2}"
     revoke)
         [ $# -eq 1 ] || usage
         openssl ca -config ca.conf -revoke "$1.pem" 2> ca.log || failed
+        crl
+        ;;
+    renew)
+        [ $# -eq 0 ] || usage
+        [ -e ca.key ] || { echo "there is no authority in this folder" >&2; exit 1; }
         crl
         ;;
     *) usage ;;

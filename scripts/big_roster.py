@@ -1,46 +1,52 @@
 #!/usr/bin/env python3
-"""Prints a roster of just under 1 MiB (docs/ROSTER.md): 64 relays, 1,024 hosts, 256 duties, 4,096 conflicts, 4,096 people with two duties each, and 1,024 ceilings.
+"""Prints a roster of just under 1 MiB (docs/ROSTER.md): 64 relays, 1,024 hosts, 256 duties, 4,096
+conflicts, 4,096 people with two duties each, and 1,024 ceilings.
 
-What is left of the text goes to the ceilings, to the last of them as far as it fits: with `commands` 256 commands each, with `hosts` 256 hosts
-each. With `duties` it goes to the people, up to 256 duties each.
+What is left of the text goes to the ceilings, to the last of them as far as it fits: with
+`commands` 256 commands each, with `hosts` 256 hosts each. With `duties` it goes to the people, up
+to 256 duties each.
 """
 
 import sys
+from collections.abc import Iterable
 
 MOST = 1 << 20
 
 
-def listed(names):
+def listed(names: Iterable[str]) -> str:
     return "[" + ",".join(f'"{name}"' for name in names) + "]"
 
 
-def spread(n, count, start):
+def spread(n: int, count: int, start: int) -> list[int]:
     """So many different numbers below n, which neither rise nor fall."""
     return [(start + 97 * k) % n for k in range(count)]
 
 
-def ceiling(n, hosts, commands):
+def ceiling(n: int, hosts: Iterable[int], commands: Iterable[str]) -> str:
     return (
         f"[ceilings.c{n}]\n"
         f'ask="d{n % 256}"\napprove="d{(n + 1) % 256}"\nneeds={n % 3 + 1}\n'
         f"hosts={listed(f'h{k}' for k in hosts)}\n"
-        f'runas=["root"]\n'
+        'runas=["root"]\n'
         f"commands={listed(commands)}\n"
-        f"longest=7200\n"
+        "longest=7200\n"
     )
 
 
-def person(n, duties):
+def person(n: int, duties: Iterable[int]) -> str:
     return f"p{n}={listed(f'd{k}' for k in duties)}\n"
 
 
-def stand_in(n, duties):
+def stand_in(n: int, duties: Iterable[int]) -> str:
     """A person whose duties are each held in a month of their own."""
-    dated = (f'{{duty="d{k}",from="2026{k % 12 + 1:02}01",until="2026{k % 12 + 1:02}28"}}' for k in duties)
+    dated = (
+        f'{{duty="d{k}",from="2026{k % 12 + 1:02}01",until="2026{k % 12 + 1:02}28"}}'
+        for k in duties
+    )
     return f"p{n}=[{','.join(dated)}]\n"
 
 
-def roster(what):
+def roster(what: str) -> str:
     head = [
         f"relays={listed(f'r{k}' for k in range(64))}\n",
         f"hosts={listed(f'h{k}' for k in spread(1_024, 1_024, 5))}\n",

@@ -1,21 +1,28 @@
 #!/usr/bin/env bash
-# Proves and builds the program, and leaves it at build/desk.
+# Proves and builds the programs, and leaves them at build/desk and build/desk-audit.
 set -euo pipefail
 cd "$(dirname "$0")/.."
 log=$(mktemp)
 trap 'rm -f "$log"' EXIT
-echo "proving and building the program (some minutes on a fresh checkout) .."
-# Where there is room for it, crates are proved side by side first: a lane for each processor and each 5 GB.
-lanes=$(awk -v cores="$(nproc)" '/MemAvailable/ { most = int($2 / 5000000); print most < cores ? most : cores }' /proc/meminfo)
+echo "proving and building the programs (some minutes on a fresh checkout) .."
+# Where there is room for it, crates are proved side by side first: a lane for each processor and
+# each 5 GB.
+lanes=$(awk -v cores="$(nproc)" '
+    /MemAvailable/ { most = int($2 / 5000000); print most < cores ? most : cores }
+' /proc/meminfo)
 if [ "${lanes:-1}" -gt 1 ] && ! rt all check --jobs "$lanes" > "$log" 2>&1; then
     cat "$log" >&2
     exit 1
 fi
-# `rt run` proves the program and every crate below it that is not proved yet, builds it and runs it once.
-if ! (cd crates/desk_cli && rt run -- --help) > "$log" 2>&1; then
-    cat "$log" >&2
-    exit 1
-fi
 mkdir -p build
+# `rt run` proves a program and every crate below it that is not proved yet, builds it and runs it
+# once.
+for crate in desk_cli desk_audit_cli; do
+    if ! (cd "crates/$crate" && rt run -- --help) > "$log" 2>&1; then
+        cat "$log" >&2
+        exit 1
+    fi
+done
 cp crates/desk_cli/out/desk_cli build/desk
-echo "built build/desk"
+cp crates/desk_audit_cli/out/desk_audit_cli build/desk-audit
+echo "built build/desk and build/desk-audit"

@@ -12,15 +12,18 @@ import sys
 import tempfile
 import tomllib
 
-ROOT = os.path.dirname(os.path.dirname(os.path.abspath(__file__)))
-PAGES = os.path.join(ROOT, "build", "pages")
-DESK = sys.argv[1:] or [os.path.join(ROOT, "build", "desk")]
+import desk
+
+PAGES = os.path.join(desk.BUILD, "pages")
 WIDTH = 80
 LINES = 24
 # What is typed, and what is completed; `base.` and `roster.` are files of examples/.
-TYPED = [
-    (["desk", ""], {"check", "decide", "beyond", "deliver", "print", "review", "serve"}),
-    (["desk", "re"], {"review"}),
+TYPED: list[tuple[list[str], set[str]]] = [
+    (
+        ["desk", ""],
+        {"check", "decide", "beyond", "deliver", "print", "rebuild", "review", "serve"},
+    ),
+    (["desk", "re"], {"rebuild", "review"}),
     (["desk", "check", "base."], {"base.sudo"}),
     (["desk", "decide", "base.sudo", ""], set()),
     (["desk", "print", "roster.toml", "site.sudo", "desk.db", "--"], {"--after", "--help"}),
@@ -35,12 +38,15 @@ TYPED = [
     (["desk-lint", "--explain", ""], set()),
     (["desk-import", "--re"], {"--report"}),
     (["desk-import", "base."], {"base.sudo"}),
+    (["desk-audit", "ros"], {"roster.toml"}),
+    (["desk-audit", "--p"], {"--person"}),
+    (["desk-audit", "--host", ""], set()),
 ]
 
 
 def help_of(*words: str) -> str:
     return subprocess.run(
-        [*DESK, *words, "--help"], stdout=subprocess.PIPE, check=True, text=True
+        [*desk.named(), *words, "--help"], stdout=subprocess.PIPE, check=True, text=True
     ).stdout
 
 
@@ -116,7 +122,7 @@ def check_examples(commands: list[dict]) -> tuple[int, list[str]]:
     with tempfile.TemporaryDirectory() as folder:
         copy_examples(folder)
         with open(os.path.join(folder, "bin", "desk"), "w", encoding="utf-8") as file:
-            file.write('#!/bin/sh\nexec %s "$@"\n' % " ".join(DESK))
+            file.write('#!/bin/sh\nexec %s "$@"\n' % " ".join(desk.named()))
         os.chmod(file.name, 0o755)
         env = dict(os.environ, PATH=f"{folder}/bin:{os.environ['PATH']}")
         for example in (each for command in commands for each in command.get("examples", [])):
@@ -137,8 +143,8 @@ def check_examples(commands: list[dict]) -> tuple[int, list[str]]:
 
 def copy_examples(folder: str) -> None:
     os.mkdir(os.path.join(folder, "bin"))
-    for name in os.listdir(os.path.join(ROOT, "examples")):
-        path = os.path.join(ROOT, "examples", name)
+    for name in os.listdir(desk.EXAMPLES):
+        path = os.path.join(desk.EXAMPLES, name)
         if os.path.isfile(path):
             shutil.copy(path, folder)
 
@@ -216,8 +222,7 @@ def check_completions() -> tuple[int, list[str]]:
 
 
 def main() -> None:
-    with open(os.path.join(ROOT, "packaging", "commands.toml"), "rb") as file:
-        commands = tomllib.load(file)["command"]
+    commands = tomllib.loads(desk.read("packaging", "commands.toml"))["command"]
     parts = [check_pages(), check_help(commands), check_examples(commands), check_completions()]
     wrong = [line for _, lines in parts for line in lines]
     checks = sum(count for count, _ in parts)

@@ -1,12 +1,15 @@
 #!/usr/bin/env python3
-"""Runs the worked example of README.md over build/desk, and compares what it prints with what README.md says."""
+"""Runs the worked example of README.md over build/desk, and compares what it prints with what
+README.md says."""
 
 import pathlib
 import subprocess
 import sys
 import tempfile
 
-ROOT = pathlib.Path(__file__).resolve().parent.parent
+import desk
+
+ROOT = pathlib.Path(desk.ROOT)
 
 
 def blocks(text: str, heading: str) -> list[str]:
@@ -16,7 +19,7 @@ def blocks(text: str, heading: str) -> list[str]:
 
 
 def main() -> None:
-    commands, expected = blocks((ROOT / "README.md").read_text(), "A worked example")
+    commands, expected = blocks(desk.read("README.md"), "A worked example")
     with tempfile.TemporaryDirectory() as folder:
         for name in ("build", "examples"):
             (pathlib.Path(folder) / name).symlink_to(ROOT / name)

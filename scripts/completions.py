@@ -126,4 +126,7 @@ complete -F @FUNCTION@ @TOOL@
 def tool_zsh(tool: dict) -> str:
     values = {"": "", "file": ":FILE:_files", "other": ":WORD: "}
     options = " ".join(f"'{name}[{name[2:]}]{values[kind]}'" for name, kind in tool["options"])
-    return f"#compdef {tool['name']}\n# What zsh completes behind `{tool['name']}`: options and files.\n_arguments {options} '*:FILE:_files'\n"
+    return (
+        f"#compdef {tool['name']}\n# What zsh completes behind `{tool['name']}`: options and"
+        f" files.\n_arguments {options} '*:FILE:_files'\n"
+    )

@@ -26,7 +26,8 @@ ask beyond examples/base.sudo examples/site.sudo
 ask beyond examples/base.sudo examples/site.sudo --user backup
 ask beyond examples/site.sudo examples/base.sudo
 
-# A grant's life: approved before it is asked for, asked for, refused too late, and revoked; the host's file at each step, and what it decides.
+# A grant's life: approved before it is asked for, asked for, refused too late, and revoked; the
+# host's file at each step, and what it decides.
 with_messages() {
     local messages=$1
     shift
@@ -47,7 +48,8 @@ for at in 20260105091459Z 20260105091500Z 20260105102959Z 20260105103000Z; do
     ask decide build/db1.sudo ann db1 root "$at" /usr/bin/id
 done
 
-# A desk in a file: what one run was told is there in the next, a repeat adds nothing, and another roster is refused.
+# A desk in a file: what one run was told is there in the next, a repeat adds nothing, and another
+# roster is refused.
 rm -f build/demo.db build/demo.db-wal
 kept=(examples/roster.toml examples/site.sudo build/demo.db)
 with_messages examples/parked.messages deliver "${kept[@]}" chat
@@ -57,6 +59,15 @@ ask print "${kept[@]}" db1
 ask review "${kept[@]}" 20260105093000Z
 sed 's/"mail"/"mail", "post"/' examples/roster.toml > build/other.toml
 ask print build/other.toml examples/site.sudo build/demo.db db1
+
+# Bob, who approved, leaves the roster: the desk of the file is rebuilt, and ann's grant is gone.
+# Rebuilt with the old roster, it is back.
+sed 's/^bob = .*/bob = []/' examples/roster.toml > build/left.toml
+left=(build/left.toml examples/site.sudo build/demo.db)
+ask rebuild "${left[@]}"
+ask print "${left[@]}" db1
+ask rebuild "${kept[@]}"
+ask print "${kept[@]}" db1
 
 # The same over HTTP: the messages are posted, the host's file is fetched, and decides.
 post() {
@@ -90,12 +101,14 @@ printf '(status %s)\n\n' "$?"
 ask check build/fetched.sudo
 ask decide build/fetched.sudo ann db1 root 20260105093000Z /usr/bin/id
 
-# The review of the same messages while the grant is in force and behind its end, and of an approval that waits.
+# The review of the same messages while the grant is in force and behind its end, and of an approval
+# that waits.
 for at in 20260105093000Z 20260105103000Z; do
     with_messages examples/revoked.messages review "${desk[@]}" "$at"
 done
 with_messages examples/parked.messages review "${desk[@]}" 20260105093000Z
 
-# What the grant's lines allow beyond the base, and that the base allows nothing beyond the host's file.
+# What the grant's lines allow beyond the base, and that the base allows nothing beyond the host's
+# file.
 ask beyond build/db1.sudo examples/site.sudo
 ask beyond examples/site.sudo build/db1.sudo

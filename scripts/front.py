@@ -5,8 +5,6 @@ import contextlib
 import json
 import os
 import re
-import shutil
-import signal
 import socket
 import ssl
 import subprocess
@@ -15,20 +13,11 @@ import threading
 import time
 from collections.abc import Iterator
 
-ROOT = os.path.dirname(os.path.dirname(os.path.abspath(__file__)))
-ROSTER = os.path.join(ROOT, "examples", "roster.toml")
-BASE = os.path.join(ROOT, "examples", "site.sudo")
-AUTHORITY = os.path.join(ROOT, "examples", "front-ca.sh")
-NGINX = os.path.join(ROOT, "examples", "nginx", "desk.conf")
-HAPROXY = os.path.join(ROOT, "examples", "haproxy", "desk.cfg")
-PATH = os.environ["PATH"] + ":/usr/sbin:/sbin"
+import desk
 
-
-def tool(name: str) -> str:
-    path = shutil.which(name, path=PATH)
-    if path is None:
-        sys.exit(f"{name} is missing: bash scripts/tools.sh installs it")
-    return path
+AUTHORITY = os.path.join(desk.EXAMPLES, "front-ca.sh")
+NGINX = os.path.join(desk.EXAMPLES, "nginx", "desk.conf")
+HAPROXY = os.path.join(desk.EXAMPLES, "haproxy", "desk.cfg")
 
 
 def certify(folder: str, *words: str, dates: tuple[str, str] | None = None) -> None:
@@ -40,22 +29,6 @@ def certify(folder: str, *words: str, dates: tuple[str, str] | None = None) -> N
 def free_port() -> int:
     with socket.create_server(("127.0.0.1", 0)) as held:
         return held.getsockname()[1]
-
-
-@contextlib.contextmanager
-def desk(words: list[str], store: str) -> Iterator[str]:
-    """A desk over the store: its address."""
-    asked = [*words, "serve", ROSTER, BASE, store, "127.0.0.1:0"]
-    with subprocess.Popen(asked, stdout=subprocess.PIPE, stderr=subprocess.DEVNULL, text=True) as server:
-        try:
-            first = server.stdout.readline().split()
-            if len(first) != 2 or first[0] != "listening":
-                sys.exit(f"the desk does not listen: {first}")
-            yield first[1]
-            server.send_signal(signal.SIGTERM)
-            server.wait(timeout=20)
-        finally:
-            server.kill()
 
 
 class Recorder:
@@ -127,7 +100,7 @@ def nginx_words(folder: str, port: int, address: str) -> list[str]:
             f"{head}\nevents {{ worker_connections 1024; }}\nhttp {{ {temp}\n{example}\n}}\n"
         )
     return [
-        tool("nginx"),
+        desk.tool("nginx"),
         "-c",
         os.path.join(folder, "nginx.conf"),
         "-e",
@@ -146,7 +119,7 @@ def haproxy_words(folder: str, port: int, address: str) -> list[str]:
             for part in ("pem", "key"):
                 with open(os.path.join(folder, "ca", f"{name}.{part}"), "rb") as file:
                     both.write(file.read())
-    return [tool("haproxy"), "-db", "-f", path]
+    return [desk.tool("haproxy"), "-db", "-f", path]
 
 
 @contextlib.contextmanager
@@ -161,7 +134,7 @@ def front(words: list[str], port: int) -> Iterator[None]:
                     ("127.0.0.1", port), timeout=1
                 ):
                     break
-                if server.poll() is not None:
+                if server.poll() is not None and server.stderr is not None:
                     sys.exit(f"the front does not start: {server.stderr.read()}")
                 time.sleep(0.05)
             yield

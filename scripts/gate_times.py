@@ -1,8 +1,9 @@
 #!/usr/bin/env python3
 """Runs `rt ci`, passes on what it prints, and then prints what it cost: a table of docs/GATE.md.
 
-The processor time of a crate's proof, of its tests' proof and of its edits is read twice a second from /proc, of each run of the prover
-that this script started: so a figure lacks at most half a second a run. The status is that of `rt ci`.
+The processor time of a crate's proof, of its tests' proof and of its edits is read twice a second
+from /proc, of each run of the prover that this script started: so a figure lacks at most half a
+second a run. The status is that of `rt ci`.
 """
 
 import collections
@@ -13,22 +14,31 @@ import sys
 import threading
 import time
 
+import desk
+
+# a crate, and the kind of work
+Work = tuple[str, str]
+
 MARK = "STEELNEWT_GATE"
-# what a check with one job takes of memory at most, with room to spare: some 2.7 GB for `desk`, some 3 for `desk_cli`
+# what a check with one job takes of memory at most, with room to spare: some 2.7 GB for `desk`,
+# some 3 for `desk_cli`
 MEMORY = 5 << 30
 TICKS = os.sysconf("SC_CLK_TCK")
 KINDS = ("proof", "tests", "edits")
 
 
-def read(path):
+def read(path: str) -> bytes:
     with open(path, "rb") as file:
         return file.read()
 
 
-def work_of(pid):
-    """What a process proves: a crate's name and the kind of work; None where it is no run of the prover under this script."""
+def work_of(pid: str) -> Work | None:
+    """What a process proves: a crate's name and the kind of work; None where it is no run of the
+    prover under this script."""
     words = read(f"/proc/{pid}/cmdline").decode(errors="replace").split("\0")
-    if "--crate-name" not in words or f"{MARK}={os.getpid()}".encode() not in read(f"/proc/{pid}/environ").split(b"\0"):
+    if "--crate-name" not in words or f"{MARK}={os.getpid()}".encode() not in read(
+        f"/proc/{pid}/environ"
+    ).split(b"\0"):
         return None
     name = words[words.index("--crate-name") + 1]
     if "/rt-edit-" in os.readlink(f"/proc/{pid}/cwd"):
@@ -39,15 +49,15 @@ def work_of(pid):
 class Meter(threading.Thread):
     """Reads the processor time of the runs of the prover while they last."""
 
-    def __init__(self):
+    def __init__(self) -> None:
         super().__init__(daemon=True)
         self.done = threading.Event()
         self.begins = time.monotonic()
-        self.works = {}
-        self.seconds = {}
-        self.ends = collections.defaultdict(float)
+        self.works: dict[tuple[str, bytes], Work] = {}
+        self.seconds: dict[tuple[str, bytes], float] = {}
+        self.ends: dict[Work, float] = collections.defaultdict(float)
 
-    def run(self):
+    def run(self) -> None:
         while not self.done.wait(0.5):
             for pid in filter(str.isdigit, os.listdir("/proc")):
                 try:
@@ -55,30 +65,34 @@ class Meter(threading.Thread):
                 except (OSError, ValueError, IndexError):
                     continue  # it has ended, or is not ours to read
 
-    def look(self, pid):
-        # behind the name in parentheses: the time in user mode and in the system is the 12th and the 13th field, the beginning the 20th
+    def look(self, pid: str) -> None:
+        # behind the name in parentheses: the time in user mode and in the system is the 12th and
+        # the 13th field, the beginning the 20th
         fields = read(f"/proc/{pid}/stat").rpartition(b")")[2].split()
         key = pid, fields[19]
-        # (a process that was just started becomes the prover only then, so what is no work now is looked at again)
+        # (a process that was just started becomes the prover only then, so what is no work now is
+        # looked at again)
         work = self.works.get(key) or work_of(pid)
         if work:
             self.works[key] = work
             self.seconds[key] = (int(fields[11]) + int(fields[12])) / TICKS
             self.ends[work] = time.monotonic() - self.begins
 
-    def minutes(self):
+    def minutes(self) -> dict[Work, float]:
         """The processor minutes of each crate and kind of work."""
-        sums = collections.defaultdict(float)
+        sums: dict[Work, float] = collections.defaultdict(float)
         for key, seconds in self.seconds.items():
             sums[self.works[key]] += seconds / 60
         return sums
 
 
-def show(meter, wall):
+def show(meter: Meter, wall: float) -> None:
     """Prints the table, in the order of crates.txt."""
     minutes = meter.minutes()
     with open("crates.txt") as file:
-        names = [line.partition(":")[0] for line in file if ":" in line and not line.startswith("#")]
+        names = [
+            line.partition(":")[0] for line in file if ":" in line and not line.startswith("#")
+        ]
     print("\n| crate | proof | proof of its tests | edits | all | done at minute |")
     print("|---|---|---|---|---|---|")
     for name in names:
@@ -88,24 +102,36 @@ def show(meter, wall):
         print(f"| `{name}` | {' | '.join(cells)} | {ends:.0f} |")
     jobs, processors = os.environ["RT_JOBS"], len(os.sched_getaffinity(0))
     slowest = max(names, key=lambda name: minutes[name, "proof"])
-    print(f"\nProcessor minutes. `rt ci` took {wall / 60:.1f} minutes in {jobs} lanes on {processors} processors, {sum(minutes.values()):.0f} processor minutes in all.")
-    print(f"The slowest proof is that of `{slowest}`: {minutes[slowest, 'proof']:.1f} processor minutes.\n", flush=True)
+    print(
+        f"\nProcessor minutes. `rt ci` took {wall / 60:.1f} minutes in {jobs} lanes on"
+        f" {processors} processors, {sum(minutes.values()):.0f} processor minutes in all."
+    )
+    print(
+        (
+            f"The slowest proof is that of `{slowest}`: {minutes[slowest, 'proof']:.1f} processor"
+            " minutes.\n"
+        ),
+        flush=True,
+    )
 
 
-def lanes():
-    """How many checks go side by side, each with one job. Left to itself `rt ci` sets aside twice or three times the memory that a check takes, and
-    so lets the proofs of the longest chain wait for the edits of other crates."""
+def lanes() -> int:
+    """How many checks go side by side, each with one job. Left to itself `rt ci` sets aside twice
+    or three times the memory that a check takes, and so lets the proofs of the longest chain wait
+    for the edits of other crates."""
     with open("/proc/meminfo") as file:
-        memory = int(re.search(r"MemTotal:\s+(\d+)", file.read())[1]) << 10
-    return max(1, min(len(os.sched_getaffinity(0)), memory // MEMORY))
+        [memory] = re.findall(r"MemTotal:\s+(\d+)", file.read())
+    return max(1, min(len(os.sched_getaffinity(0)), (int(memory) << 10) // MEMORY))
 
 
-def main():
-    os.chdir(os.path.dirname(os.path.dirname(os.path.abspath(__file__))))
+def main() -> None:
+    os.chdir(desk.ROOT)
     meter = Meter()
     meter.start()
     os.environ.setdefault("RT_JOBS", str(lanes()))
-    status = subprocess.run(["rt", "ci"], env=dict(os.environ, **{MARK: str(os.getpid())}), check=False).returncode
+    status = subprocess.run(
+        ["rt", "ci"], env=dict(os.environ, **{MARK: str(os.getpid())}), check=False
+    ).returncode
     wall = time.monotonic() - meter.begins
     meter.done.set()
     meter.join()

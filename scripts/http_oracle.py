@@ -1,15 +1,25 @@
-"""What a request asks of `desk serve`, read a second time, from the rules alone and not from the desk's code.
+"""What a request asks of `desk serve`, read a second time, from the rules alone and not from the
+desk's code.
 
-RFC 9112 says what a request's head is, as far as Rust's `httparse` takes it: empty lines may come before it, a line may end in a
-newline alone, a target is UTF-8, a field has no blank before its colon and is not folded. docs/HTTP.md says the rest.
+RFC 9112 says what a request's head is, as far as Rust's `httparse` takes it: empty lines may come
+before it, a line may end in a newline alone, a target is UTF-8, a field has no blank before its
+colon and is not folded. docs/HTTP.md says the rest.
 """
 
 import datetime
 import re
+from typing import Any
+
+Fields = list[tuple[bytes, bytes]]
+# a refusal: its status, its code and what `Allow` says; or what is asked, and the first part of its
+# route that varies
+Asked = tuple[Any, ...]
 
 TOKEN = rb"[!#$%&'*+\-.^_`|~0-9A-Za-z]+"
 END = rb"\r?\n"
-FIRST = re.compile(rb"(?:" + END + rb")*(" + TOKEN + rb") ([\x21-\x7e\x80-\xff]+) HTTP/1\.([01])" + END)
+FIRST = re.compile(
+    rb"(?:" + END + rb")*(" + TOKEN + rb") ([\x21-\x7e\x80-\xff]+) HTTP/1\.([01])" + END
+)
 FIELD = re.compile(rb"(" + TOKEN + rb"):([\t\x20-\x7e\x80-\xff]*)" + END)
 LAST = re.compile(END)
 MOST_HEAD = 8_192
@@ -28,8 +38,9 @@ ROUTES = (
 )
 
 
-def head_of(given):
-    """The method, the target, the minor version, the fields and the place behind the head; None where there is no head."""
+def head_of(given: bytes) -> tuple[bytes, bytes, int, Fields, int] | None:
+    """The method, the target, the minor version, the fields and the place behind the head; None
+    where there is no head."""
     given = given[:MOST_HEAD]
     first = FIRST.match(given)
     if not first:
@@ -38,7 +49,8 @@ def head_of(given):
         first[2].decode("utf-8")
     except UnicodeDecodeError:
         return None
-    fields, at = [], first.end()
+    fields: Fields = []
+    at = first.end()
     while not (last := LAST.match(given, at)):
         field = FIELD.match(given, at)
         if not field or len(fields) == MOST_FIELDS:
@@ -48,7 +60,7 @@ def head_of(given):
     return first[1], first[2], int(first[3]), fields, last.end()
 
 
-def is_moment(text):
+def is_moment(text: bytes) -> bool:
     if not re.fullmatch(rb"[0-9]{14}Z", text):
         return False
     try:
@@ -57,8 +69,8 @@ def is_moment(text):
         return False
 
 
-def body_fault(given, fields, at):
-    """Why the body of a POST is not read, or None; and the body."""
+def body_fault(given: bytes, fields: Fields, at: int) -> tuple[str, str] | None:
+    """Why the body of a POST is not read, or None."""
     lengths = [value for name, value in fields if name == b"content-length"]
     if any(name == b"transfer-encoding" for name, _ in fields):
         return "400 Bad Request", "T6 BadLength"
@@ -73,9 +85,10 @@ def body_fault(given, fields, at):
     return None
 
 
-def asks(given):
-    """What the bytes ask: a refusal as its status, its code with its name and what `Allow` says, or what they ask of the desk, as a word
-    and what the route's first `{..}` holds; and whether the reply goes without its body."""
+def asks(given: bytes) -> tuple[Asked, bool]:
+    """What the bytes ask: a refusal as its status, its code with its name and what `Allow` says, or
+    what they ask of the desk, as a word and what the route's first `{..}` holds; and whether the
+    reply goes without its body."""
     head = head_of(given)
     if not head:
         return ("400 Bad Request", "T1 BadHead", None), False
@@ -92,7 +105,11 @@ def asks(given):
     else:
         return ("404 Not Found", "T3 NoRoute", None), bare
     if ("GET" if bare else method.decode()) != wanted:
-        return ("405 Method Not Allowed", "T4 BadMethod", "POST" if wanted == "POST" else "GET, HEAD"), bare
+        return (
+            "405 Method Not Allowed",
+            "T4 BadMethod",
+            "POST" if wanted == "POST" else "GET, HEAD",
+        ), bare
     if what == "deliver" and (fault := body_fault(given, fields, at)):
         return (*fault, None), bare
     if what in ("grants", "report", "file after") and not is_moment(found[found.re.groups]):

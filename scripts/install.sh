@@ -1,8 +1,8 @@
 #!/usr/bin/env bash
-# Installs the program build/desk and what belongs to it below $DESTDIR$PREFIX (/usr/local where
-# PREFIX is not given): the program, the tools beside it, manual pages, completions, the units, the
-# configuration, the documents and the examples. A configuration file that is there already stays as
-# it is.
+# Installs the programs build/desk and build/desk-audit and what belongs to them below
+# $DESTDIR$PREFIX (/usr/local where PREFIX is not given): the programs, the tools beside them,
+# manual pages, completions, the units, the configuration, the documents and the examples. A
+# configuration file that is there already stays as it is.
 set -euo pipefail
 cd "$(dirname "$0")/.."
 PREFIX=${PREFIX:-/usr/local}
@@ -30,13 +30,14 @@ fill() {
 
 python3 scripts/make_pages.py build/pages
 put 0755 build/desk "$PREFIX/bin/desk"
+put 0755 build/desk-audit "$PREFIX/bin/desk-audit"
 put 0755 packaging/desk-serve "$libexec/desk-serve"
 put 0755 examples/fetch-sudoers.sh "$libexec/fetch-sudoers"
 put 0755 examples/monitoring/check_desk.py "$PREFIX/lib/nagios/plugins/check_desk"
 for page in build/pages/*.[1-8]; do
     put 0644 "$page" "$PREFIX/share/man/man${page##*.}/$(basename "$page")"
 done
-for name in desk desk-lint desk-import; do
+for name in desk desk-audit desk-lint desk-import; do
     put 0644 "build/pages/$name.bash" "$PREFIX/share/bash-completion/completions/$name"
     put 0644 "build/pages/_$name" "$PREFIX/share/zsh/$zsh/_$name"
 done
@@ -57,7 +58,9 @@ done
 for conf in serve.conf fetch.conf; do
     [ -e "$root/etc/desk/$conf" ] || put 0644 "packaging/$conf" "/etc/desk/$conf"
 done
-for text in README.md CHANGELOG.md docs/{OPERATING,RUNBOOKS,HTTP,RELAYS,AUDITING,ROSTER,SUDOERS,MESSAGES,STORE,CODES,PROOFS,LINT,IMPORT}.md; do
+for text in README.md CHANGELOG.md \
+    docs/{OPERATING,RUNBOOKS,HTTP,RELAYS,AUDIT,AUDITING,ROSTER,SUDOERS,MESSAGES,STORE}.md \
+    docs/{CODES,PROOFS,LINT,IMPORT}.md; do
     put 0644 "$text" "$doc/$(basename "$text")"
 done
 files=$(cd examples && find . -type f ! -path './peers/*' ! -name 'demo.expected' ! -name '*.pyc')

@@ -10,10 +10,10 @@ import sys
 import tomllib
 
 import completions
+import desk
 import markdown_to_mdoc
 from markdown_to_mdoc import escaped, guarded, sentences
 
-ROOT = os.path.dirname(os.path.dirname(os.path.abspath(__file__)))
 DOC = os.path.join(os.environ.get("PREFIX") or "/usr/local", "share", "doc", "steelnewt")
 DATE = "January 5, 2026"
 # each page, its section, the document that it is made of, and what it is about
@@ -25,12 +25,8 @@ DOCUMENTS = [
     ("desk-codes", 7, "CODES.md", "what a desk says when it refuses, and what to do"),
     ("desk-lint", 1, "LINT.md", "look through rosters and messages"),
     ("desk-import", 1, "IMPORT.md", "make a base policy of a sudoers file"),
+    ("desk-audit", 1, "AUDIT.md", "tell what became of each request that a desk holds"),
 ]
-
-
-def read(*path: str) -> str:
-    with open(os.path.join(ROOT, *path), encoding="utf-8") as file:
-        return file.read()
 
 
 def synopsis(command: dict) -> list[str]:
@@ -132,6 +128,7 @@ In a folder with the files of
 .Pa {doc}/examples :
 {examples}
 .Sh SEE ALSO
+.Xr desk-audit 1 ,
 .Xr desk-import 1 ,
 .Xr desk-lint 1 ,
 .Xr desk-message 5 ,
@@ -158,10 +155,10 @@ def desk_page(commands: list[dict]) -> str:
 
 def main() -> None:
     folder = sys.argv[1]
-    table = tomllib.loads(read("packaging", "commands.toml"))
+    table = tomllib.loads(desk.read("packaging", "commands.toml"))
     made = {"desk.1": desk_page(table["command"])}
     for name, section, source, about in DOCUMENTS:
-        text = markdown_to_mdoc.page(name, section, about, read("docs", source), DOC)
+        text = markdown_to_mdoc.page(name, section, about, desk.read("docs", source), DOC)
         made[f"{name}.{section}"] = text.replace("$Mdocdate$", DATE)
     made["desk.bash"] = completions.bash(table["command"], table["files"])
     made["_desk"] = completions.zsh(table["command"], table["files"])

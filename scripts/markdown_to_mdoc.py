@@ -15,6 +15,7 @@ PAGES = {
     "CODES.md": "desk-codes(7)",
     "LINT.md": "desk-lint(1)",
     "IMPORT.md": "desk-import(1)",
+    "AUDIT.md": "desk-audit(1)",
 }
 INSTALLED = (
     "README.md",
@@ -43,8 +44,12 @@ def renamed(text: str, doc: str) -> str:
     """A text with the repository's paths as an installed desk has them."""
     text = re.sub(r"\[[^\]]*\]\((?:docs/)?(\w+\.md)\)", lambda it: document(it[1], doc), text)
     text = re.sub(r"`?docs/(\w+\.md)`?", lambda it: document(it[1], doc), text)
-    text = re.sub(r"(?<![\w/])build/desk(?= )", "desk", text)
-    text = re.sub(r"(?<![\w/])tools/(desk_tools|schemas)/", f"{os.path.dirname(os.path.dirname(doc))}/steelnewt/\\1/", text)
+    text = re.sub(r"(?<![\w/])build/(desk|desk-audit)(?= )", "\\1", text)
+    text = re.sub(
+        r"(?<![\w/])tools/(desk_tools|schemas)/",
+        f"{os.path.dirname(os.path.dirname(doc))}/steelnewt/\\1/",
+        text,
+    )
     return re.sub(r"(?<![\w/])examples/", f"{doc}/examples/", text)
 
 
@@ -124,12 +129,12 @@ def code(lines: list[str]) -> Iterator[str]:
 
 def blocks(text: str) -> Iterator[tuple[str, list[str]]]:
     """The text's blocks: `code`, `heading` or `text`, each with its lines."""
-    lines, held = iter(text.splitlines()), []
+    lines = iter(text.splitlines())
+    held: list[str] = []
     for line in lines:
         starts = line.startswith(("```", "#")) or not line.strip()
-        starts = starts or (
-            line.startswith(("- ", "|")) and held and not held[0].startswith(line[0])
-        )
+        if line.startswith(("- ", "|")) and held and not held[0].startswith(line[0]):
+            starts = True
         if starts and held:
             yield "text", held
             held = []

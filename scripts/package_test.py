@@ -19,12 +19,14 @@ import tempfile
 import threading
 import time
 
+import desk
 import service
 import syscalls
 
-ROOT = os.path.dirname(os.path.dirname(os.path.abspath(__file__)))
-DEBS = os.path.join(ROOT, "build", "deb")
-NEEDED = "adduser,ca-certificates,curl,faketime,nginx-light,openssl,python3,python3-jsonschema,sqlite3"
+DEBS = os.path.join(desk.BUILD, "deb")
+NEEDED = (
+    "adduser,ca-certificates,curl,faketime,nginx-light,openssl,python3,python3-jsonschema,sqlite3"
+)
 NEEDED += ",strace,sudo,systemd"
 DOC = "/usr/share/doc/steelnewt"
 NAMES = ("steelnewt", "steelnewt-host", "steelnewt-tools")
@@ -33,7 +35,8 @@ STORE = "/var/lib/desk/desk.db"
 DPKG = ["dpkg", "--force-unsafe-io", "--no-triggers"]  # quick: the root is thrown away
 DESK = ["setpriv", "--reuid", "desk", "--regid", "desk", "--clear-groups", "desk"]
 FILES = [f"{DOC}/examples/roster.toml", f"{DOC}/examples/site.sudo"]
-# the day of the examples, and tomorrow, to which the served grant is moved: a host does not fetch the
+# the day of the examples, and tomorrow, to which the served grant is moved: a host does not fetch
+# the
 # lines that ended over an hour ago
 EXAMPLE, TOMORROW = "20260105", time.gmtime(time.time() + 86_400)
 DAY = time.strftime("%Y%m%d", TOMORROW)
@@ -134,14 +137,23 @@ def install(trial: Trial) -> None:
 
 
 def tools(trial: Trial) -> None:
-    """The tools, as they are installed: a roster with faults, a code's sentence, a base of a sudoers file."""
-    trial.does("desk-lint", "desk-lint", FILES[0], says="roster.toml:7: warning: .*no ceiling has web1")
+    """The tools, as they are installed: a roster with faults, a code's sentence, a base of a
+    sudoers file."""
+    trial.does(
+        "desk-lint", "desk-lint", FILES[0], says="roster.toml:7: warning: .*no ceiling has web1"
+    )
     trial.write("/tmp/bad.toml", trial.read(FILES[0]).replace("needs = 1", 'needs = "1"'))
     said = "/tmp/bad.toml:27: O3 WrongType: ceilings.db-care.needs = .*expected a whole number"
     trial.does("desk-lint of a fault", "desk-lint", "/tmp/bad.toml", status=2, says=said)
     trial.does("desk-lint --explain", "desk-lint", "--explain", "O3", says="^O3 WrongType ")
     trial.write("/tmp/sudoers", "Defaults noexec\nann ALL = /bin/ls, NOEXEC: /usr/bin/less\n")
-    base = trial.does("desk-import", "desk-import", "/tmp/sudoers", status=1, says="sudoers:2: left out: /usr/bin/less: NOEXEC ")
+    base = trial.does(
+        "desk-import",
+        "desk-import",
+        "/tmp/sudoers",
+        status=1,
+        says="sudoers:2: left out: /usr/bin/less: NOEXEC ",
+    )
     trial.check("the base", base.endswith("\nann ALL = (root) /bin/ls\n"), base)
     for page in ("desk-lint", "desk-import"):
         trial.does(f"{page}(1)", "test", "-s", f"/usr/share/man/man1/{page}.1.gz")
@@ -325,6 +337,7 @@ def bad_stores(trial: Trial) -> None:
         if name.startswith("second"):
             os.unlink(trial.path(f"/var/lib/desk/{name}"))
     full_disk(trial)
+    failed_answer(trial)
 
 
 def full_disk(trial: Trial) -> None:
@@ -343,6 +356,20 @@ def full_disk(trial: Trial) -> None:
     refused(trial, "a full disk", "(F1|K4) .*(full)", told)
     subprocess.run(["umount", small], check=True)
     os.rmdir(small)
+
+
+def failed_answer(trial: Trial) -> None:
+    """A commit that fails while it serves is no end of the service, and the log does not ask for a
+    start."""
+    stub = "/usr/local/bin/desk-that-answers"
+    trial.write(stub, "#!/bin/sh\necho 'answered K4 Storage' >&2\nexit 2\n")
+    os.chmod(trial.path(stub), 0o755)
+    refused(
+        trial,
+        "a commit that fails",
+        "answered K4 Storage: .*goes on by itself",
+        {"ADDR": "127.0.0.1:8081", "STORE": "-", "DESK": stub},
+    )
 
 
 def certify(trial: Trial) -> None:
@@ -421,9 +448,7 @@ def through_the_front(trial: Trial) -> None:
     )
     trial.does("visudo", "visudo", "-c", says="/etc/sudoers.d/desk: parsed OK")
     said = by_curl(trial, "auditor-carol", f"/v1/grants/{DAY}093000Z")
-    trial.check(
-        "an auditor reads", said == f"ann 7 db-care {DAY}091500Z {DAY}110000Z\n 200", said
-    )
+    trial.check("an auditor reads", said == f"ann 7 db-care {DAY}091500Z {DAY}110000Z\n 200", said)
     monitored(trial)
 
 

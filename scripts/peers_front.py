@@ -18,16 +18,16 @@ import tempfile
 import threading
 import time
 
+import desk
 import front
 
-DESK = sys.argv[1:] or [os.path.join(front.ROOT, "build", "desk")]
 OTHERS = 200
 FETCHERS = 20
 CROWD = 120
 
 
 def message(number: int) -> bytes:
-    return b'{"at":"20260105083000Z","by":"bob","kind":"approve","no":%d,"of":"ann"}' % number
+    return desk.approval(number).encode()
 
 
 def request(method: str, target: str, body: bytes | None = None, extra: bytes = b"") -> bytes:
@@ -112,6 +112,7 @@ def make_certificates(folder: str) -> None:
         keep(ca, folder, kept, "relay", "chat2", dates, "chat")
     keep(ca, folder, "gone", "host", "db1b", None, "db1")
     front.certify(ca, "revoke", "../gone/host-db1")
+    front.certify(ca, "renew")
     other = os.path.join(folder, "other")
     front.certify(other, "init")
     front.certify(other, "relay", "chat")
@@ -432,7 +433,9 @@ def compare_log(folder: str, recorder: front.Recorder, store: str) -> tuple[int,
     """The front's log, what came to the desk, and what the store holds."""
     wrong = 0
     lines = front.log_lines(folder)
-    told = collections.Counter(logged(line) for line in lines if line["desk"] not in ("", "-"))
+    told: collections.Counter[tuple[str, str] | None] = collections.Counter(
+        logged(line) for line in lines if line["desk"] not in ("", "-")
+    )
     with recorder.lock:
         got = collections.Counter(map(as_asked, recorder.requests))
     for each in (told - got) + (got - told):
@@ -465,8 +468,8 @@ def logged(line: dict[str, str]) -> tuple[str, str]:
 
 def under_nginx(folder: str) -> list[tuple[int, int]]:
     store, port = os.path.join(folder, "desk.db"), front.free_port()
-    with front.desk(DESK, store) as address:
-        recorder = front.Recorder(address)
+    with desk.Server(store, program=desk.named()) as server:
+        recorder = front.Recorder(server.address)
         with front.front(front.nginx_words(folder, port, recorder.address), port):
             parts = [
                 ask_routes(folder, port),
@@ -479,8 +482,8 @@ def under_nginx(folder: str) -> list[tuple[int, int]]:
 
 def under_haproxy(folder: str) -> list[tuple[int, int]]:
     port = front.free_port()
-    with front.desk(DESK, "-") as address, front.front(
-        front.haproxy_words(folder, port, address), port
+    with desk.Server(program=desk.named()) as server, front.front(
+        front.haproxy_words(folder, port, server.address), port
     ):
         return [ask_routes(folder, port)]
 

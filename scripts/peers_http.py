@@ -1,20 +1,21 @@
 #!/usr/bin/env python3
-"""Asks `desk serve` over loopback, by curl, by Python's http.client, and by raw bytes from here and through nc, and compares each reply.
+"""Asks `desk serve` over loopback, by curl, by Python's http.client, and by raw bytes from here and
+through nc, and compares each reply.
 
-Then peers go away at each byte of a request, one never reads, and ten thousand requests are changed at random: each reply must be
-the one that scripts/http_oracle.py says, and the server serves on. The reports of random sets of messages must be those that scripts/random_reports.py makes. A host's file must pass `visudo -c`, and examples/fetch-sudoers.sh must put it in place, or keep
-the old one. The servers listen at port 0; one ends by itself after as many connections as are made, the others by SIGTERM.
-`peers_http.py WORDS..` runs another program than build/desk.
+Then peers go away at each byte of a request, one never reads, and ten thousand requests are changed
+at random: each reply must be the one that scripts/http_oracle.py says, and the server serves on.
+The reports of random sets of messages must be those that scripts/random_reports.py makes. A host's
+file must pass `visudo -c`, and examples/fetch-sudoers.sh must put it in place, or keep the old one.
+The servers listen at port 0; one ends by itself after as many connections as are made, the others
+by SIGTERM. `peers_http.py WORDS..` runs another program than build/desk.
 """
 
 import contextlib
-import datetime
 import hashlib
 import http.client
 import os
 import random
 import re
-import shutil
 import signal
 import socket
 import struct
@@ -22,24 +23,19 @@ import subprocess
 import sys
 import tempfile
 import threading
+import time
 import tomllib
+from collections.abc import Iterator, Sequence
 
+import desk
 import http_oracle
 import random_reports
 
-ROOT = os.path.dirname(os.path.dirname(os.path.abspath(__file__)))
-DESK = sys.argv[1:] or [os.path.join(ROOT, "build", "desk")]
-ROSTER = os.path.join(ROOT, "examples", "roster.toml")
-BASE = os.path.join(ROOT, "examples", "site.sudo")
-CASES = os.path.join(ROOT, "cases", "delivered.toml")
-FETCH = os.path.join(ROOT, "examples", "fetch-sudoers.sh")
+FETCH = os.path.join(desk.EXAMPLES, "fetch-sudoers.sh")
 CHANGED = 10_000
 REPORTS = 40
-REQUEST = (
-    b'{"at":"20260105060000Z","by":"ann","ceiling":"db-care","cmnds":["/usr/bin/id"],"from":"20260105090000Z","hosts":["db1"],'
-    b'"kind":"request","no":7,"runas":"root","until":"20260105110000Z"}'
-)
-APPROVAL = b'{"at":"20260105083000Z","by":"bob","kind":"approve","no":7,"of":"ann"}'
+REQUEST, APPROVAL = desk.request().encode(), desk.approval().encode()
+HOST = b"Host: desk\r\n"
 GRANT = b"ann 7 db-care 20260105090000Z 20260105110000Z\n"
 LINE = b"ann db1 = (root) NOTBEFORE=20260105090000Z NOTAFTER=20260105110000Z /usr/bin/id\n"
 REPORT = (
@@ -49,8 +45,9 @@ REPORT = (
     + b"eve%sapprove-db%saudit\n" % (b" " * 30, b" " * 23)
     + b"BROAD\nPARKED\n"
 )
+# how many things were asked, and how many were otherwise
+Counts = tuple[int, int]
 ACK = ("200 OK", b"ack\n")
-HOST = b"Host: desk\r\n"
 # every status that a reply may have
 STATUSES = {
     "200 OK",
@@ -64,12 +61,12 @@ STATUSES = {
 }
 
 
-def post(relay, body, extra=()):
+def post(relay: str, body: bytes, extra: Sequence[str] = ()) -> list[str | bytes]:
     return ["--data-binary", body, *extra, f"/v1/relays/{relay}/messages"]
 
 
 # What curl is given, and the status and the body of the reply; None stands for any body.
-ASKED = [
+ASKED: list[tuple[list[str | bytes], tuple[str, bytes]]] = [
     (["/v1/parked"], ("200 OK", b"")),
     (post("chat", APPROVAL), ACK),
     (["/v1/parked"], ("200 OK", APPROVAL + b"\n")),
@@ -85,7 +82,7 @@ ASKED = [
     (["/v1/messages/"], ("404 Not Found", b"T3 NoRoute\n")),
     (["/v1/messages?x"], ("400 Bad Request", b"T2 BadTarget\n")),
     (["-X", "DELETE", "/v1/messages"], ("405 Method Not Allowed", b"T4 BadMethod\n")),
-    (post("chat", APPROVAL)[:-1] + ["/v1/messages"], ("405 Method Not Allowed", b"T4 BadMethod\n")),
+    ([*post("chat", APPROVAL)[:-1], "/v1/messages"], ("405 Method Not Allowed", b"T4 BadMethod\n")),
     (["--head", "/v1/hosts/db1/sudoers/20260105110000Z"], ("200 OK", b"")),
     (["/v1/hosts/db9/sudoers/20260105110000Z"], ("404 Not Found", b"P2 UnknownHost\n")),
     (["/v1/hosts/db9/sudoers/20260105"], ("400 Bad Request", b"T8 BadMoment\n")),
@@ -94,7 +91,10 @@ ASKED = [
     (["/v1/hosts/db1/sudoers/"], ("404 Not Found", b"T3 NoRoute\n")),
     (["/v1/hosts/db1/sudoers/20260105110000Z/"], ("404 Not Found", b"T3 NoRoute\n")),
     (["/v1/hosts//sudoers/20260105110000Z"], ("404 Not Found", b"T3 NoRoute\n")),
-    (["-X", "DELETE", "/v1/hosts/db1/sudoers/20260105"], ("405 Method Not Allowed", b"T4 BadMethod\n")),
+    (
+        ["-X", "DELETE", "/v1/hosts/db1/sudoers/20260105"],
+        ("405 Method Not Allowed", b"T4 BadMethod\n"),
+    ),
     (["/v1/hosts/db9/sudoers"], ("404 Not Found", b"P2 UnknownHost\n")),
     (["/v1/hosts/d%20b/sudoers"], ("400 Bad Request", b"T2 BadTarget\n")),
     (["/v1/grants/2026010509Z"], ("400 Bad Request", b"T8 BadMoment\n")),
@@ -109,14 +109,20 @@ ASKED = [
     (["-X", "POST", "/v1/parked"], ("405 Method Not Allowed", b"T4 BadMethod\n")),
     (["/v1/relays/chat/messages"], ("405 Method Not Allowed", b"T4 BadMethod\n")),
     (["-X", "POST", "/v1/relays/chat/messages"], ("411 Length Required", b"T5 LengthRequired\n")),
-    (post("chat", APPROVAL, ["-H", "Transfer-Encoding: chunked"]), ("400 Bad Request", b"T6 BadLength\n")),
+    (
+        post("chat", APPROVAL, ["-H", "Transfer-Encoding: chunked"]),
+        ("400 Bad Request", b"T6 BadLength\n"),
+    ),
     (post("chat", b"x" * 16385), ("413 Content Too Large", b"M1 TooLong\n")),
     (post("fax", b"x" * 16385), ("413 Content Too Large", b"M1 TooLong\n")),
     (post("fax", APPROVAL), ("403 Forbidden", b"P1 UnknownRelay\n")),
     (post("chat", APPROVAL.replace(b",", b", ", 1)), ("400 Bad Request", b"M2 NotCanonical\n")),
 ]
 
-# Bytes as they are sent, with the peer's side closed behind them, and the reply. A reply to no request is of one that has no head.
+BAD_HEAD = ("400 Bad Request", b"T1 BadHead\n")
+
+# Bytes as they are sent, with the peer's side closed behind them, and the reply. A reply to no
+# request is of one that has no head.
 RAW = [
     (b"", ("400 Bad Request", b"T1 BadHead\n")),
     (b"GET /v1/parked HTTP/1.1\r\n", ("400 Bad Request", b"T1 BadHead\n")),
@@ -126,84 +132,150 @@ RAW = [
     (b"\r\n\nGET /v1/parked HTTP/1.1\n" + HOST + b"\n", ("200 OK", b"")),
     (b"PRI * HTTP/2.0\r\n\r\nSM\r\n\r\n", ("400 Bad Request", b"T1 BadHead\n")),
     (b"GET * HTTP/1.1\r\n" + HOST + b"\r\n", ("400 Bad Request", b"T2 BadTarget\n")),
-    (b"GET /v1/parked HTTP/1.1\r\n" + HOST + b"A: b\r\n c\r\n\r\n", ("400 Bad Request", b"T1 BadHead\n")),
+    (
+        b"GET /v1/parked HTTP/1.1\r\n" + HOST + b"A: b\r\n c\r\n\r\n",
+        ("400 Bad Request", b"T1 BadHead\n"),
+    ),
     (b"GET /v1/parked HTTP/1.1\r\n" + HOST + b"A: b\r\n" * 31 + b"\r\n", ("200 OK", b"")),
-    (b"GET /v1/parked HTTP/1.1\r\n" + HOST + b"A: b\r\n" * 32 + b"\r\n", ("400 Bad Request", b"T1 BadHead\n")),
-    (b"GET /v1/parked HTTP/1.1\r\n" + HOST + b"A: " + b"b" * 8192, ("400 Bad Request", b"T1 BadHead\n")),
-    (b"POST /v1/relays/chat/messages HTTP/1.1\r\nhOST: desk\r\ncontent-LENGTH: \t0070 \r\n\r\n" + APPROVAL + b"more", ACK),
-    (b"POST /v1/relays/chat/messages HTTP/1.1\r\n" + HOST + b"Content-Length: 70\r\n\r\n" + APPROVAL[:69], ("400 Bad Request", b"T7 ShortBody\n")),
-    (b"POST /v1/relays/chat/messages HTTP/1.1\r\n" + HOST + b"Content-Length: +70\r\n\r\n" + APPROVAL, ("400 Bad Request", b"T6 BadLength\n")),
-    (b"POST /v1/relays/chat/messages HTTP/1.1\r\n" + HOST + b"Content-Length: 70\r\n" * 2 + b"\r\n" + APPROVAL, ("400 Bad Request", b"T6 BadLength\n")),
+    (
+        b"GET /v1/parked HTTP/1.1\r\n" + HOST + b"A: b\r\n" * 32 + b"\r\n",
+        ("400 Bad Request", b"T1 BadHead\n"),
+    ),
+    (
+        b"GET /v1/parked HTTP/1.1\r\n" + HOST + b"A: " + b"b" * 8192,
+        ("400 Bad Request", b"T1 BadHead\n"),
+    ),
+    (
+        b"POST /v1/relays/chat/messages HTTP/1.1\r\nhOST: desk\r\ncontent-LENGTH: \t0070 \r\n\r\n"
+        + APPROVAL
+        + b"more",
+        ACK,
+    ),
+    (
+        b"POST /v1/relays/chat/messages HTTP/1.1\r\n"
+        + HOST
+        + b"Content-Length: 70\r\n\r\n"
+        + APPROVAL[:69],
+        ("400 Bad Request", b"T7 ShortBody\n"),
+    ),
+    # 8,193 bytes without an empty line
+    ((b"GET /v1/parked HTTP/1.1\r\n" + HOST + b"A: ").ljust(8_193, b"b"), BAD_HEAD),
+    # a byte less than the message has
+    (desk.posted(b"chat", APPROVAL, 69), ("400 Bad Request", b"M2 NotCanonical\n")),
+    (
+        desk.posted(b"chat", APPROVAL, more=b"Transfer-Encoding: chunked\r\n"),
+        ("400 Bad Request", b"T6 BadLength\n"),
+    ),
+    (
+        b"POST /v1/relays/chat/messages HTTP/1.1\r\n"
+        + HOST
+        + b"Content-Length: +70\r\n\r\n"
+        + APPROVAL,
+        ("400 Bad Request", b"T6 BadLength\n"),
+    ),
+    (
+        b"POST /v1/relays/chat/messages HTTP/1.1\r\n"
+        + HOST
+        + b"Content-Length: 70\r\n" * 2
+        + b"\r\n"
+        + APPROVAL,
+        ("400 Bad Request", b"T6 BadLength\n"),
+    ),
 ]
 
 
-def posted(relay, body, length=None):
-    """The bytes of a POST."""
-    length = len(body) if length is None else length
-    return b"POST /v1/relays/%s/messages HTTP/1.1\r\n%sContent-Length: %d\r\n\r\n%s" % (relay, HOST, length, body)
-
-
-def asked(method, target):
-    return b"%s %s HTTP/1.1\r\n%s\r\n" % (method, target, HOST)
-
-
-def reply(status, body, length=None, allow=b""):
+def reply(status: bytes, body: bytes, length: int | None = None, allow: bytes = b"") -> bytes:
     """The bytes of a reply."""
     length = len(body) if length is None else length
-    return b"HTTP/1.1 %s\r\nContent-Type: text/plain\r\n%sContent-Length: %d\r\nConnection: close\r\n\r\n%s" % (status, allow, length, body)
+    return (
+        b"HTTP/1.1 %s\r\nContent-Type: text/plain\r\n%sContent-Length: %d\r\nConnection:"
+        b" close\r\n\r\n%s" % (status, allow, length, body)
+    )
 
 
-def exchanges(request):
-    """Exchanges over a roster with the relay web, byte for byte; the request that is approved is given."""
+def exchanges(request: bytes) -> list[tuple[bytes, bytes]]:
+    """Exchanges over a roster with the relay web, byte for byte; the request that is approved is
+    given."""
     spaced = APPROVAL.replace(b",", b", ", 1)
     grants = b"/v1/grants/20260105093000Z"
     line = b"ann 7 db-root 20260105090000Z 20260105110000Z\n"
     heading, ends = b"REVIEW 20260105093000Z\nLIVE\n", b"BARRED\nCONFLICTS\nBROAD\nPARKED\n"
-    report = heading + b"ann%s7 db-root%s20260105090000Z 20260105110000Z needed\n" % (b" " * 38, b" " * 26) + ends
+    report = (
+        heading
+        + b"ann%s7 db-root%s20260105090000Z 20260105110000Z needed\n" % (b" " * 38, b" " * 26)
+        + ends
+    )
     bad = b"400 Bad Request"
     both = b"".join(text + b"\n" for text in sorted([APPROVAL, request]))
     return [
         # what is refused is not stored
-        (posted(b"web", spaced), reply(bad, b"M2 NotCanonical\n")),
-        (posted(b"web", APPROVAL, 16385), reply(b"413 Content Too Large", b"M1 TooLong\n")),
-        (posted(b"fax", APPROVAL), reply(b"403 Forbidden", b"P1 UnknownRelay\n")),
-        (posted(b"web", b"", 70)[:-2], reply(bad, b"T1 BadHead\n")),
-        (asked(b"GET", b"/v1/parked"), reply(b"200 OK", b"")),
+        (desk.posted(b"web", spaced), reply(bad, b"M2 NotCanonical\n")),
+        (desk.posted(b"web", APPROVAL, 16385), reply(b"413 Content Too Large", b"M1 TooLong\n")),
+        (desk.posted(b"fax", APPROVAL), reply(b"403 Forbidden", b"P1 UnknownRelay\n")),
+        (desk.posted(b"web", b"", 70)[:-2], reply(bad, b"T1 BadHead\n")),
+        (desk.asked(b"GET", b"/v1/parked"), reply(b"200 OK", b"")),
         # an approval and its request
-        (posted(b"web", APPROVAL), reply(b"200 OK", b"ack\n")),
-        (asked(b"GET", b"/v1/parked"), reply(b"200 OK", APPROVAL + b"\n")),
-        (asked(b"GET", b"/v1/reviews/20260105093000Z"), reply(b"200 OK", heading + ends + APPROVAL + b"\n")),
-        (posted(b"web", request), reply(b"200 OK", b"ack\n")),
-        (asked(b"GET", grants), reply(b"200 OK", line)),
-        (asked(b"GET", b"/v1/reviews/20260105093000Z"), reply(b"200 OK", report)),
-        (asked(b"HEAD", b"/v1/reviews/20260105093000Z"), reply(b"200 OK", b"", len(report))),
-        (asked(b"HEAD", b"/v1/reviews/20260105"), reply(bad, b"", 13)),
-        (asked(b"POST", b"/v1/reviews/20260105093000Z"), reply(b"405 Method Not Allowed", b"T4 BadMethod\n", None, b"Allow: GET, HEAD\r\n")),
-        (asked(b"GET", b"/v1/parked"), reply(b"200 OK", b"")),
-        (asked(b"GET", b"/v1/hosts/db9/sudoers"), reply(b"404 Not Found", b"P2 UnknownHost\n")),
-        (asked(b"GET", b"/v1/messages"), reply(b"200 OK", both)),
-        (asked(b"HEAD", b"/v1/messages"), reply(b"200 OK", b"", len(both))),
-        (asked(b"POST", b"/v1/messages"), reply(b"405 Method Not Allowed", b"T4 BadMethod\n", None, b"Allow: GET, HEAD\r\n")),
-        (asked(b"HEAD", b"/v1/hosts/db9/sudoers/20260105110000Z"), reply(b"404 Not Found", b"", 15)),
-        (asked(b"HEAD", b"/v1/hosts/db9/sudoers/20260105"), reply(bad, b"", 13)),
-        (asked(b"PUT", b"/v1/hosts/db9/sudoers/20260105"), reply(b"405 Method Not Allowed", b"T4 BadMethod\n", None, b"Allow: GET, HEAD\r\n")),
-        (asked(b"POST", b"/v1/parked"), reply(b"405 Method Not Allowed", b"T4 BadMethod\n", None, b"Allow: GET, HEAD\r\n")),
-        (asked(b"GET", b"/v1/grants/2026010509Z"), reply(bad, b"T8 BadMoment\n")),
-        (asked(b"GET", b"/v1/parked?x"), reply(bad, b"T2 BadTarget\n")),
-        (asked(b"HEAD", grants), reply(b"200 OK", b"", len(line))),
-        (asked(b"HEAD", b"/v1/relays/web/messages"), reply(b"405 Method Not Allowed", b"", 13, b"Allow: POST\r\n")),
-        (asked(b"get", b"/v1/parked"), reply(b"405 Method Not Allowed", b"T4 BadMethod\n", None, b"Allow: GET, HEAD\r\n")),
+        (desk.posted(b"web", APPROVAL), reply(b"200 OK", b"ack\n")),
+        (desk.asked(b"GET", b"/v1/parked"), reply(b"200 OK", APPROVAL + b"\n")),
+        (
+            desk.asked(b"GET", b"/v1/reviews/20260105093000Z"),
+            reply(b"200 OK", heading + ends + APPROVAL + b"\n"),
+        ),
+        (desk.posted(b"web", request), reply(b"200 OK", b"ack\n")),
+        (desk.asked(b"GET", grants), reply(b"200 OK", line)),
+        (desk.asked(b"GET", b"/v1/reviews/20260105093000Z"), reply(b"200 OK", report)),
+        (desk.asked(b"HEAD", b"/v1/reviews/20260105093000Z"), reply(b"200 OK", b"", len(report))),
+        (desk.asked(b"HEAD", b"/v1/reviews/20260105"), reply(bad, b"", 13)),
+        (
+            desk.asked(b"POST", b"/v1/reviews/20260105093000Z"),
+            reply(b"405 Method Not Allowed", b"T4 BadMethod\n", None, b"Allow: GET, HEAD\r\n"),
+        ),
+        (desk.asked(b"GET", b"/v1/parked"), reply(b"200 OK", b"")),
+        (
+            desk.asked(b"GET", b"/v1/hosts/db9/sudoers"),
+            reply(b"404 Not Found", b"P2 UnknownHost\n"),
+        ),
+        (desk.asked(b"GET", b"/v1/messages"), reply(b"200 OK", both)),
+        (desk.asked(b"HEAD", b"/v1/messages"), reply(b"200 OK", b"", len(both))),
+        (
+            desk.asked(b"POST", b"/v1/messages"),
+            reply(b"405 Method Not Allowed", b"T4 BadMethod\n", None, b"Allow: GET, HEAD\r\n"),
+        ),
+        (
+            desk.asked(b"HEAD", b"/v1/hosts/db9/sudoers/20260105110000Z"),
+            reply(b"404 Not Found", b"", 15),
+        ),
+        (desk.asked(b"HEAD", b"/v1/hosts/db9/sudoers/20260105"), reply(bad, b"", 13)),
+        (
+            desk.asked(b"PUT", b"/v1/hosts/db9/sudoers/20260105"),
+            reply(b"405 Method Not Allowed", b"T4 BadMethod\n", None, b"Allow: GET, HEAD\r\n"),
+        ),
+        (
+            desk.asked(b"POST", b"/v1/parked"),
+            reply(b"405 Method Not Allowed", b"T4 BadMethod\n", None, b"Allow: GET, HEAD\r\n"),
+        ),
+        (desk.asked(b"GET", b"/v1/grants/2026010509Z"), reply(bad, b"T8 BadMoment\n")),
+        (desk.asked(b"GET", b"/v1/parked?x"), reply(bad, b"T2 BadTarget\n")),
+        (desk.asked(b"HEAD", grants), reply(b"200 OK", b"", len(line))),
+        (
+            desk.asked(b"HEAD", b"/v1/relays/web/messages"),
+            reply(b"405 Method Not Allowed", b"", 13, b"Allow: POST\r\n"),
+        ),
+        (
+            desk.asked(b"get", b"/v1/parked"),
+            reply(b"405 Method Not Allowed", b"T4 BadMethod\n", None, b"Allow: GET, HEAD\r\n"),
+        ),
     ]
 
 
-def reply_of(whole):
+def reply_of(whole: bytes) -> tuple[str, dict[str, str], bytes]:
     """The status line's code and phrase, the fields and the body."""
     head, _, body = whole.partition(b"\r\n\r\n")
     first, *fields = head.decode("latin-1").split("\r\n")
     return first.removeprefix("HTTP/1.1 "), dict(field.split(": ", 1) for field in fields), body
 
 
-def check(what, whole, wanted, is_head=False):
+def check(what: object, whole: bytes, wanted: tuple[str, bytes], is_head: bool = False) -> bool:
     """Whether the reply is the one that is wanted, and its length the body's."""
     status, fields, body = reply_of(whole)
     is_right = (status, body) == wanted and fields.get("Connection") == "close"
@@ -213,41 +285,52 @@ def check(what, whole, wanted, is_head=False):
     return is_right
 
 
-def parses(whole):
+def parses(whole: bytes) -> bool:
     """Whether the bytes are some reply of the desk."""
     found = re.fullmatch(
-        rb"HTTP/1\.1 ([0-9A-Za-z ]+)\r\nContent-Type: text/plain\r\n(Allow: (POST|GET, HEAD)\r\n)?Content-Length: ([0-9]+)\r\nConnection: close\r\n\r\n(.*)",
+        (
+            rb"HTTP/1\.1 ([0-9A-Za-z ]+)\r\nContent-Type: text/plain\r\n(Allow: (POST|GET,"
+            rb" HEAD)\r\n)?Content-Length: ([0-9]+)\r\nConnection: close\r\n\r\n(.*)"
+        ),
         whole,
         re.DOTALL,
     )
-    return found and found[1].decode() in STATUSES and len(found[5]) in (0, int(found[4]))
+    return (
+        found is not None and found[1].decode() in STATUSES and len(found[5]) in (0, int(found[4]))
+    )
 
 
-def place(address):
-    host, _, port = address.rpartition(":")
-    return host, int(port)
-
-
-def by_curl(address, words):
-    *given, target = words
-    given = [word if isinstance(word, str) else word.decode("ascii") for word in given]
-    ran = subprocess.run(["curl", "-s", "-i", "-m", "20", *given, f"http://{address}{target}"], stdout=subprocess.PIPE, check=False)
+def by_curl(address: str, words: Sequence[str | bytes]) -> bytes:
+    texts = [word if isinstance(word, str) else word.decode("ascii") for word in words]
+    *given, target = texts
+    ran = subprocess.run(
+        ["curl", "-s", "-i", "-m", "20", *given, f"http://{address}{target}"],
+        stdout=subprocess.PIPE,
+        check=False,
+    )
     return ran.stdout
 
 
-def by_nc(address, given):
+def by_nc(address: str, given: bytes) -> bytes:
     """Through Debian's netcat-openbsd, which closes its side behind the bytes."""
-    ran = subprocess.run(["nc", "-N", "-w", "20", *map(str, place(address))], input=given, stdout=subprocess.PIPE, check=False)
+    ran = subprocess.run(
+        ["nc", "-N", "-w", "20", *map(str, desk.place(address))],
+        input=given,
+        stdout=subprocess.PIPE,
+        check=False,
+    )
     return ran.stdout
 
 
-def by_bytes(address, given, one_at_a_time=False):
-    with socket.create_connection(place(address), timeout=20) as peer:
+def by_bytes(address: str, given: bytes, one_at_a_time: bool = False) -> bytes:
+    with socket.create_connection(desk.place(address), timeout=20) as peer:
         peer.setsockopt(socket.IPPROTO_TCP, socket.TCP_NODELAY, 1)
         whole = b""
         # (a server that has replied may close while bytes are still on their way)
         with contextlib.suppress(ConnectionError):
-            for piece in [given[at : at + 1] for at in range(len(given))] if one_at_a_time else [given]:
+            for piece in (
+                [given[at : at + 1] for at in range(len(given))] if one_at_a_time else [given]
+            ):
                 peer.sendall(piece)
             peer.shutdown(socket.SHUT_WR)
         with contextlib.suppress(ConnectionError):
@@ -257,39 +340,40 @@ def by_bytes(address, given, one_at_a_time=False):
 
 
 @contextlib.contextmanager
-def serving(roster, base, requests=None):
-    """A server's address; behind it, the server has ended: by itself after so many connections, or by SIGTERM."""
-    words = [*DESK, "serve", roster, base, "-", "127.0.0.1:0", *(["--requests", str(requests)] if requests else [])]
-    with tempfile.TemporaryFile("w+") as said, subprocess.Popen(words, stdout=subprocess.PIPE, stderr=said, text=True) as server:
-        try:
-            first = server.stdout.readline().split()
-            if len(first) != 2 or first[0] != "listening":
-                sys.exit(f"the desk does not listen: {first}")
-            yield first[1]
-            if requests is None:
-                server.send_signal(signal.SIGTERM)
-            status = server.wait(timeout=20)
-        finally:
-            server.kill()
+def serving(roster: str, base: str, requests: int | None = None) -> Iterator[str]:
+    """A server's address; behind it, the server has ended: by itself after so many connections, or
+    by SIGTERM."""
+    more = [] if requests is None else ["--requests", str(requests)]
+    with tempfile.TemporaryFile("w+") as said:
+        with desk.Server(
+            "-", *more, program=desk.named(), roster=roster, base=base, stderr=said
+        ) as server:
+            yield server.address
+            status = server.end() if requests is None else server.wait()
         said.seek(0)
         begun, *lines = said.read().splitlines()
         with open(roster, "rb") as file:
             digest = hashlib.sha256(file.read()).hexdigest()
         last = lines[-1:] if requests else ["ended: all connections that were asked for are served"]
-        is_right = begun == f"serving 0 messages, roster {digest}" and last == ["ended: all connections that were asked for are served"]
-        if status != (0 if requests else -signal.SIGTERM) or not is_right or not {*lines} <= {"H1 ReadFailed", "H2 WriteFailed", *last}:
+        is_right = begun == f"serving 0 messages, roster {digest}" and last == [
+            "ended: all connections that were asked for are served"
+        ]
+        if (
+            status != (0 if requests else -signal.SIGTERM)
+            or not is_right
+            or not {*lines} <= {"H1 ReadFailed", "H2 WriteFailed", *last}
+        ):
             sys.exit(f"the desk ends with status {status}: {begun}, {sorted({*lines})}")
 
 
-def ask_exactly():
+def ask_exactly() -> Counts:
     """The exchanges, byte for byte, by a server that ends by itself."""
-    with open(CASES, "rb") as file:
-        cases = tomllib.load(file)
+    cases = tomllib.loads(desk.read("cases", "deliver.toml"))
     wrong, rows = 0, exchanges(cases["message"]["request"].encode("ascii"))
-    with tempfile.NamedTemporaryFile("w", suffix=".toml") as roster, tempfile.NamedTemporaryFile("w", suffix=".sudo") as base:
-        roster.write(cases["roster"])
-        roster.flush()
-        with serving(roster.name, base.name, len(rows)) as address:
+    with tempfile.TemporaryDirectory() as folder:
+        roster = desk.write(folder, "roster.toml", cases["roster"])
+        base = desk.write(folder, "base.sudo", "")
+        with serving(roster, base, len(rows)) as address:
             for given, wanted in rows:
                 whole = by_bytes(address, given)
                 if whole != wanted:
@@ -298,19 +382,23 @@ def ask_exactly():
     return len(rows), wrong
 
 
-def ask_all(address):
+def ask_all(address: str) -> Counts:
     wrong = 0
     for words, wanted in ASKED:
-        wrong += not check(" ".join(map(str, words))[-100:], by_curl(address, words), wanted, "--head" in words)
+        wrong += not check(
+            " ".join(map(str, words))[-100:], by_curl(address, words), wanted, "--head" in words
+        )
     for given, wanted in RAW:
         wrong += not check(given[:100], by_bytes(address, given), wanted)
         wrong += not check(given[:100], by_nc(address, given), wanted)
     slow = b"GET /v1/grants/20260105093000Z HTTP/1.1\r\n" + HOST + b"\r\n"
-    wrong += not check("byte by byte", by_bytes(address, slow, one_at_a_time=True), ("200 OK", GRANT))
+    wrong += not check(
+        "byte by byte", by_bytes(address, slow, one_at_a_time=True), ("200 OK", GRANT)
+    )
     return len(ASKED) + 2 * len(RAW) + 1, wrong
 
 
-def ask_as_python(address):
+def ask_as_python(address: str) -> Counts:
     """GET, HEAD and POST by Python's own client."""
     wrong = 0
     for method, target, body, wanted in [
@@ -319,7 +407,7 @@ def ask_as_python(address):
         ("POST", "/v1/relays/chat/messages", APPROVAL, (200, 4, b"ack\n")),
         ("PUT", "/v1/relays/chat/messages", APPROVAL, (405, 13, b"T4 BadMethod\n")),
     ]:
-        client = http.client.HTTPConnection(*place(address), timeout=20)
+        client = http.client.HTTPConnection(*desk.place(address), timeout=20)
         client.request(method, target, body)
         got = client.getresponse()
         answer = (got.status, int(got.headers["Content-Length"]), got.read())
@@ -330,28 +418,31 @@ def ask_as_python(address):
     return 4, wrong
 
 
-def leave(address, given, is_rude):
+def leave(address: str, given: bytes, is_rude: bool) -> None:
     """Sends the bytes and goes away; rudely: what is on its way is dropped."""
-    with socket.create_connection(place(address), timeout=20) as peer:
+    with socket.create_connection(desk.place(address), timeout=20) as peer:
         if is_rude:
             peer.setsockopt(socket.SOL_SOCKET, socket.SO_LINGER, struct.pack("ii", 1, 0))
         peer.sendall(given)
 
 
-def serves_on(address):
-    return by_bytes(address, asked(b"GET", b"/v1/grants/20260105093000Z")) == reply(b"200 OK", GRANT)
+def serves_on(address: str) -> bool:
+    return by_bytes(address, desk.asked(b"GET", b"/v1/grants/20260105093000Z")) == reply(
+        b"200 OK", GRANT
+    )
 
 
-def leave_at_each_byte(address):
-    """A peer that goes away at each byte of a request, politely and rudely, and one that never reads."""
-    wrong, given = 0, posted(b"chat", APPROVAL)
+def leave_at_each_byte(address: str) -> Counts:
+    """A peer that goes away at each byte of a request, politely and rudely, and one that never
+    reads."""
+    wrong, given = 0, desk.posted(b"chat", APPROVAL)
     for end in range(len(given) + 1):
         leave(address, given[:end], end % 2 == 0)
         if end % 16 == 0 and not serves_on(address):
             wrong += 1
             print(f"after a peer that leaves at byte {end} the next is not served")
-    with socket.create_connection(place(address), timeout=20) as silent:
-        silent.sendall(asked(b"GET", b"/v1/hosts/db1/sudoers"))
+    with socket.create_connection(desk.place(address), timeout=20) as silent:
+        silent.sendall(desk.asked(b"GET", b"/v1/hosts/db1/sudoers"))
         if not serves_on(address):
             wrong += 1
             print("after a peer that never reads the next is not served")
@@ -360,20 +451,50 @@ def leave_at_each_byte(address):
 
 # what may be put into a request
 PIECES = [
-    "é".encode(), b"\r\n", b"\n", b" ", b"\t", b":", b"\x00", b"\x7f", b"\xff", b"/", b"//", b"%", b"?", b"#", b"*", b"0", b"7", b"-", b"+", b"GET", b"HEAD", b"POST",
-    b"HTTP/1.0", b"HTTP/1.1", b"HTTP/2.0", b"Host: x\r\n", b"Content-Length: 70\r\n", b"Content-Length: 16385\r\n", b"Content-Length: 0000000070\r\n",
-    b"Transfer-Encoding: chunked\r\n", b"X: y\r\n" * 20,
+    "é".encode(),
+    b"\r\n",
+    b"\n",
+    b" ",
+    b"\t",
+    b":",
+    b"\x00",
+    b"\x7f",
+    b"\xff",
+    b"/",
+    b"//",
+    b"%",
+    b"?",
+    b"#",
+    b"*",
+    b"0",
+    b"7",
+    b"-",
+    b"+",
+    b"GET",
+    b"HEAD",
+    b"POST",
+    b"HTTP/1.0",
+    b"HTTP/1.1",
+    b"HTTP/2.0",
+    b"Host: x\r\n",
+    b"Content-Length: 70\r\n",
+    b"Content-Length: 16385\r\n",
+    b"Content-Length: 0000000070\r\n",
+    b"Transfer-Encoding: chunked\r\n",
+    b"X: y\r\n" * 20,
 ]
 
 
-def changed(given, chance):
+def changed(given: bytes, chance: random.Random) -> bytes:
     """The bytes with up to four changes."""
     if chance.random() < 0.5:
         at = chance.randint(0, len(given))
         given = given[:at] + chance.choice(PIECES) + given[at + chance.choice([0, 0, 1, 2]) :]
     for _ in range(chance.randint(1, 3)):
         at, end = sorted((chance.randint(0, len(given)), chance.randint(0, len(given))))
-        some = bytes([chance.choice([0, 9, 10, 13, 32, 37, 47, 58, 63, 128, 255, chance.randrange(256)])])
+        some = bytes(
+            [chance.choice([0, 9, 10, 13, 32, 37, 47, 58, 63, 128, 255, chance.randrange(256)])]
+        )
         given = chance.choice(
             [
                 given[:at] + some + given[at + 1 :],
@@ -387,37 +508,49 @@ def changed(given, chance):
     return given
 
 
-def is_reply_to(given, whole):
-    """Whether the reply is one to the request, as it is read a second time. Which of its own answers the desk gives is not looked at."""
+def is_reply_to(given: bytes, whole: bytes) -> bool:
+    """Whether the reply is one to the request, as it is read a second time. Which of its own
+    answers the desk gives is not looked at."""
     status, fields, body = reply_of(whole)
     asked, bare = http_oracle.asks(given)
     if len(asked) == 3:
         refusal = asked[1].encode("ascii") + b"\n"
-        return (status, fields.get("Allow"), fields["Content-Length"], body) == (asked[0], asked[2], str(len(refusal)), b"" if bare else refusal)
+        return (status, fields.get("Allow"), fields["Content-Length"], body) == (
+            asked[0],
+            asked[2],
+            str(len(refusal)),
+            b"" if bare else refusal,
+        )
     what, part = asked
     if what == "deliver":
         is_known = part in (b"chat", b"mail")
-        return (status == "200 OK" and body == b"ack\n" or re.match(rb"[APM][1-8] ", body) is not None) and is_known == (body != b"P1 UnknownRelay\n")
+        return (
+            status == "200 OK" and body == b"ack\n" or re.match(rb"[APM][1-8] ", body) is not None
+        ) and is_known == (body != b"P1 UnknownRelay\n")
     if what == "report" and not bare:
         return status == "200 OK" and body.startswith(b"REVIEW %s\nLIVE\n" % part)
     if what in ("file", "file after") and part != b"db1":
-        return status in ("200 OK", "404 Not Found") and (bare or status == "200 OK" or body == b"P2 UnknownHost\n")
+        return status in ("200 OK", "404 Not Found") and (
+            bare or status == "200 OK" or body == b"P2 UnknownHost\n"
+        )
     return status == "200 OK" and not (bare and body)
 
 
-def change_requests(address):
-    """Requests that are changed at random, always the same ones: each reply is one to that request, and the server serves on."""
+def change_requests(address: str) -> Counts:
+    """Requests that are changed at random, always the same ones: each reply is one to that request,
+    and the server serves on."""
     wrong, chance = 0, random.Random(7)
     valid = [
-        posted(b"chat", APPROVAL),
-        posted(b"mail", REQUEST),
-        asked(b"GET", b"/v1/grants/20260105093000Z"),
-        asked(b"HEAD", b"/v1/hosts/db1/sudoers"),
-        asked(b"GET", b"/v1/parked"),
-        asked(b"GET", b"/v1/reviews/20260105093000Z"),
-        asked(b"GET", b"/v1/hosts/db1/sudoers/20260105110000Z"),
-        asked(b"GET", b"/v1/messages"),
-        b"POST /v1/relays/chat/messages HTTP/1.1\r\nhOST: desk\r\nA:b\r\nContent-length: \t70 \r\nTransfer-encoding: x\r\n\r\n" + APPROVAL,
+        desk.posted(b"chat", APPROVAL),
+        desk.posted(b"mail", REQUEST),
+        desk.asked(b"GET", b"/v1/grants/20260105093000Z"),
+        desk.asked(b"HEAD", b"/v1/hosts/db1/sudoers"),
+        desk.asked(b"GET", b"/v1/parked"),
+        desk.asked(b"GET", b"/v1/reviews/20260105093000Z"),
+        desk.asked(b"GET", b"/v1/hosts/db1/sudoers/20260105110000Z"),
+        desk.asked(b"GET", b"/v1/messages"),
+        b"POST /v1/relays/chat/messages HTTP/1.1\r\nhOST: desk\r\nA:b\r\nContent-length: \t70"
+        b" \r\nTransfer-encoding: x\r\n\r\n" + APPROVAL,
         b"\r\nHEAD /v1/relays/chat/messages HTTP/1.0\n\n",
         b"PUT /v1/grants/20991231235959Z HTTP/1.1\nHost:\n\n",
         b"GET //v1/parked HTTP/1.1\r\nHost: a\r\n\r\n",
@@ -432,50 +565,68 @@ def change_requests(address):
     return CHANGED, wrong
 
 
-def ask_reports():
-    """The reports of random sets of messages, always the same ones, each posted to a server of its own."""
+def ask_reports() -> Counts:
+    """The reports of random sets of messages, always the same ones, each posted to a server of its
+    own."""
     wrong, chance = 0, random.Random(8)
     for _ in range(REPORTS):
         with tempfile.TemporaryDirectory() as path:
             drawn = random_reports.draw(path, chance)
             with serving(drawn.folder.roster, drawn.folder.base) as address:
                 for line in drawn.lines:
-                    by_bytes(address, posted(b"web", line.encode("ascii")))
-                whole = by_bytes(address, asked(b"GET", b"/v1/reviews/" + random_reports.stamp(drawn.at).encode("ascii")))
+                    by_bytes(address, desk.posted(b"web", line.encode("ascii")))
+                whole = by_bytes(
+                    address,
+                    desk.asked(b"GET", b"/v1/reviews/" + desk.stamp(drawn.at).encode("ascii")),
+                )
         if whole != reply(b"200 OK", drawn.text().encode("ascii")):
             wrong += 1
             print(f"{drawn.lines}: {whole!r}, not {drawn.text()!r}")
     return REPORTS, wrong
 
 
-def check_file(address):
+def check_file(address: str) -> Counts:
     """The host's file, fetched, is a sudoers file with the grant's line at its end."""
     _, _, body = reply_of(by_curl(address, ["/v1/hosts/db1/sudoers"]))
-    visudo = shutil.which("visudo") or "/usr/sbin/visudo"
     with tempfile.NamedTemporaryFile() as file:
         file.write(body)
         file.flush()
-        checked = subprocess.run([visudo, "-cf", file.name], stdout=subprocess.PIPE, stderr=subprocess.STDOUT, check=False)
+        checked = subprocess.run(
+            [desk.tool("visudo"), "-cf", file.name],
+            stdout=subprocess.PIPE,
+            stderr=subprocess.STDOUT,
+            check=False,
+        )
     if checked.returncode or not body.endswith(LINE):
         print(f"the host's file: {checked.stdout!r} {body!r}")
         return 1, 1
     return 1, 0
 
 
-def ask_later_files(address):
-    """The host's file after a moment: a grant's line is there up to the last moment of its window, and not after it; all else stays."""
+def ask_later_files(address: str) -> Counts:
+    """The host's file after a moment: a grant's line is there up to the last moment of its window,
+    and not after it; all else stays."""
     _, _, whole = reply_of(by_curl(address, ["/v1/hosts/db1/sudoers"]))
-    wrong, rows = 0, [("19700101000000Z", whole), ("20260105110000Z", whole), ("20260105110001Z", whole.removesuffix(LINE)), ("20991231235959Z", whole.removesuffix(LINE))]
+    wrong, rows = 0, [
+        ("19700101000000Z", whole),
+        ("20260105110000Z", whole),
+        ("20260105110001Z", whole.removesuffix(LINE)),
+        ("20991231235959Z", whole.removesuffix(LINE)),
+    ]
     for moment, wanted in rows:
-        wrong += not check(f"the file after {moment}", by_curl(address, [f"/v1/hosts/db1/sudoers/{moment}"]), ("200 OK", wanted))
+        wrong += not check(
+            f"the file after {moment}",
+            by_curl(address, [f"/v1/hosts/db1/sudoers/{moment}"]),
+            ("200 OK", wanted),
+        )
     return len(rows), wrong
 
 
-def answer_once(whole):
+def answer_once(whole: bytes) -> str:
     """The address of a server that is no desk: it gives one peer these bytes."""
     listener = socket.create_server(("127.0.0.1", 0))
 
-    def answer():
+    def answer() -> None:
         with listener, listener.accept()[0] as peer:
             peer.recv(65536)
             peer.sendall(whole)
@@ -484,81 +635,147 @@ def answer_once(whole):
     return "127.0.0.1:%d" % listener.getsockname()[1]
 
 
-def fetch(words, file):
+def fetch(words: Sequence[str], file: str) -> tuple[int, str]:
     """The status of examples/fetch-sudoers.sh, and what it says."""
-    path = os.environ["PATH"] + ":/usr/sbin:/sbin"
     ran = subprocess.run(
-        ["sh", FETCH, *words, file], stdout=subprocess.PIPE, stderr=subprocess.STDOUT, check=False, env=dict(os.environ, PATH=path, LC_ALL="C")
+        ["sh", FETCH, *words, file],
+        stdout=subprocess.PIPE,
+        stderr=subprocess.STDOUT,
+        check=False,
+        env=dict(os.environ, PATH=desk.PATH, LC_ALL="C"),
     )
     return ran.returncode, ran.stdout.decode()
 
 
-def stamp(hours):
+def stamp(hours: float) -> bytes:
     """The moment so many hours from now."""
-    return (datetime.datetime.now(datetime.timezone.utc) + datetime.timedelta(hours=hours)).strftime("%Y%m%d%H%M%SZ").encode("ascii")
+    return desk.stamp(time.time() + 3600 * hours).encode("ascii")
 
 
-def grant_now(address):
-    """Grants db1 a right that ended half an hour ago, and answers its line: the last of the host's file as fetch-sudoers.sh fetches it."""
+def grant_now(address: str) -> bytes:
+    """Grants db1 a right that ended half an hour ago, and answers its line: the last of the host's
+    file as fetch-sudoers.sh fetches it."""
     asked_at, first, last = stamp(-3), stamp(-2), stamp(-0.5)
     for body in (
-        REQUEST.replace(b"20260105060000Z", asked_at).replace(b"20260105090000Z", first).replace(b"20260105110000Z", last).replace(b'"no":7', b'"no":8'),
+        REQUEST.replace(b"20260105060000Z", asked_at)
+        .replace(b"20260105090000Z", first)
+        .replace(b"20260105110000Z", last)
+        .replace(b'"no":7', b'"no":8'),
         APPROVAL.replace(b"20260105083000Z", asked_at).replace(b'"no":7', b'"no":8'),
     ):
-        if by_bytes(address, posted(b"chat", body)) != reply(b"200 OK", b"ack\n"):
+        if by_bytes(address, desk.posted(b"chat", body)) != reply(b"200 OK", b"ack\n"):
             sys.exit(f"the desk does not take {body!r}")
     return LINE.replace(b"20260105090000Z", first).replace(b"20260105110000Z", last)
 
 
-def answer_old(whole):
+def answer_old(whole: bytes) -> str:
     """The address of a desk that has no file after a moment, and gives each peer the whole file."""
     listener = socket.create_server(("127.0.0.1", 0))
 
-    def answer():
+    def answer() -> None:
         with listener:
             while True:
                 with listener.accept()[0] as peer:
                     target = peer.recv(65536).split(b" ")[1]
-                    peer.sendall(reply(b"200 OK", whole) if target == b"/v1/hosts/db1/sudoers" else reply(b"404 Not Found", b"T3 NoRoute\n"))
+                    peer.sendall(
+                        reply(b"200 OK", whole)
+                        if target == b"/v1/hosts/db1/sudoers"
+                        else reply(b"404 Not Found", b"T3 NoRoute\n")
+                    )
 
     threading.Thread(target=answer, daemon=True).start()
     return "127.0.0.1:%d" % listener.getsockname()[1]
 
 
-def fetch_rows(address, line):
-    """What fetch-sudoers.sh is given, its status, and a part of what it says; None is silence. A server that is no desk answers once."""
+def fetch_rows(address: str, line: bytes) -> list[tuple[str, list[str], int, str | None]]:
+    """What fetch-sudoers.sh is given, its status, and a part of what it says; None is silence. A
+    server that is no desk answers once."""
     desk, nobody = f"http://{address}", "http://127.0.0.1:1"
     no_sudoers = b"HTTP/1.1 200 OK\r\nContent-Length: 12\r\n\r\nann db1 = (\n"
     cut_short = b"HTTP/1.1 200 OK\r\nContent-Length: 99\r\n\r\nann db1 = /bin/ls\n"
-    long_ago = b"HTTP/1.1 200 OK\r\nDate: Mon, 05 Jan 2026 09:00:00 GMT\r\nContent-Length: %d\r\n\r\n%s" % (len(line), line)
+    long_ago = (
+        b"HTTP/1.1 200 OK\r\nDate: Mon, 05 Jan 2026 09:00:00 GMT\r\nContent-Length: %d\r\n\r\n%s"
+        % (len(line), line)
+    )
     bad = lambda: f"http://{answer_once(no_sudoers)}"
     return [
         ("a host's file", [desk, "db1"], 0, None),
         ("the same again", [desk, "db1"], 0, None),
         ("a desk without the file after a moment", [f"http://{answer_old(line)}", "db1"], 0, None),
         ("a host that the roster lacks", [desk, "db9"], 1, "the desk's roster has no host db9"),
-        ("what is no sudoers file", [bad(), "db1"], 1, "db1: visudo refuses what came from http://127.0.0.1:"),
+        (
+            "what is no sudoers file",
+            [bad(), "db1"],
+            1,
+            "db1: visudo refuses what came from http://127.0.0.1:",
+        ),
         ("and visudo's fault", [bad(), "db1"], 1, ":1:12: syntax error"),
-        ("and once more", [bad(), "db1"], 1, "db1: visudo refuses what came from http://127.0.0.1:"),
-        ("a file that is cut short", [f"http://{answer_once(cut_short)}", "db1"], 1, "did not answer with a file: curl: (18)"),
+        (
+            "and once more",
+            [bad(), "db1"],
+            1,
+            "db1: visudo refuses what came from http://127.0.0.1:",
+        ),
+        (
+            "a file that is cut short",
+            [f"http://{answer_once(cut_short)}", "db1"],
+            1,
+            "did not answer with a file: curl: (18)",
+        ),
         ("no server", [nobody, "db1"], 1, f"{nobody} did not answer with a file: curl: (7)"),
-        ("no server, then a desk", [nobody, desk, "db1"], 0, f"{nobody} did not answer with a file: curl: (7)"),
-        ("what is no sudoers file, then a desk", [bad(), desk, "db1"], 0, "visudo refuses what came from"),
+        (
+            "no server, then a desk",
+            [nobody, desk, "db1"],
+            0,
+            f"{nobody} did not answer with a file: curl: (7)",
+        ),
+        (
+            "what is no sudoers file, then a desk",
+            [bad(), desk, "db1"],
+            0,
+            "visudo refuses what came from",
+        ),
         ("a desk, then none", [desk, nobody, "db1"], 0, None),
-        ("none twice", [nobody, nobody, "db1"], 1, "no desk answered with a file for db1 that visudo accepts"),
-        ("a clock that differs", [f"http://{answer_once(long_ago)}", "db1"], 0, "seconds from that of http://127.0.0.1:"),
+        (
+            "none twice",
+            [nobody, nobody, "db1"],
+            1,
+            "no desk answered with a file for db1 that visudo accepts",
+        ),
+        (
+            "a clock that differs",
+            [f"http://{answer_once(long_ago)}", "db1"],
+            0,
+            "seconds from that of http://127.0.0.1:",
+        ),
         ("the file again", [desk, "db1"], 0, None),
-        ("no certificate", ["--cert", "/nowhere.pem", desk, "db1"], 1, "cannot read the certificate /nowhere.pem"),
-        ("empty words in their places", ["--cert", "", "--key", "", "--ca", "", desk, "db1"], 0, None),
+        (
+            "no certificate",
+            ["--cert", "/nowhere.pem", desk, "db1"],
+            1,
+            "cannot read the certificate /nowhere.pem",
+        ),
+        (
+            "empty words in their places",
+            ["--cert", "", "--key", "", "--ca", "", desk, "db1"],
+            0,
+            None,
+        ),
         ("no key", ["--key", "/nowhere.key", desk, "db1"], 1, "cannot read the key /nowhere.key"),
-        ("no authority", ["--ca", "/nowhere.pem", desk, "db1"], 1, "cannot read the CA certificate /nowhere.pem"),
+        (
+            "no authority",
+            ["--ca", "/nowhere.pem", desk, "db1"],
+            1,
+            "cannot read the CA certificate /nowhere.pem",
+        ),
         ("an option that it has not", ["--no", "x", desk, "db1"], 2, "usage: "),
         ("no desk", ["db1"], 2, "usage: "),
     ]
 
 
-def fetch_files(address):
-    """examples/fetch-sudoers.sh puts the host's file in place, and on any fault keeps the old one and leaves nothing else."""
+def fetch_files(address: str) -> Counts:
+    """examples/fetch-sudoers.sh puts the host's file in place, and on any fault keeps the old one
+    and leaves nothing else."""
     line = grant_now(address)
     wrong, rows = 0, fetch_rows(address, line)
     with tempfile.TemporaryDirectory() as folder:
@@ -569,7 +786,12 @@ def fetch_files(address):
             ended, said = fetch(words, file)
             with open(file, "rb") as found:
                 text = found.read()
-                is_right = text.endswith(line) and LINE not in text and os.listdir(folder) == ["desk"] and os.stat(file).st_mode & 0o777 == 0o440
+                is_right = (
+                    text.endswith(line)
+                    and LINE not in text
+                    and os.listdir(folder) == ["desk"]
+                    and os.stat(file).st_mode & 0o777 == 0o440
+                )
             # (the file's time is that of the last fetch that succeeded)
             is_right = is_right and (os.stat(file).st_mtime > 0) == (status == 0)
             if ended != status or not is_right or (says or "") not in said or says is None and said:
@@ -578,10 +800,18 @@ def fetch_files(address):
     return len(rows), wrong
 
 
-def main():
+def main() -> None:
     counts = [ask_exactly(), ask_reports()]
-    with serving(ROSTER, BASE) as address:
-        for part in (ask_all, ask_as_python, check_file, ask_later_files, fetch_files, leave_at_each_byte, change_requests):
+    with serving(desk.ROSTER, desk.BASE) as address:
+        for part in (
+            ask_all,
+            ask_as_python,
+            check_file,
+            ask_later_files,
+            fetch_files,
+            leave_at_each_byte,
+            change_requests,
+        ):
             counts.append(part(address))
     asks, wrong = (sum(each) for each in zip(*counts, strict=True))
     print(f"over HTTP the desk was asked {asks} times: {wrong} otherwise than they say")

@@ -6,10 +6,8 @@ not well.
 """
 
 import contextlib
-import json
 import os
 import re
-import signal
 import subprocess
 import sys
 import tempfile
@@ -17,70 +15,36 @@ import time
 import urllib.request
 from collections.abc import Iterator
 
-ROOT = os.path.dirname(os.path.dirname(os.path.abspath(__file__)))
-DESK = sys.argv[1:] or [os.path.join(ROOT, "build", "desk")]
-CHECK = os.path.join(ROOT, "examples", "monitoring", "check_desk.py")
+import desk
+
+CHECK = os.path.join(desk.EXAMPLES, "monitoring", "check_desk.py")
 NOW = int(time.time())
 HOUR, DAY = 3600, 86_400
 LINE = re.compile(r"# HELP (desk_[a-z_]+) \S.*|# TYPE (desk_[a-z_]+) gauge|(desk_[a-z_]+) [0-9]+")
 
 
-def stamp(moment: int) -> str:
-    return time.strftime("%Y%m%d%H%M%SZ", time.gmtime(moment))
-
-
-def canonical(value: dict) -> str:
-    return json.dumps(value, sort_keys=True, separators=(",", ":"))
-
-
-def approval(at: int, number: int = 7) -> str:
-    return canonical({"at": stamp(at), "by": "bob", "kind": "approve", "no": number, "of": "ann"})
+def approval(at: int) -> str:
+    return desk.approval(at=desk.stamp(at))
 
 
 def request(command: str) -> str:
-    return canonical(
-        {
-            "at": stamp(NOW - HOUR),
-            "by": "ann",
-            "ceiling": "db-care",
-            "cmnds": [command],
-            "from": stamp(NOW - HOUR),
-            "hosts": ["db1"],
-            "kind": "request",
-            "no": 7,
-            "runas": "root",
-            "until": stamp(NOW + HOUR // 2),
-        }
-    )
-
-
-def examples(name: str) -> str:
-    with open(os.path.join(ROOT, "examples", name), encoding="utf-8") as file:
-        return file.read()
+    first, last = desk.stamp(NOW - HOUR), desk.stamp(NOW + HOUR // 2)
+    return desk.request(cmnds=[command], at=first, until=last, **{"from": first})
 
 
 @contextlib.contextmanager
 def serving(folder: str, roster: str, base: str, messages: list[str]) -> Iterator[str]:
     """A desk that was told the messages, over the store desk.db of the folder: its address."""
-    for name, text in (("roster.toml", roster), ("base.sudo", base)):
-        with open(os.path.join(folder, name), "w", encoding="utf-8") as file:
-            file.write(text)
-    places = [os.path.join(folder, name) for name in ("roster.toml", "base.sudo", "desk.db")]
+    files = desk.write(folder, "roster.toml", roster), desk.write(folder, "base.sudo", base)
+    store = os.path.join(folder, "desk.db")
     for end in ("", "-wal"):
         with contextlib.suppress(FileNotFoundError):
-            os.unlink(places[2] + end)
-    with subprocess.Popen(
-        [*DESK, "serve", *places, "127.0.0.1:0"], stdout=subprocess.PIPE, stderr=subprocess.DEVNULL, text=True
-    ) as server:
-        try:
-            address = server.stdout.readline().split()[1]
-            for line in messages:
-                urllib.request.urlopen(
-                    f"http://{address}/v1/relays/chat/messages", line.encode(), timeout=20
-                ).read()
-            yield f"http://{address}"
-        finally:
-            server.send_signal(signal.SIGTERM)
+            os.unlink(store + end)
+    with desk.Server(store, program=desk.named(), roster=files[0], base=files[1]) as server:
+        for line in messages:
+            target = f"http://{server.address}/v1/relays/chat/messages"
+            urllib.request.urlopen(target, line.encode(), timeout=20).read()
+        yield f"http://{server.address}"
 
 
 def check(*words: str) -> tuple[int, str]:
@@ -97,7 +61,7 @@ def check(*words: str) -> tuple[int, str]:
 def desk_rows() -> list[tuple[str, str, str, list[str], int, str]]:
     """What it is about, the roster, the base, the messages, and the status and the line of the
     check."""
-    roster, base = examples("roster.toml"), examples("site.sudo")
+    roster, base = desk.read(desk.ROSTER), desk.read(desk.BASE)
     calm = roster.replace('eve = ["approve-db", "audit"]', 'eve = ["audit"]')
     granted = [request("/usr/bin/id"), approval(NOW - HOUR)]
     return [

@@ -1,9 +1,12 @@
 #!/usr/bin/env python3
-"""Peers of `desk serve` that would hold it: an honest one beside each of them is answered all the same.
+"""Peers of `desk serve` that would hold it: an honest one beside each of them is answered all the
+same.
 
-One sends a byte every nine seconds, a thousand connect and send nothing, one reads a large file a little at a time, and one goes on sending once it is answered. Each is
-let go in its time. Then a standard error that nobody reads, descriptors that were closed before the start, a file that may not grow, and a disk that is full (as root).
-`peers_patience.py WORDS..` runs another program than build/desk; `--only PART..` before them tries some of the parts.
+One sends a byte every nine seconds, a thousand connect and send nothing, one reads a large file a
+little at a time, and one goes on sending once it is answered. Each is let go in its time. Then a
+standard error that nobody reads, descriptors that were closed before the start, a file that may not
+grow, and a disk that is full (as root). `peers_patience.py WORDS..` runs another program than
+build/desk; `--only PART..` before them tries some of the parts.
 """
 
 import contextlib
@@ -18,83 +21,53 @@ import tempfile
 import threading
 import time
 
-ROOT = os.path.dirname(os.path.dirname(os.path.abspath(__file__)))
-ROSTER = os.path.join(ROOT, "examples", "roster.toml")
-BASE = os.path.join(ROOT, "examples", "site.sudo")
+import desk
+
 IDLE = 1_000
 # the seconds in which an honest peer is answered, beside any other and beside the idle ones
 SOON, AT_ONCE = 15, 2
-# the seconds in which a request has to come, and a reply to go out; and what a test's own clock may be off
+# the seconds in which a request has to come, and a reply to go out; and what a test's own clock may
+# be off
 TO_ASK, TO_ANSWER, OFF = 10, 30, 3
-# Requests with their approvals, each of fourteen long commands: a host's file of 3.3 MB, which is more than the kernel keeps of a reply.
+# Requests with their approvals, each of fourteen long commands: a host's file of 3.3 MB, which is
+# more than the kernel keeps of a reply.
 GRANTS, COMMANDS = 230, 14
 RUDE = 6_000
 
 
-def asked(target):
-    return b"GET %s HTTP/1.1\r\nHost: desk\r\n\r\n" % target
+PARKED = desk.asked(b"GET", b"/v1/parked")
 
 
-def posted(body):
-    return b"POST /v1/relays/chat/messages HTTP/1.1\r\nHost: desk\r\nContent-Length: %d\r\n\r\n%s" % (len(body), body)
+def approval(number: int) -> bytes:
+    return desk.approval(number).encode()
 
 
-def approval(number):
-    return b'{"at":"20260105083000Z","by":"bob","kind":"approve","no":%d,"of":"ann"}' % number
-
-
-def long_request(number):
+def long_request(number: int) -> bytes:
     """A request of commands of 940 bytes."""
-    words = b" ".join([b"y" * 60] * 15)
-    commands = b",".join(b'"/usr/local/sbin/%03d-%02d %s"' % (number, at, words) for at in range(COMMANDS))
-    return (
-        b'{"at":"20260105060000Z","by":"ann","ceiling":"db-care","cmnds":[%s],"from":"20260105090000Z","hosts":["db1"],"kind":"request","no":%d,"runas":"root",'
-        b'"until":"20260105110000Z"}' % (commands, number)
-    )
+    words = " ".join(["y" * 60] * 15)
+    commands = [f"/usr/local/sbin/{number:03}-{at:02} {words}" for at in range(COMMANDS)]
+    return desk.request(number, cmnds=commands).encode()
 
 
 class Count:
     """How many things were tried, and how many went wrong."""
 
-    def __init__(self):
+    def __init__(self) -> None:
         self.tried = self.wrong = 0
 
-    def holds(self, what, is_right, found=""):
+    def holds(self, what: str, is_right: bool, found: object = "") -> None:
         self.tried += 1
         if not is_right:
             self.wrong += 1
             print(f"{what}: {str(found)[:300]}", flush=True)
 
 
-class Server:
-    """A desk that is served, and where it listens."""
+class Server(desk.Server):
+    """A desk that is served, and is asked by an honest peer."""
 
-    def __init__(self, words, store="-", before=(), **given):
-        given.setdefault("stderr", subprocess.DEVNULL)
-        self.process = subprocess.Popen([*before, *words, "serve", ROSTER, BASE, store, "127.0.0.1:0"], stdout=subprocess.PIPE, **given)
-        said = self.process.stdout.readline().split()
-        if len(said) != 2:
-            self.process.kill()
-            sys.exit(f"the desk does not listen: {said}")
-        self.port = int(said[1].rpartition(b":")[2])
-
-    def __enter__(self):
-        return self
-
-    def __exit__(self, *_):
-        self.process.kill()
-        self.process.wait(timeout=20)
-
-    def connect(self, room=None):
-        peer = socket.socket()
-        if room:
-            peer.setsockopt(socket.SOL_SOCKET, socket.SO_RCVBUF, room)
-        peer.settimeout(60)
-        peer.connect(("127.0.0.1", self.port))
-        return peer
-
-    def reply(self, given):
-        """The whole reply to a peer that sends and reads at once, and after how many seconds it came."""
+    def reply(self, given: bytes) -> tuple[bytes, float]:
+        """The whole reply to a peer that sends and reads at once, and after how many seconds it
+        came."""
         begun, whole = time.monotonic(), b""
         with contextlib.suppress(OSError), self.connect() as peer:
             peer.sendall(given)
@@ -102,13 +75,17 @@ class Server:
                 whole += piece
         return whole, time.monotonic() - begun
 
-    def is_honest(self, count, what, most):
+    def is_honest(self, count: Count, what: str, most: float) -> None:
         """An honest peer is answered in so many seconds."""
-        whole, took = self.reply(asked(b"/v1/parked"))
-        count.holds(f"an honest peer beside {what}", whole.startswith(b"HTTP/1.1 200 OK\r\n") and took < most, f"{took:.1f} s, {whole[:80]!r}")
+        whole, took = self.reply(PARKED)
+        count.holds(
+            f"an honest peer beside {what}",
+            whole.startswith(b"HTTP/1.1 200 OK\r\n") and took < most,
+            f"{took:.1f} s, {whole[:80]!r}",
+        )
 
 
-def closed_after(peer, begun, most):
+def closed_after(peer: socket.socket, begun: float, most: float) -> float | None:
     """After how many seconds the peer is let go; None where it is not."""
     peer.settimeout(most)
     with contextlib.suppress(ConnectionError):
@@ -120,13 +97,13 @@ def closed_after(peer, begun, most):
     return time.monotonic() - begun
 
 
-def drip(count, words):
+def drip(count: Count, words: list[str]) -> None:
     """A byte every nine seconds: it is let go ten seconds after it connected."""
-    with Server(words) as server, server.connect() as slow:
+    with Server(program=words) as server, server.connect() as slow:
         begun, stop = time.monotonic(), threading.Event()
 
-        def send():
-            for byte in asked(b"/v1/parked"):
+        def send() -> None:
+            for byte in PARKED:
                 with contextlib.suppress(OSError):
                     slow.send(bytes([byte]))
                 if stop.wait(9):
@@ -137,14 +114,18 @@ def drip(count, words):
         time.sleep(0.5)
         server.is_honest(count, "one byte every nine seconds", SOON)
         took = closed_after(slow, begun, TO_ASK + OFF + 10)
-        count.holds("one byte every nine seconds is let go", took is not None and TO_ASK - OFF < took < TO_ASK + OFF, took)
+        count.holds(
+            "one byte every nine seconds is let go",
+            took is not None and TO_ASK - OFF < took < TO_ASK + OFF,
+            took,
+        )
         stop.set()
         sender.join()
 
 
-def idle(count, words):
+def idle(count: Count, words: list[str]) -> None:
     """A thousand that send nothing: they are let go after ten seconds, and cost nobody a second."""
-    with Server(words) as server, contextlib.ExitStack() as kept:
+    with Server(program=words) as server, contextlib.ExitStack() as kept:
         peers = [kept.enter_context(server.connect()) for _ in range(IDLE)]
         begun = time.monotonic()
         for _ in range(3):
@@ -154,43 +135,72 @@ def idle(count, words):
         server.is_honest(count, "idle ones that were let go", AT_ONCE)
 
 
-def idle_with_few_descriptors(count, words):
+def idle_with_few_descriptors(count: Count, words: list[str]) -> None:
     """The same where the desk may open few descriptors: messages are kept meanwhile."""
     with tempfile.TemporaryDirectory() as folder:
         before = ["prlimit", "--nofile=40:40"]
-        with Server(words, os.path.join(folder, "desk.db"), before) as server, contextlib.ExitStack() as kept:
+        with Server(
+            os.path.join(folder, "desk.db"), program=words, before=before
+        ) as server, contextlib.ExitStack() as kept:
             for _ in range(200):
                 kept.enter_context(server.connect())
             for number in range(20):
-                whole, took = server.reply(posted(approval(number)))
-                count.holds("a message beside idle ones and few descriptors", whole.endswith(b"\r\n\r\nack\n") and took < AT_ONCE, f"{took:.1f} s, {whole[-80:]!r}")
+                whole, took = server.reply(desk.posted(b"chat", approval(number)))
+                count.holds(
+                    "a message beside idle ones and few descriptors",
+                    whole.endswith(b"\r\n\r\nack\n") and took < AT_ONCE,
+                    f"{took:.1f} s, {whole[-80:]!r}",
+                )
 
 
-def slow_reader(count, words):
-    """A large file that is read a little at a time: it is let go after thirty seconds, and one that reads gets it whole."""
+def slow_reader(count: Count, words: list[str]) -> None:
+    """A large file that is read a little at a time: it is let go after thirty seconds, and one that
+    reads gets it whole."""
     with tempfile.TemporaryDirectory() as folder:
         store = os.path.join(folder, "desk.db")
-        lines = b"".join(long_request(number) + b"\n" + approval(number) + b"\n" for number in range(GRANTS))
-        done = subprocess.run([*words, "deliver", ROSTER, BASE, store, "chat"], input=lines, stdout=subprocess.PIPE, check=True)
-        count.holds("the grants are there", done.stdout == b"ack\n" * (2 * GRANTS), done.stdout[-80:])
-        with Server(words, store) as server:
-            whole, took = server.reply(asked(b"/v1/hosts/db1/sudoers"))
-            count.holds("a large file", len(whole) > 3_000_000 and whole.startswith(b"HTTP/1.1 200 OK\r\n"), f"{took:.1f} s, {len(whole)} bytes")
+        lines = b"".join(
+            long_request(number) + b"\n" + approval(number) + b"\n" for number in range(GRANTS)
+        )
+        done = subprocess.run(
+            [*words, "deliver", desk.ROSTER, desk.BASE, store, "chat"],
+            input=lines,
+            stdout=subprocess.PIPE,
+            check=True,
+        )
+        count.holds(
+            "the grants are there", done.stdout == b"ack\n" * (2 * GRANTS), done.stdout[-80:]
+        )
+        with Server(store, program=words) as server:
+            whole, took = server.reply(desk.asked(b"GET", b"/v1/hosts/db1/sudoers"))
+            count.holds(
+                "a large file",
+                len(whole) > 3_000_000 and whole.startswith(b"HTTP/1.1 200 OK\r\n"),
+                f"{took:.1f} s, {len(whole)} bytes",
+            )
             with contextlib.ExitStack() as kept:
                 peers = [kept.enter_context(server.connect(room=4096)) for _ in range(4)]
                 begun = time.monotonic()
                 for peer in peers:
-                    peer.sendall(asked(b"/v1/hosts/db1/sudoers"))
+                    peer.sendall(desk.asked(b"GET", b"/v1/hosts/db1/sudoers"))
                 time.sleep(1)
                 server.is_honest(count, "slow readers of a large file", SOON)
-                again, took = server.reply(asked(b"/v1/hosts/db1/sudoers"))
-                count.holds("the file beside slow readers", again == whole and took < SOON, f"{took:.1f} s, {len(again)} bytes")
+                again, took = server.reply(desk.asked(b"GET", b"/v1/hosts/db1/sudoers"))
+                count.holds(
+                    "the file beside slow readers",
+                    again == whole and took < SOON,
+                    f"{took:.1f} s, {len(again)} bytes",
+                )
                 came = read_slowly(peers[0], begun)
-                count.holds("a slow reader is let go", came < len(whole), f"it got {came} of {len(whole)} bytes")
+                count.holds(
+                    "a slow reader is let go",
+                    came < len(whole),
+                    f"it got {came} of {len(whole)} bytes",
+                )
 
 
-def read_slowly(peer, begun):
-    """Reads a little each second until past the time in which a reply has to go out, and then what is still there; answers how much came."""
+def read_slowly(peer: socket.socket, begun: float) -> int:
+    """Reads a little each second until past the time in which a reply has to go out, and then what
+    is still there; answers how much came."""
     came = 0
     with contextlib.suppress(ConnectionError):
         while time.monotonic() - begun < TO_ANSWER + OFF:
@@ -201,13 +211,13 @@ def read_slowly(peer, begun):
     return came
 
 
-def late_sender(count, words):
+def late_sender(count: Count, words: list[str]) -> None:
     """One that goes on sending, a byte at a time, once it is answered."""
-    with Server(words) as server, server.connect() as late:
+    with Server(program=words) as server, server.connect() as late:
         stop = threading.Event()
-        late.sendall(asked(b"/v1/parked"))
+        late.sendall(PARKED)
 
-        def send():
+        def send() -> None:
             while not stop.wait(0.5):
                 with contextlib.suppress(OSError):
                     late.send(b"x")
@@ -220,29 +230,33 @@ def late_sender(count, words):
         sender.join()
 
 
-def unread_error(count, words):
+def unread_error(count: Count, words: list[str]) -> None:
     """Nobody reads the standard error: the lines that find no room are dropped, and said to be."""
-    with Server(words, stderr=subprocess.PIPE) as server:
+    with Server(program=words, stderr=subprocess.PIPE) as server:
         for _ in range(RUDE):
             with contextlib.suppress(OSError), server.connect() as peer:
                 peer.setsockopt(socket.SOL_SOCKET, socket.SO_LINGER, struct.pack("ii", 1, 0))
                 peer.sendall(b"GET /")
         server.is_honest(count, "a standard error that nobody reads", AT_ONCE)
-        os.set_blocking(server.process.stderr.fileno(), False)
-        said = server.process.stderr.read() or b""
+        os.set_blocking(server.error.fileno(), False)
+        said = server.error.read() or b""
         count.holds("what nobody read is full", len(said) > 60_000, len(said))
         with contextlib.suppress(OSError), server.connect() as peer:
             peer.setsockopt(socket.SOL_SOCKET, socket.SO_LINGER, struct.pack("ii", 1, 0))
             peer.sendall(b"GET /")
-        server.reply(asked(b"/v1/parked"))
-        more = server.process.stderr.read() or b""
-        count.holds("the lines that were dropped are told", b" lines were dropped" in more, more[:300])
+        server.reply(PARKED)
+        more = server.error.read() or b""
+        count.holds(
+            "the lines that were dropped are told", b" lines were dropped" in more, more[:300]
+        )
 
 
-def closed_descriptors(count, words):
+def closed_descriptors(count: Count, words: list[str]) -> None:
     """The desk begins without a standard input and error: no peer's socket takes their place."""
-    with Server(words, before=["sh", "-c", 'exec "$@" <&- 2>&-', "sh"]) as server:
-        found = {number: os.readlink(f"/proc/{server.process.pid}/fd/{number}") for number in (0, 2)}
+    with Server(program=words, before=["sh", "-c", 'exec "$@" <&- 2>&-', "sh"]) as server:
+        found = {
+            number: os.readlink(f"/proc/{server.process.pid}/fd/{number}") for number in (0, 2)
+        }
         count.holds("closed descriptors", set(found.values()) == {"/dev/null"}, found)
         with server.connect() as rude, server.connect() as second:
             rude.setsockopt(socket.SOL_SOCKET, socket.SO_LINGER, struct.pack("ii", 1, 0))
@@ -251,58 +265,105 @@ def closed_descriptors(count, words):
             time.sleep(0.2)
             rude.close()
             time.sleep(0.2)
-            second.sendall(asked(b"/v1/parked")[1:])
+            second.sendall(PARKED[1:])
             whole = b""
             while piece := second.recv(65536):
                 whole += piece
         count.holds("a peer beside one that fails", whole.startswith(b"HTTP/1.1 200 OK\r\n"), whole)
 
 
-def limited_file(count, words):
-    """The store may not grow past a size: the message is refused with K4, and the desk serves on. The signal that the kernel sends has to be ignored, as
-    `desk-serve` of the package does."""
+def limited_file(count: Count, words: list[str]) -> None:
+    """The store may not grow past a size: the message is refused with K4, and the desk serves on.
+    The signal that the kernel sends has to be ignored, as `desk-serve` of the package does."""
     with tempfile.TemporaryDirectory() as folder:
         store = os.path.join(folder, "desk.db")
         # 1 MiB: a new store's log has some 260 KB at once, and the messages are 2.9 MB
-        before = ["prlimit", f"--fsize={2**20}:{2**20}", "sh", "-c", "trap '' XFSZ; exec \"$@\"", "sh"]
-        with Server(words, store, before, stderr=subprocess.PIPE) as server:
-            bodies = [server.reply(posted(long_request(number)))[0] for number in range(200)]
+        before = [
+            "prlimit",
+            f"--fsize={2**20}:{2**20}",
+            "sh",
+            "-c",
+            "trap '' XFSZ; exec \"$@\"",
+            "sh",
+        ]
+        with Server(store, program=words, before=before, stderr=subprocess.PIPE) as server:
+            bodies = [
+                server.reply(desk.posted(b"chat", long_request(number)))[0] for number in range(200)
+            ]
             ends = [body.endswith(b"\r\n\r\nack\n") for body in bodies]
-            count.holds("messages until the file is full", ends[0] and not ends[-1] and bodies[-1].endswith(b"\r\n\r\nK4 Storage\n"), bodies[-1][-80:])
-            whole, _ = server.reply(asked(b"/v1/parked"))
-            count.holds("a question afterwards", whole.startswith((b"HTTP/1.1 200 OK\r\n", b"HTTP/1.1 503 ")), whole[:80])
+            count.holds(
+                "messages until the file is full",
+                ends[0] and not ends[-1] and bodies[-1].endswith(b"\r\n\r\nK4 Storage\n"),
+                bodies[-1][-80:],
+            )
+            whole, _ = server.reply(PARKED)
+            count.holds(
+                "a question afterwards",
+                whole.startswith((b"HTTP/1.1 200 OK\r\n", b"HTTP/1.1 503 ")),
+                whole[:80],
+            )
             count.holds("the desk is there", server.process.poll() is None)
             server.process.send_signal(signal.SIGTERM)
-            said = server.process.stderr.read()
+            said = server.error.read()
             count.holds("K4 is said", b"answered K4 Storage\n" in said, said[-300:])
         kept = sum(ends)
-        with Server(words, store) as server:
-            whole, _ = server.reply(posted(long_request(0)))
-            count.holds(f"the desk with {kept} messages goes on where the file may grow", whole.endswith(b"\r\n\r\nack\n"), whole[-80:])
+        with Server(store, program=words) as server:
+            whole, _ = server.reply(desk.posted(b"chat", long_request(0)))
+            count.holds(
+                f"the desk with {kept} messages goes on where the file may grow",
+                whole.endswith(b"\r\n\r\nack\n"),
+                whole[-80:],
+            )
 
 
-def full_disk(count, words):
+def full_disk(count: Count, words: list[str]) -> None:
     """A new store on a full disk is refused at once."""
     if os.geteuid() != 0:
         return
     with tempfile.TemporaryDirectory() as folder:
-        script = 'mount -t tmpfs -o size=64k none "$1" && head -c 70000 /dev/zero > "$1/filler" 2>/dev/null; shift; exec "$@"'
+        script = (
+            'mount -t tmpfs -o size=64k none "$1" && head -c 70000 /dev/zero > "$1/filler"'
+            ' 2>/dev/null; shift; exec "$@"'
+        )
         given = ["unshare", "--mount", "--propagation", "private", "sh", "-c", script, "sh", folder]
-        given += [*words, "serve", ROSTER, BASE, os.path.join(folder, "desk.db"), "127.0.0.1:0", "--requests", "1"]
+        given += [
+            *words,
+            "serve",
+            desk.ROSTER,
+            desk.BASE,
+            os.path.join(folder, "desk.db"),
+            "127.0.0.1:0",
+            "--requests",
+            "1",
+        ]
         done = subprocess.run(given, capture_output=True, timeout=20, check=False)
-        count.holds("a new store on a full disk", (done.returncode, done.stdout, done.stderr) == (2, b"", b"K4 Storage\n"), done)
+        count.holds(
+            "a new store on a full disk",
+            (done.returncode, done.stdout, done.stderr) == (2, b"", b"K4 Storage\n"),
+            done,
+        )
 
 
-PARTS = (drip, idle, idle_with_few_descriptors, slow_reader, late_sender, unread_error, closed_descriptors, limited_file, full_disk)
+PARTS = (
+    drip,
+    idle,
+    idle_with_few_descriptors,
+    slow_reader,
+    late_sender,
+    unread_error,
+    closed_descriptors,
+    limited_file,
+    full_disk,
+)
 
 
-def main():
-    words, parts = sys.argv[1:], PARTS
+def main() -> None:
+    words, parts = sys.argv[1:], list(PARTS)
     if words[:1] == ["--only"]:
         names = [part.__name__ for part in PARTS]
         chosen = [word for word in words[1:] if word in names]
         words, parts = words[1 + len(chosen) :], [part for part in PARTS if part.__name__ in chosen]
-    words = words or [os.path.join(ROOT, "build", "desk")]
+    words = words or desk.PROGRAM
     _, most = resource.getrlimit(resource.RLIMIT_NOFILE)
     resource.setrlimit(resource.RLIMIT_NOFILE, (min(most, 4_096), most))
     count = Count()
@@ -311,7 +372,10 @@ def main():
             part(count, words)
         except (OSError, subprocess.SubprocessError) as error:
             count.holds(part.__name__, False, repr(error))
-    print(f"{count.tried} things were tried with peers that would hold the desk: {count.wrong} went otherwise")
+    print(
+        f"{count.tried} things were tried with peers that would hold the desk: {count.wrong} went"
+        " otherwise"
+    )
     sys.exit(1 if count.wrong else 0)
 
 

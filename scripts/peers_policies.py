@@ -1,8 +1,11 @@
 #!/usr/bin/env python3
-"""Asks sudo what random policies decide: aliases nested in aliases, with signs at every depth, and times with offsets from UTC.
+"""Asks sudo what random policies decide: aliases nested in aliases, with signs at every depth, and
+times with offsets from UTC.
 
-Each policy has to pass `visudo -c`. Of each, sudo is asked once by `sudo -l` (scripts/sudo_peer.py), and of each time at the second before its
-bound, at the bound and a second after it; `desk decide` has to answer as sudo does. It prints what is otherwise, and ends with the counts; the seed is fixed.
+Each policy has to pass `visudo -c`. Of each, sudo is asked once by `sudo -l`
+(scripts/sudo_peer.py), and of each time at the second before its bound, at the bound and a second
+after it; `desk decide` has to answer as sudo does. It prints what is otherwise, and ends with the
+counts; the seed is fixed.
 """
 
 import os
@@ -10,31 +13,41 @@ import random
 import sys
 import tempfile
 import time
+from collections.abc import Mapping, Sequence
+from typing import NoReturn
 
-from sudo_peer import accepts, allows, clear, enter_namespace, furnish, run, tool
+import desk
+from sudo_peer import accepts, allows, clear, enter_namespace, furnish
 
-ROOT = os.path.dirname(os.path.dirname(os.path.abspath(__file__)))
-DESK = os.path.join(ROOT, "build", "desk")
 POLICIES, TIMES = 2000, 200
 USERS, HOSTS, TARGETS = ("ann", "bob", "eve", "kim"), ("db1", "db2", "web1"), ("root", "op", "dba")
 FILES = ("/srv/bin/ls", "/srv/bin/kill", "/srv/lib/tool", "/srv/lib/deep/tool")
 COMMANDS = (*FILES, "/srv/bin/", "/srv/lib/", '/srv/bin/ls ""', "/srv/bin/ls -l")
-KINDS = (("User_Alias", USERS), ("Host_Alias", HOSTS), ("Runas_Alias", TARGETS), ("Cmnd_Alias", COMMANDS))
+KINDS = (
+    ("User_Alias", USERS),
+    ("Host_Alias", HOSTS),
+    ("Runas_Alias", TARGETS),
+    ("Cmnd_Alias", COMMANDS),
+)
 LAST = 4102444799
+NO_OR_ONE: list[list[str]] = [[], [], ["-l"], ["-a"]]
 
 
-def signed(rng, word):
+def signed(rng: random.Random, word: str) -> str:
     return rng.choice(("", "", "", "!", "!!")) + word
 
 
-def some_of(rng, words, aliases, most):
+def some_of(rng: random.Random, words: Sequence[str], aliases: list[str], most: int) -> str:
     """A list of words and aliases, some of them negated."""
-    return ", ".join(signed(rng, rng.choice([*words, "ALL", *aliases * 3])) for _ in range(rng.randint(1, most)))
+    return ", ".join(
+        signed(rng, rng.choice([*words, "ALL", *aliases * 3])) for _ in range(rng.randint(1, most))
+    )
 
 
-def alias_policy(rng):
+def alias_policy(rng: random.Random) -> str:
     """Aliases of each kind, each over those above it, and rules over all of them."""
-    lines, names = [], {}
+    lines: list[str] = []
+    names: dict[str, list[str]] = {}
     for kind, words in KINDS:
         names[kind] = []
         for number in range(rng.randint(1, 5)):
@@ -42,22 +55,28 @@ def alias_policy(rng):
             lines.append(f"{kind} {name} = {some_of(rng, words, names[kind], 3)}")
             names[kind].append(name)
     for _ in range(rng.randint(1, 3)):
-        users, hosts, targets, commands = (some_of(rng, words, names[kind], 2) for kind, words in KINDS)
+        users, hosts, targets, commands = (
+            some_of(rng, words, names[kind], 2) for kind, words in KINDS
+        )
         lines.append(f"{users} {hosts} = ({targets}) {commands}")
     return "".join(f"{line}\n" for line in lines)
 
 
-def invocation(rng):
+def invocation(rng: random.Random) -> list[str]:
     path = rng.choice(FILES)
-    return [rng.choice(USERS), rng.choice(HOSTS), rng.choice(TARGETS), "20260105093000Z", path, *rng.choice(([], [], ["-l"], ["-a"]))]
+    return [
+        rng.choice(USERS),
+        rng.choice(HOSTS),
+        rng.choice(TARGETS),
+        "20260105093000Z",
+        path,
+        *rng.choice(NO_OR_ONE),
+    ]
 
 
-def stamp(moment):
-    return time.strftime("%Y%m%d%H%M%SZ", time.gmtime(moment))
-
-
-def spelled(rng, moment):
-    """A spelling of the moment by a clock ahead of UTC or behind it; it may lack seconds or minutes where they are zero."""
+def spelled(rng: random.Random, moment: int) -> str:
+    """A spelling of the moment by a clock ahead of UTC or behind it; it may lack seconds or minutes
+    where they are zero."""
     offset = rng.choice((0, 1, 59, 60, 330, 720, 845, 1439))
     sign = rng.choice((1, -1))
     text = time.strftime("%Y%m%d%H%M%S", time.gmtime(moment + sign * offset * 60))
@@ -66,59 +85,71 @@ def spelled(rng, moment):
     return f"{text}{'+' if sign > 0 else '-'}{offset // 60:02}{offset % 60:02}"
 
 
-def bound(rng):
-    """A moment, often at the end of a day, a month or a year; far enough from 1970 and 2099 that a clock beside UTC shows a year of four digits in both."""
-    moment = rng.choice((rng.randrange(86400 * 2, LAST - 86400 * 2), 951782400, 951868800, 1767225600, 1767139200 + 86399, 4107542400 - 86400 * 61))
+def bound(rng: random.Random) -> int:
+    """A moment, often at the end of a day, a month or a year; far enough from 1970 and 2099 that a
+    clock beside UTC shows a year of four digits in both."""
+    moment = rng.choice(
+        (
+            rng.randrange(86400 * 2, LAST - 86400 * 2),
+            951782400,
+            951868800,
+            1767225600,
+            1767139200 + 86399,
+            4107542400 - 86400 * 61,
+        )
+    )
     return moment - rng.choice((0, moment % 60, moment % 3600))
 
 
 class Run:
     """The comparison, and its counts."""
 
-    def __init__(self, folder, programs, sudoers):
+    def __init__(self, folder: str, programs: Mapping[str, str], sudoers: str) -> None:
         self.folder, self.programs, self.sudoers = folder, programs, sudoers
         self.asked = self.allowed = self.wrong = 0
 
-    def policy(self, text):
+    def policy(self, text: str) -> str | None:
         """Puts a policy in place for both, where visudo accepts it."""
         if not accepts(self.programs["visudo"], f"{text!r}", text, self.folder):
             self.wrong += 1
             return None
-        path = os.path.join(self.folder, "policy")
-        for place in (path, self.sudoers):
-            with open(place, "w") as file:
-                file.write(text)
-        return path
+        desk.write(os.path.dirname(self.sudoers), os.path.basename(self.sudoers), text)
+        return desk.write(self.folder, "policy", text)
 
-    def ask(self, path, words, text):
+    def ask(self, path: str, words: list[str], text: str) -> None:
         theirs = allows(self.programs, words)
-        answer = run([DESK, "decide", path, *words[:5], "--", *words[5:]])
+        answer = desk.run([*desk.PROGRAM, "decide", path, *words[:5], "--", *words[5:]])
         self.asked += 1
         self.allowed += theirs
         if answer.returncode not in (0, 1) or answer.stdout.startswith("allow") != theirs:
             self.wrong += 1
-            print(f"{text}{' '.join(words)}: sudo {'allows' if theirs else 'denies'}, the desk says {(answer.stdout + answer.stderr).strip()}")
+            print(
+                f"{text}{' '.join(words)}: sudo {'allows' if theirs else 'denies'}, the desk says"
+                f" {(answer.stdout + answer.stderr).strip()}"
+            )
 
-    def aliases(self, rng):
+    def aliases(self, rng: random.Random) -> None:
         text = alias_policy(rng)
         path = self.policy(text)
         if path:
             self.ask(path, invocation(rng), text)
 
-    def times(self, rng):
+    def times(self, rng: random.Random) -> None:
         moment, option = bound(rng), rng.choice(("NOTBEFORE", "NOTAFTER"))
         text = f"ann db1 = (root) {option}={spelled(rng, moment)} /srv/bin/ls\n"
         path = self.policy(text)
         for at in (moment - 1, moment, moment + 1):
             if path:
-                self.ask(path, ["ann", "db1", "root", stamp(at), "/srv/bin/ls"], text)
+                self.ask(path, ["ann", "db1", "root", desk.stamp(at), "/srv/bin/ls"], text)
 
 
-def inside():
-    programs = {name: tool(name) for name in ("sudo", "visudo", "faketime")}
+def inside() -> NoReturn:
+    programs = {name: desk.tool(name) for name in ("sudo", "visudo", "faketime")}
     rng = random.Random(1)
     with tempfile.TemporaryDirectory() as folder:
-        sudoers = furnish(folder, sorted({*USERS, *TARGETS}), [it.removeprefix("/srv/") for it in FILES])
+        sudoers = furnish(
+            folder, sorted({*USERS, *TARGETS}), [it.removeprefix("/srv/") for it in FILES]
+        )
         ran = Run(folder, programs, sudoers)
         for _ in range(POLICIES):
             ran.aliases(rng)
@@ -126,13 +157,15 @@ def inside():
         for _ in range(TIMES):
             ran.times(rng)
         clear()
-    print(f"sudo was asked of {aliases} policies with nested aliases and {ran.asked - aliases} times of {TIMES} bounds with offsets: "
-          f"{ran.allowed} allowed, {ran.asked - ran.allowed} denied, {ran.wrong} otherwise than the desk")
+    print(
+        f"sudo was asked of {aliases} policies with nested aliases and {ran.asked - aliases} times"
+        f" of {TIMES} bounds with offsets: {ran.allowed} allowed, {ran.asked - ran.allowed} denied,"
+        f" {ran.wrong} otherwise than the desk"
+    )
     sys.exit(1 if ran.wrong or aliases < POLICIES else 0)
 
 
 if sys.argv[1:] == ["--inside"]:
     inside()
-if not os.path.exists(DESK):
-    sys.exit("build/desk is missing: run make desk")
+desk.check_built()
 enter_namespace(__file__)

@@ -1,11 +1,13 @@
 #!/usr/bin/env python3
 """Holds random requests of odd but lawful words against what sudo reads of the hosts' files.
 
-The desk is told requests and approvals of people, hosts, targets, commands and arguments that mean something to sudo, or use every lawful
-byte at either end, and has to acknowledge each. Each host's file has to pass `visudo -c`, and `cvtsudoers -f json` has to read of it, line
-by line, the user, host, target, command, arguments and dates that were asked for. Of some of them `sudo -l` is asked too
-(scripts/sudo_peer.py): at a moment of the window, which it has to allow, and a second before and after it, and with one argument more.
-`desk decide` has to answer each as sudo does. It prints what is otherwise, and ends with the counts; the seed is fixed.
+The desk is told requests and approvals of people, hosts, targets, commands and arguments that mean
+something to sudo, or use every lawful byte at either end, and has to acknowledge each. Each host's
+file has to pass `visudo -c`, and `cvtsudoers -f json` has to read of it, line by line, the user,
+host, target, command, arguments and dates that were asked for. Of some of them `sudo -l` is asked
+too (scripts/sudo_peer.py): at a moment of the window, which it has to allow, and a second before
+and after it, and with one argument more. `desk decide` has to answer each as sudo does. It prints
+what is otherwise, and ends with the counts; the seed is fixed.
 """
 
 import gzip
@@ -16,30 +18,35 @@ import re
 import string
 import sys
 import tempfile
-import time
+from collections.abc import Iterator, Mapping
+from typing import NamedTuple, NoReturn
 
-from sudo_peer import accepts, allows, clear, enter_namespace, furnish, run, tool
+import desk
+from sudo_peer import accepts, allows, clear, enter_namespace, furnish
 
-ROOT = os.path.dirname(os.path.dirname(os.path.abspath(__file__)))
-DESK = os.path.join(ROOT, "build", "desk")
 MANUAL = "/usr/share/man/man5/sudoers.5.gz"
 DESKS, REQUESTS, HOSTS, ASKED = 40, 50, 10, 500
 LAST = 4102444799
 LONGEST = 2592000
-# the words with which sudo begins its own command and digests: no names, so no request has them (docs/SUDOERS.md)
+# the words with which sudo begins its own command and digests: no names, so no request has them
+# (docs/SUDOERS.md)
 KEYWORDS = {"sudoedit", "sha224", "sha256", "sha384", "sha512"}
 RESERVED = (
-    "all notbefore notafter timeout cwd chroot role type privs limitprivs apparmor_profile passwd nopasswd exec noexec setenv nosetenv "
-    "log_input nolog_input log_output nolog_output mail nomail follow nofollow intercept nointercept"
+    "all notbefore notafter timeout cwd chroot role type privs limitprivs apparmor_profile passwd"
+    " nopasswd exec noexec setenv nosetenv log_input nolog_input log_output nolog_output mail"
+    " nomail follow nofollow intercept nointercept"
 ).split()
-SUDOS = "list visudo sudo sudoers sudoreplay cvtsudoers include includedir defaults regex any none root localhost sha sha1 md5 user_alias".split()
+SUDOS = (
+    "list visudo sudo sudoers sudoreplay cvtsudoers include includedir defaults regex any none root"
+    " localhost sha sha1 md5 user_alias".split()
+)
 NAME_START, NAME_REST = string.ascii_lowercase + "_", string.ascii_lowercase + string.digits + "._-"
 HOST_START, HOST_REST = string.ascii_lowercase, string.ascii_lowercase + string.digits + "-"
 PATH_BYTES = string.ascii_letters + string.digits + "._+-"
 ARG_BYTES = string.ascii_letters + string.digits + "._/+-@%,:="
 
 
-def words_of_manual():
+def words_of_manual() -> list[str]:
     """The words of sudoers(5), in lower case, where the page is installed."""
     if not os.path.exists(MANUAL):
         return []
@@ -47,30 +54,69 @@ def words_of_manual():
         return sorted(set(re.findall(r"[A-Za-z_][A-Za-z0-9_.-]*", file.read())))
 
 
-def odd_names(start, rest):
-    """Names of 1 and 32 bytes with every lawful byte at each end, reserved words, sudo's own, and the manual's."""
+def odd_names(start: str, rest: str) -> list[str]:
+    """Names of 1 and 32 bytes with every lawful byte at each end, reserved words, sudo's own, and
+    the manual's."""
     short = list(start)
     long = [first + "x" * 30 + rest[at % len(rest)] for at, first in enumerate(start)]
     ends = [start[at % len(start)] + "-" * 30 + last for at, last in enumerate(rest)]
     words = [word.lower() for word in [*RESERVED, *SUDOS, *words_of_manual()]]
     fits = re.compile(f"[{re.escape(start)}][{re.escape(rest)}]{{0,31}}")
     nearly = [word + "x" for word in sorted(KEYWORDS)] + ["x" + word for word in sorted(KEYWORDS)]
-    found = [word for word in [*short, *long, *ends, *words, *nearly] if fits.fullmatch(word) and word not in KEYWORDS]
+    found = [
+        word
+        for word in [*short, *long, *ends, *words, *nearly]
+        if fits.fullmatch(word) and word not in KEYWORDS
+    ]
     return sorted(set(found))
+
+
+# A command's path, and its arguments: None for any, and an empty list for none.
+Command = tuple[str, "list[str] | None"]
+# A line of a host's file, as sudo reads it.
+Line = tuple[str, ...]
+
+
+class Request(NamedTuple):
+    """What is asked for, in seconds since 1970."""
+
+    by: str
+    no: int
+    host: str
+    runas: str
+    first: int
+    last: int
+    texts: list[str]
+    commands: list[Command]
 
 
 class Words:
     """Words of each kind, drawn at random."""
 
-    def __init__(self, seed):
+    def __init__(self, seed: int) -> None:
         self.rng = random.Random(seed)
         self.names = odd_names(NAME_START, NAME_REST)
         self.hosts = odd_names(HOST_START, HOST_REST)
         self.bytes = list(ARG_BYTES)
 
-    def component(self):
+    def component(self) -> str:
         rng = self.rng
-        word = rng.choice([*RESERVED, *SUDOS, *sorted(KEYWORDS), "..a", "...", ".a", "a.", "-", "+", "_", "sudoeditx", "x-sudoedit"])
+        word = rng.choice(
+            [
+                *RESERVED,
+                *SUDOS,
+                *sorted(KEYWORDS),
+                "..a",
+                "...",
+                ".a",
+                "a.",
+                "-",
+                "+",
+                "_",
+                "sudoeditx",
+                "x-sudoedit",
+            ]
+        )
         change = rng.randrange(4)
         if change == 0:
             word = word.upper()
@@ -78,31 +124,36 @@ class Words:
             word = "".join(rng.choice(PATH_BYTES) for _ in range(rng.choice((1, 2, 30, 60))))
         return word if word not in (".", "..") else word + "_"
 
-    def path(self):
+    def path(self) -> str:
         """A file's path below /srv, whose last component is not sudo's own command."""
         parts = [self.component() for _ in range(self.rng.choice((1, 2, 2, 3)))]
         if parts[-1] == "sudoedit":
             parts[-1] = "sudoedit_"
         return "/srv/" + "/".join(parts)
 
-    def argument(self):
+    def argument(self) -> str:
         rng, kind = self.rng, self.rng.randrange(6)
         if kind == 0:
             return rng.choice(self.bytes)
         if kind == 1:
-            return "".join(rng.choice(",:=") + rng.choice(self.bytes) for _ in range(rng.choice((1, 2, 32))))
+            return "".join(
+                rng.choice(",:=") + rng.choice(self.bytes) for _ in range(rng.choice((1, 2, 32)))
+            )
         if kind == 2:
-            return rng.choice(("-", "--", "/", "@", "%", "+", "=", ":")) + rng.choice([*RESERVED, *SUDOS, *sorted(KEYWORDS)])
+            return rng.choice(("-", "--", "/", "@", "%", "+", "=", ":")) + rng.choice(
+                [*RESERVED, *SUDOS, *sorted(KEYWORDS)]
+            )
         if kind == 3:
             return rng.choice([*RESERVED, *SUDOS, *sorted(KEYWORDS)]).upper()
         return "".join(rng.choice(self.bytes) for _ in range(rng.choice((1, 2, 8, 64))))
 
-    def arguments(self):
+    def arguments(self) -> list[str]:
         # (one bare `,` is written `\,` and read so by both: sudo shows it as it stands)
         return [self.argument() for _ in range(self.rng.choice((1, 2, 3, 16)))]
 
-    def command(self):
-        """A command as its path and its arguments: None for any, [] for none; or ALL, or a directory."""
+    def command(self) -> Command:
+        """A command as its path and its arguments: None for any, [] for none; or ALL, or a
+        directory."""
         kind = self.rng.randrange(10)
         if kind == 0:
             return ("ALL", None)
@@ -114,7 +165,7 @@ class Words:
         return (path, [] if kind == 5 else self.arguments())
 
 
-def text_of(command, escape=True):
+def text_of(command: Command, escape: bool = True) -> str:
     """A command as it is written, or as sudo shows it."""
     path, args = command
     if args is None:
@@ -124,65 +175,88 @@ def text_of(command, escape=True):
     return " ".join([path, *(re.sub("[,:=]", r"\\\g<0>", arg) if escape else arg for arg in args)])
 
 
-def stamp(moment):
-    return time.strftime("%Y%m%d%H%M%SZ", time.gmtime(moment))
-
-
-def message(**members):
-    return json.dumps(members, sort_keys=True, separators=(",", ":"))
-
-
 class Site:
     """A roster of odd words, and what is asked of its desk."""
 
-    def __init__(self, words, number):
+    def __init__(self, words: Words, number: int) -> None:
         rng = words.rng
         self.people = rng.sample(words.names, 30)
         self.hosts = rng.sample(words.hosts, HOSTS)
         self.targets = rng.sample(words.names, 30)
         self.requests = [self.request(words, no + number * REQUESTS) for no in range(REQUESTS)]
 
-    def request(self, words, no):
+    def request(self, words: Words, no: int) -> Request:
         rng = words.rng
-        commands = {text_of(it): it for it in (words.command() for _ in range(rng.choice((1, 1, 2, 4)))) if len(text_of(it)) <= 1024}
+        commands = {
+            text_of(it): it
+            for it in (words.command() for _ in range(rng.choice((1, 1, 2, 4))))
+            if len(text_of(it)) <= 1024
+        }
         start = rng.choice((0, rng.randrange(LAST), rng.randrange(LAST), LAST))
         end = min(LAST, start + rng.choice((0, 1, 7200, LONGEST)))
         texts = sorted(commands, key=str.encode)
-        return {
-            "by": rng.choice(self.people[1:]),
-            "no": no,
-            "host": rng.choice(self.hosts),
-            "runas": rng.choice(self.targets),
-            "from": start,
-            "until": end,
-            "texts": texts,
-            "commands": [commands[it] for it in texts],
-        }
-
-    def roster(self):
-        people = "".join(f'"{name}" = ["ask"]\n' for name in self.people[1:]) + f'"{self.people[0]}" = ["approve"]\n'
-        return (
-            f'relays = ["r"]\nhosts = {json.dumps(self.hosts)}\nduties = ["ask", "approve"]\nconflicts = []\n[people]\n{people}'
-            f'[ceilings.all]\nask = "ask"\napprove = "approve"\nneeds = 1\nhosts = {json.dumps(self.hosts)}\nruns = []\n'.replace("runs = []\n", "")
-            + f'runas = {json.dumps(self.targets)}\ncommands = ["ALL"]\nlongest = {LONGEST}\n'
+        return Request(
+            by=rng.choice(self.people[1:]),
+            no=no,
+            host=rng.choice(self.hosts),
+            runas=rng.choice(self.targets),
+            first=start,
+            last=end,
+            texts=texts,
+            commands=[commands[it] for it in texts],
         )
 
-    def messages(self):
+    def roster(self) -> str:
+        people = {name: ["ask"] for name in self.people[1:]} | {self.people[0]: ["approve"]}
+        ceiling = desk.ceiling(
+            "all",
+            ask="ask",
+            approve="approve",
+            hosts=self.hosts,
+            runas=self.targets,
+            longest=LONGEST,
+        )
+        return desk.roster(people, [ceiling], ["ask", "approve"], self.hosts, ["r"])
+
+    def messages(self) -> Iterator[str]:
         for q in self.requests:
-            at = stamp(q["from"])
-            yield message(at=at, by=q["by"], ceiling="all", cmnds=q["texts"], hosts=[q["host"]], kind="request", no=q["no"], runas=q["runas"],
-                          until=stamp(q["until"]), **{"from": at})
-            yield message(at=at, by=self.people[0], kind="approve", no=q["no"], of=q["by"])
+            at = desk.stamp(q.first)
+            yield desk.request(
+                q.no,
+                at=at,
+                by=q.by,
+                ceiling="all",
+                cmnds=q.texts,
+                hosts=[q.host],
+                runas=q.runas,
+                until=desk.stamp(q.last),
+                **{"from": at},
+            )
+            yield desk.approval(q.no, at=at, by=self.people[0], of=q.by)
 
-    def lines(self, host):
+    def lines(self, host: str) -> list[Line]:
         """What the host's file has to say, in its order."""
-        of_host = sorted((q for q in self.requests if q["host"] == host), key=lambda q: (q["by"].encode(), q["no"]))
-        return [(q["by"], host, q["runas"], text_of(it, escape=False), stamp(q["from"]), stamp(q["until"])) for q in of_host for it in q["commands"]]
+        of_host = sorted(
+            (q for q in self.requests if q.host == host),
+            key=lambda q: (q.by.encode(), q.no),
+        )
+        return [
+            (
+                q.by,
+                host,
+                q.runas,
+                text_of(it, escape=False),
+                desk.stamp(q.first),
+                desk.stamp(q.last),
+            )
+            for q in of_host
+            for it in q.commands
+        ]
 
 
-def lines_of(text, cvtsudoers):
+def lines_of(text: str, cvtsudoers: str) -> str | list[Line]:
     """What sudo reads of a file: a user specification a line."""
-    answer = run([cvtsudoers, "-f", "json"], given=text)
+    answer = desk.run([cvtsudoers, "-f", "json"], given=text)
     if answer.returncode != 0:
         return f"{answer.stdout}{answer.stderr}"
     found = []
@@ -192,48 +266,62 @@ def lines_of(text, cvtsudoers):
         options = {key: value for option in cmnd["Options"] for key, value in option.items()}
         # (sudo lets whoever may run ALL keep the environment: sudoers(5), SETENV)
         implied = options.pop("setenv", False)
-        more = sorted(set(options) - {"notbefore", "notafter"}) + ["setenv"] * (implied and command["command"] != "ALL")
-        found.append((user["username"], host["hostname"], target["username"], command["command"], options["notbefore"], options["notafter"], *more))
+        more = sorted(set(options) - {"notbefore", "notafter"}) + ["setenv"] * (
+            implied and command["command"] != "ALL"
+        )
+        found.append(
+            (
+                user["username"],
+                host["hostname"],
+                target["username"],
+                command["command"],
+                options["notbefore"],
+                options["notafter"],
+                *more,
+            )
+        )
     return found
 
 
-def first_difference(wanted, found):
-    pairs = [*zip(wanted, found)] if len(wanted) == len(found) else [(wanted, found)]
+def first_difference(wanted: list[Line], found: str | list[Line]) -> tuple[object, object] | None:
+    pairs: list[tuple[object, object]] = [(wanted, found)]
+    if len(wanted) == len(found):
+        pairs = [*zip(wanted, found)]
     return next((pair for pair in pairs if pair[0] != pair[1]), None)
 
 
 class Run:
     """The whole comparison, and its counts."""
 
-    def __init__(self, folder, programs):
+    def __init__(self, folder: str, programs: Mapping[str, str]) -> None:
         self.folder, self.programs = folder, programs
         self.accepted = self.files = self.read = self.asked = self.wrong = 0
-        self.asks = []
+        self.asks: list[tuple[str, list[Request]]] = []
 
-    def write(self, name, text):
-        path = os.path.join(self.folder, name)
-        with open(path, "w") as file:
-            file.write(text)
-        return path
-
-    def fault(self, what):
+    def fault(self, what: str) -> None:
         self.wrong += 1
         if self.wrong <= 20:
             print(f"otherwise: {what}")
 
-    def site(self, site):
-        roster, base = self.write("roster", site.roster()), self.write("base", "")
+    def site(self, site: Site) -> None:
+        roster, base = desk.write(self.folder, "roster", site.roster()), desk.write(
+            self.folder, "base", ""
+        )
         given = "".join(f"{line}\n" for line in site.messages())
-        answers = run([DESK, "deliver", roster, base, "-", "r"], given=given).stdout.splitlines()
-        for line, answer in zip(given.splitlines(), [*answers, *["nothing"] * (2 * REQUESTS - len(answers))]):
+        answers = desk.run(
+            [*desk.PROGRAM, "deliver", roster, base, "-", "r"], given=given
+        ).stdout.splitlines()
+        for line, answer in zip(
+            given.splitlines(), [*answers, *["nothing"] * (2 * REQUESTS - len(answers))]
+        ):
             if answer != "ack":
                 self.fault(f"{answer} for {line}")
         self.accepted += answers[::2].count("ack")
-        for host in sorted({q["host"] for q in site.requests}):
-            text = run([DESK, "print", roster, base, "-", host], given=given).stdout
+        for host in sorted({q.host for q in site.requests}):
+            text = desk.run([*desk.PROGRAM, "print", roster, base, "-", host], given=given).stdout
             self.host(site, host, text)
 
-    def host(self, site, host, text):
+    def host(self, site: Site, host: str, text: str) -> None:
         self.files += 1
         if not accepts(self.programs["visudo"], f"the file of {host}", text, self.folder):
             self.fault(f"visudo refuses {text!r}")
@@ -243,48 +331,63 @@ class Run:
         difference = first_difference(wanted, found)
         if difference:
             self.fault(f"wanted {difference[0]}, and sudo reads {difference[1]}")
-        self.asks.append((text, [q for q in site.requests if q["host"] == host]))
+        self.asks.append((text, [q for q in site.requests if q.host == host]))
 
-    def ask_some(self, rng, sudoers):
+    def ask_some(self, rng: random.Random, sudoers: str) -> None:
         """Asks sudo and the desk of some requests whose command is a file that is there."""
         for text, requests in rng.sample(self.asks, len(self.asks)):
             if self.asked >= ASKED:
                 return
             with open(sudoers, "w") as file:
                 file.write(text)
-            policy = self.write("policy", text)
+            policy = desk.write(self.folder, "policy", text)
             for q in requests:
-                files = [it for it in q["commands"] if it[0] != "ALL" and not it[0].endswith("/") and it[1] is not None]
+                files = [
+                    it
+                    for it in q.commands
+                    if it[0] != "ALL" and not it[0].endswith("/") and it[1] is not None
+                ]
                 if files and self.asked < ASKED:
                     self.asked += 1
                     self.ask(policy, q, rng.choice(files), rng)
 
-    def ask(self, policy, q, command, rng):
+    def ask(self, policy: str, q: Request, command: Command, rng: random.Random) -> None:
         path, args = command
-        inside = rng.randint(q["from"], q["until"])
-        self.compare(policy, q, inside, path, args, True)
-        for moment in (q["from"] - 1, q["until"] + 1):
+        inside = rng.randint(q.first, q.last)
+        self.compare(policy, q, inside, command, True)
+        for moment in (q.first - 1, q.last + 1):
             if 0 <= moment <= LAST:
-                self.compare(policy, q, moment, path, args, None)
-        self.compare(policy, q, inside, path, [*args, "x"], None)
+                self.compare(policy, q, moment, command, False)
+        self.compare(policy, q, inside, (path, [*(args or []), "x"]), False)
 
-    def compare(self, policy, q, moment, path, args, wanted):
-        words = [q["by"], q["host"], q["runas"], stamp(moment), path, *args]
+    def compare(self, policy: str, q: Request, moment: int, command: Command, wanted: bool) -> None:
+        """Compares what both answer, which may have to be that the run is allowed."""
+        path, args = command
+        words = [q.by, q.host, q.runas, desk.stamp(moment), path, *(args or [])]
         theirs = allows(self.programs, words)
-        answer = run([DESK, "decide", policy, *words[:5], "--", *words[5:]])
+        answer = desk.run([*desk.PROGRAM, "decide", policy, *words[:5], "--", *words[5:]])
         ours = answer.stdout.startswith("allow")
         if answer.returncode not in (0, 1) or theirs != ours or (wanted and not theirs):
-            self.fault(f"{' '.join(words)}: sudo {'allows' if theirs else 'denies'}, the desk says {(answer.stdout + answer.stderr).strip()}")
+            self.fault(
+                f"{' '.join(words)}: sudo {'allows' if theirs else 'denies'}, the desk says"
+                f" {(answer.stdout + answer.stderr).strip()}"
+            )
 
 
-def inside():
-    programs = {name: tool(name) for name in ("sudo", "visudo", "faketime", "cvtsudoers")}
+def inside() -> NoReturn:
+    programs = {name: desk.tool(name) for name in ("sudo", "visudo", "faketime", "cvtsudoers")}
     os.environ["TZ"] = "UTC"
     words = Words(1)
     sites = [Site(words, number) for number in range(DESKS)]
-    commands = {it[0].removeprefix("/srv/") for site in sites for q in site.requests for it in q["commands"] if it[0] != "ALL" and not it[0].endswith("/")}
+    below = {
+        it[0].removeprefix("/srv/")
+        for site in sites
+        for q in site.requests
+        for it in q.commands
+        if it[0] != "ALL" and not it[0].endswith("/")
+    }
     # (a path that is another's folder is left to the folder)
-    commands = sorted(it for it in commands if not any(other.startswith(it + "/") for other in commands))
+    commands = sorted(it for it in below if not any(other.startswith(it + "/") for other in below))
     users = sorted({name for site in sites for name in [*site.people, *site.targets]})
     with tempfile.TemporaryDirectory() as folder:
         sudoers = furnish(folder, users, commands)
@@ -292,10 +395,19 @@ def inside():
         for site in sites:
             ran.site(site)
         there = {"/srv/" + it for it in commands}
-        ran.asks = [(text, [q for q in requests if all(it[0] in there or it[1] is None for it in q["commands"])]) for text, requests in ran.asks]
+        ran.asks = [
+            (
+                text,
+                [q for q in requests if all(it[0] in there or it[1] is None for it in q.commands)],
+            )
+            for text, requests in ran.asks
+        ]
         ran.ask_some(random.Random(2), sudoers)
         clear()
-    print(f"{ran.accepted} requests of odd words were accepted; sudo reads {ran.read} lines of {ran.files} files, and was asked of {ran.asked} requests: {ran.wrong} otherwise")
+    print(
+        f"{ran.accepted} requests of odd words were accepted; sudo reads {ran.read} lines of"
+        f" {ran.files} files, and was asked of {ran.asked} requests: {ran.wrong} otherwise"
+    )
     if ran.accepted < DESKS * REQUESTS or ran.asked < ASKED:
         sys.exit(f"too few: {DESKS * REQUESTS} requests and {ASKED} asked are wanted")
     sys.exit(1 if ran.wrong else 0)
@@ -303,6 +415,5 @@ def inside():
 
 if sys.argv[1:] == ["--inside"]:
     inside()
-if not os.path.exists(DESK):
-    sys.exit("build/desk is missing: run make desk")
+desk.check_built()
 enter_namespace(__file__)

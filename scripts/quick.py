@@ -1,9 +1,12 @@
 #!/usr/bin/env python3
 """What can be seen without a proof, in seconds: the gate runs this first.
 
-The layout is the one that `rt fmt` gives (`rt ci` refuses a crate for less); each text that an edit replaces stands in its file exactly once; no crate has
-more edits in `must-fail/` than the gate's budget allows; and docs/PROMISES.md and docs/WRONG_BODIES.md name each edit, in the right column,
-and none that is not there. Prints what is otherwise; the status is 1 then.
+The layout is the one that `rt fmt` gives (`rt ci` refuses a crate for less); each text that an edit
+replaces stands in its file exactly once; no crate has more edits in `must-fail/` than the gate's
+budget allows; `make docs` would change nothing; docs/CALLS.md has each public call, and no other;
+each file that a document names is there, and README.md is no longer than a page or two; no line of
+a script is too wide, and pyflakes finds nothing in one. Prints what is otherwise, and ends with 1
+then.
 """
 
 import glob
@@ -13,50 +16,69 @@ import shutil
 import subprocess
 import sys
 import tempfile
+from collections.abc import Iterator
 
-ROOT = os.path.dirname(os.path.dirname(os.path.abspath(__file__)))
+import calls
+import desk
+import make_docs
+
 MOST_EDITS = 10
+MOST_README = 6 * 1024
+WIDTH = 100
+LINK = re.compile(r"\]\(([^)#:]+)(?:#[^)]*)?\)")
+# a file that is named from the repository's top
+NAMED = re.compile(
+    r"(?<![\w./-])((?:broker|cases|docs|examples|packaging|relays|scripts|tools)/[\w./*-]+\.\w+)"
+)
+# a file of cases/ that a table of promises names
+CASES = re.compile(r"`([a-z-]+\.toml)`")
+TABLES = ("docs/PROMISES.md", "docs/PROOFS.md", "docs/WRONG_BODIES.md")
 
 
-def read(path):
-    with open(os.path.join(ROOT, path), encoding="utf-8") as file:
-        return file.read()
-
-
-def crates():
-    return [line.partition(":")[0] for line in read("crates.txt").splitlines() if ":" in line and not line.startswith("#")]
-
-
-def edits(folder):
+def edits(folder: str) -> dict[str, str]:
     """The edits of a crate's folder, by their names."""
-    return {os.path.basename(it)[: -len(".edit")]: it for it in sorted(glob.glob(os.path.join(ROOT, "crates", folder, "*.edit")))}
+    return {
+        os.path.basename(it)[: -len(".edit")]: it
+        for it in sorted(glob.glob(os.path.join(desk.ROOT, "crates", folder, "*.edit")))
+    }
 
 
-def badly_laid_out():
+def badly_laid_out() -> Iterator[str]:
     """Lays out a copy of each crate, and tells what changed."""
     with tempfile.TemporaryDirectory() as room:
-        shutil.copy(os.path.join(ROOT, "crates.txt"), room)
-        for name in crates():
+        shutil.copy(os.path.join(desk.ROOT, "crates.txt"), room)
+        for name in make_docs.crates():
             for part in ("src", "specs", "proofs"):
-                if os.path.isdir(os.path.join(ROOT, "crates", name, part)):
-                    shutil.copytree(os.path.join(ROOT, "crates", name, part), os.path.join(room, "crates", name, part))
-            ran = subprocess.run(["rt", "fmt"], cwd=os.path.join(room, "crates", name), capture_output=True, text=True)
+                if os.path.isdir(os.path.join(desk.ROOT, "crates", name, part)):
+                    shutil.copytree(
+                        os.path.join(desk.ROOT, "crates", name, part),
+                        os.path.join(room, "crates", name, part),
+                    )
+            ran = subprocess.run(
+                ["rt", "fmt"],
+                cwd=os.path.join(room, "crates", name),
+                capture_output=True,
+                text=True,
+            )
             if ran.returncode:
                 yield f"{name}: rt fmt cannot lay it out: {(ran.stdout + ran.stderr).strip()[:300]}"
             for line in ran.stdout.splitlines() + ran.stderr.splitlines():
                 if "formatted " in line:
-                    yield f"crates/{name}/{line.partition('formatted ')[2]}: not laid out as `rt fmt` does"
+                    yield (
+                        f"crates/{name}/{line.partition('formatted ')[2]}: not laid out as `rt fmt`"
+                        " does"
+                    )
 
 
-def misfit(crate, edit):
+def misfit(crate: str, edit: str) -> str | None:
     """Why an edit does not fit the crate's files; None where it does."""
-    path, texts = None, {}
-    for line in read(edit).splitlines():
+    path, texts = "", dict[str, str]()
+    for line in desk.read(edit).splitlines():
         if line.startswith("file: "):
             path = os.path.join("crates", crate, line[len("file: ") :].strip())
-            if not os.path.isfile(os.path.join(ROOT, path)):
+            if not os.path.isfile(os.path.join(desk.ROOT, path)):
                 return f"there is no file {path}"
-            texts.setdefault(path, read(path))
+            texts.setdefault(path, desk.read(path))
         elif line.startswith("old: "):
             found = texts[path].count(line[len("old: ") :])
             if found != 1:
@@ -64,8 +86,8 @@ def misfit(crate, edit):
     return None
 
 
-def misfits():
-    for crate in crates():
+def misfits() -> Iterator[str]:
+    for crate in make_docs.crates():
         sharp, more = edits(f"{crate}/must-fail"), edits(f"{crate}/more-edits")
         if len(sharp) > MOST_EDITS:
             yield f"{crate}: {len(sharp)} edits in must-fail, more than the gate's budget"
@@ -74,53 +96,60 @@ def misfits():
         for path in [*sharp.values(), *more.values()]:
             why = misfit(crate, path)
             if why:
-                yield f"{os.path.relpath(path, ROOT)}: {why}"
+                yield f"{os.path.relpath(path, desk.ROOT)}: {why}"
 
 
-def named(text):
-    return set(re.findall(r"`([a-z][a-z0-9_]*)`", text))
+def not_made() -> Iterator[str]:
+    """Documents that `make docs` would change, or why it cannot make them."""
+    try:
+        texts = make_docs.made()
+    except make_docs.Fault as fault:
+        yield str(fault)
+        return
+    for name, text in texts.items():
+        if desk.read(name) != text:
+            yield f"{name}: it is not what the heads of the edits say: run make docs"
 
 
-def rows(document, column):
-    """The cells of each row of the document's tables that have such a column, by the names of their columns, with the row's number."""
-    head = None
-    for number, line in enumerate(read(document).splitlines(), 1):
-        cells = [it.strip() for it in re.split(r"(?<!\\)\|", line)[1:-1]]
-        if not cells:
-            head = None
-        elif head is None:
-            head = cells
-        elif column in head and not line.startswith("|--"):
-            yield number, dict(zip(head, cells))
+def not_there() -> Iterator[str]:
+    """Files that a document names and that are not there, and a README that is too long."""
+    paths = glob.glob(os.path.join(desk.ROOT, "docs", "*.md"))
+    pages = [os.path.relpath(path, desk.ROOT) for path in sorted(paths)]
+    for page in ("README.md", "CONTRIBUTING.md", "cases/README.md", *pages):
+        text, folder = desk.read(page), os.path.dirname(page)
+        named = [*NAMED.findall(text), *(os.path.join(folder, it) for it in LINK.findall(text))]
+        if page in TABLES:
+            named += [os.path.join("cases", it) for it in CASES.findall(text)]
+        for name in dict.fromkeys(named):
+            if not glob.glob(os.path.join(desk.ROOT, name)):
+                yield f"{page}: it names {name}, which is not there"
+    size = len(desk.read("README.md").encode())
+    if size > MOST_README:
+        yield f"README.md: {size} bytes, more than {MOST_README}"
 
 
-def told_by_promises():
-    for number, row in rows("docs/PROMISES.md", "Edits"):
-        sharp, _, more = row["Edits"].partition("more:")
-        yield number, named(sharp), named(more)
+def untidy() -> Iterator[str]:
+    """Lines of scripts that are too wide, and what pyflakes says of the scripts, if it is there."""
+    folder = os.path.join(desk.ROOT, "scripts")
+    paths = glob.glob(os.path.join(folder, "**", "*.*"), recursive=True)
+    for path in sorted(path for path in paths if path.endswith((".py", ".sh", ".c"))):
+        name = os.path.relpath(path, desk.ROOT)
+        for number, line in enumerate(desk.read(path).splitlines(), 1):
+            if len(line) > WIDTH:
+                yield f"{name}:{number}: {len(line)} columns, more than {WIDTH}"
+    python = "/usr/bin/python3"  # Debian's own has Debian's packages
+    if desk.run([python, "-c", "import pyflakes"]).returncode == 0:
+        said = desk.run([python, "-m", "pyflakes", folder])
+        yield from (said.stdout + said.stderr).splitlines()
 
 
-def told_by_wrong_bodies():
-    for number, row in rows("docs/WRONG_BODIES.md", "In the gate"):
-        yield number, named(row["In the gate"]), named(row["By `make edits`"])
-
-
-def misnamed():
-    """Edits that a document names in the wrong column, or that are not there; and edits that it does not name."""
-    sharp = {name for crate in crates() for name in edits(f"{crate}/must-fail")}
-    more = {name for crate in crates() for name in edits(f"{crate}/more-edits")}
-    for document, told in (("docs/PROMISES.md", told_by_promises()), ("docs/WRONG_BODIES.md", told_by_wrong_bodies())):
-        left = sharp | more
-        for number, first, second in told:
-            left -= first | second
-            yield from (f"{document}:{number}: no crate has the edit `{name}` in must-fail" for name in sorted(first - sharp))
-            yield from (f"{document}:{number}: no crate has the edit `{name}` in more-edits" for name in sorted(second - more))
-        yield from (f"{document}: it does not name the edit `{name}`" for name in sorted(left))
-
-
-def main():
-    wrong = [*badly_laid_out(), *misfits(), *misnamed()]
-    print("\n".join(wrong) if wrong else "the layout, the edits and what the documents say of them fit")
+def main() -> int:
+    wrong = [*badly_laid_out(), *misfits(), *not_made(), *not_there(), *untidy(), *calls.faults()]
+    print(
+        "\n".join(wrong)
+        if wrong
+        else "the layout, the edits, the public calls, the documents and the scripts fit"
+    )
     return 1 if wrong else 0
 
 

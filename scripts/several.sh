@@ -1,7 +1,9 @@
 #!/usr/bin/env bash
-# Several desks behind a broker (docs/SEVERAL.md): the tests of the broker's package, then three brokers and three desks while things are killed.
-# All processes are in a process namespace of their own, which ends with this one, and the small disk of one desk is in a mount namespace.
-# several.sh [--short] [--seed N] [--keep] [--folder DIR] [DESK ..]; DESK are the words of the program, in place of build/desk.
+# Several desks behind a broker (docs/SEVERAL.md): the tests of the broker's package, then three
+# brokers and three desks while things are killed. All processes are in a process namespace of their
+# own, which ends with this one, and the small disk of one desk is in a mount namespace.
+# several.sh [--short] [--seed N] [--keep] [--folder DIR] [DESK ..]; DESK are the words of the
+# program, in place of build/desk.
 set -euo pipefail
 cd "$(dirname "$0")/.."
 export PATH="$PATH:/usr/sbin:/sbin"
@@ -10,4 +12,5 @@ bash scripts/several_tools.sh
 python=/usr/bin/python3
 export PYTHONPATH=scripts:broker PYTHONDONTWRITEBYTECODE=1 PYTHONUNBUFFERED=1
 "$python" -m pytest -q -p no:cacheprovider broker/tests
-exec unshare --mount --pid --fork --kill-child --mount-proc --propagation private "$python" -m several.main "$@"
+exec unshare --mount --pid --fork --kill-child --mount-proc --propagation private \
+    "$python" -m several.main "$@"

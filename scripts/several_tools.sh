@@ -1,6 +1,7 @@
 #!/usr/bin/env bash
-# Installs what `make several` asks of Debian, where it is not there: RabbitMQ, and pika and pytest for Debian's own Python. The broker of
-# the system is not started: the test runs brokers of its own. Where this is not root, or there is no apt-get, nothing is installed.
+# Installs what `make several` asks of Debian, where it is not there: RabbitMQ, and pika and pytest
+# for Debian's own Python. The broker of the system is not started: the test runs brokers of its
+# own. Where this is not root, or there is no apt-get, nothing is installed.
 set -euo pipefail
 export PATH="$PATH:/usr/sbin:/sbin"
 wanted=()
@@ -18,7 +19,8 @@ if [ "${#wanted[@]}" -gt 0 ] && [ "$(id -u)" = 0 ] && command -v apt-get >/dev/n
         trap 'rm -f "$policy"' EXIT
     fi
     apt-get update -qq
-    DEBIAN_FRONTEND=noninteractive apt-get install -y -qq --no-install-recommends python3 "${wanted[@]}"
+    DEBIAN_FRONTEND=noninteractive apt-get install -y -qq --no-install-recommends \
+        python3 "${wanted[@]}"
     # nor at the next start of the machine
     if command -v systemctl >/dev/null; then
         systemctl disable --quiet rabbitmq-server 2>/dev/null || true

@@ -1,58 +1,165 @@
 """Database files as others make and read them: by Python's `sqlite3`, or as bytes.
 
-A recipe is a table of any of these, done in this order:
-`sql` (statements, in which `:name` stands for a text of that name), `foreign` (the table, and the columns' text by which its own definition is
-replaced behind SQLite's back), `log` (the file is left with its log unmerged), `hex`, `zeros` or `text` (the bytes of the file), `cut` (so many bytes
-are left), `flipped` (the places of bytes whose bits are turned round), `folder`, `fifo`, `link` (what the name is in place of a file), `second_name`
-(the file has another name beside), `journal` (what lies beside it as SQLite's rollback journal), `mode` and `folder_mode` (in octal).
+A recipe is a table of any of these, done in this order: `pages` (the size of a page), `tables` (the
+tables of a desk that are made), `columns` (by table, the text of its columns in the place of its
+own), `kept` (the names of the texts that a whole desk keeps, whose tables are all made where
+`tables` names none), `schema` (its number, 2 where none is given), `sql` (statements, in which
+`:name` stands for a text of that name), `foreign` (the table, and the columns' text by which its
+own definition is replaced behind SQLite's back), `log` (the file is left with its log unmerged),
+`hex`, `zeros` or `text` (the bytes of the file), `cut` (so many bytes are left), `flipped` (the
+places of bytes whose bits are turned round), `folder`, `fifo`, `link` (what the name is in place of
+a file), `second_name` (the file has another name beside), `journal` (what lies beside it as
+SQLite's rollback journal), `mode` and `folder_mode` (in octal).
+
+What the rows of a set of messages are is said here a second time, by the tables of docs/STORE.md.
 """
 
 import contextlib
+import datetime
+import json
 import os
 import shutil
 import sqlite3
 import tempfile
+from collections.abc import Iterable, Iterator, Mapping
+from typing import Any
 
-DESK_TABLE = "CREATE TABLE desk (id INTEGER PRIMARY KEY, schema INTEGER NOT NULL, roster TEXT NOT NULL) STRICT"
-MESSAGES_TABLE = "CREATE TABLE messages (body TEXT PRIMARY KEY NOT NULL) STRICT"
+Recipe = Mapping[str, Any]
+Texts = Mapping[str, str]
+# a row of a table
+Cells = tuple[Any, ...]
+COLUMNS = {
+    "desk": "(id INTEGER PRIMARY KEY, schema INTEGER NOT NULL, roster TEXT NOT NULL) STRICT",
+    "messages": "(body TEXT PRIMARY KEY NOT NULL) STRICT",
+    "names": "(asker TEXT NOT NULL, no INTEGER NOT NULL, body TEXT NOT NULL,"
+    " disputed INTEGER NOT NULL, PRIMARY KEY (asker, no)) STRICT",
+    "verdicts": "(asker TEXT NOT NULL, no INTEGER NOT NULL, person TEXT NOT NULL,"
+    " kind TEXT NOT NULL, at INTEGER NOT NULL, PRIMARY KEY (asker, no, person, kind, at)) STRICT",
+    "marks": "(asker TEXT NOT NULL, no INTEGER NOT NULL, person TEXT NOT NULL,"
+    " kind TEXT NOT NULL, at INTEGER NOT NULL, PRIMARY KEY (asker, no, person, kind)) STRICT",
+    "parked": "(body TEXT PRIMARY KEY NOT NULL, asker TEXT NOT NULL, no INTEGER NOT NULL) STRICT",
+}
+# the tables of a desk, by its schema
+TABLES = {
+    1: ("desk", "messages", "names", "marks", "parked"),
+    2: ("desk", "messages", "names", "verdicts", "parked"),
+}
 
 
-def connected(path):
+def definition(table: str, columns: str | None = None) -> str:
+    """The statement that makes a table of a desk."""
+    return f"CREATE TABLE {table} {columns or COLUMNS[table]}"
+
+
+def seconds(moment: str) -> int:
+    """The seconds of a moment's canonical text."""
+    return int(
+        datetime.datetime.strptime(moment, "%Y%m%d%H%M%SZ")
+        .replace(tzinfo=datetime.UTC)
+        .timestamp()
+    )
+
+
+def rows_of(bodies: Iterable[str], schema: int = 2) -> dict[str, list[Cells]]:
+    """The rows that a set of messages comes to, by table, in order. The text of a disputed name is
+    None: it may be any of its requests."""
+    texts = sorted(set(bodies))
+    read = [(text, json.loads(text)) for text in texts]
+    asked: dict[tuple[str, int], list[str]] = {}
+    for text, it in read:
+        if it["kind"] == "request":
+            asked.setdefault((it["by"], it["no"]), []).append(text)
+    spoken = [(text, it) for text, it in read if it["kind"] != "request"]
+    about = lambda it: (it["of"], it["no"])
+    given = sorted(
+        (*about(it), it["by"], it["kind"], seconds(it["at"]))
+        for _, it in spoken
+        if about(it) in asked
+    )
+    found: dict[str, list[Cells]] = {
+        "messages": [(text,) for text in texts],
+        "names": sorted(
+            (*name, None if len(asks) > 1 else asks[0], int(len(asks) > 1))
+            for name, asks in asked.items()
+        ),
+        "parked": [(text, *about(it)) for text, it in spoken if about(it) not in asked],
+    }
+    if schema == 1:
+        # the earliest of each person and kind
+        found["marks"] = [
+            row for n, row in enumerate(given) if n == 0 or given[n - 1][:4] != row[:4]
+        ]
+    else:
+        found["verdicts"] = given
+    return found
+
+
+def connected(path: str) -> contextlib.closing[sqlite3.Connection]:
     """A connection that commits each statement, and is closed at the end."""
     return contextlib.closing(sqlite3.connect(path, isolation_level=None))
 
 
-def run_sql(path, statements, texts):
-    with connected(path) as conn:
-        for statement in statements:
-            conn.execute(statement, texts)
+def put_rows(conn: sqlite3.Connection, bodies: Iterable[str], schema: int) -> None:
+    """Puts in the rows that the messages come to."""
+    kept = sorted(set(bodies))
+    asks = {
+        (it["by"], it["no"]): text
+        for text in kept
+        if (it := json.loads(text))["kind"] == "request"
+    }
+    for table, rows in rows_of(kept, schema).items():
+        if table == "names":
+            rows = [(*row[:2], asks[row[:2]], row[3]) for row in rows]
+        if rows:
+            places = ", ".join("?" * len(rows[0]))
+            conn.executemany(f"INSERT INTO {table} VALUES ({places})", rows)
 
 
-def leave_log(path, statements, texts):
-    """Does the statements in WAL mode, and leaves all that they did in the log."""
+def fill(conn: sqlite3.Connection, made: Recipe, texts: Texts) -> None:
+    """Makes what a recipe says of tables and rows."""
+    if "pages" in made:
+        conn.execute(f"PRAGMA page_size = {made['pages']}")
+    schema = made.get("schema", 2)
+    for table in made.get("tables", TABLES[schema] if "kept" in made else ()):
+        conn.execute(definition(table, made.get("columns", {}).get(table)))
+    if "kept" in made:
+        conn.execute("INSERT INTO desk VALUES (1, ?, ?)", (schema, texts["roster"]))
+        put_rows(conn, (texts[name] for name in made["kept"]), schema)
+    for statement in made.get("sql", ()):
+        conn.execute(statement, texts)
+
+
+def leave_log(path: str, made: Recipe, texts: Texts) -> None:
+    """Makes the tables and rows in WAL mode, and leaves all of it in the log."""
     with tempfile.TemporaryDirectory() as folder:
-        made = os.path.join(folder, "made.db")
-        with connected(made) as conn:
+        beside = os.path.join(folder, "made.db")
+        with connected(beside) as conn:
             conn.execute("PRAGMA journal_mode = wal")
             conn.execute("PRAGMA wal_autocheckpoint = 0")
-            for statement in statements:
-                conn.execute(statement, texts)
+            fill(conn, made, texts)
             for end in ("", "-wal"):
-                shutil.copy(made + end, path + end)
+                shutil.copy(beside + end, path + end)
 
 
-def redefine(path, table, columns):
+def redefine(path: str, table: str, columns: str) -> None:
     """Puts another definition in the place of the table's, which its rows need not obey."""
     with connected(path) as conn:
         conn.execute("PRAGMA writable_schema = on")
-        conn.execute("UPDATE sqlite_schema SET sql = ? WHERE name = ?", (f"CREATE TABLE {table} {columns}", table))
+        conn.execute(
+            "UPDATE sqlite_schema SET sql = ? WHERE name = ?",
+            (f"CREATE TABLE {table} {columns}", table),
+        )
         conn.execute("PRAGMA writable_schema = reset")
 
 
-def write_bytes(path, made):
+def write_bytes(path: str, made: Recipe) -> None:
     if "hex" in made or "zeros" in made or "text" in made:
         with open(path, "wb") as file:
-            file.write(bytes.fromhex(made.get("hex", "")) + bytes(made.get("zeros", 0)) + made.get("text", "").encode())
+            file.write(
+                bytes.fromhex(made.get("hex", ""))
+                + bytes(made.get("zeros", 0))
+                + made.get("text", "").encode()
+            )
     if "cut" in made:
         os.truncate(path, made["cut"])
     for place in made.get("flipped", []):
@@ -63,7 +170,7 @@ def write_bytes(path, made):
             file.write(bytes([byte ^ 0xFF]))
 
 
-def name_otherwise(path, made):
+def name_otherwise(path: str, made: Recipe) -> None:
     if "folder" in made:
         os.mkdir(path)
     if "fifo" in made:
@@ -77,10 +184,13 @@ def name_otherwise(path, made):
             file.write(made["journal"])
 
 
-def make(path, made, texts):
+def make(path: str, made: Recipe, texts: Texts) -> None:
     """Makes the file of a recipe; the names in its SQL stand for these texts."""
-    if "sql" in made:
-        (leave_log if "log" in made else run_sql)(path, made["sql"], texts)
+    if "log" in made:
+        leave_log(path, made, texts)
+    elif {"kept", "tables", "sql"} & made.keys():
+        with connected(path) as conn:
+            fill(conn, made, texts)
     if "foreign" in made:
         redefine(path, *made["foreign"])
     write_bytes(path, made)
@@ -91,20 +201,21 @@ def make(path, made, texts):
         os.chmod(os.path.dirname(path), int(made["folder_mode"], 8))
 
 
-def make_desk(path, roster, bodies=()):
-    """The file of a desk with these messages, by the same statements as the desk's, in one commit."""
+def make_desk(path: str, roster: str, bodies: Iterable[str] = (), schema: int = 2) -> None:
+    """The file of a desk with these messages, in one commit."""
     with connected(path) as conn:
         conn.execute("BEGIN")
-        conn.execute(DESK_TABLE)
-        conn.execute(MESSAGES_TABLE)
-        conn.execute("INSERT INTO desk (id, schema, roster) VALUES (1, 1, ?)", (roster,))
-        conn.executemany("INSERT INTO messages (body) VALUES (?)", ((body,) for body in bodies))
+        for table in TABLES[schema]:
+            conn.execute(definition(table))
+        conn.execute("INSERT INTO desk VALUES (1, ?, ?)", (schema, roster))
+        put_rows(conn, bodies, schema)
         conn.execute("COMMIT")
 
 
 @contextlib.contextmanager
-def copied(path):
-    """A connection to a copy of the file and its log: to open the file itself would merge its log."""
+def copied(path: str) -> Iterator[sqlite3.Connection]:
+    """A connection to a copy of the file and its log: to open the file itself would merge its
+    log."""
     with tempfile.TemporaryDirectory() as folder:
         copy = os.path.join(folder, "copy.db")
         for end in ("", "-wal"):
@@ -114,22 +225,34 @@ def copied(path):
             yield conn
 
 
-def read(path):
-    """The rows of the desk's tables: those of `desk`, and the texts of the messages, in order."""
+def read(path: str) -> tuple[list[Cells], list[str]]:
+    """The rows of the desk's tables: those of `desk`, and the texts of the messages, in order. A
+    row beside them that does not follow from the messages is an error, and so is one that lacks."""
     with copied(path) as conn:
         [[checked]] = conn.execute("PRAGMA integrity_check")
         if checked != "ok":
             raise sqlite3.DatabaseError(checked)
-        return list(conn.execute("SELECT * FROM desk")), [body for (body,) in conn.execute("SELECT body FROM messages ORDER BY body")]
+        desk = list(conn.execute("SELECT * FROM desk"))
+        bodies = [body for (body,) in conn.execute("SELECT body FROM messages ORDER BY body")]
+        for table, wanted in rows_of(bodies).items():
+            found = sorted(conn.execute(f"SELECT * FROM {table}"))
+            if table == "names":
+                strays = [row for row in found if row[2] not in bodies]
+                if strays:
+                    raise sqlite3.DatabaseError(f"names: {strays[0]}")
+                found = [(*row[:2], None if row[3] else row[2], row[3]) for row in found]
+            if found != wanted:
+                raise sqlite3.DatabaseError(f"{table}: {found[:3]} and not {wanted[:3]}")
+        return desk, bodies
 
 
-def asked(path, query):
+def asked(path: str, query: str) -> list[list[Any]]:
     """The rows of a query."""
     with copied(path) as conn:
         return [list(row) for row in conn.execute(query)]
 
 
-def as_it_is(path):
+def as_it_is(path: str) -> tuple[int, bytes] | int | None:
     """What stands at the path: nothing, or its kind, its mode and its bytes."""
     if not os.path.lexists(path):
         return None
@@ -141,14 +264,14 @@ def as_it_is(path):
 
 
 @contextlib.contextmanager
-def taken(path):
+def taken(path: str) -> Iterator[None]:
     """The file is written by another meanwhile."""
     with connected(path) as conn:
         conn.execute("BEGIN EXCLUSIVE")
         yield
 
 
-def clear(folder):
+def clear(folder: str) -> None:
     """Takes away what a case left in the folder, and lets all be written again."""
     os.chmod(folder, 0o700)
     for name in os.listdir(folder):

@@ -1,44 +1,46 @@
-"""What the scripts that ask sudo share: a mount namespace of their own, with its own users, commands and /etc/sudoers, and sudo's answers there.
+"""What the scripts that ask sudo share: a mount namespace of their own, with its own users,
+commands and /etc/sudoers, and sudo's answers there.
 
-sudo compares files by inode, so the commands are small files under /srv, and its clock stands still at the moment that is asked about
-(`faketime -f`). Users and hosts are looked up in files alone: Debian's sudo asks for a host's canonical name, and no resolver is to be asked here.
-All of these are bound over the machine's in that namespace alone, so nothing of the machine changes.
+sudo compares files by inode, so the commands are small files under /srv, and its clock stands still
+at the moment that is asked about (`faketime -f`). Users and hosts are looked up in files alone:
+Debian's sudo asks for a host's canonical name, and no resolver is to be asked here. All of these
+are bound over the machine's in that namespace alone, so nothing of the machine changes.
 """
 
 import os
-import shutil
 import subprocess
 import sys
+from collections.abc import Iterable, Mapping, Sequence
+from typing import NoReturn
+
+import desk
 
 PLACES = ("/etc/nsswitch.conf", "/etc/sudoers", "/etc/passwd", "/srv")
 
 
-def tool(name):
-    """The path of a program that these scripts need."""
-    path = shutil.which(name) or shutil.which(name, path="/usr/sbin:/sbin:/usr/bin")
-    if path is None:
-        sys.exit(f"{name} is missing: install Debian's packages sudo, faketime and util-linux")
-    return path
-
-
-def run(words, given=None):
-    return subprocess.run(words, input=given, stdout=subprocess.PIPE, stderr=subprocess.PIPE, text=True, check=False)
-
-
-def enter_namespace(script):
+def enter_namespace(script: str) -> NoReturn:
     """Starts the script again in a mount namespace of its own."""
     if os.geteuid() != 0:
         sys.exit("this needs root: sudo -l answers for another user only to root")
-    words = [tool("unshare"), "--mount", "--propagation", "private", sys.executable, os.path.abspath(script), "--inside"]
+    words = [
+        desk.tool("unshare"),
+        "--mount",
+        "--propagation",
+        "private",
+        sys.executable,
+        os.path.abspath(script),
+        "--inside",
+    ]
     sys.exit(subprocess.run(words, check=False).returncode)
 
 
-def bind(source, target):
+def bind(source: str, target: str) -> None:
     subprocess.run(["mount", "--bind", source, target], check=True)
 
 
-def furnish(folder, users, commands):
-    """Commands, given by their paths below /srv, users and an empty sudoers file, bound over the machine's; the path of the file is answered."""
+def furnish(folder: str, users: Iterable[str], commands: Iterable[str]) -> str:
+    """Commands, given by their paths below /srv, users and an empty sudoers file, bound over the
+    machine's; the path of the file is answered."""
     os.chmod(folder, 0o755)
     top = os.path.join(folder, "srv")
     os.makedirs(top, exist_ok=True)
@@ -70,28 +72,31 @@ def furnish(folder, users, commands):
     return sudoers
 
 
-def clear():
+def clear() -> None:
     """Takes away what was bound."""
     for place in PLACES:
         subprocess.run(["umount", place], check=True)
 
 
-def accepts(visudo, what, text, folder):
+def accepts(visudo: str, what: str, text: str, folder: str) -> bool:
     """Whether visudo accepts the text."""
     path = os.path.join(folder, "checked")
     with open(path, "w") as file:
         file.write(text)
     os.chmod(path, 0o440)
-    answer = run([visudo, "-cf", path])
+    answer = desk.run([visudo, "-cf", path])
     if answer.returncode != 0:
         print(f"visudo refuses {what}: {answer.stdout}{answer.stderr}")
     return answer.returncode == 0
 
 
-def allows(programs, words):
-    """What sudo itself answers to (user, host, target, moment, path, arguments ..), at that moment."""
+def allows(programs: Mapping[str, str], words: Sequence[str]) -> bool:
+    """What sudo itself answers to (user, host, target, moment, path, arguments ..), at that
+    moment."""
     user, host, runas, moment, path, *args = words
-    day = f"{moment[0:4]}-{moment[4:6]}-{moment[6:8]} {moment[8:10]}:{moment[10:12]}:{moment[12:14]}"
+    day = (
+        f"{moment[0:4]}-{moment[4:6]}-{moment[6:8]} {moment[8:10]}:{moment[10:12]}:{moment[12:14]}"
+    )
     asked = [programs["sudo"], "-n", "-l", "-U", user, "-h", host, "-u", runas, "--", path, *args]
     answer = subprocess.run(
         [programs["faketime"], "-f", day, *asked],

@@ -1,4 +1,5 @@
-"""The system calls of a program that was traced, beside those that a unit's SystemCallFilter lets through."""
+"""The system calls of a program that was traced, beside those that a unit's SystemCallFilter lets
+through."""
 
 import re
 import subprocess
@@ -19,7 +20,8 @@ def group(name: str) -> set[str]:
 
 
 def allowed(filters: list[str]) -> set[str]:
-    """The calls that the filters let through: the first lists, and each later one adds or takes away."""
+    """The calls that the filters let through: the first lists, and each later one adds or takes
+    away."""
     calls: set[str] = set()
     for line in filters:
         named: set[str] = set()

@@ -1,7 +1,9 @@
 #!/usr/bin/env bash
-# The whole gate: what can be seen without a proof; `rt ci`; and then, over the program that it left, the demo, the cases, sudo beside the desk, the desk
-# served over loopback, its file beside sqlite3, each request for memory refused, the relays and tools, and several desks behind a broker.
-# With WHOLE=1 a part that cannot run here fails; without it, it is left out and named. The last line is 'N passed, M failed'.
+# The whole gate: what can be seen without a proof; `rt ci`; and then, over the program that it
+# left, the demo, the cases, sudo beside the desk, the desk served over loopback, its file beside
+# sqlite3, each request for memory refused, the relays and tools, and several desks behind a broker.
+# With WHOLE=1 a part that cannot run here fails; without it, it is left out and named. The last
+# line is 'N passed, M failed'.
 set -euo pipefail
 cd "$(dirname "$0")/.."
 export PATH="$PATH:/usr/sbin:/sbin"
@@ -22,7 +24,8 @@ part() {
     fi
 }
 
-# Runs a part where the programs that it needs are there: its name, these programs, '--', then the words of its command.
+# Runs a part where the programs that it needs are there: its name, these programs, '--', then the
+# words of its command.
 part_with() {
     local name=$1 lacks=()
     shift
@@ -48,12 +51,15 @@ demo() {
 }
 
 cases() {
-    python3 scripts/cases.py && python3 scripts/random_reports.py
+    python3 scripts/cases.py && python3 scripts/random_reports.py &&
+        python3 scripts/cases_audit.py && /usr/bin/python3 scripts/random_audits.py
 }
 
 peers() {
-    python3 scripts/peers.py && python3 scripts/peers_policies.py && python3 scripts/peers_requests.py && python3 scripts/peers_http.py && python3 scripts/peers_patience.py &&
-        python3 scripts/peers_store.py && python3 scripts/peers_monitoring.py
+    python3 scripts/peers.py && python3 scripts/peers_policies.py &&
+        python3 scripts/peers_requests.py && python3 scripts/peers_http.py &&
+        python3 scripts/peers_patience.py && python3 scripts/peers_store.py &&
+        python3 scripts/peers_monitoring.py
 }
 
 front() {
@@ -61,7 +67,8 @@ front() {
 }
 
 pages() {
-    python3 scripts/make_pages.py build/pages && python3 scripts/check_pages.py && python3 scripts/check_readme.py
+    python3 scripts/make_pages.py build/pages && python3 scripts/check_pages.py &&
+        python3 scripts/check_readme.py
 }
 
 package_test() {
@@ -84,6 +91,7 @@ passed=$(grep -E '^[0-9]+ passed, 0 failed$' "$log" | tail -n 1 | cut -d ' ' -f 
 passed=$((passed + 1)) # what was seen without a proof
 mkdir -p build
 cp crates/desk_cli/out/desk_cli build/desk
+cp crates/desk_audit_cli/out/desk_audit_cli build/desk-audit
 
 part demo demo
 part_with cases setpriv -- cases
@@ -93,7 +101,8 @@ part_with relays-test root apt-get -- bash relays/test.sh
 part_with tools-test root apt-get -- bash tools/test.sh
 part_with pages mandoc zsh -- pages
 part_with peers nginx haproxy openssl sqlite3 -- front
-part_with package-test root dpkg-buildpackage dh lintian systemd-analyze sudo faketime unshare ip nginx openssl strace -- package_test
+part_with package-test root dpkg-buildpackage dh lintian systemd-analyze sudo faketime unshare ip \
+    nginx openssl strace -- package_test
 part_with several root unshare mount -- bash scripts/several.sh --short
 echo "$passed passed, $failed failed"
 [ "$failed" = 0 ]

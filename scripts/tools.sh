@@ -1,6 +1,8 @@
 #!/usr/bin/env bash
-# Installs what the gate asks beside the toolchain, where it is not there: sudo, with visudo, and a clock that stands still, curl, nc and sqlite3 for
-# `make peers`, a C compiler for `make faults`, and what the packages, their front and their pages are made and tried with. Where this is not root, or there is no apt-get, nothing is installed.
+# Installs what the gate asks beside the toolchain, where it is not there: sudo, with visudo, and a
+# clock that stands still, curl, nc and sqlite3 for `make peers`, a C compiler for `make faults`,
+# and what the packages, their front and their pages are made and tried with. Where this is not
+# root, or there is no apt-get, nothing is installed.
 set -euo pipefail
 export PATH="$PATH:/usr/sbin:/sbin"
 wanted=()
@@ -11,7 +13,8 @@ command -v nc >/dev/null || wanted+=(netcat-openbsd)
 command -v cc >/dev/null || wanted+=(gcc libc6-dev)
 command -v sqlite3 >/dev/null || wanted+=(sqlite3)
 command -v unshare >/dev/null && command -v setpriv >/dev/null || wanted+=(util-linux)
-# The packages, the front and the manual pages: `make package-test`, `make deb`, `make pages` and `make peers`.
+# The packages, the front and the manual pages: `make package-test`, `make deb`, `make pages` and
+# `make peers`.
 command -v nginx >/dev/null || wanted+=(nginx-light)
 command -v haproxy >/dev/null || wanted+=(haproxy)
 command -v openssl >/dev/null || wanted+=(openssl)
@@ -21,6 +24,9 @@ command -v mandoc >/dev/null || wanted+=(mandoc)
 command -v strace >/dev/null || wanted+=(strace)
 command -v zsh >/dev/null || wanted+=(zsh)
 /usr/bin/python3 -c 'import jsonschema' 2>/dev/null || wanted+=(python3-jsonschema)
+/usr/bin/python3 -c 'import pytest' 2>/dev/null || wanted+=(python3-pytest)
+# What `make quick` asks of the scripts themselves.
+/usr/bin/python3 -c 'import pyflakes' 2>/dev/null || wanted+=(python3-pyflakes)
 command -v ip >/dev/null || wanted+=(iproute2)
 command -v systemd-analyze >/dev/null || wanted+=(systemd)
 command -v adduser >/dev/null || wanted+=(adduser)

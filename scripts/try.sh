@@ -1,36 +1,64 @@
 #!/usr/bin/env bash
-# Builds the program without proving it, and leaves it at build/desk-unproved. `rt try` runs what it builds in a folder that it removes: the run here
+# Builds the programs without proving them, side by side: desk and desk-audit, or those whose
+# crates are named (desk_cli, desk_audit_cli), and leaves them at build/desk-unproved and
+# build/desk-audit-unproved. `rt try` runs what it builds in a folder that it removes: the run here
 # reads a pipe, and while it waits for that, the program is taken out of the folder.
 set -euo pipefail
 cd "$(dirname "$0")/.."
 mkdir -p build
-room=$(mktemp -d "$PWD/build/try.XXXXXX")
-trap 'rm -rf "$room"' EXIT
-mkfifo "$room/policy"
-echo "building the program WITHOUT A PROOF (some three minutes) .."
+rooms=$(mktemp -d "$PWD/build/try.XXXXXX")
+trap 'rm -rf "$rooms"' EXIT
 
-# Behind the pipe's other end is the program that waits.
+# Behind the pipe's other end, in a room, is the program that waits.
 take() {
-    exec 3> "$room/policy"
+    exec 3> "$1/policy"
     local found
-    found=$(find "$room" -type f -perm -u+x -printf '%s %p\n' | sort -n | tail -n 1 | cut -d ' ' -f 2-)
-    cp "$found" "$room/taken"
+    found=$(find "$1" -type f -perm -u+x -printf '%s %p\n' | sort -n | tail -n 1 |
+        cut -d ' ' -f 2-)
+    cp "$found" "$1/taken"
 }
 
-(cd crates/desk_cli && TMPDIR=$room exec rt try -- check "$room/policy") > "$room/log" 2>&1 &
-try=$!
-take &
-taker=$!
-status=0
-wait "$try" || status=$?
-if [ "$status" != 0 ] || [ ! -s "$room/taken" ]; then
-    kill "$taker" 2> /dev/null || true
-    cat "$room/log" >&2
-    exit 1
-fi
-mv "$room/taken" build/desk-unproved
-chmod 0755 build/desk-unproved
+# Builds the program of a crate: the crate, what it is called, and how its words begin that have it
+# read the pipe first.
+build() {
+    local crate=$1 name=$2 room=$rooms/$1 words status=0 try taker
+    shift 2
+    mkdir "$room"
+    mkfifo "$room/policy"
+    words=("${@/#PIPE/$room/policy}")
+    echo "building $name WITHOUT A PROOF (some three minutes) .."
+    (cd "crates/$crate" && TMPDIR=$room exec rt try -- "${words[@]}") > "$room/log" 2>&1 &
+    try=$!
+    take "$room" &
+    taker=$!
+    wait "$try" || status=$?
+    # desk-audit ends with 2 over a roster without a text
+    if { [ "$status" != 0 ] && [ "$crate" = desk_cli ]; } || [ ! -s "$room/taken" ]; then
+        kill "$taker" 2> /dev/null || true
+        cat "$room/log" >&2
+        return 1
+    fi
+    mv "$room/taken" "build/$name-unproved"
+    chmod 0755 "build/$name-unproved"
+    echo "built build/$name-unproved"
+}
+
+[ $# -gt 0 ] || set -- desk_cli desk_audit_cli
+builders=()
+for crate in "$@"; do
+    case $crate in
+        desk_cli) build desk_cli desk check PIPE & ;;
+        desk_audit_cli) build desk_audit_cli desk-audit PIPE PIPE - & ;;
+        *) echo "no program's crate: $crate" >&2 && exit 1 ;;
+    esac
+    builders+=("$!")
+done
+failed=0
+for builder in "${builders[@]}"; do
+    wait "$builder" || failed=1
+done
 cat <<'SAID'
-built build/desk-unproved
-NOTHING OF THIS PROGRAM WAS PROVED. IT IS FOR TRYING OUT A CHANGE, AND FOR NOTHING ELSE: `make desk` PROVES AND BUILDS.
+NOTHING OF THIS WAS PROVED. IT IS FOR TRYING OUT A CHANGE, AND FOR NOTHING ELSE:
+`make desk` PROVES AND BUILDS.
 SAID
+exit "$failed"

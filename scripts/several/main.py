@@ -20,6 +20,7 @@ import sys
 import tempfile
 import time
 
+from desk import PROGRAM
 from several import faults, rates, verdict
 from several.bench import Bench
 from several.desks import Desk, wait_for_stores
@@ -101,7 +102,7 @@ def judge(
 
 
 def run(words: argparse.Namespace, folder: pathlib.Path, started: Programs) -> int:
-    plan, program = SHORT if words.short else WHOLE, words.desk or [str(ROOT / "build" / "desk")]
+    plan, program = SHORT if words.short else WHOLE, words.desk or PROGRAM
     bench = Bench(plan, words.seed, program, folder, started)
     bench.tell(f"seed {words.seed}")
     with concurrent.futures.ThreadPoolExecutor(1) as pool:

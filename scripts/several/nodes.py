@@ -13,9 +13,10 @@ import signal
 import subprocess
 import typing
 
+import desk
 from several.programs import Failure, Program, Programs, free_ports, is_listening, wait_until
 
-ROOT = pathlib.Path(__file__).resolve().parents[2]
+ROOT = pathlib.Path(desk.ROOT)
 CONFIG = ROOT / "examples" / "broker" / "rabbitmq.conf"
 COUNT = 3
 # What the example has for three machines, for three nodes of this one. The delay is for nodes that

@@ -48,7 +48,8 @@ def wait_until(what: str, is_so: Callable[[], bool], seconds: float, step: float
 
 
 class Program:
-    """One program, which has a process most of the time. Its output goes to a file. It runs in the folder, where one is given."""
+    """One program, which has a process most of the time. Its output goes to a file. It runs in the
+    folder, where one is given."""
 
     def __init__(
         self,

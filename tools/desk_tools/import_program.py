@@ -51,12 +51,16 @@ def checked(desk: str, text: str) -> str:
     return ran.stdout
 
 
+def counted(count: int, thing: str, things: str) -> str:
+    return f"{count:,} {thing if count == 1 else things}"
+
+
 def report(notes: list[Note], entries: int) -> str:
     lines = [f"{note.place}: {'left out' if note.is_left_out else 'note'}: {note.what}: {note.said}" for note in notes]
     if entries > MOST_ENTRIES:
         lines.append(f"the base has {entries:,} entries, and a desk's has up to {MOST_ENTRIES:,} (K6): write aliases and directories in place of many rules")
     left_out = sum(note.is_left_out for note in notes)
-    lines.append(f"{entries:,} entries; {left_out} things are left out")
+    lines.append(f"{counted(entries, 'entry', 'entries')}; {counted(left_out, 'thing is', 'things are')} left out")
     return "".join(f"{line}\n" for line in lines)
 
 

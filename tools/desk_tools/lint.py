@@ -91,7 +91,7 @@ def look_at_messages(name: str, data: bytes, site: Site | None) -> Looked:
 
 
 class Unread(Exception):
-    """A file that cannot be read, or a roster that has faults where messages are to be admitted by it."""
+    """A file that cannot be read or is a base policy, or a roster that has faults where messages are to be admitted by it."""
 
 
 def read(name: str) -> bytes:
@@ -138,6 +138,8 @@ def lint(said: argparse.Namespace) -> int:
     site = site_of(said.roster) if said.roster else None
     looked = []
     for name in said.files:
+        if name.endswith(".sudo"):
+            raise Unread(f"{name}: a base policy by its name, which the desk itself tests: desk check {name}")
         data = read(name)
         is_roster = kind_of(name, data) == "roster"
         looked.append(look_at_roster(name, data, today) if is_roster else look_at_messages(name, data, site))

@@ -91,7 +91,7 @@ class Roster:
             # (one error for each key that is missing)
             for key in error.validator_value:
                 if key not in error.instance and error.message.startswith(f"{key!r} "):
-                    self.add("O3", path, {}, f"the key {key} is missing")
+                    self.faults.append(Fault(self.document.line(path), "O3", dotted(path), "", f"the key {key} is missing"))
         elif "propertyNames" in error.absolute_schema_path:
             self.add("O4", (*path, error.instance), error.instance, expected(error)[1])
         else:

@@ -20,6 +20,7 @@ ROOT = os.path.dirname(os.path.dirname(os.path.dirname(os.path.abspath(__file__)
 sys.path[:0] = [os.path.join(ROOT, "tools"), os.path.join(ROOT, "scripts")]
 sys.dont_write_bytecode = True
 
+import desk  # noqa: E402
 import sudo_peer  # noqa: E402
 
 from desk_tools.sudoers import BadSudoers, converted  # noqa: E402
@@ -118,7 +119,7 @@ def read_files(named, count):
 class Run:
     def __init__(self, folder, sudoers):
         self.folder, self.sudoers = folder, sudoers
-        self.programs = {name: sudo_peer.tool(name) for name in ("sudo", "visudo", "faketime")}
+        self.programs = {name: desk.tool(name) for name in ("sudo", "visudo", "faketime")}
         self.count = {"bases": 0, "kept whole": 0, "asked": 0, "allowed": 0, "denied, though the file allows": 0, "wrong": 0}
 
     def wrong(self, file, said):
@@ -152,7 +153,7 @@ class Run:
             self.ask(file, base, ran.stdout, is_whole, file.invocation(rng))
 
     def ask(self, file, base, text, is_whole, words):
-        answer = sudo_peer.run([DESK, "decide", base, *words[:5], "--", *words[5:]])
+        answer = desk.run([DESK, "decide", base, *words[:5], "--", *words[5:]])
         ours = answer.returncode == 0
         theirs, before = self.by_sudo(text, words), self.by_sudo(file.text, words)
         self.count["asked"] += 1
@@ -193,5 +194,5 @@ def inside(count, named):
 if __name__ == "__main__":
     if sys.argv[1:2] == ["--inside"]:
         inside(int(sys.argv[2]), sys.argv[3:])
-    words = [sudo_peer.tool("unshare"), "--mount", "--propagation", "private", sys.executable, os.path.abspath(__file__), "--inside", *sys.argv[1:]]
+    words = [desk.tool("unshare"), "--mount", "--propagation", "private", sys.executable, os.path.abspath(__file__), "--inside", *sys.argv[1:]]
     sys.exit(subprocess.run(words, check=False).returncode)

@@ -144,7 +144,7 @@ def test_included_files(made, tmp_path):
 def test_failures(made, imports, desk, tmp_path):
     assert made("ann ALL = \n", status=2)[1][0].startswith("desk-import: sudo cannot read it: ")
     assert imports("--desk", desk, str(tmp_path / "none")).returncode == 2
-    assert made("ann ALL = /bin/ls\n", status=0)[1] == ["1 entries; 0 things are left out"]
+    assert made("ann ALL = /bin/ls\n", status=0)[1] == ["1 entry; 0 things are left out"]
 
 
 def ask_sudo(count, *files):

@@ -180,6 +180,9 @@ def test_words(lint, tmp_path):
     assert lint("--explain", "Z9").returncode == 2
     ran = lint(str(tmp_path / "nothing"))
     assert (ran.returncode, ran.stderr) == (2, f"desk-lint: {tmp_path}/nothing: No such file or directory\n")
+    ran = lint(str(tmp_path / "base.sudo"))
+    assert (ran.returncode, ran.stdout) == (2, "") and ran.stderr.endswith(f": desk check {tmp_path}/base.sudo\n")
+    assert lint("-", given="people = 1\n").stdout.startswith("-:1: O3 WrongType: the key ceilings is missing\n")
     assert lint("-", given='{"kind":7}\n').stdout.startswith('-:1: M3 BadField: kind = 7: expected one of request, approve, ')
 
 

@@ -1,25 +1,52 @@
 -- What a crash leaves of a desk.
-use Rattle.std.proofs.Common.{◌≡◌, ◌⊎◌, inl, inr, ℕ, List, Ok}
+use Rattle.std.proofs.Common.{◌≡◌, ◌⊎◌, inl, inr, ℕ, List, Ok, refl}
 use Rattle.sudo_words.specs.declared.cmnd.Cmnd.{Cmnd}
 use Rattle.messages.specs.declared.message.Message.{Message}
 use Rattle.roster.specs.Fields.{RosterFields}
-use Rattle.desk_store.specs.Sets.{SameSet, With}
-use Rattle.desk_store.specs.Left.{Left, IsAsKept, IsDeskOf, IsNothingOrFresh, IsWithOrWithout, LeavesOnly}
-use Rattle.desk_store.proofs.LeftLemmas.{same_left}
-use Rattle.desk.specs.Crash.{IsAcceptable, IsLeftByDelivery, IsLeftByOpening}
+use Rattle.desk_tables.specs.Sets.{SameSet, With}
+use Rattle.desk_store.specs.Left.{Left, IsAsKept, IsDeskOf, IsNothingOrFresh, IsOldDeskOf, IsReplacedOrNot, IsWithOrWithout, LeavesOnly}
+use Rattle.desk_store.proofs.SameLeft.{same_left, same_old_left}
+use Rattle.desk.specs.Crash.{IsAcceptable, IsLeftByDelivery, IsLeftByOpening, IsLeftByRebuilding}
 use Rattle.desk.specs.Delivery.{Acknowledges, Delivery, IsBodyOf}
 use Rattle.desk.specs.declared.ack.Ack.{Ack}
 use Rattle.desk.proofs.DeliveryLemmas.{held_at_ok}
 
 -- ---- opening
 
--- what was kept as it was
-pub kept_by_opening : (Empty Desk : Type 0) (recorded text : List ℕ) (S : Message → Type 0) (left : Left) → IsAsKept Empty Desk recorded S left → IsLeftByOpening Empty Desk recorded text S left
-kept_by_opening Empty Desk recorded text S left kept = record { empty = λ none. inl (kept.empty none); desk = kept.desk }
+module _ (Empty Desk Old : Type 0) (recorded text : List ℕ) (S : Message → Type 0) (left : Left) where
+  -- what was kept as it was
+  pub kept_by_opening : IsAsKept Empty Desk Old recorded S left → IsLeftByOpening Empty Desk Old recorded text S left
+  kept_by_opening kept = record { empty = λ none. inl (kept.empty none); desk = kept.desk; old = kept.old }
 
--- what the making of a desk may leave, where there was none
-pub made_by_opening : (Empty Desk : Type 0) (recorded text : List ℕ) (S : Message → Type 0) (left : Left) → (¬ Desk) → IsNothingOrFresh text left → IsLeftByOpening Empty Desk recorded text S left
-made_by_opening Empty Desk recorded text S left none made = record { empty = λ _. made; desk = λ desk. absurd (none desk) }
+  -- what the making of a desk may leave, where there was none
+  pub made_by_opening : (¬ Desk) → (¬ Old) → IsNothingOrFresh text left → IsLeftByOpening Empty Desk Old recorded text S left
+  made_by_opening none none_old made = record { empty = λ _. made; desk = λ desk. absurd (none desk); old = λ old. absurd (none_old old) }
+
+  -- ---- rebuilding
+
+  -- what was kept as it was
+  pub kept_by_rebuilding : IsAsKept Empty Desk Old recorded S left → IsLeftByRebuilding Empty Desk Old recorded text S left
+  kept_by_rebuilding kept = record { empty = λ none. inl (kept.empty none); desk = λ desk. inl (kept.desk desk); old = λ old. inl (kept.old old) }
+
+  -- what the making of a desk may leave, where there was none
+  pub made_by_rebuilding : (¬ Desk) → (¬ Old) → IsNothingOrFresh text left → IsLeftByRebuilding Empty Desk Old recorded text S left
+  made_by_rebuilding none none_old made = record { empty = λ _. made; desk = λ desk. absurd (none desk); old = λ old. absurd (none_old old) }
+
+-- what the replacing of the roster's text may leave of a keeper that keeps what another did
+pub replaced_by_rebuilding : (Empty Desk Old Desk' Old' : Type 0) (recorded recorded' text : List ℕ) (S T : Message → Type 0) (left : Left) → (¬ Empty)
+    → (Desk → Desk' × (recorded' ≡ recorded) × SameSet S T) → (Old → Old' × SameSet S T)
+    → IsReplacedOrNot Desk' Old' recorded' text T left → IsLeftByRebuilding Empty Desk Old recorded text S left
+replaced_by_rebuilding Empty Desk Old Desk' Old' recorded recorded' text S T left none desk old may = record {
+  empty = λ is. absurd (none is);
+  desk = λ is. let kept = desk is in elim (may.desk kept.0) as (λ _. IsDeskOf recorded S left ⊎ IsDeskOf text S left) [
+    | inl before ↦ inl (same_left recorded recorded' S T left kept.1 kept.2 before)
+    | inr new ↦ inr (same_left text text S T left refl kept.2 new)
+  ];
+  old = λ is. let kept = old is in elim (may.old kept.0) as (λ _. IsOldDeskOf S left ⊎ IsDeskOf text S left) [
+    | inl before ↦ inl (same_old_left S T left kept.1 before)
+    | inr new ↦ inr (same_left text text S T left refl kept.1 new)
+  ];
+}
 
 -- ---- the desk, under another name of its roster's text and of its messages
 

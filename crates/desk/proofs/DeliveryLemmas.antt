@@ -1,5 +1,6 @@
 -- One answer to a delivery, and what is held once one more delivery is answered.
 use Rattle.std.proofs.Common.{◌≡◌, ℕ, ◌<◌, ◌⊎◌, List, [], ◌∷◌, ◌++◌, length, Result, Ok, Err, true, false, refl, sym, ap, ◌∙◌, subst, inl, inr, arith}
+use Rattle.std.specs.Prelude.{IsUtf8}
 use Rattle.messages.specs.Canonical.{IsCanonicalText}
 use Rattle.messages.specs.private.Members.{value_of}
 use Rattle.messages.specs.Wire.{wire, IsMessage}
@@ -12,10 +13,10 @@ use Rattle.roster.specs.Rules.{is_among}
 use Rattle.grants.specs.Admission.{Admits, IsDenial}
 use Rattle.grants.specs.declared.denial.Denial.{Denial}
 use Rattle.grants.proofs.Answering.{no_denial, one_denial}
-use Rattle.desk_store.specs.Sets.{IsWith}
+use Rattle.desk_tables.specs.Sets.{IsWith}
 use Rattle.desk.specs.declared.ack.Ack.{Ack}
 use Rattle.desk.specs.declared.refusal.Refusal.{Refusal}
-use Rattle.desk.specs.declared.refusal.Refusal.TheVariants.{UnknownRelay, UnknownHost, TooLong, NotCanonical, BadField, Denied, TooManyRules, RosterChanged, NotADesk, Storage, NoMemory, BaseTooLarge}
+use Rattle.desk.specs.declared.refusal.Refusal.TheVariants.{UnknownRelay, UnknownHost, TooLong, NotCanonical, BadField, Denied, TooManyRules, RosterChanged, NotADesk, OldSchema, Storage, NoMemory, BaseTooLarge}
 use Rattle.desk.specs.Delivery.{Acknowledges, AcknowledgesAmong, Answers, AnswersBody, AreAnswers, Delivery, HeldAfter, HeldAfterAll, IsDeliveryAnswer, IsBodyOf, WasWanting}
 
 -- ---- one answer
@@ -28,7 +29,11 @@ canonical_body body m is =
     let P : List ℕ → Type 0 = IsCanonicalText in
     subst P (sym is.text) (value_of m, text_of_message m is.message)
 
-same_body : (body : List ℕ) (m n : Message) → IsBodyOf body m → IsBodyOf body n → m ≡ n
+-- so it is UTF-8
+pub utf8_body : (body : List ℕ) (m : Message) → IsBodyOf body m → IsUtf8 body
+utf8_body body m is = (canonical_body body m is).1.utf8
+
+pub same_body : (body : List ℕ) (m n : Message) → IsBodyOf body m → IsBodyOf body n → m ≡ n
 same_body body m n x y = one_message m n x.message y.message (sym x.text ∙ y.text)
 
 admitted_denied : (f : RosterFields Cmnd) (body : List ℕ) (m n : Message) (d : Denial) → IsBodyOf body m → IsBodyOf body n → Admits f m → IsDenial f n d → ⊥
@@ -47,6 +52,7 @@ one_body_answer f body (Err UnknownHost) b x y = absurd x
 one_body_answer f body (Err TooManyRules) b x y = absurd x
 one_body_answer f body (Err RosterChanged) b x y = absurd x
 one_body_answer f body (Err NotADesk) b x y = absurd x
+one_body_answer f body (Err OldSchema) b x y = absurd x
 one_body_answer f body (Err Storage) b x y = absurd x
 one_body_answer f body (Err NoMemory) b x y = absurd x
 one_body_answer f body (Err BaseTooLarge) b x y = absurd x
@@ -55,6 +61,7 @@ one_body_answer f body a (Err UnknownHost) x y = absurd y
 one_body_answer f body a (Err TooManyRules) x y = absurd y
 one_body_answer f body a (Err RosterChanged) x y = absurd y
 one_body_answer f body a (Err NotADesk) x y = absurd y
+one_body_answer f body a (Err OldSchema) x y = absurd y
 one_body_answer f body a (Err Storage) x y = absurd y
 one_body_answer f body a (Err NoMemory) x y = absurd y
 one_body_answer f body a (Err BaseTooLarge) x y = absurd y

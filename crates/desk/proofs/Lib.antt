@@ -1,11 +1,13 @@
 pub mod DeliveryLemmas
 pub mod OpeningLemmas
 pub mod ServingLemmas
+pub mod FailureLemmas
 pub mod RunLemmas
 pub mod QueryLemmas
 pub mod AnswerLemmas
 pub mod CrashLemmas
 pub mod RestartLemmas
+pub mod RebuildingLemmas
 pub mod KnownLemmas
 pub mod RefusalLemmas
 pub mod TextLemmas

@@ -1,6 +1,6 @@
 -- A keeper's error that a `?` hands on as a refusal.
 use Rattle.std.proofs.Common.{◌≡◌, ◌≢◌, ◌⊎◌, inl, inr, Result, Ok, Err}
-use Rattle.std.specs.Prelude.{IfErr, IsErrAnd}
+use Rattle.std.specs.Prelude.{IfErr, IsErrAnd, MatchResult}
 use Rattle.desk_store.specs.declared.error.KeeperError.{KeeperError}
 use Rattle.desk_store.specs.declared.error.KeeperError.TheVariants as errors
 use Rattle.desk.specs.Refusals.{IsWant, refusal_of_error}
@@ -28,3 +28,11 @@ told_no_base errors.Storage (Ok x) is = absurd is
 told_no_base errors.NoMemory (Ok x) is = absurd is
 told_no_base errors.Storage (Err e) is = λ large. absurd cc
 told_no_base errors.NoMemory (Err e) is = λ large. absurd cc
+
+-- so the keeper may be down
+pub told_up : {A : Type 0} (error : KeeperError) (r : Result A Refusal) (Up : Type 0) → IsErrAnd r (λ e. e ≡ refusal_of_error error)
+    → MatchResult r (λ _. Up) (λ e. IsWant e ⊎ Up)
+told_up errors.Storage (Ok x) Up is = absurd is
+told_up errors.NoMemory (Ok x) Up is = absurd is
+told_up errors.Storage (Err e) Up is = inl (inr is)
+told_up errors.NoMemory (Err e) Up is = inl (inl is)

@@ -5,12 +5,12 @@ use Rattle.sudo_words.specs.declared.cmnd.Cmnd.{Cmnd}
 use Rattle.messages.specs.Names.{SameMessages}
 use Rattle.messages.specs.declared.message.Message.{Message}
 use Rattle.roster.specs.Fields.{RosterFields}
-use Rattle.desk_store.specs.Sets.{Lists, SameSet}
+use Rattle.desk_tables.specs.Sets.{Lists, SameSet}
 use Rattle.desk.specs.Opening.{Opens, Refuses}
 use Rattle.desk.specs.Refusals.{IsWant}
 use Rattle.desk.specs.Same.{AnswerAlike}
 use Rattle.desk.specs.declared.refusal.Refusal.{Refusal}
-use Rattle.desk.specs.declared.refusal.Refusal.TheVariants.{UnknownRelay, UnknownHost, TooLong, NotCanonical, BadField, Denied, TooManyRules, RosterChanged, NotADesk, Storage, NoMemory, BaseTooLarge}
+use Rattle.desk.specs.declared.refusal.Refusal.TheVariants.{UnknownRelay, UnknownHost, TooLong, NotCanonical, BadField, Denied, TooManyRules, RosterChanged, NotADesk, OldSchema, Storage, NoMemory, BaseTooLarge}
 use Rattle.desk_outcomes.proofs.LawLemmas.{order_free}
 use Rattle.desk_outcomes.proofs.SetLemmas.{parked_of_set}
 use Rattle.desk.proofs.TextLemmas.{texts_of_set}
@@ -29,31 +29,33 @@ same_answers f S T same = record {
 }
 
 -- a desk that is opened over what a desk held, holds that
-pub held_again : (Empty Desk : Type 0) (recorded text : List ℕ) (S T U : Message → Type 0) → Desk → SameSet S T → Opens Empty Desk recorded text T U → SameSet S U
-held_again Empty Desk recorded text S T U desk same (inl none) = absurd (none.1 desk)
-held_again Empty Desk recorded text S T U desk same (inr found) = λ m. (λ h. (found.3 m).0 ((same m).0 h), λ h. (same m).1 ((found.3 m).1 h))
+pub held_again : (Empty Desk Old : Type 0) (recorded text : List ℕ) (S T U : Message → Type 0) → Desk → SameSet S T → Opens Empty Desk Old recorded text T U → SameSet S U
+held_again Empty Desk Old recorded text S T U desk same (inl none) = absurd (none.1 desk)
+held_again Empty Desk Old recorded text S T U desk same (inr found) = λ m. (λ h. (found.4 m).0 ((same m).0 h), λ h. (same m).1 ((found.4 m).1 h))
 
 -- and has the roster's text that was recorded
-pub recorded_text : (Empty Desk : Type 0) (recorded text : List ℕ) (S T : Message → Type 0) → Desk → Opens Empty Desk recorded text S T → recorded ≡ text
-recorded_text Empty Desk recorded text S T desk (inl none) = absurd (none.1 desk)
-recorded_text Empty Desk recorded text S T desk (inr found) = found.2
+pub recorded_text : (Empty Desk Old : Type 0) (recorded text : List ℕ) (S T : Message → Type 0) → Desk → Opens Empty Desk Old recorded text S T → recorded ≡ text
+recorded_text Empty Desk Old recorded text S T desk (inl none) = absurd (none.1 desk)
+recorded_text Empty Desk Old recorded text S T desk (inr found) = found.3
 
 -- and is refused for its base or for its roster, if it is: what was recorded is a desk
-pub refused_again : (Fits Empty Desk : Type 0) (recorded said text : List ℕ) (e : Refusal) → Desk → said ≡ recorded → IsWant e ⊎ Refuses Fits Empty Desk recorded text e
+pub refused_again : (Fits Empty Desk Old : Type 0) (recorded said text : List ℕ) (e : Refusal) → Desk → said ≡ recorded
+    → IsWant e ⊎ Refuses Fits Empty Desk Old recorded text e
     → IsWant e ⊎ ((e ≡ BaseTooLarge) × (¬ Fits)) ⊎ ((e ≡ RosterChanged) × (said ≢ text))
-refused_again Fits Empty Desk recorded said text e desk same (inl want) = inl want
-refused_again Fits Empty Desk recorded said text BaseTooLarge desk same (inr large) = inr (inl (refl, large))
-refused_again Fits Empty Desk recorded said text RosterChanged desk same (inr why) = inr (inr (refl, λ is. why.2 (sym same ∙ is)))
-refused_again Fits Empty Desk recorded said text NotADesk desk same (inr why) = absurd (why.2 desk)
-refused_again Fits Empty Desk recorded said text UnknownRelay desk same (inr none) = absurd none
-refused_again Fits Empty Desk recorded said text UnknownHost desk same (inr none) = absurd none
-refused_again Fits Empty Desk recorded said text TooLong desk same (inr none) = absurd none
-refused_again Fits Empty Desk recorded said text NotCanonical desk same (inr none) = absurd none
-refused_again Fits Empty Desk recorded said text BadField desk same (inr none) = absurd none
-refused_again Fits Empty Desk recorded said text (Denied denial) desk same (inr none) = absurd none
-refused_again Fits Empty Desk recorded said text TooManyRules desk same (inr none) = absurd none
-refused_again Fits Empty Desk recorded said text Storage desk same (inr none) = absurd none
-refused_again Fits Empty Desk recorded said text NoMemory desk same (inr none) = absurd none
+refused_again Fits Empty Desk Old recorded said text e desk same (inl want) = inl want
+refused_again Fits Empty Desk Old recorded said text BaseTooLarge desk same (inr large) = inr (inl (refl, large))
+refused_again Fits Empty Desk Old recorded said text RosterChanged desk same (inr why) = inr (inr (refl, λ is. why.2 (sym same ∙ is)))
+refused_again Fits Empty Desk Old recorded said text NotADesk desk same (inr why) = absurd (why.2 desk)
+refused_again Fits Empty Desk Old recorded said text OldSchema desk same (inr why) = absurd (why.2 desk)
+refused_again Fits Empty Desk Old recorded said text UnknownRelay desk same (inr none) = absurd none
+refused_again Fits Empty Desk Old recorded said text UnknownHost desk same (inr none) = absurd none
+refused_again Fits Empty Desk Old recorded said text TooLong desk same (inr none) = absurd none
+refused_again Fits Empty Desk Old recorded said text NotCanonical desk same (inr none) = absurd none
+refused_again Fits Empty Desk Old recorded said text BadField desk same (inr none) = absurd none
+refused_again Fits Empty Desk Old recorded said text (Denied denial) desk same (inr none) = absurd none
+refused_again Fits Empty Desk Old recorded said text TooManyRules desk same (inr none) = absurd none
+refused_again Fits Empty Desk Old recorded said text Storage desk same (inr none) = absurd none
+refused_again Fits Empty Desk Old recorded said text NoMemory desk same (inr none) = absurd none
 
 -- what is said of one thing and of a thing that is the same
 pub set_of_same : {A : Type 0} (a b : A) → a ≡ b → (H : A → Message → Type 0) (T : Message → Type 0) → SameSet (H a) T → SameSet (H b) T
@@ -76,3 +78,7 @@ of_refused (Err e) P Q R F each p q = each e p q
 pub of_err : {A E : Type 0} (r : Result A E) (P R : E → Type 0) → ((e : E) → P e → R e) → IfErr r P → IfErr r R
 of_err (Ok a) P R each p = tt
 of_err (Err e) P R each p = each e p
+
+pub of_both : {A E : Type 0} (r : Result A E) (P Q R : A → Type 0) → ((a : A) → P a → Q a → R a) → IfOk r P → IfOk r Q → IfOk r R
+of_both (Ok a) P Q R each p q = each a p q
+of_both (Err e) P Q R each p q = tt

@@ -1,5 +1,5 @@
 -- What the desk answers to a delivery, and which messages it holds then.
-use Rattle.std.specs.Prelude.{◌≡◌, ◌≢◌, ◌⊎◌, ℕ, ◌<◌, ◌≤◌, true, false, List, [], ◌∷◌, length, Result, Ok, Err, IsOk, String, Vec, string_bytes}
+use Rattle.std.specs.Prelude.{◌≡◌, ◌≢◌, ◌⊎◌, ℕ, ◌<◌, ◌≤◌, ◌+◌, ◌-◌, ◌^◌, true, false, List, [], ◌∷◌, Contains, length, Result, Ok, Err, IsOk, String, Vec, string_bytes}
 use Rattle.std.specs.List.{AllZip}
 use Rattle.std.specs.declared.alloc.Global.{Global}
 use Rattle.sudo_words.specs.declared.cmnd.Cmnd.{Cmnd}
@@ -9,11 +9,11 @@ use Rattle.messages.specs.declared.message.Message.{Message}
 use Rattle.roster.specs.Fields.{RosterFields}
 use Rattle.roster.specs.Rules.{is_among}
 use Rattle.grants.specs.Admission.{Admits, IsDenial}
-use Rattle.desk_store.specs.Sets.{SameSet}
+use Rattle.desk_tables.specs.Sets.{SameSet}
 use Rattle.desk.specs.Refusals.{IsWant}
 use Rattle.desk.specs.declared.ack.Ack.{Ack}
 use Rattle.desk.specs.declared.refusal.Refusal.{Refusal}
-use Rattle.desk.specs.declared.refusal.Refusal.TheVariants.{UnknownRelay, TooLong, NotCanonical, BadField, Denied}
+use Rattle.desk.specs.declared.refusal.Refusal.TheVariants.{UnknownRelay, TooLong, NotCanonical, BadField, Denied, Storage}
 
 -- A relay brings a body. The relay vouches for it, and has no other effect.
 pub record Delivery : Type 0 where
@@ -78,6 +78,24 @@ AreAnswers f ds answers = AllZip (IsDeliveryAnswer f) ds answers
 -- What is held then is exactly what was held, and each message that was acknowledged.
 abbrev pub HeldAfterAll : (old : Message → Type 0) → List Delivery → List (Result Ack Refusal) → (new : Message → Type 0) → Type 0
 HeldAfterAll old ds answers new = SameSet (λ m. old m ⊎ AcknowledgesAmong ds answers m) new
+
+-- one of the answers tells that memory or the storage was wanting
+abbrev pub WasWantingAmong : List (Result Ack Refusal) → Type 0
+WasWantingAmong answers = (answer : Result Ack Refusal) × Contains answers answer × WasWanting answer
+
+-- 1 where the answer tells that the storage failed, else 0
+abbrev pub storage_failure : Result Ack Refusal → ℕ
+storage_failure (Err Storage) = 1
+storage_failure _ = 0
+
+-- how many of the answers tell that the storage failed
+abbrev pub storage_failures : List (Result Ack Refusal) → ℕ
+storage_failures [] = 0
+storage_failures (answer ∷ answers) = storage_failure answer + storage_failures answers
+
+-- So many failures were counted, or the count stands at the greatest number of 64 bits.
+abbrev pub HaveFailed : (many before after : ℕ) → Type 0
+HaveFailed many before after = (before + many ≤ after) ⊎ (2 ^ 64 - 1 ≤ after)
 
 -- a relay's name and a body, as the desk is lent them
 abbrev pub delivery_of : String Global × Vec ℕ Global → Delivery

@@ -1,7 +1,8 @@
--- what a desk is, how it is opened, and what it answers to deliveries
+-- what a desk is, how it is opened and rebuilt, and what it answers to deliveries
 pub mod State
 pub mod Refusals
 pub mod Opening
+pub mod Rebuilding
 pub mod Delivery
 pub mod Texts
 pub mod Crash

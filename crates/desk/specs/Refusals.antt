@@ -8,7 +8,7 @@ use Rattle.grants.specs.declared.host_fault.HostFault.TheVariants as host_faults
 use Rattle.desk_store.specs.declared.error.KeeperError.{KeeperError}
 use Rattle.desk_store.specs.declared.error.KeeperError.TheVariants as errors
 use Rattle.desk.specs.declared.refusal.Refusal.{Refusal}
-use Rattle.desk.specs.declared.refusal.Refusal.TheVariants.{UnknownRelay, UnknownHost, TooLong, NotCanonical, BadField, Denied, TooManyRules, RosterChanged, NotADesk, Storage, NoMemory, BaseTooLarge}
+use Rattle.desk.specs.declared.refusal.Refusal.TheVariants.{UnknownRelay, UnknownHost, TooLong, NotCanonical, BadField, Denied, TooManyRules, RosterChanged, NotADesk, OldSchema, Storage, NoMemory, BaseTooLarge}
 
 -- its code and name
 abbrev pub refusal_text : Refusal → List ℕ
@@ -21,6 +21,7 @@ refusal_text (Denied denial) = denial_text denial
 refusal_text TooManyRules = codes "G1 TooManyRules"
 refusal_text RosterChanged = codes "K1 RosterChanged"
 refusal_text NotADesk = codes "K2 NotADesk"
+refusal_text OldSchema = codes "K3 OldSchema"
 refusal_text Storage = codes "K4 Storage"
 refusal_text NoMemory = codes "K5 NoMemory"
 refusal_text BaseTooLarge = codes "K6 BaseTooLarge"

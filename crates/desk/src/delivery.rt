@@ -21,3 +21,12 @@ pub(crate) fn admitted(alloc: Global, roster: &Roster, body: &[u8]) -> Result<Me
     admit(roster, &message)?;
     Ok(message)
 }
+
+/// The body of a message as text: it is that of the message, which is named for the proof alone.
+pub(crate) fn text_of<'b>(body: &'b [u8], _message: &Message) -> &'b str
+    requires { IsBodyOf body.now _message.now }
+    ensures { result.now ≡ body.now }
+{
+    // So it is UTF-8, which is proved of this call and not tested.
+    unsafe { str::from_utf8_unchecked(body) }
+}

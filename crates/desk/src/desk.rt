@@ -1,17 +1,18 @@
 //! A desk.
 
 ghost use Rattle.std.specs.Prelude.{◌≡◌, ◌≢◌, ◌⊎◌, ◌↔◌, ◌≤◌, [], length, map, vec_capacity, Contains, IfOk, IfErr, OnOk, OnErr, MatchResult, Err};
+ghost use Rattle.messages.specs.declared.message.Message.{Message as AnyMessage};
 ghost use Rattle.grants.specs.Bases.{FitsBase};
 ghost use Rattle.desk_store.specs.Keeping.{HasFailed};
 ghost use Rattle.desk_store.specs.Left.{IsDeskOf, LeavesOnly};
 ghost use Rattle.desk.specs.Crash.{IsLeftByDelivery, IsLeftByOpening};
-ghost use Rattle.desk.specs.Delivery.{Acknowledges, AreAnswers, HeldAfter, HeldAfterAll, IsDeliveryAnswer, delivery_of};
+ghost use Rattle.desk.specs.Delivery.{Acknowledges, AreAnswers, HaveFailed, HeldAfter, HeldAfterAll, IsBodyOf, IsDeliveryAnswer, WasWantingAmong, delivery_of, storage_failures};
 ghost use Rattle.desk.specs.Opening.{Opens, Refuses};
 ghost use Rattle.desk.specs.Refusals.{IsWant};
 ghost use Rattle.desk.specs.declared.refusal.Refusal.TheVariants as refusal;
 
 use crate::ack::Ack;
-use crate::delivery::admitted;
+use crate::delivery::{admitted, text_of};
 use crate::loading::with_message;
 use crate::opening::{find_or_make, known_at_first};
 use crate::refusal::Refusal;
@@ -55,11 +56,12 @@ impl<K: Keeper> Desk<K> {
     /// Opens the desk that the keeper keeps, or makes one without messages where it keeps nothing of a desk's.
     ///
     /// `BaseTooLarge` comes exactly where the base is past a limit of the desk. Else `NotADesk` comes where the keeper has
-    /// something of a desk's and no desk, and `RosterChanged` where its desk has another roster's text; `Storage` and
-    /// `NoMemory` wherever the storage or memory refuses. A refusal hands the keeper back, with what it keeps as it was.
+    /// something of a desk's and no desk, `OldSchema` where it has a desk of an older form, and `RosterChanged` where its desk has
+    /// another roster's text; `Storage` and `NoMemory` wherever the storage or memory refuses. A refusal hands the keeper back, with
+    /// what it keeps as it was.
     ///
     /// Whenever the call ends, a crash leaves a desk that was there whole, and of an empty keeper nothing, or a whole desk without
-    /// messages. While the keeper is up after Ok, a crash leaves the desk.
+    /// messages. After Ok a crash leaves the desk.
     pub fn open(
         alloc: Global,
         roster: Roster,
@@ -69,10 +71,10 @@ impl<K: Keeper> Desk<K> {
         ensures handed_in { IfOk result (λ d. (d.roster ≡ roster) × (d.base ≡ base)) }
         ensures fits { IfOk result (λ d. FitsBase base) }
         ensures opens { IfOk result (λ d. K.is_up d.keeper
-            → Opens (K.is_empty keeper) (K.is_desk keeper) (K.roster keeper) roster.text (K.holds keeper) (K.holds d.keeper)) }
+            → Opens (K.is_empty keeper) (K.is_desk keeper) (K.is_old keeper) (K.roster keeper) roster.text (K.holds keeper) (K.holds d.keeper)) }
         ensures too_large { IfErr result (λ r. (r.0 ≡ refusal.BaseTooLarge) ↔ (¬ FitsBase base)) }
         ensures refused { IfErr result (λ r. K.is_up r.1
-            → IsWant r.0 ⊎ Refuses (FitsBase base) (K.is_empty keeper) (K.is_desk keeper) (K.roster keeper) roster.text r.0) }
+            → IsWant r.0 ⊎ Refuses (FitsBase base) (K.is_empty keeper) (K.is_desk keeper) (K.is_old keeper) (K.roster keeper) roster.text r.0) }
         ensures unchanged { IfErr result (λ r. K.is_up r.1 → K.is_same keeper r.1) }
         ensures was_up { MatchResult result (λ d. K.is_up d.keeper → K.is_up keeper) (λ r. K.is_up r.1 → K.is_up keeper) }
         ensures was_clean { MatchResult result (λ d. K.is_clean d.keeper → K.is_clean keeper) (λ r. K.is_clean r.1 → K.is_clean keeper) }
@@ -80,14 +82,21 @@ impl<K: Keeper> Desk<K> {
             (λ d. K.is_clean d.keeper → K.is_up d.keeper ⊎ HasFailed (K.failures keeper) (K.failures d.keeper))
             (λ r. K.is_clean r.1 → K.is_up r.1 ⊎ HasFailed (K.failures keeper) (K.failures r.1)) }
         ensures counts { MatchResult result (λ d. K.failures keeper ≤ K.failures d.keeper) (λ r. K.failures keeper ≤ K.failures r.1) }
+        ensures up { K.is_up keeper → MatchResult result
+            (λ d. K.is_clean d.keeper → K.is_up d.keeper)
+            (λ r. K.is_clean r.1 → IsWant r.0 ⊎ K.is_up r.1) }
         ensures cause { IfErr result (λ r. r.0 ≡ refusal.Storage → HasFailed (K.failures keeper) (K.failures r.1)) }
         // A base past the limits is refused before the keeper is asked.
         ensures unasked { IfErr result (λ r. r.0 ≡ refusal.BaseTooLarge → r.1 ≡ keeper) }
         ensures crash { K.is_up keeper → MatchResult result
             (λ d. K.is_clean d.keeper
-            → LeavesOnly (K.may_leave d.keeper) (IsLeftByOpening (K.is_empty keeper) (K.is_desk keeper) (K.roster keeper) roster.text (K.holds keeper)))
+            → LeavesOnly (K.may_leave d.keeper)
+            (IsLeftByOpening (K.is_empty keeper) (K.is_desk keeper) (K.is_old keeper) (K.roster keeper) roster.text (K.holds keeper)))
             (λ r. r.0 ≢ refusal.BaseTooLarge → K.is_clean r.1
-            → LeavesOnly (K.may_leave r.1) (IsLeftByOpening (K.is_empty keeper) (K.is_desk keeper) (K.roster keeper) roster.text (K.holds keeper))) }
+            → LeavesOnly (K.may_leave r.1)
+            (IsLeftByOpening (K.is_empty keeper) (K.is_desk keeper) (K.is_old keeper) (K.roster keeper) roster.text (K.holds keeper))) }
+        ensures lasting { K.is_up keeper → IfOk result
+            (λ d. K.is_clean d.keeper → LeavesOnly (K.may_leave d.keeper) (IsDeskOf roster.text (K.holds d.keeper))) }
         ensures durable { IfOk result (λ d. K.is_up d.keeper → LeavesOnly (K.may_leave d.keeper) (IsDeskOf roster.text (K.holds d.keeper))) }
     {
         // Calls drop what a refusal does not hand back: where an exit drops it in line, each of its fields is proved again there.
@@ -126,6 +135,8 @@ impl<K: Keeper> Desk<K> {
         ensures answer { IsDeliveryAnswer self.old.roster.says (record { relay = relay.now; body = body.now }) result }
         ensures held { K.is_up self.new.keeper
             → HeldAfter (K.holds self.old.keeper) (record { relay = relay.now; body = body.now }) result (K.holds self.new.keeper) }
+        ensures repeated { K.is_up self.new.keeper → (m : AnyMessage) → IsBodyOf body.now m → K.holds self.old.keeper m
+            → OnOk result (K.is_same self.old.keeper self.new.keeper) }
         ensures unchanged { K.is_up self.new.keeper → OnErr result (K.is_same self.old.keeper self.new.keeper) }
         ensures roster { self.new.roster ≡ self.old.roster }
         ensures base { self.new.base ≡ self.old.base }
@@ -133,6 +144,8 @@ impl<K: Keeper> Desk<K> {
         ensures was_clean { K.is_clean self.new.keeper → K.is_clean self.old.keeper }
         ensures shuts { K.is_up self.old.keeper → K.is_clean self.new.keeper
             → K.is_up self.new.keeper ⊎ HasFailed (K.failures self.old.keeper) (K.failures self.new.keeper) }
+        ensures up { K.is_up self.old.keeper → K.is_clean self.new.keeper
+            → MatchResult result (λ _. K.is_up self.new.keeper) (λ e. IsWant e ⊎ K.is_up self.new.keeper) }
         ensures counts { K.failures self.old.keeper ≤ K.failures self.new.keeper }
         ensures cause { result ≡ Err refusal.Storage → HasFailed (K.failures self.old.keeper) (K.failures self.new.keeper) }
         ensures crash { K.is_up self.old.keeper → K.is_clean self.new.keeper → LeavesOnly (K.may_leave self.new.keeper)
@@ -147,7 +160,10 @@ impl<K: Keeper> Desk<K> {
         let message = admitted(self.alloc, &self.roster, body)?;
         // What is known stays only where the message is kept.
         let known = with_message(self.known.take(), &message);
-        self.keeper.add(message)?;
+        let added = self.keeper.add(&message, text_of(body, &message));
+        // A call drops the message: where an exit drops it in line, each of its fields is proved again there.
+        drop(message);
+        added?;
         self.known = known;
         Ok(Ack)
     }
@@ -171,9 +187,13 @@ impl<K: Keeper> Desk<K> {
         ensures was_clean { K.is_clean self.new.keeper → K.is_clean self.old.keeper }
         ensures shuts { K.is_up self.old.keeper → K.is_clean self.new.keeper
             → K.is_up self.new.keeper ⊎ HasFailed (K.failures self.old.keeper) (K.failures self.new.keeper) }
+        ensures up { K.is_up self.old.keeper → K.is_clean self.new.keeper
+            → MatchResult result (λ answers. WasWantingAmong answers.items ⊎ K.is_up self.new.keeper) (λ _. K.is_up self.new.keeper) }
         ensures counts { K.failures self.old.keeper ≤ K.failures self.new.keeper }
         ensures cause { IfOk result (λ answers. Contains answers.items (Err refusal.Storage)
             → HasFailed (K.failures self.old.keeper) (K.failures self.new.keeper)) }
+        ensures causes { IfOk result (λ answers.
+            HaveFailed (storage_failures answers.items) (K.failures self.old.keeper) (K.failures self.new.keeper)) }
         ensures durable { K.is_up self.new.keeper → LeavesOnly (K.may_leave self.new.keeper) (IsDeskOf self.new.roster.text (K.holds self.new.keeper)) }
     {
         let mut answers = Vec::with_capacity(self.alloc, list.len())?;
@@ -202,8 +222,10 @@ impl<K: Keeper> Desk<K> {
         ensures was_clean { K.is_clean self.new.keeper → K.is_clean self.old.keeper }
         ensures shuts { K.is_up self.old.keeper → K.is_clean self.new.keeper
             → K.is_up self.new.keeper ⊎ HasFailed (K.failures self.old.keeper) (K.failures self.new.keeper) }
+        ensures up { K.is_up self.old.keeper → K.is_clean self.new.keeper → WasWantingAmong answers.new.items ⊎ K.is_up self.new.keeper }
         ensures counts { K.failures self.old.keeper ≤ K.failures self.new.keeper }
         ensures cause { Contains answers.new.items (Err refusal.Storage) → HasFailed (K.failures self.old.keeper) (K.failures self.new.keeper) }
+        ensures causes { HaveFailed (storage_failures answers.new.items) (K.failures self.old.keeper) (K.failures self.new.keeper) }
     {
         for (relay, body) in list {
             let answer = self.deliver(relay.as_str(), body.as_slice());

@@ -10,6 +10,8 @@ mod holdings;
 mod loading;
 mod opening;
 mod queries;
+mod rebuilding;
+mod rebuilding_laws;
 mod refusal;
 mod reopening;
 mod run_laws;
@@ -25,6 +27,7 @@ pub use desk_outcomes::{
 };
 pub use desk_store::{Keeper, MemoryKeeper};
 pub use holdings::Holdings;
+pub use rebuilding_laws::{rebuild_again, rebuild_twice};
 pub use refusal::Refusal;
 pub use reopening::{restart, restart_over};
 pub use run_laws::{one_answer, run_free};

@@ -8,7 +8,7 @@ ghost use Rattle.desk.specs.Refusals.{IsWant};
 ghost use Rattle.desk.specs.declared.refusal.Refusal.TheVariants as refusal;
 ghost use Rattle.desk_store.specs.Keeping.{HasFailed};
 ghost use Rattle.desk_store.specs.Left.{IsDeskOf, LeavesOnly};
-ghost use Rattle.desk_store.specs.Sets.{SameSet};
+ghost use Rattle.desk_tables.specs.Sets.{SameSet};
 
 use crate::refusal::Refusal;
 use desk_outcomes::Gathered;
@@ -30,6 +30,7 @@ pub(crate) fn load<K: Keeper>(keeper: &mut K, _known: &Option<Gathered>) -> Resu
     ensures was_up { K.is_up keeper.new → K.is_up keeper.old }
     ensures was_clean { K.is_clean keeper.new → K.is_clean keeper.old }
     ensures shuts { K.is_up keeper.old → K.is_clean keeper.new → K.is_up keeper.new ⊎ HasFailed (K.failures keeper.old) (K.failures keeper.new) }
+    ensures up { K.is_up keeper.old → K.is_clean keeper.new → OnOk result (K.is_up keeper.new) }
     ensures counts { K.failures keeper.old ≤ K.failures keeper.new }
     ensures cause { result ≡ Err KeeperError.Storage → HasFailed (K.failures keeper.old) (K.failures keeper.new) }
     ensures durable { K.is_up keeper.new → LeavesOnly (K.may_leave keeper.new) (IsDeskOf (K.roster keeper.new) (K.holds keeper.new)) }
@@ -57,6 +58,7 @@ pub(crate) fn known_of<K: Keeper>(
     ensures was_up { K.is_up keeper.new → K.is_up keeper.old }
     ensures was_clean { K.is_clean keeper.new → K.is_clean keeper.old }
     ensures shuts { K.is_up keeper.old → K.is_clean keeper.new → K.is_up keeper.new ⊎ HasFailed (K.failures keeper.old) (K.failures keeper.new) }
+    ensures up { K.is_up keeper.old → K.is_clean keeper.new → OnOk result (K.is_up keeper.new) }
     ensures counts { K.failures keeper.old ≤ K.failures keeper.new }
     ensures cause { result ≡ Err refusal.Storage → HasFailed (K.failures keeper.old) (K.failures keeper.new) }
     ensures durable { K.is_up keeper.new → LeavesOnly (K.may_leave keeper.new) (IsDeskOf (K.roster keeper.new) (K.holds keeper.new)) }

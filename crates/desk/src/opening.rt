@@ -1,9 +1,9 @@
 //! A desk found at its keeper's, or made there, and what is known of its messages at first.
 
-ghost use Rattle.std.specs.Prelude.{◌≡◌, ◌≢◌, ◌⊎◌, ◌≤◌, ⊤, IfOk, OnOk, OnErr, IfErr, Err};
+ghost use Rattle.std.specs.Prelude.{◌≡◌, ◌≢◌, ◌⊎◌, ◌≤◌, ⊤, IfOk, OnOk, OnErr, IfErr, MatchResult, Err};
 ghost use Rattle.desk_store.specs.Keeping.{HasFailed};
 ghost use Rattle.desk_store.specs.Left.{IsDeskOf, LeavesOnly};
-ghost use Rattle.desk_store.specs.Sets.{IsNothing};
+ghost use Rattle.desk_tables.specs.Sets.{IsNothing};
 ghost use Rattle.desk.specs.Crash.{IsLeftByOpening};
 ghost use Rattle.desk.specs.private.Known.{IsKnownAtFirst};
 ghost use Rattle.desk.specs.Opening.{Opens, Refuses};
@@ -40,19 +40,20 @@ pub(crate) fn find_or_make<K: Keeper>(keeper: &mut K, text: &str) -> Result<Orig
     ensures made { K.is_up keeper.new → IfOk result (λ origin. origin ≡ origins.Made → IsNothing (K.holds keeper.new)) }
     ensures desk { K.is_up keeper.new → OnOk result (K.is_desk keeper.new) }
     ensures roster { K.is_up keeper.new → OnOk result (K.roster keeper.new ≡ text.now) }
-    ensures opens { K.is_up keeper.new
-        → OnOk result (Opens (K.is_empty keeper.old) (K.is_desk keeper.old) (K.roster keeper.old) text.now (K.holds keeper.old) (K.holds keeper.new)) }
-    ensures refused { K.is_up keeper.new
-        → IfErr result (λ e. IsWant e ⊎ Refuses ⊤ (K.is_empty keeper.old) (K.is_desk keeper.old) (K.roster keeper.old) text.now e) }
+    ensures opens { K.is_up keeper.new → OnOk result
+        (Opens (K.is_empty keeper.old) (K.is_desk keeper.old) (K.is_old keeper.old) (K.roster keeper.old) text.now (K.holds keeper.old) (K.holds keeper.new)) }
+    ensures refused { K.is_up keeper.new → IfErr result
+        (λ e. IsWant e ⊎ Refuses ⊤ (K.is_empty keeper.old) (K.is_desk keeper.old) (K.is_old keeper.old) (K.roster keeper.old) text.now e) }
     ensures fits { IfErr result (λ e. e ≢ refusal.BaseTooLarge) }
     ensures unchanged { K.is_up keeper.new → OnErr result (K.is_same keeper.old keeper.new) }
     ensures was_up { K.is_up keeper.new → K.is_up keeper.old }
     ensures was_clean { K.is_clean keeper.new → K.is_clean keeper.old }
     ensures shuts { K.is_up keeper.old → K.is_clean keeper.new → K.is_up keeper.new ⊎ HasFailed (K.failures keeper.old) (K.failures keeper.new) }
+    ensures up { K.is_up keeper.old → K.is_clean keeper.new → MatchResult result (λ _. K.is_up keeper.new) (λ e. IsWant e ⊎ K.is_up keeper.new) }
     ensures counts { K.failures keeper.old ≤ K.failures keeper.new }
     ensures cause { result ≡ Err refusal.Storage → HasFailed (K.failures keeper.old) (K.failures keeper.new) }
-    ensures crash { K.is_up keeper.old → K.is_clean keeper.new
-        → LeavesOnly (K.may_leave keeper.new) (IsLeftByOpening (K.is_empty keeper.old) (K.is_desk keeper.old) (K.roster keeper.old) text.now (K.holds keeper.old)) }
+    ensures crash { K.is_up keeper.old → K.is_clean keeper.new → LeavesOnly (K.may_leave keeper.new)
+        (IsLeftByOpening (K.is_empty keeper.old) (K.is_desk keeper.old) (K.is_old keeper.old) (K.roster keeper.old) text.now (K.holds keeper.old)) }
     ensures durable { K.is_up keeper.new → OnOk result (LeavesOnly (K.may_leave keeper.new) (IsDeskOf (K.roster keeper.new) (K.holds keeper.new))) }
 {
     match keeper.look()? {
@@ -62,6 +63,7 @@ pub(crate) fn find_or_make<K: Keeper>(keeper: &mut K, text: &str) -> Result<Orig
         }
         Found::Desk(recorded) if recorded.as_str() == text => Ok(Origin::Found),
         Found::Desk(_) => Err(Refusal::RosterChanged),
+        Found::OldDesk => Err(Refusal::OldSchema),
         Found::NotADesk => Err(Refusal::NotADesk),
     }
 }

@@ -4,7 +4,7 @@ ghost use Rattle.std.specs.Prelude.{◌≡◌, ◌⊎◌, ◌↔◌, ◌<◌, �
 ghost use Rattle.messages.specs.declared.message.Message.{Message as AnyMessage};
 ghost use Rattle.roster.specs.Rules.{is_among};
 ghost use Rattle.desk_store.specs.Keeping.{HasFailed};
-ghost use Rattle.desk_store.specs.Sets.{Lists, SameSet};
+ghost use Rattle.desk_tables.specs.Sets.{Lists, SameSet};
 ghost use Rattle.desk_outcomes.specs.HostFile.{Line, AreLines, IsHostFile, IsHostFileAfter, lines_after};
 ghost use Rattle.desk_outcomes.specs.LinesLeft as left;
 ghost use Rattle.desk_outcomes.specs.Outcomes.{AreLive, ComesTo};
@@ -36,6 +36,8 @@ impl<K: Keeper> Desk<K> {
         ensures was_clean { K.is_clean self.new.keeper → K.is_clean self.old.keeper }
         ensures shuts { K.is_up self.old.keeper → K.is_clean self.new.keeper
             → K.is_up self.new.keeper ⊎ HasFailed (K.failures self.old.keeper) (K.failures self.new.keeper) }
+        ensures up { K.is_up self.old.keeper → K.is_clean self.new.keeper
+            → MatchResult result (λ _. K.is_up self.new.keeper) (λ e. IsWant e ⊎ K.is_up self.new.keeper) }
         ensures counts { K.failures self.old.keeper ≤ K.failures self.new.keeper }
         ensures cause { result ≡ Err refusal.Storage → HasFailed (K.failures self.old.keeper) (K.failures self.new.keeper) }
     {
@@ -57,6 +59,8 @@ impl<K: Keeper> Desk<K> {
         ensures was_clean { K.is_clean self.new.keeper → K.is_clean self.old.keeper }
         ensures shuts { K.is_up self.old.keeper → K.is_clean self.new.keeper
             → K.is_up self.new.keeper ⊎ HasFailed (K.failures self.old.keeper) (K.failures self.new.keeper) }
+        ensures up { K.is_up self.old.keeper → K.is_clean self.new.keeper
+            → MatchResult result (λ _. K.is_up self.new.keeper) (λ e. IsWant e ⊎ K.is_up self.new.keeper) }
         ensures counts { K.failures self.old.keeper ≤ K.failures self.new.keeper }
         ensures cause { result ≡ Err refusal.Storage → HasFailed (K.failures self.old.keeper) (K.failures self.new.keeper) }
     {
@@ -78,6 +82,8 @@ impl<K: Keeper> Desk<K> {
         ensures was_clean { K.is_clean self.new.keeper → K.is_clean self.old.keeper }
         ensures shuts { K.is_up self.old.keeper → K.is_clean self.new.keeper
             → K.is_up self.new.keeper ⊎ HasFailed (K.failures self.old.keeper) (K.failures self.new.keeper) }
+        ensures up { K.is_up self.old.keeper → K.is_clean self.new.keeper
+            → MatchResult result (λ _. K.is_up self.new.keeper) (λ e. IsWant e ⊎ K.is_up self.new.keeper) }
         ensures counts { K.failures self.old.keeper ≤ K.failures self.new.keeper }
         ensures cause { result ≡ Err refusal.Storage → HasFailed (K.failures self.old.keeper) (K.failures self.new.keeper) }
     {
@@ -100,6 +106,8 @@ impl<K: Keeper> Desk<K> {
         ensures was_clean { K.is_clean self.new.keeper → K.is_clean self.old.keeper }
         ensures shuts { K.is_up self.old.keeper → K.is_clean self.new.keeper
             → K.is_up self.new.keeper ⊎ HasFailed (K.failures self.old.keeper) (K.failures self.new.keeper) }
+        ensures up { K.is_up self.old.keeper → K.is_clean self.new.keeper
+            → MatchResult result (λ _. K.is_up self.new.keeper) (λ e. IsWant e ⊎ K.is_up self.new.keeper) }
         ensures counts { K.failures self.old.keeper ≤ K.failures self.new.keeper }
         ensures cause { result ≡ Err refusal.Storage → HasFailed (K.failures self.old.keeper) (K.failures self.new.keeper) }
     {
@@ -123,6 +131,8 @@ impl<K: Keeper> Desk<K> {
         ensures was_clean { K.is_clean self.new.keeper → K.is_clean self.old.keeper }
         ensures shuts { K.is_up self.old.keeper → K.is_clean self.new.keeper
             → K.is_up self.new.keeper ⊎ HasFailed (K.failures self.old.keeper) (K.failures self.new.keeper) }
+        ensures up { K.is_up self.old.keeper → K.is_clean self.new.keeper
+            → MatchResult result (λ _. K.is_up self.new.keeper) (λ e. IsWant e ⊎ K.is_up self.new.keeper) }
         ensures counts { K.failures self.old.keeper ≤ K.failures self.new.keeper }
         ensures cause { result ≡ Err refusal.Storage → HasFailed (K.failures self.old.keeper) (K.failures self.new.keeper) }
     {
@@ -159,6 +169,8 @@ impl<K: Keeper> Desk<K> {
         ensures was_clean { K.is_clean self.new.keeper → K.is_clean self.old.keeper }
         ensures shuts { K.is_up self.old.keeper → K.is_clean self.new.keeper
             → K.is_up self.new.keeper ⊎ HasFailed (K.failures self.old.keeper) (K.failures self.new.keeper) }
+        ensures up { K.is_up self.old.keeper → K.is_clean self.new.keeper
+            → MatchResult result (λ _. K.is_up self.new.keeper) (λ e. IsWant e ⊎ K.is_up self.new.keeper) }
         ensures counts { K.failures self.old.keeper ≤ K.failures self.new.keeper }
         ensures cause { result ≡ Err refusal.Storage → HasFailed (K.failures self.old.keeper) (K.failures self.new.keeper) }
     {
@@ -191,6 +203,8 @@ impl<K: Keeper> Desk<K> {
         ensures was_clean { K.is_clean self.new.keeper → K.is_clean self.old.keeper }
         ensures shuts { K.is_up self.old.keeper → K.is_clean self.new.keeper
             → K.is_up self.new.keeper ⊎ HasFailed (K.failures self.old.keeper) (K.failures self.new.keeper) }
+        ensures up { K.is_up self.old.keeper → K.is_clean self.new.keeper
+            → MatchResult result (λ _. K.is_up self.new.keeper) (λ e. IsWant e ⊎ K.is_up self.new.keeper) }
         ensures counts { K.failures self.old.keeper ≤ K.failures self.new.keeper }
         ensures cause { result ≡ Err refusal.Storage → HasFailed (K.failures self.old.keeper) (K.failures self.new.keeper) }
     {
@@ -216,6 +230,8 @@ impl<K: Keeper> Desk<K> {
         ensures was_clean { K.is_clean self.new.keeper → K.is_clean self.old.keeper }
         ensures shuts { K.is_up self.old.keeper → K.is_clean self.new.keeper
             → K.is_up self.new.keeper ⊎ HasFailed (K.failures self.old.keeper) (K.failures self.new.keeper) }
+        ensures up { K.is_up self.old.keeper → K.is_clean self.new.keeper
+            → MatchResult result (λ _. K.is_up self.new.keeper) (λ e. IsWant e ⊎ K.is_up self.new.keeper) }
         ensures counts { K.failures self.old.keeper ≤ K.failures self.new.keeper }
         ensures cause { result ≡ Err refusal.Storage → HasFailed (K.failures self.old.keeper) (K.failures self.new.keeper) }
     {

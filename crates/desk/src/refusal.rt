@@ -33,6 +33,8 @@ pub enum Refusal {
     RosterChanged,
     /// The keeper has something of a desk's, and no desk.
     NotADesk,
+    /// The keeper has a desk of an older form, which is to be rebuilt.
+    OldSchema,
     /// The keeper's storage failed.
     Storage,
     /// Memory ran out: a growth was refused.
@@ -58,6 +60,7 @@ impl fmt::Display for Refusal {
             Refusal::TooManyRules => "G1 TooManyRules",
             Refusal::RosterChanged => "K1 RosterChanged",
             Refusal::NotADesk => "K2 NotADesk",
+            Refusal::OldSchema => "K3 OldSchema",
             Refusal::Storage => "K4 Storage",
             Refusal::NoMemory => "K5 NoMemory",
             Refusal::BaseTooLarge => "K6 BaseTooLarge",

@@ -9,12 +9,12 @@ use Rattle.roster.specs.Fields.{RosterFields}
 use Rattle.roster.specs.Relations.{IsFirst}
 use Rattle.roster.specs.Rules.{is_among}
 use Rattle.grants.specs.Admission.{Admits}
-use Rattle.desk_store.specs.Sets.{IsNothing, Lists, SameSet}
+use Rattle.desk_store.specs.Sets.{Lists, SameSet}
 use Rattle.desk.specs.Delivery.{Acknowledges, AcknowledgesAmong, Answers, AnswersBody, AreAnswers, Delivery, HeldAfterAll, IsDeliveryAnswer, IsBodyOf, WasWanting}
 use Rattle.desk.specs.declared.ack.Ack.{Ack}
 use Rattle.desk.specs.declared.refusal.Refusal.{Refusal}
 use Rattle.desk_commands.specs.Lines.{AreBrought, AreRead, IsBrought, from_relay}
-use Rattle.desk_commands.specs.Printing.{HadMemory, IsTaken, complaints}
+use Rattle.desk_commands.specs.Taking.{AreTaken, HadMemory, HeldWith, complaints}
 
 module _ (f : RosterFields Cmnd) where
   right_answer : (d : Delivery) (answer : Result Ack Refusal) → IsDeliveryAnswer f d answer → (WasWanting answer → ⊥) → Answers f d answer
@@ -135,54 +135,62 @@ module _ (f : RosterFields Cmnd) where
   brought_acked relay lines answers m known are had is =
       acked_at relay lines answers m is.line is.among.0 known are had is.among.1 is.among.2 is.body is.admitted
 
-  -- ---- the messages of a desk that had none
+  -- no line brings nothing
+  pub nothing_brought : (m : Message) → IsBrought f [] m → ⊥
+  nothing_brought m is = nothing_in is.line is.among
 
-  -- a list of what lines brought to a desk that held nothing, which is what it holds then
-  pub record AreTaken (relay : List ℕ) (lines : List (List ℕ)) (answers : List (Result Ack Refusal)) (held : Message → Type 0) : Type 0 where
-    pub messages : List Message
-    pub brought : AreBrought f lines messages
-    pub holds : Lists held messages
-    pub answered : AllZip (Answers f) (from_relay relay lines) answers
+  -- ---- what is held once lines are delivered
 
-  pub are_taken : (relay : List ℕ) (lines : List (List ℕ)) (answers : List (Result Ack Refusal)) (old new : Message → Type 0) → is_among f.relays relay ≡ true
-      → IsNothing old → AreAnswers f (from_relay relay lines) answers → HeldAfterAll old (from_relay relay lines) answers new → HadMemory answers
-      → AreTaken relay lines answers new
-  are_taken relay lines answers old new known nothing are after had =
-      let right = right_answers (from_relay relay lines) answers are had in
-      let all = listed (from_relay relay lines) answers right in
-      record {
-        messages = all.0;
-        brought = λ m. (
+  -- what was held, and what the lines bring
+  held_with : (relay : List ℕ) (lines : List (List ℕ)) (answers : List (Result Ack Refusal)) (old new : Message → Type 0) → is_among f.relays relay ≡ true
+      → AreAnswers f (from_relay relay lines) answers → HadMemory answers → AllZip (Answers f) (from_relay relay lines) answers
+      → HeldAfterAll old (from_relay relay lines) answers new → SameSet (HeldWith f lines old) new
+  held_with relay lines answers old new known are had right after = λ m. (
+    λ h. elim h [
+      | inl before ↦ (after m).0 (inl before)
+      | inr brought ↦ (after m).0 (inr (brought_acked relay lines answers m known are had brought))
+    ],
+    λ h. elim ((after m).1 h) [
+      | inl before ↦ inl before
+      | inr acked ↦ inr (acked_brought relay lines answers m right acked)
+    ],
+  )
+
+  -- the messages that the lines bring
+  all_brought : (relay : List ℕ) (lines : List (List ℕ)) (answers : List (Result Ack Refusal)) → is_among f.relays relay ≡ true
+      → AreAnswers f (from_relay relay lines) answers → HadMemory answers → AllZip (Answers f) (from_relay relay lines) answers
+      → (messages : List Message) × AreBrought f lines messages
+  all_brought relay lines answers known are had right =
+      let all = listed (from_relay relay lines) answers right in (
+        all.0,
+        λ m. (
           λ is. (all.1 m).0 (brought_acked relay lines answers m known are had is),
           λ among. acked_brought relay lines answers m right ((all.1 m).1 among),
-        );
-        holds = λ m. (
-          λ held. elim ((after m).1 held) [ inl before ↦ absurd (nothing m before) | inr acked ↦ (all.1 m).0 acked ],
-          λ among. (after m).0 (inr ((all.1 m).1 among)),
-        );
-        answered = right;
-      }
+        ),
+      )
 
   -- what is taken of an input whose lines were delivered
-  pub taken : (relay : List ℕ) (input : Option (List ℕ)) (read lent : List Delivery) (answers shown : List (Result Ack Refusal)) (old new : Message → Type 0)
-      (text said : List ℕ) → IsFirst f.relays relay → AreRead relay input read → lent ≡ read → shown ≡ answers → IsNothing old
-      → AreAnswers f lent answers → HeldAfterAll old lent answers new → HadMemory shown → text ≡ complaints 1 shown → said ≡ text
-      → (messages : List Message) × Lists new messages × IsTaken f input messages said
-  taken relay input read lent answers shown old new text said first is_read same_read same_answers nothing are after had says same_text =
+  pub taken : (relay : List ℕ) (input : Option (List ℕ)) (read lent : List Delivery) (answers shown : List (Result Ack Refusal)) (Up : Type 0) (old new : Message → Type 0)
+      (text said : List ℕ) → IsFirst f.relays relay → AreRead relay input read → lent ≡ read → shown ≡ answers
+      → AreAnswers f lent answers → (Up → HeldAfterAll old lent answers new) → HadMemory shown → text ≡ complaints 1 shown → said ≡ text
+      → (lines : List (List ℕ)) × AreTaken f input lines said × (Up → SameSet (HeldWith f lines old) new)
+  taken relay input read lent answers shown Up old new text said first is_read same_read same_answers are after had says same_text =
       let same : lent ≡ from_relay relay is_read.lines = same_read ∙ is_read.deliveries_are in
       let had_memory : HadMemory answers = subst HadMemory same_answers had in
-      let all = are_taken relay is_read.lines answers old new first.among nothing (subst (λ (ds : List Delivery). AreAnswers f ds answers) same are)
-      (subst (λ (ds : List Delivery). HeldAfterAll old ds answers new) same after) had_memory in (
-        all.messages,
-        all.holds,
+      let of_lines : AreAnswers f (from_relay relay is_read.lines) answers = subst (λ (ds : List Delivery). AreAnswers f ds answers) same are in
+      let right = right_answers (from_relay relay is_read.lines) answers of_lines had_memory in
+      let all = all_brought relay is_read.lines answers first.among of_lines had_memory right in (
+        is_read.lines,
         record {
           relay = relay;
-          lines = is_read.lines;
           answers = answers;
+          messages = all.0;
           relay_is = first;
           lines_are = is_read.lines_are;
-          brought = all.brought;
-          answered = all.answered;
+          brought = all.1;
+          answered = right;
           said_is = same_text ∙ says ∙ ap (complaints 1) same_answers;
         },
+        λ up. held_with relay is_read.lines answers old new first.among of_lines had_memory right
+            (subst (λ (ds : List Delivery). HeldAfterAll old ds answers new) same (after up)),
       )

@@ -1,5 +1,5 @@
 pub mod LineLemmas
-pub mod KeepingLemmas
+pub mod OverLemmas
 pub mod OpenedLemmas
 pub mod ComplaintLemmas
 pub mod AnswerLines

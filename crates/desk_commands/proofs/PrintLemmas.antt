@@ -1,105 +1,126 @@
--- `print`, from what its steps say.
-use Rattle.std.proofs.Common.{◌≡◌, ◌⊎◌, ◌↔◌, ℕ, ◌<◌, ◌≤◌, Bool, true, false, List, Option, Result, Ok, Err, String, ap, arith, inl, inr, length, refl, subst, sym, ◌∙◌}
+-- `print` and `review` over an open desk, from what their steps say.
+use Rattle.std.proofs.Common.{◌≡◌, ◌⊎◌, ◌↔◌, ℕ, ◌<◌, ◌≤◌, Bool, true, false, List, Option, Result, Ok, Err, ap, arith, inl, inr, length, refl, subst, sym, ◌∙◌}
 use Rattle.sudo_words.specs.declared.cmnd.Cmnd.{Cmnd}
 use Rattle.sudo_policy.specs.declared.entry.Entry.{Entry}
 use Rattle.messages.specs.declared.message.Message.{Message}
 use Rattle.roster.specs.Fields.{RosterFields}
 use Rattle.roster.specs.Rules.{is_among}
 use Rattle.desk_outcomes.specs.HostFile.{AreLines, Line}
+use Rattle.desk_store.specs.Sets.{Lists, SameSet}
+use Rattle.review.specs.Report.{IsReport}
 use Rattle.desk.specs.Refusals.{IsWant}
 use Rattle.desk.specs.declared.refusal.Refusal.{Refusal}
 use Rattle.desk.specs.declared.refusal.Refusal.TheVariants as desk
-use Rattle.desk_commands.specs.Files.{EndsMaking, IsDeskOf}
-use Rattle.desk_commands.specs.Printing.{EndsPrinting, EndsTaking, HasManyLines, HasRights, HasUnknownHost, IsPrinted, IsTaken, PrintsHost, lines_printed}
+use Rattle.desk_commands.specs.Printing.{HasRights, IsPrinted, PrintsHost, lines_printed}
+use Rattle.desk_commands.specs.Reviewing.{ReviewsDesk}
+use Rattle.desk_commands.specs.Taking.{HeldWith, MayFailTaking, Takes}
 use Rattle.desk_commands.specs.declared.refusal.Refusal.{Refusal as Reason}
 use Rattle.desk_commands.specs.declared.refusal.Refusal.TheVariants as reasons
+use Rattle.desk_commands.specs.private.Outcomes.{EndsFile, EndsInput, EndsReport, EndsTaking}
+use Rattle.desk_commands.proofs.OverLemmas.{listed, set_back, set_on}
 use Rattle.desk_jobs.specs.declared.status.Status.TheVariants.{Done}
+use Rattle.desk_jobs.specs.declared.task.Store.{Store}
 
 -- the host is known where its being unknown is not the answer
 known_where : {P : Type 0} (known : Bool) → (P ↔ (known ≡ false)) → (P → ⊥) → known ≡ true
 known_where true unknown other = refl
 known_where false unknown other = absurd (other (unknown.1 refl))
 
-module _ (roster_file base_file host : List ℕ) (after : Option ℕ) (input : Option (List ℕ)) (roster : RosterFields Cmnd) (base : List Entry) (messages : List Message)
-    (said : List ℕ) (made : IsDeskOf roster_file base_file roster base) (taken : IsTaken roster input messages said) where
-  pub prints : {A : Type 0} (result : Result A Refusal) (answer : A) (text : List ℕ) → result ≡ Ok answer
-      → ((result ≡ Err desk.UnknownHost) ↔ (is_among roster.hosts host ≡ false)) → IsPrinted roster base messages host after text
-      → HasRights roster base messages host after text → PrintsHost roster_file base_file host after input Done text said
-  prints result answer text ok unknown file rights = record {
-    roster = roster;
-    base = base;
-    messages = messages;
-    made = made;
+module _ (f : RosterFields Cmnd) (base : List Entry) (store : Store) (input : Option (List ℕ)) (old mid new : Message → Type 0) (Known Up MidUp : Type 0)
+    (lines : List (List ℕ)) (said : List ℕ) (taken : Takes store f input lines said) (held : MidUp → SameSet (HeldWith f lines old) mid) where
+  -- the list of what is held, once lines are taken
+  of_mid : MidUp → (messages : List Message) → Lists (HeldWith f lines old) messages → Lists mid messages
+  of_mid up messages lists = listed (HeldWith f lines old) mid messages (held up) lists
+
+  pub prints : {A : Type 0} (host : List ℕ) (after : Option ℕ) (result : Result A Refusal) (answer : A) (text : List ℕ) → (Known → Up) → (Up → MidUp) → result ≡ Ok answer
+      → ((result ≡ Err desk.UnknownHost) ↔ (is_among f.hosts host ≡ false))
+      → ((messages : List Message) → Up → Lists mid messages → IsPrinted f base messages host after text)
+      → ((messages : List Message) → Up → Lists mid messages → HasRights f base messages host after text)
+      → (Known → SameSet mid new) → PrintsHost f base store host after old new Known input Done text said
+  prints host after result answer text up before ok unknown file rights stays = record {
+    lines = lines;
     taken = taken;
-    known = known_where (is_among roster.hosts host) unknown (λ e. cc);
-    printed = file;
-    rights = rights;
+    known = known_where (is_among f.hosts host) unknown (λ e. cc);
+    printed = λ known messages lists. file messages (up known) (of_mid (before (up known)) messages lists);
+    rights = λ known messages lists. rights messages (up known) (of_mid (before (up known)) messages lists);
     done = refl;
+    stays = λ known. set_on (HeldWith f lines old) mid new (held (before (up known))) (stays known);
   }
 
-  past : (lines : ℕ) → (lines ≤ 8_192 → ⊥) → 8_192 < lines
-  past lines few = omega (arith, few)
+  pub reviews : (at : ℕ) (text : List ℕ) → (Known → Up) → (Up → MidUp)
+      → ((messages : List Message) → Up → Lists mid messages → IsReport f base messages at text)
+      → (Known → SameSet mid new) → ReviewsDesk f base store at old new Known input Done text said
+  reviews at text up before report stays = record {
+    lines = lines;
+    taken = taken;
+    reported = λ known messages lists. report messages (up known) (of_mid (before (up known)) messages lists);
+    done = refl;
+    stays = λ known. set_on (HeldWith f lines old) mid new (held (before (up known))) (stays known);
+  }
 
-  pub ends_printing : {A : Type 0} (result : Result A Refusal) (refusal : Refusal) → result ≡ Err refusal
-      → ((result ≡ Err desk.UnknownHost) ↔ (is_among roster.hosts host ≡ false))
-      → ((lines : List Line) → AreLines roster messages host lines → length (lines_printed after lines) ≤ 8_192 → (refusal ≡ desk.UnknownHost) ⊎ IsWant refusal)
-      → (refusal ≡ desk.UnknownHost) ⊎ (refusal ≡ desk.TooManyRules) ⊎ IsWant refusal
-      → EndsPrinting roster_file base_file host after input (reasons.Desk refusal)
-  ends_printing result refusal is unknown few why =
+  past : (count : ℕ) → (count ≤ 8_192 → ⊥) → 8_192 < count
+  past count few = omega (arith, few)
+
+  pub ends_file : {A : Type 0} (host : List ℕ) (after : Option ℕ) (Failed : Type 0) (result : Result A Refusal) (refusal : Refusal) → (Up → MidUp) → result ≡ Err refusal
+      → ((result ≡ Err desk.UnknownHost) ↔ (is_among f.hosts host ≡ false))
+      → ((messages : List Message) (printed : List Line) → Up → Lists mid messages → AreLines f messages host printed → length (lines_printed after printed) ≤ 8_192
+      → (refusal ≡ desk.UnknownHost) ⊎ IsWant refusal)
+      → (refusal ≡ desk.UnknownHost) ⊎ (refusal ≡ desk.TooManyRules) ⊎ IsWant refusal → (refusal ≡ desk.Storage → Failed)
+      → EndsFile f store host after old Up Failed input (reasons.Desk refusal)
+  ends_file host after Failed result refusal before is unknown few why cause =
+      let ends : Refusal → Type 0 = λ r. EndsFile f store host after old Up Failed input (reasons.Desk r) in
       elim why [
-        | inl e ↦ subst (λ (r : Refusal). EndsPrinting roster_file base_file host after input (reasons.Desk r)) (sym e)
-            (record { roster = roster; base = base; made = made; unknown = unknown.0 (is ∙ ap Err e) })
-        | inr (inl e) ↦ subst (λ (r : Refusal). EndsPrinting roster_file base_file host after input (reasons.Desk r)) (sym e)
-            (record {
-              roster = roster;
-              base = base;
-              messages = messages;
-              said = said;
-              made = made;
-              taken = taken;
-              known = known_where (is_among roster.hosts host) unknown (λ u. cc);
-              many = λ lines are. past (length (lines_printed after lines)) (λ short. elim (few lines are short) [
+        | inl e ↦ subst ends (sym e) (unknown.0 (is ∙ ap Err e))
+        | inr (inl e) ↦ subst ends (sym e) (record {
+          lines = lines;
+          said = said;
+          taken = taken;
+          known = known_where (is_among f.hosts host) unknown (λ u. cc);
+          many = λ up messages printed lists are. past (length (lines_printed after printed)) (λ short.
+              elim (few messages printed up (of_mid (before up) messages lists) are short) [
                 | inl u ↦ cc
                 | inr (inl memory) ↦ cc
                 | inr (inr storage) ↦ cc
               ]);
-            })
-        | inr (inr (inl memory)) ↦ subst (λ (r : Refusal). EndsPrinting roster_file base_file host after input (reasons.Desk r)) (sym memory) tt
-        | inr (inr (inr storage)) ↦ subst (λ (r : Refusal). EndsPrinting roster_file base_file host after input (reasons.Desk r)) (sym storage) tt
+        })
+        | inr (inr (inl memory)) ↦ subst ends (sym memory) tt
+        | inr (inr (inr storage)) ↦ subst ends (sym storage) (cause storage)
       ]
 
--- why the files make no desk is why nothing is printed
-pub making_ends : (roster_file base_file host : List ℕ) (after : Option ℕ) (input : Option (List ℕ)) (reason : Reason) → EndsMaking roster_file base_file reason
-    → EndsPrinting roster_file base_file host after input reason
-making_ends roster_file base_file host after input reasons.FileFailed ends = tt
-making_ends roster_file base_file host after input reasons.BadWord ends = ends
-making_ends roster_file base_file host after input reasons.NoMemory ends = ends
-making_ends roster_file base_file host after input (reasons.Roster fault) ends = ends
-making_ends roster_file base_file host after input (reasons.Policy fault) ends = ends
-making_ends roster_file base_file host after input (reasons.Beyond fault) ends = absurd ends
-making_ends roster_file base_file host after input (reasons.Desk desk.UnknownRelay) ends = ends
-making_ends roster_file base_file host after input (reasons.Desk desk.UnknownHost) ends = absurd ends
-making_ends roster_file base_file host after input (reasons.Desk desk.TooLong) ends = ends
-making_ends roster_file base_file host after input (reasons.Desk desk.NotCanonical) ends = ends
-making_ends roster_file base_file host after input (reasons.Desk desk.BadField) ends = ends
-making_ends roster_file base_file host after input (reasons.Desk (desk.Denied denial)) ends = ends
-making_ends roster_file base_file host after input (reasons.Desk desk.TooManyRules) ends = absurd ends
-making_ends roster_file base_file host after input (reasons.Desk desk.RosterChanged) ends = ends
-making_ends roster_file base_file host after input (reasons.Desk desk.NotADesk) ends = ends
-making_ends roster_file base_file host after input (reasons.Desk desk.Storage) ends = tt
-making_ends roster_file base_file host after input (reasons.Desk desk.NoMemory) ends = tt
-making_ends roster_file base_file host after input (reasons.Desk desk.BaseTooLarge) ends = ends
-
 -- why lines are not taken is why nothing is printed
-pub taking_ends : (roster_file base_file host : List ℕ) (after : Option ℕ) (input : Option (List ℕ)) (reason : Reason) → EndsTaking reason
-    → EndsPrinting roster_file base_file host after input reason
-taking_ends roster_file base_file host after input reasons.FileFailed ends = tt
-taking_ends roster_file base_file host after input reasons.BadWord ends = absurd ends
-taking_ends roster_file base_file host after input reasons.NoMemory ends = tt
-taking_ends roster_file base_file host after input (reasons.Roster fault) ends = absurd ends
-taking_ends roster_file base_file host after input (reasons.Policy fault) ends = absurd ends
-taking_ends roster_file base_file host after input (reasons.Beyond fault) ends = absurd ends
-taking_ends roster_file base_file host after input (reasons.Desk refusal) ends = elim ends [
-  | inl memory ↦ subst (λ (r : Refusal). EndsPrinting roster_file base_file host after input (reasons.Desk r)) (sym memory) tt
-  | inr storage ↦ subst (λ (r : Refusal). EndsPrinting roster_file base_file host after input (reasons.Desk r)) (sym storage) tt
+pub input_ends_file : (f : RosterFields Cmnd) (store : Store) (host : List ℕ) (after : Option ℕ) (old : Message → Type 0) (Up Failed : Type 0) (input : Option (List ℕ))
+    (reason : Reason) → EndsInput store Failed reason → EndsFile f store host after old Up Failed input reason
+input_ends_file f store host after old Up Failed input reasons.FileFailed ends = ends.0
+input_ends_file f store host after old Up Failed input reasons.BadWord ends = ends.1
+input_ends_file f store host after old Up Failed input reasons.NoMemory ends = tt
+input_ends_file f store host after old Up Failed input (reasons.Roster fault) ends = ends.1
+input_ends_file f store host after old Up Failed input (reasons.Policy fault) ends = ends.1
+input_ends_file f store host after old Up Failed input (reasons.Beyond fault) ends = ends.1
+input_ends_file f store host after old Up Failed input (reasons.Desk desk.NoMemory) ends = tt
+input_ends_file f store host after old Up Failed input (reasons.Desk desk.Storage) ends = ends.1
+input_ends_file f store host after old Up Failed input (reasons.Desk desk.UnknownHost) ends = absurd ends.1
+input_ends_file f store host after old Up Failed input (reasons.Desk desk.TooManyRules) ends = absurd ends.1
+input_ends_file f store host after old Up Failed input (reasons.Desk desk.UnknownRelay) ends = ends.1
+input_ends_file f store host after old Up Failed input (reasons.Desk desk.TooLong) ends = ends.1
+input_ends_file f store host after old Up Failed input (reasons.Desk desk.NotCanonical) ends = ends.1
+input_ends_file f store host after old Up Failed input (reasons.Desk desk.BadField) ends = ends.1
+input_ends_file f store host after old Up Failed input (reasons.Desk (desk.Denied denial)) ends = ends.1
+input_ends_file f store host after old Up Failed input (reasons.Desk desk.RosterChanged) ends = ends.1
+input_ends_file f store host after old Up Failed input (reasons.Desk desk.NotADesk) ends = ends.1
+input_ends_file f store host after old Up Failed input (reasons.Desk desk.OldSchema) ends = ends.1
+input_ends_file f store host after old Up Failed input (reasons.Desk desk.BaseTooLarge) ends = ends.1
+
+pub input_ends_report : (store : Store) (Failed : Type 0) (reason : Reason) → EndsInput store Failed reason → EndsReport store Failed reason
+input_ends_report store Failed reasons.FileFailed ends = ends.0
+input_ends_report store Failed reasons.BadWord ends = ends.1
+input_ends_report store Failed reasons.NoMemory ends = tt
+input_ends_report store Failed (reasons.Roster fault) ends = ends.1
+input_ends_report store Failed (reasons.Policy fault) ends = ends.1
+input_ends_report store Failed (reasons.Beyond fault) ends = ends.1
+input_ends_report store Failed (reasons.Desk refusal) ends = ends.1
+
+pub wants_end_report : (store : Store) (Failed : Type 0) (refusal : Refusal) → IsWant refusal → (refusal ≡ desk.Storage → Failed) → EndsReport store Failed (reasons.Desk refusal)
+wants_end_report store Failed refusal want cause = elim want [
+  | inl memory ↦ subst (λ (r : Refusal). EndsReport store Failed (reasons.Desk r)) (sym memory) tt
+  | inr storage ↦ subst (λ (r : Refusal). EndsReport store Failed (reasons.Desk r)) (sym storage) (cause storage)
 ]

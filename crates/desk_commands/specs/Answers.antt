@@ -9,15 +9,18 @@ use Rattle.sudo_decide.specs.declared.decision.Decision.{Decision}
 use Rattle.sudo_decide.specs.declared.decision.Decision.TheVariants.{Deny, Allow, AllowNoPassword}
 use Rattle.desk_commands.specs.Comparing.{ComparesFiles, EndsComparing}
 use Rattle.desk_commands.specs.Delivering.{DeliversLines, EndsDelivering}
-use Rattle.desk_commands.specs.Files.{IsFaultOf}
+use Rattle.desk_commands.specs.Files.{IsFaultOf, OverDesk}
+use Rattle.desk_commands.specs.Kept.{Kept, held}
 use Rattle.desk_commands.specs.Printing.{EndsPrinting, PrintsHost}
+use Rattle.desk_commands.specs.Rebuilding.{EndsRebuilding, RebuildsDesk}
 use Rattle.desk_commands.specs.Reviewing.{EndsReviewing, ReviewsDesk}
 use Rattle.desk_commands.specs.declared.refusal.Refusal.{Refusal as Reason}
 use Rattle.desk_commands.specs.declared.refusal.Refusal.TheVariants.{BadWord, Beyond as Compared, Desk, FileFailed, NoMemory, Policy, Roster}
 use Rattle.desk_jobs.specs.declared.status.Status.{Status}
 use Rattle.desk_jobs.specs.declared.status.Status.TheVariants.{Denied, Done}
+use Rattle.desk_jobs.specs.declared.task.Store.TheVariants.{Memory}
 use Rattle.desk_jobs.specs.declared.task.Job.{Job}
-use Rattle.desk_jobs.specs.declared.task.Job.TheVariants.{Beyond, Check, Decide, Deliver, Print, Review}
+use Rattle.desk_jobs.specs.declared.task.Job.TheVariants.{Beyond, Check, Decide, Deliver, Print, Rebuild, Review, Serve}
 
 -- how the program ends after it
 abbrev pub status_of : Decision → Status
@@ -38,20 +41,50 @@ abbrev pub DecidesByFile : List ℕ → Invocation → Status → List ℕ → T
 DecidesByFile file invocation status text =
     (es : List Entry) × (decision : Decision) × Spells file es × Decides es invocation decision × IsDecided decision status text
 
--- The job over these files, in the order in which it names them, and this input, if it is known, is answered by this text,
--- and ends so. Beside the answer this is said. `serve` has no such answer: what it writes depends on who connects.
-abbrev pub IsAnswer : Job → List (List ℕ) → Option (List ℕ) → Status → List ℕ → List ℕ → Type 0
-IsAnswer (Check name) (file ∷ more) input status text said = ChecksFile file status text × (said ≡ [])
-IsAnswer (Decide name invocation) (file ∷ more) input status text said = DecidesByFile file invocation status text × (said ≡ [])
-IsAnswer (Beyond a_name b_name scope) (a ∷ b ∷ more) input status text said = ComparesFiles scope a b status text × (said ≡ [])
-IsAnswer (Deliver places relay) (roster ∷ base ∷ more) input status text said = DeliversLines roster base relay input status text × (said ≡ [])
-IsAnswer (Print places host after) (roster ∷ base ∷ more) input status text said = PrintsHost roster base host after input status text said
-IsAnswer (Review places at) (roster ∷ base ∷ more) input status text said = ReviewsDesk roster base at input status text said
-IsAnswer job files input status text said = ⊥
+-- it is so of the first file
+abbrev pub OfFile : (files : List (List ℕ)) → (List ℕ → Type 0) → Type 0
+OfFile (file ∷ more) Holds = Holds file
+OfFile [] Holds = ⊥
 
--- The job over these files and this input has an answer.
-abbrev pub HasAnswer : Job → List (List ℕ) → Option (List ℕ) → Type 0
-HasAnswer job files input = (status : Status) × (text said : List ℕ) × IsAnswer job files input status text said
+-- it is so of the first two files
+abbrev pub OfFiles : (files : List (List ℕ)) → (List ℕ → List ℕ → Type 0) → Type 0
+OfFiles (a ∷ b ∷ more) Holds = Holds a b
+OfFiles files Holds = ⊥
+
+-- The job over these files, in the order in which it names them, over what the keeper keeps, and over this input, if it is known, is answered by this
+-- text, and ends so. Beside the answer this is said. `serve` has no such answer: what it writes depends on who connects.
+abbrev pub IsAnswer : Job → (files : List (List ℕ)) → Kept → (input : Option (List ℕ)) → Status → (text said : List ℕ) → Type 0
+IsAnswer (Check name) files k input status text said = OfFile files (λ file. ChecksFile file status text) × (said ≡ [])
+IsAnswer (Decide name invocation) files k input status text said = OfFile files (λ file. DecidesByFile file invocation status text) × (said ≡ [])
+IsAnswer (Beyond a_name b_name scope) files k input status text said = OfFiles files (λ a b. ComparesFiles scope a b status text) × (said ≡ [])
+IsAnswer (Deliver places relay) files k input status text said = OfFiles files (λ roster base. OverDesk roster base k
+    (λ f b. DeliversLines f relay (held k.before) k.after.holds k.up input status text)) × (said ≡ [])
+IsAnswer (Print places host after) files k input status text said = OfFiles files (λ roster base. OverDesk roster base k
+    (λ f b. PrintsHost f b places.store host after (held k.before) k.after.holds k.up input status text said))
+IsAnswer (Review places at) files k input status text said = OfFiles files (λ roster base. OverDesk roster base k
+    (λ f b. ReviewsDesk f b places.store at (held k.before) k.after.holds k.up input status text said))
+IsAnswer (Rebuild places) files k input status text said = OfFiles files (λ roster base. OverDesk roster base k
+    (λ f b. RebuildsDesk (held k.before) k.after.holds k.up status text)) × (said ≡ [])
+IsAnswer (Serve places addr requests) files k input status text said = ⊥
+
+-- The job over these files, what is kept and this input has an answer.
+abbrev pub HasAnswer : Job → (files : List (List ℕ)) → Kept → (input : Option (List ℕ)) → Type 0
+HasAnswer job files k input = (status : Status) × (text said : List ℕ) × IsAnswer job files k input status text said
+
+-- the job asks a desk, and so a keeper
+abbrev pub IsOnDesk : Job → Type 0
+IsOnDesk (Deliver places relay) = Unit {0}
+IsOnDesk (Print places host after) = Unit {0}
+IsOnDesk (Review places at) = Unit {0}
+IsOnDesk (Rebuild places) = Unit {0}
+IsOnDesk job = ⊥
+
+-- the job takes lines of the input
+abbrev pub ReadsInput : Job → Type 0
+ReadsInput (Deliver places relay) = Unit {0}
+ReadsInput (Print places host after) = places.store ≡ Memory
+ReadsInput (Review places at) = places.store ≡ Memory
+ReadsInput job = ⊥
 
 -- ---- what else may come of it
 
@@ -65,13 +98,28 @@ EndsReading file (Policy fault) = IsFaultOf file fault
 EndsReading file (Compared fault) = ⊥
 EndsReading file (Desk refusal) = ⊥
 
--- The job over these files and this input may be refused for this, before its answer is written. Without its files it is, and so is
+-- a reason of the first file, or that it is missing
+abbrev pub CauseOfFile : (files : List (List ℕ)) → (List ℕ → Reason → Type 0) → Reason → Type 0
+CauseOfFile (file ∷ more) Ends reason = Ends file reason
+CauseOfFile [] Ends reason = reason ≡ FileFailed
+
+-- a reason of the first two files, or that one is missing
+abbrev pub CauseOfFiles : (files : List (List ℕ)) → (List ℕ → List ℕ → Reason → Type 0) → Reason → Type 0
+CauseOfFiles (a ∷ b ∷ more) Ends reason = Ends a b reason
+CauseOfFiles files Ends reason = reason ≡ FileFailed
+
+-- The job over these files, what is kept and this input may be refused for this, before its answer is written. Without its files it is, and so is
 -- `serve`, which has no answer.
-abbrev pub IsCause : Job → List (List ℕ) → Option (List ℕ) → Reason → Type 0
-IsCause (Check name) (file ∷ more) input reason = EndsReading file reason
-IsCause (Decide name invocation) (file ∷ more) input reason = EndsReading file reason
-IsCause (Beyond a_name b_name scope) (a ∷ b ∷ more) input reason = EndsComparing scope a b reason
-IsCause (Deliver places relay) (roster ∷ base ∷ more) input reason = EndsDelivering roster base reason
-IsCause (Print places host after) (roster ∷ base ∷ more) input reason = EndsPrinting roster base host after input reason
-IsCause (Review places at) (roster ∷ base ∷ more) input reason = EndsReviewing roster base reason
-IsCause job files input reason = reason ≡ FileFailed
+abbrev pub IsCause : Job → (files : List (List ℕ)) → Kept → (input : Option (List ℕ)) → Reason → Type 0
+IsCause (Check name) files k input reason = CauseOfFile files EndsReading reason
+IsCause (Decide name invocation) files k input reason = CauseOfFile files EndsReading reason
+IsCause (Beyond a_name b_name scope) files k input reason = CauseOfFiles files (EndsComparing scope) reason
+IsCause (Deliver places relay) files k input reason = CauseOfFiles files (λ roster base. EndsDelivering roster base k) reason
+IsCause (Print places host after) files k input reason = CauseOfFiles files (λ roster base. EndsPrinting roster base places.store host after k input) reason
+IsCause (Review places at) files k input reason = CauseOfFiles files (λ roster base. EndsReviewing roster base places.store k) reason
+IsCause (Rebuild places) files k input reason = CauseOfFiles files (λ roster base. EndsRebuilding roster base k) reason
+IsCause (Serve places addr requests) files k input reason = reason ≡ FileFailed
+
+-- it is refused for such a reason
+abbrev pub HasCause : Job → (files : List (List ℕ)) → Kept → (input : Option (List ℕ)) → Type 0
+HasCause job files k input = (reason : Reason) × IsCause job files k input reason

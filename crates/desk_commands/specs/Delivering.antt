@@ -2,13 +2,14 @@
 use Rattle.std.specs.Prelude.{◌≡◌, ℕ, List, [], ◌∷◌, ◌++◌, Option, Result, Err, Ok, IfSome, codes, if◌then◌else◌, is_ok}
 use Rattle.std.specs.List.{list_all}
 use Rattle.sudo_words.specs.declared.cmnd.Cmnd.{Cmnd}
-use Rattle.sudo_policy.specs.declared.entry.Entry.{Entry}
+use Rattle.messages.specs.declared.message.Message.{Message}
 use Rattle.roster.specs.Fields.{RosterFields}
-use Rattle.desk.specs.Delivery.{AreAnswers}
+use Rattle.desk.specs.Delivery.{AreAnswers, HeldAfterAll}
 use Rattle.desk.specs.Refusals.{refusal_text}
 use Rattle.desk.specs.declared.ack.Ack.{Ack}
 use Rattle.desk.specs.declared.refusal.Refusal.{Refusal}
-use Rattle.desk_commands.specs.Files.{EndsMaking, IsDeskOf}
+use Rattle.desk_commands.specs.Files.{EndsMaking}
+use Rattle.desk_commands.specs.Kept.{Kept}
 use Rattle.desk_commands.specs.Lines.{from_relay, input_lines}
 use Rattle.desk_commands.specs.declared.refusal.Refusal.{Refusal as Reason}
 use Rattle.desk_commands.specs.declared.refusal.Refusal.TheVariants as reasons
@@ -29,19 +30,18 @@ answer_lines (answer ∷ answers) = answer_line answer ++ answer_lines answers
 abbrev pub status_after : List (Result Ack Refusal) → Status
 status_after answers = if list_all is_ok answers then Done else LinesRefused
 
--- `deliver` answers with what the desk that the files make answers to each line of the input, in order, as the relay's.
-pub record DeliversLines (roster_file base_file relay : List ℕ) (input : Option (List ℕ)) (status : Status) (text : List ℕ) : Type 0 where
-  pub roster : RosterFields Cmnd
-  pub base : List Entry
+-- `deliver` answers with what the desk answers to each line of the input, in order, as the relay's. What is acknowledged is held then, and nothing else is new.
+pub record DeliversLines (roster : RosterFields Cmnd) (relay : List ℕ) (old new : Message → Type 0) (Up : Type 0) (input : Option (List ℕ)) (status : Status)
+    (text : List ℕ) : Type 0 where
   pub lines : List (List ℕ)
   pub answers : List (Result Ack Refusal)
-  pub made : IsDeskOf roster_file base_file roster base
   pub lines_are : IfSome input (λ bytes. lines ≡ input_lines bytes)
   pub answered : AreAnswers roster (from_relay relay lines) answers
+  pub held : Up → HeldAfterAll old (from_relay relay lines) answers new
   pub status_is : status ≡ status_after answers
   pub text_is : text ≡ answer_lines answers
 
 -- `deliver` may be refused for this, before an answer is written. No line that is refused ends it.
-abbrev pub EndsDelivering : (roster_file base_file : List ℕ) → Reason → Type 0
-EndsDelivering roster_file base_file reasons.FileFailed = Unit {0}
-EndsDelivering roster_file base_file reason = EndsMaking roster_file base_file reason
+abbrev pub EndsDelivering : (roster_file base_file : List ℕ) → Kept → Reason → Type 0
+EndsDelivering roster_file base_file k reasons.FileFailed = Unit {0}
+EndsDelivering roster_file base_file k reason = EndsMaking roster_file base_file k reason

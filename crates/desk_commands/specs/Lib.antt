@@ -1,9 +1,12 @@
 pub mod Refusals
+pub mod Kept
 pub mod Files
 pub mod Lines
 pub mod Delivering
+pub mod Taking
 pub mod Printing
 pub mod Reviewing
+pub mod Rebuilding
 pub mod Comparing
-pub mod Keeping
 pub mod Answers
+pub mod private

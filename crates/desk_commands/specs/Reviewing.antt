@@ -4,29 +4,27 @@ use Rattle.messages.specs.declared.message.Message.{Message}
 use Rattle.sudo_policy.specs.declared.entry.Entry.{Entry}
 use Rattle.sudo_words.specs.declared.cmnd.Cmnd.{Cmnd}
 use Rattle.roster.specs.Fields.{RosterFields}
+use Rattle.desk_store.specs.Sets.{Lists, SameSet}
 use Rattle.review.specs.Report.{IsReport}
-use Rattle.desk.specs.declared.refusal.Refusal.TheVariants as desk
-use Rattle.desk_commands.specs.Files.{EndsMaking, IsDeskOf}
-use Rattle.desk_commands.specs.Printing.{IsTaken}
+use Rattle.desk_commands.specs.Files.{EndsMaking}
+use Rattle.desk_commands.specs.Kept.{Kept}
+use Rattle.desk_commands.specs.Taking.{HeldWith, MayFailTaking, Takes}
 use Rattle.desk_commands.specs.declared.refusal.Refusal.{Refusal as Reason}
 use Rattle.desk_commands.specs.declared.refusal.Refusal.TheVariants as reasons
 use Rattle.desk_jobs.specs.declared.status.Status.{Status}
 use Rattle.desk_jobs.specs.declared.status.Status.TheVariants.{Done}
+use Rattle.desk_jobs.specs.declared.task.Store.{Store}
 
--- `review` answers with the report at the moment, over the desk that the files make and the messages that lines of the input
--- bring. It says why the other lines bring none.
-pub record ReviewsDesk (roster_file base_file : List ℕ) (at : ℕ) (input : Option (List ℕ)) (status : Status) (text said : List ℕ) : Type 0 where
-  pub roster : RosterFields Cmnd
-  pub base : List Entry
-  pub messages : List Message
-  pub made : IsDeskOf roster_file base_file roster base
-  pub taken : IsTaken roster input messages said
-  pub reported : IsReport roster base messages at text
+-- `review` answers with the report at the moment, over what was held and what the lines of the input bring, where it takes them. It says why the other lines bring none.
+pub record ReviewsDesk (roster : RosterFields Cmnd) (base : List Entry) (store : Store) (at : ℕ) (old new : Message → Type 0) (Up : Type 0) (input : Option (List ℕ))
+    (status : Status) (text said : List ℕ) : Type 0 where
+  pub lines : List (List ℕ)
+  pub taken : Takes store roster input lines said
+  pub reported : Up → (messages : List Message) → Lists (HeldWith roster lines old) messages → IsReport roster base messages at text
   pub done : status ≡ Done
+  pub stays : Up → SameSet (HeldWith roster lines old) new
 
 -- `review` may be refused for this. No line that is refused ends it.
-abbrev pub EndsReviewing : (roster_file base_file : List ℕ) → Reason → Type 0
-EndsReviewing roster_file base_file reasons.FileFailed = Unit {0}
-EndsReviewing roster_file base_file (reasons.Desk desk.NoMemory) = Unit {0}
-EndsReviewing roster_file base_file (reasons.Desk desk.Storage) = Unit {0}
-EndsReviewing roster_file base_file reason = EndsMaking roster_file base_file reason
+abbrev pub EndsReviewing : (roster_file base_file : List ℕ) (store : Store) → Kept → Reason → Type 0
+EndsReviewing roster_file base_file store k reasons.FileFailed = MayFailTaking store
+EndsReviewing roster_file base_file store k reason = EndsMaking roster_file base_file k reason

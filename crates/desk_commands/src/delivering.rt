@@ -1,15 +1,19 @@
 //! Delivering the lines of the input, with an answer to each.
 
-ghost use Rattle.std.specs.Prelude.{◌≡◌, ◌⊎◌, ◌++◌, ℕ, List, [], IfErr, IfOk, OnOk, is_ok, map, string_bytes};
+ghost use Rattle.std.specs.Prelude.{◌≡◌, ◌⊎◌, ◌++◌, ◌∷◌, ℕ, List, Option, [], IfErr, IfOk, OnOk, is_ok, map, string_bytes};
 ghost use Rattle.std.specs.List.{list_all};
-ghost use Rattle.desk_commands.specs.Delivering.{DeliversLines, EndsDelivering, answer_line, answer_lines, status_after};
-ghost use Rattle.desk_commands.specs.Keeping.{AnswersLines};
+ghost use Rattle.desk.specs.private.Serving.{IsServed};
 ghost use Rattle.desk.specs.declared.refusal.Refusal.TheVariants as refusal;
+ghost use Rattle.desk_commands.specs.Delivering.{DeliversLines, answer_line, answer_lines, status_after};
+ghost use Rattle.desk_commands.specs.Kept.{kept};
 ghost use Rattle.desk_commands.specs.declared.refusal.Refusal.TheVariants as reasons;
+ghost use Rattle.desk_commands.specs.private.Outcomes.{IsOutcome};
+ghost use Rattle.desk_jobs.specs.declared.task.Job.TheVariants as jobs;
+ghost use Rattle.desk_jobs.specs.declared.task.Places.{Places as Parts};
 
 use crate::answer::Answer;
 use crate::lines::read_lines;
-use crate::opening::open;
+use crate::opening::open_over;
 use crate::refusal::Refusal;
 use desk::{Ack, Desk, Keeper};
 use desk_jobs::Status;
@@ -67,10 +71,12 @@ pub fn deliver_to<K: Keeper, R: Read>(
     relay: &str,
     input: &mut R,
 ) -> Result<Answer, Refusal>
-    ensures found { K.is_up desk.new.keeper → IfOk result (λ a. AnswersLines desk.old.roster.says relay.now (K.holds desk.old.keeper) (R.remaining input.old)
-        (K.holds desk.new.keeper) a.status (string_bytes a.text)) }
+    ensures found { IfOk result (λ a. DeliversLines desk.old.roster.says relay.now (K.holds desk.old.keeper) (K.holds desk.new.keeper) (K.is_up desk.new.keeper)
+        (R.remaining input.old) a.status (string_bytes a.text)) }
     ensures err { IfErr result (λ e. (e ≡ reasons.FileFailed) ⊎ (e ≡ reasons.NoMemory) ⊎ (e ≡ reasons.Desk refusal.NoMemory)) }
-    ensures was_up { K.is_up desk.new.keeper → K.is_up desk.old.keeper }
+    ensures roster { desk.new.roster ≡ desk.old.roster }
+    ensures served { IsServed (K.is_up desk.old.keeper) (K.is_clean desk.old.keeper) (K.is_up desk.new.keeper) (K.is_clean desk.new.keeper)
+        (K.failures desk.old.keeper) (K.failures desk.new.keeper) }
 {
     let lines = read_lines(alloc, relay, input)?;
     let answers = desk.deliver_all(lines.as_slice())?;
@@ -80,21 +86,49 @@ pub fn deliver_to<K: Keeper, R: Read>(
     })
 }
 
-/// What the desk that the files make answers to each line of the input, in order, as `deliver_to` does.
-///
-/// It is refused where the files make no desk, too.
-pub fn deliver_lines<R: Read>(
+/// The same, over the desk that the roster's file and the base's make and the keeper keeps; and the keeper.
+fn deliver_over<K: Keeper, R: Read>(
     alloc: Global,
     roster: &[u8],
     base: &[u8],
+    keeper: K,
     relay: &str,
     input: &mut R,
-) -> Result<Answer, Refusal>
-    ensures found { IfOk result (λ a. DeliversLines roster.now base.now relay.now (R.remaining input.old) a.status (string_bytes a.text)) }
-    ensures err { IfErr result (EndsDelivering roster.now base.now) }
+) -> (Result<Answer, Refusal>, K)
+    ensures outcome { (places : Parts) (more : List (List ℕ)) (err : Option (List ℕ)) → IsOutcome (jobs.Deliver places relay.now) (roster.now ∷ base.now ∷ more)
+        (kept K.is_up K.is_empty K.is_desk K.is_old K.roster K.holds K.failures keeper result.1) (R.remaining input.old) result.0 err err }
+    ensures served { IsServed (K.is_up keeper) (K.is_clean keeper) (K.is_up result.1) (K.is_clean result.1) (K.failures keeper) (K.failures result.1) }
 {
-    let mut desk = open(alloc, roster, base)?;
-    let answer = deliver_to(alloc, &mut desk, relay, input);
-    let _ = desk.into_keeper();
-    answer
+    match open_over(alloc, roster, base, keeper) {
+        Ok(mut desk) => {
+            let answer = deliver_to(alloc, &mut desk, relay, input);
+            (answer, desk.into_keeper())
+        }
+        Err((refusal, keeper)) => (Err(refusal), keeper),
+    }
+}
+
+/// The same, over the job's files. It is refused where the files make no desk, too.
+pub fn deliver_lines<K: Keeper, R: Read>(
+    alloc: Global,
+    files: &[Vec<u8>],
+    keeper: K,
+    relay: &str,
+    input: &mut R,
+) -> (Result<Answer, Refusal>, K)
+    ensures outcome { (places : Parts) (err : Option (List ℕ)) → IsOutcome (jobs.Deliver places relay.now) (map (λ f. f.items) files.now)
+        (kept K.is_up K.is_empty K.is_desk K.is_old K.roster K.holds K.failures keeper result.1) (R.remaining input.old) result.0 err err }
+    ensures served { IsServed (K.is_up keeper) (K.is_clean keeper) (K.is_up result.1) (K.is_clean result.1) (K.failures keeper) (K.failures result.1) }
+{
+    match files {
+        [roster, base, ..] => deliver_over(
+            alloc,
+            roster.as_slice(),
+            base.as_slice(),
+            keeper,
+            relay,
+            input,
+        ),
+        _ => (Err(Refusal::FileFailed), keeper),
+    }
 }

@@ -5,20 +5,20 @@ mod answer;
 mod compare_laws;
 mod comparing;
 mod delivering;
-mod keeping;
 mod lines;
 mod opening;
 mod printing;
+mod rebuilding;
 mod refusal;
 mod reviewing;
 mod running;
+mod taking;
 
 pub use compare_laws::{case_tells, none_tells};
 pub use desk_jobs::{
     Job, JobFault, Places, Status, Store, Text, by_place, code, compares, decides_with_flag, job,
     no_fault_is_complete, show,
 };
-pub use keeping::run_over;
 pub use opening::open_over;
 pub use refusal::Refusal;
 pub use running::{finish, refuse, run};

@@ -1,14 +1,16 @@
-//! Opening a desk over the bytes of its files.
+//! Opening a desk over the bytes of its files and what a keeper keeps.
 
-ghost use Rattle.std.specs.Prelude.{IfErr, IfOk};
-ghost use Rattle.desk_store.specs.Memory.{Holds};
+ghost use Rattle.std.specs.Prelude.{◌≡◌, ◌≤◌, IfErr, IfOk, MatchResult};
 ghost use Rattle.sudo_policy.specs.Spelling.{Spells};
-ghost use Rattle.desk_store.specs.Sets.{IsNothing, SameSet};
+ghost use Rattle.desk_store.specs.Sets.{SameSet};
+ghost use Rattle.desk.specs.private.Serving.{IsServed};
 ghost use Rattle.desk_commands.specs.Files.{EndsMaking, IsDeskOf, IsRosterFile, IsRosterFault};
-ghost use Rattle.desk_commands.specs.Keeping.{held_in};
+ghost use Rattle.desk_commands.specs.Kept.{held_in, kept};
+ghost use Rattle.desk_commands.specs.Rebuilding.{EndsRebuilding};
+ghost use Rattle.desk_commands.specs.private.Outcomes.{EndsParts};
 
 use crate::refusal::Refusal;
-use desk::{Desk, Keeper, MemoryKeeper};
+use desk::{Desk, Keeper};
 use roster::{Roster, RosterFault};
 use std::alloc::Global;
 use std::str;
@@ -17,7 +19,7 @@ use sudo_syntax::{Policy, read_policy};
 /// The roster of a file. Bytes that are not UTF-8 are no TOML.
 #[tactic(auto, using(crate::proofs::FileLemmas::no_text))]
 fn roster_of(alloc: Global, file: &[u8]) -> Result<Roster, RosterFault>
-    ensures found { IfOk result (λ r. IsRosterFile file.now r.says) }
+    ensures found { IfOk result (λ r. IsRosterFile file.now r.says × (r.text ≡ file.now)) }
     ensures err { IfErr result (IsRosterFault file.now) }
 {
     match str::from_utf8(file) {
@@ -28,9 +30,9 @@ fn roster_of(alloc: Global, file: &[u8]) -> Result<Roster, RosterFault>
 
 /// The roster and the base that the files hold. The roster is read first.
 fn parts(alloc: Global, roster: &[u8], base: &[u8]) -> Result<(Roster, Policy), Refusal>
-    ensures roster { IfOk result (λ r. IsRosterFile roster.now r.0.says) }
+    ensures roster { IfOk result (λ r. IsRosterFile roster.now r.0.says × (r.0.text ≡ roster.now)) }
     ensures base { IfOk result (λ r. Spells base.now r.1) }
-    ensures err { IfErr result (EndsMaking roster.now base.now) }
+    ensures err { IfErr result (EndsParts roster.now base.now) }
 {
     let roster = roster_of(alloc, roster)?;
     let base = read_policy(alloc, base)?;
@@ -39,7 +41,7 @@ fn parts(alloc: Global, roster: &[u8], base: &[u8]) -> Result<(Roster, Policy), 
 
 /// The desk of the roster and the base that the files hold, over what the keeper keeps.
 ///
-/// It is refused with the roster's fault, the policy's, or the desk's; a refusal hands the keeper back.
+/// It is refused with the roster's fault, the policy's, or the desk's; a refusal hands the keeper back, with what it keeps as it was.
 pub fn open_over<K: Keeper>(
     alloc: Global,
     roster: &[u8],
@@ -47,7 +49,14 @@ pub fn open_over<K: Keeper>(
     keeper: K,
 ) -> Result<Desk<K>, (Refusal, K)>
     ensures found { IfOk result (λ d. IsDeskOf roster.now base.now d.roster.says d.base) }
-    ensures opens { IfOk result (λ d. K.is_up d.keeper → SameSet (held_in (K.is_desk keeper) (K.holds keeper)) (K.holds d.keeper)) }
+    ensures recorded { IfOk result (λ d. d.roster.text ≡ roster.now) }
+    ensures opens { IfOk result (λ d. K.is_up d.keeper → SameSet (held_in (K.is_desk keeper) (K.is_old keeper) (K.holds keeper)) (K.holds d.keeper)) }
+    ensures err { IfErr result (λ r. EndsMaking roster.now base.now
+        (kept K.is_up K.is_empty K.is_desk K.is_old K.roster K.holds K.failures keeper r.1) r.0) }
+    ensures unchanged { IfErr result (λ r. K.is_up r.1 → K.is_same keeper r.1) }
+    ensures served { MatchResult result
+        (λ d. IsServed (K.is_up keeper) (K.is_clean keeper) (K.is_up d.keeper) (K.is_clean d.keeper) (K.failures keeper) (K.failures d.keeper))
+        (λ r. IsServed (K.is_up keeper) (K.is_clean keeper) (K.is_up r.1) (K.is_clean r.1) (K.failures keeper) (K.failures r.1)) }
 {
     match parts(alloc, roster, base) {
         Ok((roster, base)) => match Desk::open(alloc, roster, base, keeper) {
@@ -58,16 +67,30 @@ pub fn open_over<K: Keeper>(
     }
 }
 
-/// The desk of the roster and the base that the files hold, without messages.
+/// The desk of the roster and the base that the files hold, over the messages that the keeper keeps, whatever roster they were kept under.
 ///
-/// It is refused with the roster's fault, the policy's, or the desk's where the base is past a limit of the desk.
-pub fn open(alloc: Global, roster: &[u8], base: &[u8]) -> Result<Desk<MemoryKeeper>, Refusal>
-    ensures found { IfOk result (λ d. IsDeskOf roster.now base.now d.roster.says d.base × IsNothing (Holds d.keeper)) }
-    ensures err { IfErr result (EndsMaking roster.now base.now) }
+/// It is refused with the roster's fault, the policy's, or the desk's; a refusal hands the keeper back, with what it keeps as it was.
+pub fn rebuild_over<K: Keeper>(
+    alloc: Global,
+    roster: &[u8],
+    base: &[u8],
+    keeper: K,
+) -> Result<Desk<K>, (Refusal, K)>
+    ensures found { IfOk result (λ d. IsDeskOf roster.now base.now d.roster.says d.base) }
+    ensures recorded { IfOk result (λ d. d.roster.text ≡ roster.now) }
+    ensures keeps { IfOk result (λ d. K.is_up d.keeper → SameSet (held_in (K.is_desk keeper) (K.is_old keeper) (K.holds keeper)) (K.holds d.keeper)) }
+    ensures err { IfErr result (λ r. EndsRebuilding roster.now base.now
+        (kept K.is_up K.is_empty K.is_desk K.is_old K.roster K.holds K.failures keeper r.1) r.0) }
+    ensures unchanged { IfErr result (λ r. K.is_up r.1 → K.is_same keeper r.1) }
+    ensures served { MatchResult result
+        (λ d. IsServed (K.is_up keeper) (K.is_clean keeper) (K.is_up d.keeper) (K.is_clean d.keeper) (K.failures keeper) (K.failures d.keeper))
+        (λ r. IsServed (K.is_up keeper) (K.is_clean keeper) (K.is_up r.1) (K.is_clean r.1) (K.failures keeper) (K.failures r.1)) }
 {
-    let (roster, base) = parts(alloc, roster, base)?;
-    match Desk::open(alloc, roster, base, MemoryKeeper::new(alloc)) {
-        Ok(desk) => Ok(desk),
-        Err((refusal, _)) => Err(Refusal::Desk(refusal)),
+    match parts(alloc, roster, base) {
+        Ok((roster, base)) => match Desk::rebuild(alloc, roster, base, keeper) {
+            Ok(desk) => Ok(desk),
+            Err((refusal, keeper)) => Err((Refusal::Desk(refusal), keeper)),
+        },
+        Err(refusal) => Err((refusal, keeper)),
     }
 }

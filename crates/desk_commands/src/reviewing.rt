@@ -1,64 +1,108 @@
-//! Printing the report of a desk: the lines of the input are delivered to it.
+//! Printing the report of a desk.
 
-ghost use Rattle.std.specs.Prelude.{ℕ, List, IfErr, IfOk, string_bytes};
+ghost use Rattle.std.specs.Prelude.{◌≡◌, ◌∷◌, ℕ, List, map, IfErr, IfOk, string_bytes};
 ghost use Rattle.std.specs.Io.KnownBytes.{Appends};
-ghost use Rattle.desk_store.specs.Memory.{Holds};
-ghost use Rattle.desk_store.specs.Sets.{IsNothing};
-ghost use Rattle.desk_commands.specs.Files.{IsDeskOf};
-ghost use Rattle.desk_commands.specs.Reviewing.{EndsReviewing, ReviewsDesk};
-ghost use Rattle.desk_jobs.specs.declared.status.Status.TheVariants.{Done};
+ghost use Rattle.desk_store.specs.Keeping.{HasFailed};
+ghost use Rattle.desk.specs.private.Serving.{IsServed};
+ghost use Rattle.desk_commands.specs.Kept.{kept};
+ghost use Rattle.desk_commands.specs.Reviewing.{ReviewsDesk};
+ghost use Rattle.desk_commands.specs.private.Outcomes.{EndsReport, IsOutcome};
+ghost use Rattle.desk_jobs.specs.declared.task.Job.TheVariants as jobs;
+ghost use Rattle.desk_jobs.specs.declared.task.Store.TheVariants as stores;
 
-use crate::opening::open;
-use crate::printing::take_lines;
+use crate::answer::Answer;
+use crate::opening::open_over;
 use crate::refusal::Refusal;
-use desk::{Desk, MemoryKeeper};
+use crate::taking::take_input;
+use desk::{Desk, Keeper};
+use desk_jobs::{Places, Status, Store};
 use review::report;
 use std::alloc::Global;
 use std::io::{Read, Write};
 use sudo_words::Moment;
 
-/// The report at the moment of a desk that held nothing, once the lines of the input are delivered to it.
-fn review_taken<R: Read, E: Write>(
+/// The report of an open desk at the moment, once it has taken the lines of the input that it takes.
+fn review_of<K: Keeper, R: Read, E: Write>(
     alloc: Global,
-    desk: &mut Desk<MemoryKeeper>,
+    desk: &mut Desk<K>,
+    store: &Store,
     at: Moment,
     input: &mut R,
     err: &mut E,
-) -> Result<String, Refusal>
-    requires { IsNothing (Holds desk.old.keeper) }
-    ensures reported { (roster_file base_file : List ℕ) → IsDeskOf roster_file base_file desk.old.roster.says desk.old.base
-        → IfOk result (λ s. (said : List ℕ)
-        × ReviewsDesk roster_file base_file at (R.remaining input.old) Done (string_bytes s) said
+) -> Result<Answer, Refusal>
+    ensures found { IfOk result (λ a. (said : List ℕ) × ReviewsDesk desk.old.roster.says desk.old.base store.now at
+        (K.holds desk.old.keeper) (K.holds desk.new.keeper) (K.is_up desk.new.keeper × K.is_desk desk.new.keeper) (R.remaining input.old) a.status (string_bytes a.text) said
         × Appends (E.contents err.old) (E.contents err.new) said) }
-    ensures err { (roster_file base_file : List ℕ) → IsDeskOf roster_file base_file desk.old.roster.says desk.old.base
-        → IfErr result (EndsReviewing roster_file base_file) }
+    ensures cause { IfErr result (EndsReport store.now (HasFailed (K.failures desk.old.keeper) (K.failures desk.new.keeper))) }
+    ensures unread { (store.now ≡ stores.Memory → ⊥) → input.new ≡ input.old }
+    ensures roster { desk.new.roster ≡ desk.old.roster }
+    ensures served { IsServed (K.is_up desk.old.keeper) (K.is_clean desk.old.keeper) (K.is_up desk.new.keeper) (K.is_clean desk.new.keeper)
+        (K.failures desk.old.keeper) (K.failures desk.new.keeper) }
 {
-    take_lines(alloc, desk, input, err)?;
+    take_input(alloc, store, desk, input, err)?;
     match report(desk, at) {
-        Ok(text) => Ok(text),
+        Ok(text) => Ok(Answer {
+            text,
+            status: Status::Done,
+        }),
         Err(refusal) => Err(Refusal::Desk(refusal)),
     }
 }
 
-/// The report at the moment, over the desk that the files make and the messages of the input's lines.
-///
-/// A line that the desk does not take is named on `err`, as by `print_host`, and has no other effect. It is refused where the
-/// files make no desk, where the input cannot be read or `err` not be written, and where memory runs out.
-pub fn review_desk<R: Read, E: Write>(
+/// The report, over the desk that the roster's file and the base's make and the keeper keeps; and the keeper.
+fn review_over<K: Keeper, R: Read, E: Write>(
     alloc: Global,
     roster: &[u8],
     base: &[u8],
+    keeper: K,
+    places: &Places,
     at: Moment,
     input: &mut R,
     err: &mut E,
-) -> Result<String, Refusal>
-    ensures reported { IfOk result (λ s. (said : List ℕ)
-        × ReviewsDesk roster.now base.now at (R.remaining input.old) Done (string_bytes s) said
-        × Appends (E.contents err.old) (E.contents err.new) said) }
-    ensures err { IfErr result (EndsReviewing roster.now base.now) }
+) -> (Result<Answer, Refusal>, K)
+    ensures outcome { (more : List (List ℕ)) → IsOutcome (jobs.Review places.now at) (roster.now ∷ base.now ∷ more)
+        (kept K.is_up K.is_empty K.is_desk K.is_old K.roster K.holds K.failures keeper result.1) (R.remaining input.old) result.0 (E.contents err.old) (E.contents err.new) }
+    ensures unread { (places.now.store ≡ stores.Memory → ⊥) → input.new ≡ input.old }
+    ensures served { IsServed (K.is_up keeper) (K.is_clean keeper) (K.is_up result.1) (K.is_clean result.1) (K.failures keeper) (K.failures result.1) }
 {
-    let mut desk = open(alloc, roster, base)?;
-    let text = review_taken(alloc, &mut desk, at, input, err);
-    let _ = desk.into_keeper();
-    text
+    match open_over(alloc, roster, base, keeper) {
+        Ok(mut desk) => {
+            let answer = review_of(alloc, &mut desk, &places.store, at, input, err);
+            (answer, desk.into_keeper())
+        }
+        Err((refusal, keeper)) => (Err(refusal), keeper),
+    }
+}
+
+/// The same, over the job's files.
+///
+/// A line that the desk does not take is named on `err`, as by `print_host`, and has no other effect. It is refused where the
+/// files make no desk, where the input cannot be read or `err` not be written, and where memory runs out.
+pub fn review_desk<K: Keeper, R: Read, E: Write>(
+    alloc: Global,
+    files: &[Vec<u8>],
+    keeper: K,
+    places: &Places,
+    at: Moment,
+    input: &mut R,
+    err: &mut E,
+) -> (Result<Answer, Refusal>, K)
+    ensures outcome { IsOutcome (jobs.Review places.now at) (map (λ f. f.items) files.now)
+        (kept K.is_up K.is_empty K.is_desk K.is_old K.roster K.holds K.failures keeper result.1) (R.remaining input.old) result.0 (E.contents err.old) (E.contents err.new) }
+    ensures unread { (places.now.store ≡ stores.Memory → ⊥) → input.new ≡ input.old }
+    ensures served { IsServed (K.is_up keeper) (K.is_clean keeper) (K.is_up result.1) (K.is_clean result.1) (K.failures keeper) (K.failures result.1) }
+{
+    match files {
+        [roster, base, ..] => review_over(
+            alloc,
+            roster.as_slice(),
+            base.as_slice(),
+            keeper,
+            places,
+            at,
+            input,
+            err,
+        ),
+        _ => (Err(Refusal::FileFailed), keeper),
+    }
 }

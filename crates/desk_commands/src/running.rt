@@ -1,20 +1,25 @@
 //! Doing a job. Its answer is made whole before any of it is written.
 
-ghost use Rattle.std.specs.Prelude.{◌≡◌, ◌≢◌, ◌⊎◌, ℕ, List, [], Option, IfErr, IfOk, map, string_bytes};
+ghost use Rattle.std.specs.Prelude.{◌≡◌, ◌≢◌, ◌⊎◌, ◌≤◌, ℕ, List, [], Option, IfErr, IfOk, map, string_bytes};
 ghost use Rattle.std.specs.Io.Buffered.{writer_buffer, writer_contents};
 ghost use Rattle.std.specs.Io.KnownBytes.{Appends, Keeps};
-ghost use Rattle.desk_commands.specs.Answers.{ChecksFile, DecidesByFile, EndsReading, HasAnswer, IsAnswer, IsCause, IsDecided, status_of};
 ghost use Rattle.sudo_policy.specs.Spelling.{Spells};
 ghost use Rattle.sudo_decide.specs.Decision.{Decides};
-ghost use Rattle.desk_jobs.specs.declared.task.Job.TheVariants as jobs;
-ghost use Rattle.desk_jobs.specs.declared.task.Places.{Places as Parts};
+ghost use Rattle.desk_store.specs.Keeping.{HasFailed};
+ghost use Rattle.desk.specs.private.Serving.{IsServed};
+ghost use Rattle.desk_commands.specs.Answers.{CauseOfFile, CauseOfFiles, ChecksFile, DecidesByFile, EndsReading, HasAnswer, HasCause, IsAnswer, IsDecided, IsOnDesk, OfFile, OfFiles, ReadsInput, status_of};
+ghost use Rattle.desk_commands.specs.Comparing.{ComparesFiles, EndsComparing};
+ghost use Rattle.desk_commands.specs.Kept.{kept};
+ghost use Rattle.desk_commands.specs.private.Outcomes.{IsOutcome};
 
 use crate::answer::Answer;
 use crate::comparing::compare_files;
 use crate::delivering::deliver_lines;
 use crate::printing::print_host;
+use crate::rebuilding::rebuild_desk;
 use crate::refusal::Refusal;
 use crate::reviewing::review_desk;
+use desk::Keeper;
 use desk_jobs::{Job, Status};
 use review::Scope;
 use std::alloc::{AllocError, Global};
@@ -22,7 +27,7 @@ use std::io::{BufWriter, Read, Write};
 use sudo_compiled::compile_owned;
 use sudo_decide::{Decision, Invocation};
 use sudo_syntax::{Policy, print_owned, read_policy};
-use sudo_words::{HostName, Moment, NoMemory};
+use sudo_words::NoMemory;
 
 fn status_of(decision: Decision) -> Status
     ensures { result ≡ status_of decision }
@@ -82,9 +87,8 @@ fn decided(alloc: Global, file: &mut Vec<u8>, invocation: &Invocation) -> Result
 }
 
 fn check_first(alloc: Global, files: &mut [Vec<u8>]) -> Result<Answer, Refusal>
-    ensures cause { (name : List ℕ) → (input : Option (List ℕ)) → IfErr result (IsCause (jobs.Check name) (map (λ f. f.items) files.old) input) }
-    ensures found { (name : List ℕ) → (input : Option (List ℕ)) → IfOk result (λ a.
-        IsAnswer (jobs.Check name) (map (λ f. f.items) files.old) input a.status (string_bytes a.text) []) }
+    ensures found { IfOk result (λ a. OfFile (map (λ f. f.items) files.old) (λ file. ChecksFile file a.status (string_bytes a.text))) }
+    ensures cause { IfErr result (CauseOfFile (map (λ f. f.items) files.old) EndsReading) }
 {
     match files {
         [file, ..] => check(alloc, file),
@@ -97,9 +101,8 @@ fn decide_by_first(
     files: &mut [Vec<u8>],
     invocation: &Invocation,
 ) -> Result<Answer, Refusal>
-    ensures cause { (name : List ℕ) → (input : Option (List ℕ)) → IfErr result (IsCause (jobs.Decide name invocation.now) (map (λ f. f.items) files.old) input) }
-    ensures found { (name : List ℕ) → (input : Option (List ℕ)) → IfOk result (λ a.
-        IsAnswer (jobs.Decide name invocation.now) (map (λ f. f.items) files.old) input a.status (string_bytes a.text) []) }
+    ensures found { IfOk result (λ a. OfFile (map (λ f. f.items) files.old) (λ file. DecidesByFile file invocation.now a.status (string_bytes a.text))) }
+    ensures cause { IfErr result (CauseOfFile (map (λ f. f.items) files.old) EndsReading) }
 {
     match files {
         [file, ..] => decided(alloc, file, invocation),
@@ -108,9 +111,8 @@ fn decide_by_first(
 }
 
 fn compared(alloc: Global, files: &[Vec<u8>], scope: &Scope) -> Result<Answer, Refusal>
-    ensures cause { (a b : List ℕ) → (input : Option (List ℕ)) → IfErr result (IsCause (jobs.Beyond a b scope.now) (map (λ f. f.items) files.now) input) }
-    ensures found { (a b : List ℕ) → (input : Option (List ℕ)) → IfOk result (λ r.
-        IsAnswer (jobs.Beyond a b scope.now) (map (λ f. f.items) files.now) input r.status (string_bytes r.text) []) }
+    ensures found { IfOk result (λ r. OfFiles (map (λ f. f.items) files.now) (λ a b. ComparesFiles scope.now a b r.status (string_bytes r.text))) }
+    ensures cause { IfErr result (CauseOfFiles (map (λ f. f.items) files.now) (EndsComparing scope.now)) }
 {
     match files {
         [a, b, ..] => compare_files(alloc, a.as_slice(), b.as_slice(), scope),
@@ -118,100 +120,34 @@ fn compared(alloc: Global, files: &[Vec<u8>], scope: &Scope) -> Result<Answer, R
     }
 }
 
-fn delivered<R: Read>(
-    alloc: Global,
-    files: &[Vec<u8>],
-    relay: &str,
-    input: &mut R,
-) -> Result<Answer, Refusal>
-    ensures cause { (places : Parts) → IfErr result (IsCause (jobs.Deliver places relay.now) (map (λ f. f.items) files.now) (R.remaining input.old)) }
-    ensures found { (places : Parts) → IfOk result (λ a.
-        IsAnswer (jobs.Deliver places relay.now) (map (λ f. f.items) files.now) (R.remaining input.old) a.status (string_bytes a.text) []) }
-{
-    match files {
-        [roster, base, ..] => deliver_lines(
-            alloc,
-            roster.as_slice(),
-            base.as_slice(),
-            relay,
-            input,
-        ),
-        _ => Err(Refusal::FileFailed),
-    }
-}
-
-fn printed<R: Read, E: Write>(
-    alloc: Global,
-    files: &[Vec<u8>],
-    host: &HostName,
-    after: Option<Moment>,
-    input: &mut R,
-    err: &mut E,
-) -> Result<Answer, Refusal>
-    ensures cause { (places : Parts) → IfErr result (IsCause (jobs.Print places host.now after) (map (λ f. f.items) files.now) (R.remaining input.old)) }
-    ensures found { (places : Parts) → IfOk result (λ a. (said : List ℕ)
-        × IsAnswer (jobs.Print places host.now after) (map (λ f. f.items) files.now) (R.remaining input.old) a.status (string_bytes a.text) said
-        × Appends (E.contents err.old) (E.contents err.new) said) }
-{
-    match files {
-        [roster, base, ..] => Ok(Answer {
-            text: print_host(
-                alloc,
-                roster.as_slice(),
-                base.as_slice(),
-                host,
-                after,
-                input,
-                err,
-            )?,
-            status: Status::Done,
-        }),
-        _ => Err(Refusal::FileFailed),
-    }
-}
-
-fn reviewed<R: Read, E: Write>(
-    alloc: Global,
-    files: &[Vec<u8>],
-    at: Moment,
-    input: &mut R,
-    err: &mut E,
-) -> Result<Answer, Refusal>
-    ensures cause { (places : Parts) → IfErr result (IsCause (jobs.Review places at) (map (λ f. f.items) files.now) (R.remaining input.old)) }
-    ensures found { (places : Parts) → IfOk result (λ a. (said : List ℕ)
-        × IsAnswer (jobs.Review places at) (map (λ f. f.items) files.now) (R.remaining input.old) a.status (string_bytes a.text) said
-        × Appends (E.contents err.old) (E.contents err.new) said) }
-{
-    match files {
-        [roster, base, ..] => Ok(Answer {
-            text: review_desk(alloc, roster.as_slice(), base.as_slice(), at, input, err)?,
-            status: Status::Done,
-        }),
-        _ => Err(Refusal::FileFailed),
-    }
-}
-
-/// What the job answers, or why it is refused. What else there is to say is said on `err`.
-fn answered<R: Read, E: Write>(
+/// What the job answers, or why it is refused, and the keeper. What else there is to say is said on `err`.
+fn answered<K: Keeper, R: Read, E: Write>(
     alloc: Global,
     job: &Job,
     files: &mut [Vec<u8>],
+    keeper: K,
     input: &mut R,
     err: &mut E,
-) -> Result<Answer, Refusal>
-    ensures cause { IfErr result (IsCause job.now (map (λ f. f.items) files.old) (R.remaining input.old)) }
-    ensures found { IfOk result (λ a. (said : List ℕ)
-        × IsAnswer job.now (map (λ f. f.items) files.old) (R.remaining input.old) a.status (string_bytes a.text) said
-        × Appends (E.contents err.old) (E.contents err.new) said) }
+) -> (Result<Answer, Refusal>, K)
+    ensures outcome { IsOutcome job.now (map (λ f. f.items) files.old)
+        (kept K.is_up K.is_empty K.is_desk K.is_old K.roster K.holds K.failures keeper result.1) (R.remaining input.old) result.0 (E.contents err.old) (E.contents err.new) }
+    ensures unasked { (IsOnDesk job.now → ⊥) → result.1 ≡ keeper }
+    ensures unread { (ReadsInput job.now → ⊥) → input.new ≡ input.old }
+    ensures served { IsServed (K.is_up keeper) (K.is_clean keeper) (K.is_up result.1) (K.is_clean result.1) (K.failures keeper) (K.failures result.1) }
 {
     match job {
-        Job::Check { .. } => check_first(alloc, files),
-        Job::Decide { invocation, .. } => decide_by_first(alloc, files, invocation),
-        Job::Beyond { scope, .. } => compared(alloc, files, scope),
-        Job::Deliver { relay, .. } => delivered(alloc, files, relay.as_str(), input),
-        Job::Print { host, after, .. } => printed(alloc, files, host, *after, input, err),
-        Job::Review { at, .. } => reviewed(alloc, files, *at, input, err),
-        Job::Serve { .. } => Err(Refusal::FileFailed),
+        Job::Check { .. } => (check_first(alloc, files), keeper),
+        Job::Decide { invocation, .. } => (decide_by_first(alloc, files, invocation), keeper),
+        Job::Beyond { scope, .. } => (compared(alloc, files, scope), keeper),
+        Job::Deliver { relay, .. } => deliver_lines(alloc, files, keeper, relay.as_str(), input),
+        Job::Print {
+            places,
+            host,
+            after,
+        } => print_host(alloc, files, keeper, places, host, *after, input, err),
+        Job::Review { places, at } => { review_desk(alloc, files, keeper, places, *at, input, err) }
+        Job::Rebuild { .. } => rebuild_desk(alloc, files, keeper),
+        Job::Serve { .. } => (Err(Refusal::FileFailed), keeper),
     }
 }
 
@@ -224,7 +160,7 @@ pub fn refuse<E: Write>(refusal: Refusal, err: &mut E) -> Status
     Status::Refused
 }
 
-pub fn write_answer<W: Write, E: Write>(answer: &Answer, out: &mut W, err: &mut E) -> Status
+fn write_answer<W: Write, E: Write>(answer: &Answer, out: &mut W, err: &mut E) -> Status
     ensures status { result ≢ Status.Refused → result ≡ answer.now.status }
     ensures written { result ≢ Status.Refused → Appends (W.contents out.old) (W.contents out.new) (string_bytes answer.now.text) }
     ensures quiet { result ≢ Status.Refused → E.contents err.new ≡ E.contents err.old }
@@ -247,29 +183,39 @@ fn conclude<W: Write, E: Write>(answer: Result<Answer, Refusal>, out: &mut W, er
     }
 }
 
-/// Does the job over the bytes of the files that it names, in their order, and over the input. The answer goes to `out`,
-/// and why there is none to `err`, as does what `print` says of lines of the input that it does not take.
+/// Does the job over the bytes of the files that it names, in their order, what the keeper keeps, and the input; and hands the keeper on. The answer goes
+/// to `out`, and why there is none to `err`, as does what `print` and `review` say of lines of the input that they do not take.
 ///
-/// `files` has the bytes of each file that the job names; `check` and `decide` give theirs back once they are read. Where one is missing, or where the input, `out` or what is to be
-/// said on `err` fails, the job is refused. Nothing is written on `out` where the answer cannot be made.
-pub fn run<R: Read, W: Write, E: Write>(
+/// `files` has the bytes of each file that the job names; `check` and `decide` give theirs back once they are read. A job whose STORE is left out or `-`
+/// wants a keeper in memory that is empty. Where a file is missing, or where the input, `out` or what is to be said on `err` fails, the job is refused. Nothing
+/// is written on `out` where the answer cannot be made.
+pub fn run<K: Keeper, R: Read, W: Write, E: Write>(
     alloc: Global,
     job: &Job,
     files: &mut [Vec<u8>],
+    keeper: K,
     input: &mut R,
     out: &mut W,
     err: &mut E,
-) -> Status
-    ensures answered { result ≢ Status.Refused → (text : List ℕ) × (said : List ℕ)
-        × IsAnswer job.now (map (λ f. f.items) files.old) (R.remaining input.old) result text said
+) -> (Status, K)
+    ensures answered { result.0 ≢ Status.Refused → (text : List ℕ) × (said : List ℕ)
+        × IsAnswer job.now (map (λ f. f.items) files.old) (kept K.is_up K.is_empty K.is_desk K.is_old K.roster K.holds K.failures keeper result.1) (R.remaining input.old) result.0 text said
         × Appends (W.contents out.old) (W.contents out.new) text
         × Appends (E.contents err.old) (E.contents err.new) said }
-    // A job that is refused leaves what stood on `out`, or it has an answer, which could not be written.
-    ensures refused { result ≡ Status.Refused → (W.contents out.new ≡ W.contents out.old)
-        ⊎ HasAnswer job.now (map (λ f. f.items) files.old) (R.remaining input.old) }
+    // A job that is refused leaves what stood on `out`, and there is a reason for it; or it has an answer, which could not be written.
+    ensures refused { result.0 ≡ Status.Refused → ((W.contents out.new ≡ W.contents out.old)
+        × HasCause job.now (map (λ f. f.items) files.old) (kept K.is_up K.is_empty K.is_desk K.is_old K.roster K.holds K.failures keeper result.1) (R.remaining input.old))
+        ⊎ HasAnswer job.now (map (λ f. f.items) files.old) (kept K.is_up K.is_empty K.is_desk K.is_old K.roster K.holds K.failures keeper result.1) (R.remaining input.old) }
+    // Only a job on a desk asks the keeper, and only one that takes lines reads the input.
+    ensures unasked { (IsOnDesk job.now → ⊥) → result.1 ≡ keeper }
+    ensures unread { (ReadsInput job.now → ⊥) → input.new ≡ input.old }
+    ensures was_up { K.is_up result.1 → K.is_up keeper }
+    ensures was_clean { K.is_clean result.1 → K.is_clean keeper }
+    ensures shuts { K.is_up keeper → K.is_clean result.1 → K.is_up result.1 ⊎ HasFailed (K.failures keeper) (K.failures result.1) }
+    ensures counts { K.failures keeper ≤ K.failures result.1 }
 {
-    let answer = answered(alloc, job, files, input, err);
-    conclude(answer, out, err)
+    let (answer, keeper) = answered(alloc, job, files, keeper, input, err);
+    (conclude(answer, out, err), keeper)
 }
 
 /// The last step of a job, after `run`: writes out what the buffer of its output still holds.

@@ -8,7 +8,7 @@ use Rattle.clap.specs.Walk.{Row, Text, finished}
 use Rattle.desk_jobs.specs.CommandLine.{IsCommandLine, Says, check, desk}
 use Rattle.desk_jobs.specs.Operands.{SaysByPlace, is_operand}
 use Rattle.desk_jobs.specs.declared.task.Job.{Job}
-use Rattle.desk_jobs.specs.declared.task.Job.TheVariants.{Beyond, Check, Decide, Deliver, Print, Review, Serve}
+use Rattle.desk_jobs.specs.declared.task.Job.TheVariants.{Beyond, Check, Decide, Deliver, Print, Rebuild, Review, Serve}
 use Rattle.desk_jobs.proofs.Placed.{Enters, entered_named, faultless_named, level_place, never_trails, placed, placed_level, rows_place}
 use Rattle.desk_jobs.proofs.ArgsPlaced.{args_are, args_row, six, six_faultless, six_rows}
 
@@ -56,7 +56,11 @@ enters_review : Enters (built desk) (codes "review") (nth 5)
 unfolding clap_on_literals
 enters_review = record { walks = refl; turns = refl; finds = refl; settles = refl; defaults = refl; checks = refl }
 
-enters_serve : Enters (built desk) (codes "serve") (nth 6)
+enters_rebuild : Enters (built desk) (codes "rebuild") (nth 6)
+unfolding clap_on_literals
+enters_rebuild = record { walks = refl; turns = refl; finds = refl; settles = refl; defaults = refl; checks = refl }
+
+enters_serve : Enters (built desk) (codes "serve") (nth 7)
 unfolding clap_on_literals
 enters_serve = record { walks = refl; turns = refl; finds = refl; settles = refl; defaults = refl; checks = refl }
 
@@ -87,8 +91,13 @@ reviews : (roster base store at : Text) → list_all is_operand (roster ∷ base
 unfolding clap_on_literals
 reviews roster base store at all = record { enters = enters_review; operands = all; leads = refl; faultless = refl; finds = refl }
 
+rebuilds : (roster base store : Text) → list_all is_operand (roster ∷ base ∷ store ∷ []) ≡ true
+    → Finds (codes "rebuild") (nth 6) (roster ∷ base ∷ store ∷ [])
+unfolding clap_on_literals
+rebuilds roster base store all = record { enters = enters_rebuild; operands = all; leads = refl; faultless = refl; finds = refl }
+
 serves : (roster base store addr : Text) → list_all is_operand (roster ∷ base ∷ store ∷ addr ∷ []) ≡ true
-    → Finds (codes "serve") (nth 6) (roster ∷ base ∷ store ∷ addr ∷ [])
+    → Finds (codes "serve") (nth 7) (roster ∷ base ∷ store ∷ addr ∷ [])
 unfolding clap_on_literals
 serves roster base store addr all = record { enters = enters_serve; operands = all; leads = refl; faultless = refl; finds = refl }
 
@@ -146,9 +155,14 @@ said program words (Review places at) all is =
     (λ operands. line program (codes "review") (nth 5) (places.roster ∷ places.base ∷ store ∷ text ∷ []) _ (Review places at)
     (reviews places.roster places.base store text operands)
     (refl, record { roster = refl; base = refl; store = (store, refl, says) }, (text, refl, stamp))) all
+said program words (Rebuild places) all is =
+    let (store, says, same) = is in
+    subst (λ ws. list_all is_operand ws ≡ true → IsCommandLine (program ∷ ws) (Rebuild places)) (sym same)
+    (λ operands. line program (codes "rebuild") (nth 6) (places.roster ∷ places.base ∷ store ∷ []) _ (Rebuild places)
+    (rebuilds places.roster places.base store operands) (refl, record { roster = refl; base = refl; store = (store, refl, says) })) all
 said program words (Serve places addr requests) all is =
     let (store, says, same, none) = is in
     subst (λ ws. list_all is_operand ws ≡ true → IsCommandLine (program ∷ ws) (Serve places addr requests)) (sym same)
     (λ operands. subst (λ r. IsCommandLine (program ∷ codes "serve" ∷ places.roster ∷ places.base ∷ store ∷ addr ∷ []) (Serve places addr r)) (sym none)
-    (line program (codes "serve") (nth 6) (places.roster ∷ places.base ∷ store ∷ addr ∷ []) _ (Serve places addr None)
+    (line program (codes "serve") (nth 7) (places.roster ∷ places.base ∷ store ∷ addr ∷ []) _ (Serve places addr None)
     (serves places.roster places.base store addr operands) (refl, record { roster = refl; base = refl; store = (store, refl, says) }, refl, refl))) all

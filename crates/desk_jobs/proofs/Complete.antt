@@ -245,8 +245,11 @@ print_complete words none = inr (inr (inr (inr (inl (refl, leaf_complete (leaf 4
 review_complete : Completes (leaf 5)
 review_complete words none = inr (inr (inr (inr (inr (inl (refl, leaf_complete (leaf 5) words refl none))))))
 
-serve_complete : Completes (leaf 6)
-serve_complete words none = inr (inr (inr (inr (inr (inr (refl, leaf_complete (leaf 6) words refl none))))))
+rebuild_complete : Completes (leaf 6)
+rebuild_complete words none = inr (inr (inr (inr (inr (inr (inl (refl, leaf_complete (leaf 6) words refl none)))))))
+
+serve_complete : Completes (leaf 7)
+serve_complete words none = inr (inr (inr (inr (inr (inr (inr (refl, leaf_complete (leaf 7) words refl none)))))))
 
 -- each of the commands is such a one, or is not called so
 abbrev AllComplete : Text → List Shape → Type 0
@@ -281,7 +284,7 @@ stop_complete : (stop : Option (Text × List Text)) → IsOther stop → is_some
 stop_complete None other is none = absurd cc
 stop_complete (Some p) other is none =
     found_complete p.0 (built desk).subs p.1
-    (inr check_complete, (inr decide_complete, (inr beyond_complete, (inr deliver_complete, (inr print_complete, (inr review_complete, (inr serve_complete, (inl (other_name p.0 other), tt)))))))) is none
+    (inr check_complete, (inr decide_complete, (inr beyond_complete, (inr deliver_complete, (inr print_complete, (inr review_complete, (inr rebuild_complete, (inr serve_complete, (inl (other_name p.0 other), tt))))))))) is none
 
 pub complete : (words : List Text) → fault_of desk words ≡ [] → HasAllValues (subcommand_of desk words)
 complete words none =

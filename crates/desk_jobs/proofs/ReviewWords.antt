@@ -5,7 +5,7 @@ use Rattle.std.proofs.Common.{subst, sym}
 use Rattle.clap.specs.Words.{Row, Text}
 use Rattle.desk_jobs.specs.CommandLine.{HasMoment, Says}
 use Rattle.desk_jobs.specs.declared.task.Job.{Job}
-use Rattle.desk_jobs.specs.declared.task.Job.TheVariants.{Beyond, Check, Decide, Deliver, Print, Review, Serve}
+use Rattle.desk_jobs.specs.declared.task.Job.TheVariants.{Beyond, Check, Decide, Deliver, Print, Rebuild, Review, Serve}
 
 apart : (name : Text) → bytes_eq name (codes "review") ≡ false → codes "review" ≡ name → ⊥
 apart name other same =
@@ -19,4 +19,5 @@ no_review rows none (Beyond a b scope) says = apart (codes "beyond") refl says.0
 no_review rows none (Deliver places relay) says = apart (codes "deliver") refl says.0
 no_review rows none (Print places host after) says = apart (codes "print") refl says.0
 no_review rows none (Review places at) says = none at says.2
+no_review rows none (Rebuild places) says = apart (codes "rebuild") refl says.0
 no_review rows none (Serve places addr requests) says = apart (codes "serve") refl says.0

@@ -4,7 +4,7 @@ use Rattle.std.specs.Str.{bytes_eq}
 use Rattle.std.proofs.Common.{inl, inr, subst, sym, ◌∙◌, true≢false}
 use Rattle.std.proofs.lemmas.Slice.Eq.{bytes_eq-Decides}
 use Rattle.clap.specs.Words.{Row, Text}
-use Rattle.desk_jobs.specs.CommandLine.{HaveSome, HasAllValues, beyond_args, check_args, decide_args, desk_args}
+use Rattle.desk_jobs.specs.CommandLine.{HaveSome, HasAllValues, beyond_args, check_args, decide_args, desk_args, place_args}
 
 abbrev pub wants : Text → List Text
 wants name =
@@ -14,7 +14,8 @@ wants name =
     else (if bytes_eq name (codes "deliver") then desk_args (codes "RELAY")
     else (if bytes_eq name (codes "print") then desk_args (codes "HOST")
     else (if bytes_eq name (codes "review") then desk_args (codes "AT")
-    else desk_args (codes "ADDR"))))))
+    else (if bytes_eq name (codes "rebuild") then place_args
+    else desk_args (codes "ADDR")))))))
 
 as_named : (name command : Text) (rows : List Row) → name ≡ command → HaveSome (wants command) rows → HaveSome (wants name) rows
 as_named name command rows is have = subst (λ (n : Text). HaveSome (wants n) rows) (sym is) have
@@ -26,7 +27,8 @@ have_wanted name rows (inr (inr (inl p))) = as_named name (codes "beyond") rows 
 have_wanted name rows (inr (inr (inr (inl p)))) = as_named name (codes "deliver") rows p.0 p.1
 have_wanted name rows (inr (inr (inr (inr (inl p))))) = as_named name (codes "print") rows p.0 p.1
 have_wanted name rows (inr (inr (inr (inr (inr (inl p)))))) = as_named name (codes "review") rows p.0 p.1
-have_wanted name rows (inr (inr (inr (inr (inr (inr p)))))) = as_named name (codes "serve") rows p.0 p.1
+have_wanted name rows (inr (inr (inr (inr (inr (inr (inl p))))))) = as_named name (codes "rebuild") rows p.0 p.1
+have_wanted name rows (inr (inr (inr (inr (inr (inr (inr p))))))) = as_named name (codes "serve") rows p.0 p.1
 
 -- what the command of this name wants
 pub wanted_at : (command name : Text) (rows : List Row) → command ≡ name → HasAllValues (Some (name, rows)) → HaveSome (wants command) rows
@@ -43,11 +45,13 @@ other name command differs is = true≢false (sym ((bytes_eq-Decides name comman
 pub is_serve : (name : Text) (rows : List Row) → HasAllValues (Some (name, rows))
     → bytes_eq name (codes "check") ≡ false → bytes_eq name (codes "decide") ≡ false → bytes_eq name (codes "beyond") ≡ false
     → bytes_eq name (codes "deliver") ≡ false → bytes_eq name (codes "print") ≡ false → bytes_eq name (codes "review") ≡ false
+    → bytes_eq name (codes "rebuild") ≡ false
     → codes "serve" ≡ name
-is_serve name rows (inl p) check decide beyond deliver print review = absurd (other name (codes "check") check p.0)
-is_serve name rows (inr (inl p)) check decide beyond deliver print review = absurd (other name (codes "decide") decide p.0)
-is_serve name rows (inr (inr (inl p))) check decide beyond deliver print review = absurd (other name (codes "beyond") beyond p.0)
-is_serve name rows (inr (inr (inr (inl p)))) check decide beyond deliver print review = absurd (other name (codes "deliver") deliver p.0)
-is_serve name rows (inr (inr (inr (inr (inl p))))) check decide beyond deliver print review = absurd (other name (codes "print") print p.0)
-is_serve name rows (inr (inr (inr (inr (inr (inl p)))))) check decide beyond deliver print review = absurd (other name (codes "review") review p.0)
-is_serve name rows (inr (inr (inr (inr (inr (inr p)))))) check decide beyond deliver print review = sym p.0
+is_serve name rows (inl p) check decide beyond deliver print review rebuild = absurd (other name (codes "check") check p.0)
+is_serve name rows (inr (inl p)) check decide beyond deliver print review rebuild = absurd (other name (codes "decide") decide p.0)
+is_serve name rows (inr (inr (inl p))) check decide beyond deliver print review rebuild = absurd (other name (codes "beyond") beyond p.0)
+is_serve name rows (inr (inr (inr (inl p)))) check decide beyond deliver print review rebuild = absurd (other name (codes "deliver") deliver p.0)
+is_serve name rows (inr (inr (inr (inr (inl p))))) check decide beyond deliver print review rebuild = absurd (other name (codes "print") print p.0)
+is_serve name rows (inr (inr (inr (inr (inr (inl p)))))) check decide beyond deliver print review rebuild = absurd (other name (codes "review") review p.0)
+is_serve name rows (inr (inr (inr (inr (inr (inr (inl p))))))) check decide beyond deliver print review rebuild = absurd (other name (codes "rebuild") rebuild p.0)
+is_serve name rows (inr (inr (inr (inr (inr (inr (inr p))))))) check decide beyond deliver print review rebuild = sym p.0

@@ -13,7 +13,7 @@ use Rattle.desk_jobs.specs.declared.task.Places.{Places}
 use Rattle.desk_jobs.specs.declared.task.Store.{Store}
 use Rattle.desk_jobs.specs.declared.task.Store.TheVariants.{Memory, File}
 use Rattle.desk_jobs.specs.declared.task.Job.{Job}
-use Rattle.desk_jobs.specs.declared.task.Job.TheVariants.{Beyond, Check, Decide, Deliver, Print, Review, Serve}
+use Rattle.desk_jobs.specs.declared.task.Job.TheVariants.{Beyond, Check, Decide, Deliver, Print, Rebuild, Review, Serve}
 
 -- ---- the program's commands
 
@@ -44,7 +44,11 @@ decide_args = codes "FILE" ∷ codes "USER" ∷ codes "HOST" ∷ codes "RUNAS" �
 abbrev pub beyond_args : List Text
 beyond_args = codes "A" ∷ codes "B" ∷ []
 
--- the arguments of a command on a desk, of which the last is its own
+-- where the parts of a desk stand: all that `rebuild` wants
+abbrev pub place_args : List Text
+place_args = codes "ROSTER" ∷ codes "BASE" ∷ codes "STORE" ∷ []
+
+-- the arguments of another command on a desk, of which the last is its own
 abbrev pub desk_args : Text → List Text
 desk_args id = codes "ROSTER" ∷ codes "BASE" ∷ codes "STORE" ∷ id ∷ []
 
@@ -65,7 +69,7 @@ beyond =
     (optional (codes "HOST") (codes "host")))
     (optional (codes "RUNAS") (codes "runas"))
 
--- a command on a desk
+-- a command on a desk, with an argument of its own
 abbrev pub on_desk : (name id : Text) → App
 on_desk name id = with_wanted (new_app name) (desk_args id)
 
@@ -80,6 +84,10 @@ print = with_rule (on_desk (codes "print") (codes "HOST")) (optional (codes "AFT
 -- `review ROSTER BASE STORE AT`
 abbrev pub review : App
 review = on_desk (codes "review") (codes "AT")
+
+-- `rebuild ROSTER BASE STORE`
+abbrev pub rebuild : App
+rebuild = with_wanted (new_app (codes "rebuild")) place_args
 
 -- `serve ROSTER BASE STORE ADDR [--requests REQUESTS]`
 abbrev pub serve : App
@@ -96,7 +104,7 @@ on_policies = check ∷ decide ∷ beyond ∷ []
 
 -- the commands on a desk
 abbrev pub on_desks : List App
-on_desks = deliver ∷ print ∷ review ∷ serve ∷ []
+on_desks = deliver ∷ print ∷ review ∷ rebuild ∷ serve ∷ []
 
 -- the program, which is run by one of its commands
 abbrev pub program : App
@@ -196,6 +204,7 @@ Says (Some line) (Print places host after) =
     (line.0 ≡ codes "print") × ArePlaces line.1 places × HasWord is_host_name (codes "HOST") line.1 host
     × HasMomentIfGiven (codes "AFTER") line.1 after
 Says (Some line) (Review places at) = (line.0 ≡ codes "review") × ArePlaces line.1 places × HasMoment (codes "AT") line.1 at
+Says (Some line) (Rebuild places) = (line.0 ≡ codes "rebuild") × ArePlaces line.1 places
 Says (Some line) (Serve places addr requests) =
     (line.0 ≡ codes "serve") × ArePlaces line.1 places × HasValue (codes "ADDR") line.1 addr × HasCount (codes "REQUESTS") line.1 requests
 
@@ -278,4 +287,5 @@ HasAllValues (Some line) =
     ⊎ ((line.0 ≡ codes "deliver") × HaveSome (desk_args (codes "RELAY")) line.1)
     ⊎ ((line.0 ≡ codes "print") × HaveSome (desk_args (codes "HOST")) line.1)
     ⊎ ((line.0 ≡ codes "review") × HaveSome (desk_args (codes "AT")) line.1)
+    ⊎ ((line.0 ≡ codes "rebuild") × HaveSome place_args line.1)
     ⊎ ((line.0 ≡ codes "serve") × HaveSome (desk_args (codes "ADDR")) line.1)

@@ -7,7 +7,7 @@ use Rattle.sudo_words.specs.Word.{is_arg, is_file_path, is_host_name, is_name}
 use Rattle.sudo_decide.specs.declared.invocation.Invocation.{Invocation}
 use Rattle.desk_jobs.specs.CommandLine.{SaysStore}
 use Rattle.desk_jobs.specs.declared.task.Job.{Job}
-use Rattle.desk_jobs.specs.declared.task.Job.TheVariants.{Beyond, Check, Decide, Deliver, Print, Review, Serve}
+use Rattle.desk_jobs.specs.declared.task.Job.TheVariants.{Beyond, Check, Decide, Deliver, Print, Rebuild, Review, Serve}
 
 -- A word is an operand where it does not begin with `-`, or is `-` alone (POSIX.1-2017, XBD 12.2, guidelines 4 and 13).
 abbrev pub is_operand : Text → Bool
@@ -38,5 +38,7 @@ SaysByPlace words (Print places host after) =
     × (is_host_name host ≡ true) × (after ≡ None)
 SaysByPlace words (Review places at) =
     (store text : Text) × SaysStore store places.store × IsStamp text at × (words ≡ codes "review" ∷ places.roster ∷ places.base ∷ store ∷ text ∷ [])
+SaysByPlace words (Rebuild places) =
+    (store : Text) × SaysStore store places.store × (words ≡ codes "rebuild" ∷ places.roster ∷ places.base ∷ store ∷ [])
 SaysByPlace words (Serve places addr requests) =
     (store : Text) × SaysStore store places.store × (words ≡ codes "serve" ∷ places.roster ∷ places.base ∷ store ∷ addr ∷ []) × (requests ≡ None)

@@ -56,6 +56,13 @@ const SERVE_OPTIONS: [(&str, &str, &str); 1] = [(
     "End after so many connections",
 )];
 
+/// What `rebuild` wants.
+const REBUILD_ARGS: [(&str, &str); 3] = [
+    ("ROSTER", "The roster that the desk is to have"),
+    ("BASE", "The base policy"),
+    ("STORE", STORE_HELP),
+];
+
 /// What the place of STORE takes.
 const STORE_HELP: &str = "The database that keeps the messages, or `-`: kept in memory alone";
 
@@ -230,6 +237,13 @@ fn review<'a>(alloc: Global) -> Result<Command<'a>, AllocError>
     on_desk(alloc, "review", about, "AT", help, &[])
 }
 
+fn rebuild<'a>(alloc: Global) -> Result<Command<'a>, AllocError>
+    ensures { IfOk result (IsCommand line.rebuild) }
+{
+    let about = "Take a desk over to another roster, and keep its messages";
+    command_with(alloc, "rebuild", about, &REBUILD_ARGS, &[])
+}
+
 fn serve<'a>(alloc: Global) -> Result<Command<'a>, AllocError>
     ensures { IfOk result (IsCommand line.serve) }
 {
@@ -265,6 +279,7 @@ fn push_on_desks<'a>(alloc: Global, commands: &mut Vec<Command<'a>>) -> Result<(
     push_made(commands, deliver(alloc))?;
     push_made(commands, print(alloc))?;
     push_made(commands, review(alloc))?;
+    push_made(commands, rebuild(alloc))?;
     push_made(commands, serve(alloc))
 }
 

@@ -97,7 +97,7 @@ fn beyond(alloc: Global, matches: &ArgMatches<'_>) -> Result<Job, JobFault>
 
 /// The values of `ROSTER`, `BASE` and `STORE`.
 fn places(alloc: Global, matches: &ArgMatches<'_>) -> Result<Places, AllocError>
-    requires { HaveSome (codes "ROSTER" ∷ codes "BASE" ∷ codes "STORE" ∷ []) (rows_of (found_of matches.now)) }
+    requires { HaveSome line.place_args (rows_of (found_of matches.now)) }
     ensures found { IfOk result (λ p. ArePlaces (rows_of (found_of matches.now)) p) }
     ensures only { (p : Parts) → ArePlaces (rows_of (found_of matches.now)) p → IfOk result (λ q. q ≡ p) }
 {
@@ -152,6 +152,18 @@ fn review(alloc: Global, matches: &ArgMatches<'_>) -> Result<Job, JobFault>
     Ok(Job::Review { places, at })
 }
 
+fn rebuild(alloc: Global, matches: &ArgMatches<'_>) -> Result<Job, JobFault>
+    requires { HaveSome line.place_args (rows_of (found_of matches.now)) }
+    ensures found { IfOk result (λ j. Says (Some (codes "rebuild", rows_of (found_of matches.now))) j) }
+    ensures only { (j : Task) → Says (Some (codes "rebuild", rows_of (found_of matches.now))) j → MatchResult result (λ k. k ≡ j) (λ e. e ≡ NoMemory) }
+    ensures word { IfErr result (λ e. e ≡ BadWord → SaysBadly (Some (codes "rebuild", rows_of (found_of matches.now)))) }
+    ensures usage { IfErr result (λ e. IsUsage e → ⊥) }
+{
+    Ok(Job::Rebuild {
+        places: places(alloc, matches)?,
+    })
+}
+
 fn serve(alloc: Global, matches: &ArgMatches<'_>) -> Result<Job, JobFault>
     requires { HaveSome (line.desk_args (codes "ADDR")) (rows_of (found_of matches.now)) }
     ensures found { IfOk result (λ j. Says (Some (codes "serve", rows_of (found_of matches.now))) j) }
@@ -185,6 +197,8 @@ fn by_name(alloc: Global, name: &str, matches: &ArgMatches<'_>) -> Result<Job, J
         print(alloc, matches)
     } else if name == "review" {
         review(alloc, matches)
+    } else if name == "rebuild" {
+        rebuild(alloc, matches)
     } else {
         serve(alloc, matches)
     }

@@ -71,6 +71,11 @@ pub enum Job {
         /// The moment that is looked at.
         at: Moment,
     },
+    /// Take a desk over to the roster, in place of the one that it was made with.
+    Rebuild {
+        /// The desk's files.
+        places: Places,
+    },
     /// Serve a desk over HTTP.
     Serve {
         /// The desk's files.

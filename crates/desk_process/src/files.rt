@@ -29,6 +29,7 @@ pub(crate) fn files(rt: &HostRuntime, job: &Job) -> Result<Vec<Vec<u8>>, Refusal
         Job::Deliver { places, .. }
         | Job::Print { places, .. }
         | Job::Review { places, .. }
+        | Job::Rebuild { places }
         | Job::Serve { places, .. } => {
             files.push(file(rt, &places.roster)?)?;
             files.push(file(rt, &places.base)?)?;

@@ -17,6 +17,7 @@ fn store_of(job: &Job) -> Option<&Store> {
         Job::Deliver { places, .. }
         | Job::Print { places, .. }
         | Job::Review { places, .. }
+        | Job::Rebuild { places }
         | Job::Serve { places, .. } => Some(&places.store),
     }
 }
@@ -42,8 +43,6 @@ pub(crate) fn kept(rt: &HostRuntime, job: &Job) -> Result<Option<Stored>, Refusa
 }
 
 /// Copies what stands in the database's log into its file, so that the file alone is the store. Where that fails the log keeps it.
-pub(crate) fn merge_log(kept: Option<Stored>) {
-    if let Some(keeper) = kept {
-        let _ = keeper.into_connection().close();
-    }
+pub(crate) fn merge_log(stored: Stored) {
+    let _ = stored.into_connection().close();
 }

@@ -8,4 +8,5 @@ pub mod CreateLemmas
 -- how a desk is made
 pub mod MadeLemmas
 pub mod EndLemmas
+pub mod ListedLemmas
 pub mod MarksLemmas

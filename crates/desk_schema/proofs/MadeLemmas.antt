@@ -53,11 +53,11 @@ differ_parked : AllByRecursion (Differs part.Parked) (part.Marks ∷ [])
 unfolding same_name
 differ_parked = (record { table = refl; index = λ t k. refl }, tt)
 
-keeps_itself : (ts : List Table) (trees : Rattle.sqlite.specs.Tree.Trees) → Rattle.sqlite.specs.Change.KeepsRows ts trees trees
+pub keeps_itself : (ts : List Table) (trees : Rattle.sqlite.specs.Tree.Trees) → Rattle.sqlite.specs.Change.KeepsRows ts trees trees
 keeps_itself [] trees = tt
 keeps_itself (t ∷ ts) trees = (refl, keeps_itself ts trees)
 
-append_none : (ts : List Table) → ts ≡ Rattle.std.proofs.Common.◌++◌ ts []
+pub append_none : (ts : List Table) → ts ≡ Rattle.std.proofs.Common.◌++◌ ts []
 append_none [] = refl
 append_none (t ∷ ts) = ap (λ us. t ∷ us) (append_none ts)
 
@@ -90,7 +90,7 @@ module _ (db : Database) (p : Part) (it : HasEmpty db p) where
   pub alone : IsUnreferred db.schema (tree_of db.schema (name_of p))
   alone = subst (IsUnreferred db.schema) (sym tree_in) it.alone
 
-none_in : (rows : List Row) → rows ≡ [] → (x : Row) → ¬ Has rows x
+pub none_in : (rows : List Row) → rows ≡ [] → (x : Row) → ¬ Has rows x
 none_in rows none x = subst (λ rs. ¬ Has rs x) (sym none) (λ there. there)
 
 module _ (a b : Database) (g : GrowsWhole a b) where
@@ -203,7 +203,7 @@ all_member P [] t there all = absurd there
 all_member P (u ∷ ts) t (inl same) all = subst P (sym same) all.0
 all_member P (u ∷ ts) t (inr later) all = all_member P ts t later all.1
 
-has_before : (ts us : List Table) (t : Table) → Has ts t → Has (ts ++ us) t
+pub has_before : (ts us : List Table) (t : Table) → Has ts t → Has (ts ++ us) t
 has_before [] us t there = absurd there
 has_before (u ∷ ts) us t (inl same) = inl same
 has_before (u ∷ ts) us t (inr later) = inr (has_before ts us t later)

@@ -2,14 +2,16 @@
 use Rattle.std.proofs.Common.{◌≡◌, ◌≢◌, inl, inr, ◌==◌, ℕ, zero, suc, List, [], ◌∷◌, codes, Some, find, slice_get, slice_index_or, sym, ap, subst, ◌∙◌, arith}
 use Rattle.sqlite.specs.Schema.{Schema}
 use Rattle.sqlite.specs.Table.{Table}
+use Rattle.sqlite.specs.Tree.{Trees}
 use Rattle.sqlite.specs.Effect.{Database}
 use Rattle.sqlite_rules.specs.Lists.{Has}
 use Rattle.desk_tables.specs.DeskTables.{desk_at, messages_at, names_at, verdicts_at, parked_at}
-use Rattle.desk_tables.specs.Stored.{Finds, HasDesk, tree_of}
-use Rattle.desk_tables.specs.Kept.{IsForeign, Spares}
+use Rattle.desk_tables.specs.Stored.{Finds, HasDesk, IsListedAs, tree_of}
+use Rattle.desk_tables.specs.Kept.{IsForeign, KeepsForeign, Spares}
 use Rattle.desk_schema.specs.declared.part.Part.TheVariants as part
 use Rattle.desk_schema.specs.Parts.{marks_at}
 use Rattle.desk_schema.specs.Shapes.{IsUnmarked, Lacks}
+use Rattle.desk_schema.proofs.ListedLemmas.{finds_as, unused_as}
 
 -- two tables whose names differ have two trees
 apart_by : (f : List ℕ → ℕ) (s : Schema) (name other : List ℕ) (a b : ℕ) (t u : Table) → Finds s name a t → Finds s other b u → f t.name ≢ f u.name → t.tree ≢ u.tree
@@ -46,3 +48,23 @@ unmarked_still old new is spares unmarked = elim unmarked as (λ _. IsUnmarked n
     empty = spares.foreign (marks_at it.tree) (has_got old.schema.tables it.at (marks_at it.tree) it.finds.has) (marks_foreign old.schema is it.at it.tree it.finds) ∙ it.empty;
   })
 ]
+
+-- the same after a crash, where the schema is another one that lists the same
+module _ (old new : Database) (listed : IsListedAs old.schema new.schema) where
+  still_lacks : Lacks old.schema part.Marks → IsUnmarked new
+  still_lacks lacks = inl (unused_as old.schema new.schema listed (codes "marks") lacks)
+
+  still_empty : (at tree : ℕ) → Finds old.schema (codes "marks") at (marks_at tree) → new.trees tree ≡ [] → IsUnmarked new
+  still_empty at tree finds empty = inr (record { at = at; tree = tree; finds = finds_as old.schema new.schema listed (codes "marks") at (marks_at tree) finds; empty = empty })
+
+  pub unmarked_spared : HasDesk old.schema → KeepsForeign old.schema old.trees new.trees → IsUnmarked old → IsUnmarked new
+  unmarked_spared is spared unmarked = elim unmarked as (λ _. IsUnmarked new) [
+    | inl lacks ↦ still_lacks lacks
+    | inr it ↦ still_empty it.at it.tree it.finds (spared (marks_at it.tree) (has_got old.schema.tables it.at (marks_at it.tree) it.finds.has) (marks_foreign old.schema is it.at it.tree it.finds) ∙ it.empty)
+  ]
+
+  pub unmarked_again : new.trees ≡ old.trees → IsUnmarked old → IsUnmarked new
+  unmarked_again same unmarked = elim unmarked as (λ _. IsUnmarked new) [
+    | inl lacks ↦ still_lacks lacks
+    | inr it ↦ still_empty it.at it.tree it.finds (ap (λ (db : Trees). db it.tree) same ∙ it.empty)
+  ]

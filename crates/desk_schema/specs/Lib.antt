@@ -2,4 +2,5 @@ pub mod Parts
 pub mod Shapes
 pub mod Ready
 pub mod References
+pub mod Migratable
 pub mod private

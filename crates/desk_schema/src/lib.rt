@@ -3,6 +3,7 @@
 
 mod columns;
 mod making;
+mod migratable;
 mod part;
 mod ready;
 mod recognize;
@@ -10,7 +11,8 @@ mod references;
 mod shape;
 mod tables;
 
-pub use making::make;
+pub use making::{add_table, make};
+pub use migratable::is_migratable;
 pub use part::Part;
 pub use ready::is_ready;
 pub use recognize::shape_of;

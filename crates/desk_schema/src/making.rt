@@ -38,7 +38,7 @@ fn text_of(part: Part) -> &'static str
 }
 
 /// Adds the table, which is empty.
-fn add_table<S: Alter>(tx: &mut Transaction<'_, S>, part: Part) -> Result<usize, Error>
+pub fn add_table<S: Alter>(tx: &mut Transaction<'_, S>, part: Part) -> Result<usize, Error>
     ensures same_reference { tx.new.conn.ghost_name ≡ tx.old.conn.ghost_name }
     ensures added { InStep (state S.Store tx.old.conn.now) (state S.Store tx.new.conn.now) (λ a b. OnOk result (AddsPart part a b)) }
     ensures step { IsStep (state S.Store tx.old.conn.now) (state S.Store tx.new.conn.now) }

@@ -22,7 +22,7 @@ fn names_parent(table: &Table, name: &[u8]) -> bool
 }
 
 /// Whether a foreign key of some table names this as its parent.
-fn is_parent(schema: &Schema, name: &[u8]) -> bool
+pub(crate) fn is_parent(schema: &Schema, name: &[u8]) -> bool
     ensures { result ≡ is_parent schema.now name.now }
 {
     schema
@@ -54,7 +54,7 @@ fn has_sequence(schema: &Schema) -> bool
 }
 
 /// Whether a table counts by AUTOINCREMENT, and the table of the counts is missing.
-fn lacks_sequence(schema: &Schema) -> bool
+pub(crate) fn lacks_sequence(schema: &Schema) -> bool
     ensures { result ≡ lacks_sequence schema.now }
 {
     has_counted(schema.tables.as_slice()) && !has_sequence(schema)

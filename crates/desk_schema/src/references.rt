@@ -59,7 +59,7 @@ fn tree_of(schema: &Schema, part: Part) -> u32
     }
 }
 
-fn is_unreferred(schema: &Schema, part: Part) -> bool
+pub(crate) fn is_unreferred(schema: &Schema, part: Part) -> bool
     ensures { IsTrue result ↔ IsUnreferred schema.now (tree_of schema.now (name_of part)) }
 {
     !is_referred(schema, tree_of(schema, part))

@@ -128,7 +128,6 @@ fn take_request(
             Ok(0) => return Next::IsWhole,
             Ok(count) => count,
             Err(error) if error.kind() == ErrorKind::WouldBlock => return Next::Waits,
-            Err(error) if error.kind() == ErrorKind::Interrupted => 0,
             Err(_) => return Next::Fails(ServeFault::ReadFailed),
         };
         let from = come.len();

@@ -1,5 +1,5 @@
 -- A message put into a list beside the texts.
-use Rattle.std.proofs.Common.{◌≡◌, ◌≢◌, ◌⊎◌, ℕ, ◌<◌, List, [], ◌∷◌, ◌++◌, length, get_or, Bool, true, false, not, ◌||◌, Ordering, Less, Equal, Greater, Global, refl, sym, ap, ◌∙◌, subst, inl, inr}
+use Rattle.std.proofs.Common.{◌≡◌, ◌≢◌, ◌⊎◌, ℕ, ◌<◌, List, [], ◌∷◌, ◌++◌, length, get_or, Bool, true, false, ◌||◌, Ordering, Less, Equal, Greater, Global, refl, sym, ap, ◌∙◌, subst, inl, inr}
 use Rattle.std.specs.Prelude.{String, Contains}
 use Rattle.std.specs.BTreeMap.{is_at}
 use Rattle.std.specs.BTreeSet.{insert_key}
@@ -13,7 +13,6 @@ use Rattle.messages.specs.Wire.{wire, IsMessage}
 use Rattle.messages.specs.declared.message.Message.{Message}
 use Rattle.messages.proofs.Uniqueness.{one_message}
 use Rattle.desk_store.specs.private.Collected.{IsKept, has_text}
-use Rattle.desk_store.specs.private.Learning.{Learns, Knows}
 
 abbrev Text : Type 0
 Text = String Global
@@ -72,19 +71,6 @@ or_right false b is = is
 
 -- ---- the messages
 
-from_not : (b : Bool) → true ≡ not b → b ≡ false
-from_not true is = cc
-from_not false is = refl
-
--- what `insert` tells of a text
-pub learns : (m : Message) (k : Text) (old new : List Text) (is_new : Bool) → string_bytes k ≡ wire m → is_new ≡ not (has_text old (string_bytes k)) → new ≡ insert_key string_cmp old k → is_new ≡ true → Learns m old new
-learns m k old new is_new text told keys is = record {
-  key = k;
-  text = text;
-  missing = ap (has_text old) (sym text) ∙ from_not (has_text old (string_bytes k)) (sym is ∙ told);
-  keys = keys;
-}
-
 -- a new message and its text
 pub stays_kept : (ms : List Message) (ks : List Text) (m : Message) (k : Text) → IsKept ms ks → IsMessage m → string_bytes k ≡ wire m
     → ¬ Contains ms m → IsKept (ms ++ m ∷ []) (insert_key string_cmp ks k)
@@ -114,14 +100,15 @@ stays_kept ms ks m k kept is text absent = record {
         subst P equal (Contains-push ms m)
     found_now n message (inr before) = Contains-append_left ms (m ∷ []) n (kept.found n message before)
 
-module _ (ms : List Message) (ks new : List Text) (m : Message) (kept : IsKept ms ks) (is : IsMessage m) where
-  -- where the text is new, the message is
-  pub is_absent : Learns m ks new → ¬ Contains ms m
-  is_absent it there = let wrong : true ≡ false = sym (kept.known m is there) ∙ it.missing in cc
+module _ (ms : List Message) (ks : List Text) (m : Message) (kept : IsKept ms ks) (is : IsMessage m) where
+  -- where the text is missing, the message is
+  pub is_absent : has_text ks (wire m) ≡ false → ¬ Contains ms m
+  is_absent missing there = let wrong : true ≡ false = sym (kept.known m is there) ∙ missing in cc
 
   -- where the text is there, the message is
-  pub is_there : Knows m ks new → Contains ms m
-  is_there it = kept.found m is it.known
+  pub is_there : has_text ks (wire m) ≡ true → Contains ms m
+  is_there known = kept.found m is known
 
-  pub learned_kept : Learns m ks new → IsKept (ms ++ m ∷ []) new
-  learned_kept it = subst (λ (x : List Text). IsKept (ms ++ m ∷ []) x) (sym it.keys) (stays_kept ms ks m it.key kept is it.text (is_absent it))
+  pub put_kept : (k : Text) (new : List Text) → string_bytes k ≡ wire m → has_text ks (wire m) ≡ false → new ≡ insert_key string_cmp ks k → IsKept (ms ++ m ∷ []) new
+  put_kept k new text missing keys =
+      subst (λ (x : List Text). IsKept (ms ++ m ∷ []) x) (sym keys) (stays_kept ms ks m k kept is text (is_absent missing))

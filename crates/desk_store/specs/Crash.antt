@@ -2,9 +2,11 @@
 use Rattle.std.specs.Prelude.{◌≡◌, None, [], IsSome, unwrap_or}
 use Rattle.sqlite.specs.Effect.{Database, IsDatabase}
 use Rattle.sqlite.specs.State.{State}
+use Rattle.desk_tables.specs.Stored.{content_of}
+use Rattle.desk_schema.specs.Shapes.{IsVacant}
+use Rattle.desk_opening.specs.Opened.{IsKept, IsOldDesk}
 use Rattle.desk_store.specs.Memory.{MemoryContent, Holds}
-use Rattle.desk_store.specs.Stored.{IsDeskDatabase, IsFree, content_of}
-use Rattle.desk_store.specs.Left.{Left, Nothing, ADesk, NoDesk, IsDeskOf}
+use Rattle.desk_store.specs.Left.{Left, Nothing, ADesk, AnOldDesk, NoDesk, IsDeskOf}
 
 -- ---- a database
 
@@ -15,9 +17,10 @@ pub record MayShow (s : State) (db : Database) : Type 0 where
 
 -- what a look at the database finds
 abbrev pub IsFound : Database → Left → Type 0
-IsFound db Nothing = IsFree db.schema
-IsFound db (ADesk c) = IsDeskDatabase db × (c ≡ content_of db)
-IsFound db NoDesk = (¬ IsFree db.schema) × (¬ IsDeskDatabase db)
+IsFound db Nothing = IsVacant db.schema
+IsFound db (ADesk c) = IsKept db × (c ≡ content_of db)
+IsFound db (AnOldDesk c) = IsOldDesk db × (c ≡ content_of db)
+IsFound db NoDesk = (¬ IsVacant db.schema) × (¬ IsKept db) × (¬ IsOldDesk db)
 
 -- a look at a database that the next opening may show finds this
 abbrev pub MayLeave : State → Left → Type 0
@@ -29,4 +32,5 @@ MayLeave s left = (db : Database) × MayShow s db × IsFound db left
 abbrev pub LeavesContent : MemoryContent → Left → Type 0
 LeavesContent k Nothing = k.roster ≡ None
 LeavesContent k (ADesk c) = IsSome k.roster × IsDeskOf (unwrap_or k.roster []) (Holds k) (ADesk c)
+LeavesContent k (AnOldDesk c) = ⊥
 LeavesContent k NoDesk = ⊥

@@ -3,11 +3,12 @@ use Rattle.std.specs.Prelude.{◌≡◌, ◌⊎◌, ℕ, ◌<◌, ◌≤◌, ◌
 use Rattle.desk_store.specs.declared.found.Found.{Found}
 use Rattle.desk_store.specs.declared.found.Found.TheVariants as found
 
--- exactly one of the three, and a desk's roster
-abbrev pub Tells : (Empty Desk : Type 0) → (roster : List ℕ) → Found → Type 0
-Tells Empty Desk roster found.Empty = Empty × (¬ Desk)
-Tells Empty Desk roster (found.Desk text) = Desk × (¬ Empty) × (string_bytes text ≡ roster)
-Tells Empty Desk roster found.NotADesk = (¬ Empty) × (¬ Desk)
+-- exactly one of the four, and a desk's roster
+abbrev pub Tells : (Empty Desk Old : Type 0) → (roster : List ℕ) → Found → Type 0
+Tells Empty Desk Old roster found.Empty = Empty × (¬ Desk) × (¬ Old)
+Tells Empty Desk Old roster (found.Desk text) = Desk × (¬ Empty) × (¬ Old) × (string_bytes text ≡ roster)
+Tells Empty Desk Old roster found.OldDesk = Old × (¬ Empty) × (¬ Desk)
+Tells Empty Desk Old roster found.NotADesk = (¬ Empty) × (¬ Desk) × (¬ Old)
 
 -- the count of failures rose, or stands at the greatest number of 64 bits
 abbrev pub HasFailed : (before after : ℕ) → Type 0

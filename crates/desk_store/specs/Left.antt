@@ -2,13 +2,14 @@
 use Rattle.std.specs.Prelude.{◌≡◌, ◌⊎◌, true, List, ℕ}
 use Rattle.messages.specs.Wire.{wire, IsMessage}
 use Rattle.messages.specs.declared.message.Message.{Message}
-use Rattle.desk_store.specs.Sets.{SameSet, With}
-use Rattle.desk_store.specs.Stored.{Content, has}
+use Rattle.desk_tables.specs.Sets.{SameSet, With}
+use Rattle.desk_tables.specs.Stored.{Content, has}
 
--- Nothing of a desk's, a desk with all that it keeps, or something of a desk's that is no desk.
+-- Nothing of a desk's, a desk with all that it keeps, a desk of an older form with its messages, or something of a desk's that is no desk.
 pub data Left : Type 0 where
   Nothing : Left
   ADesk : Content → Left
+  AnOldDesk : Content → Left
   NoDesk : Left
 
 -- the message's text is one of the desk's
@@ -19,12 +20,21 @@ HoldsIn c m = IsMessage m × (has c (wire m) ≡ true)
 abbrev pub IsDeskOf : (roster : List ℕ) → (messages : Message → Type 0) → Left → Type 0
 IsDeskOf roster S Nothing = ⊥
 IsDeskOf roster S (ADesk c) = (c.roster ≡ roster) × SameSet S (HoldsIn c)
+IsDeskOf roster S (AnOldDesk c) = ⊥
 IsDeskOf roster S NoDesk = ⊥
 
--- What is left is what was kept: nothing of a desk's, or the whole desk.
-pub record IsAsKept (Empty Desk : Type 0) (roster : List ℕ) (S : Message → Type 0) (left : Left) : Type 0 where
+-- a desk of an older form, with exactly these messages
+abbrev pub IsOldDeskOf : (messages : Message → Type 0) → Left → Type 0
+IsOldDeskOf S Nothing = ⊥
+IsOldDeskOf S (ADesk c) = ⊥
+IsOldDeskOf S (AnOldDesk c) = SameSet S (HoldsIn c)
+IsOldDeskOf S NoDesk = ⊥
+
+-- What is left is what was kept: nothing of a desk's, the whole desk, or the whole desk of an older form.
+pub record IsAsKept (Empty Desk Old : Type 0) (roster : List ℕ) (S : Message → Type 0) (left : Left) : Type 0 where
   pub empty : Empty → left ≡ Nothing
   pub desk : Desk → IsDeskOf roster S left
+  pub old : Old → IsOldDeskOf S left
 
 -- nothing of a desk's, or a whole desk of this roster text, with no message
 abbrev pub IsNothingOrFresh : (roster : List ℕ) → Left → Type 0
@@ -33,6 +43,11 @@ IsNothingOrFresh roster left = (left ≡ Nothing) ⊎ IsDeskOf roster (λ _. ⊥
 -- the whole desk without the message, or the whole desk with it
 abbrev pub IsWithOrWithout : (roster : List ℕ) → (messages : Message → Type 0) → Message → Left → Type 0
 IsWithOrWithout roster S m left = IsDeskOf roster S left ⊎ IsDeskOf roster (With S m) left
+
+-- the desk as it was, of either form, or the whole desk with the new roster text and the messages that it had
+pub record IsReplacedOrNot (Desk Old : Type 0) (recorded text : List ℕ) (S : Message → Type 0) (left : Left) : Type 0 where
+  pub desk : Desk → IsDeskOf recorded S left ⊎ IsDeskOf text S left
+  pub old : Old → IsOldDeskOf S left ⊎ IsDeskOf text S left
 
 -- whatever may be left has the property
 abbrev pub LeavesOnly : (MayLeave Property : Left → Type 0) → Type 0

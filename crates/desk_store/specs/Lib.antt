@@ -1,13 +1,19 @@
-pub mod Sets
+-- sets of messages
+pub use Rattle.desk_tables.specs.Sets
 pub mod Keeping
 pub mod Faults
 -- a keeper in memory
 pub mod Memory
 pub mod MemoryLaws
 -- a keeper over a database
-pub mod DeskTables
-pub mod Stored
-pub mod SqliteStates
+pub use Rattle.desk_tables.specs.DeskTables
+pub use Rattle.desk_tables.specs.Rows
+pub use Rattle.desk_tables.specs.Stored
+pub use Rattle.desk_tables.specs.Kept
+pub use Rattle.desk_tables.specs.SqliteStates
+pub use Rattle.desk_schema.specs.Shapes
+pub use Rattle.desk_opening.specs.Opened
+pub use Rattle.desk_migration.specs.Migrated
 -- what a crash leaves of a keeper, and of each of the two
 pub mod Left
 pub mod Crash

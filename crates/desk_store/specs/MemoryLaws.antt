@@ -1,7 +1,7 @@
 -- What a keeper in memory keeps stays where the same is kept. For private clauses.
 use Rattle.std.specs.Prelude.{◌≡◌, [], None, IsSome, unwrap_or}
 use Rattle.std.proofs.Common.{refl, sym, ◌∙◌, subst, ap}
-use Rattle.desk_store.specs.Sets.{SameSet}
+use Rattle.desk_tables.specs.Sets.{SameSet}
 use Rattle.desk_store.specs.Memory.{MemoryContent, Holds}
 
 pub same_itself : (a : MemoryContent) → a ≡ a
@@ -18,6 +18,9 @@ stays_empty a b same none = ap (λ (k : MemoryContent). k.roster) same ∙ none
 
 pub stays_desk : (a b : MemoryContent) → b ≡ a → IsSome a.roster → IsSome b.roster
 stays_desk a b same some = let P : MemoryContent → Type 0 = λ k. IsSome k.roster in subst P (sym same) some
+
+pub stays_old : (a b : MemoryContent) → b ≡ a → ⊥ → ⊥ × SameSet (Holds a) (Holds b)
+stays_old a b same none = absurd none
 
 pub stays_roster : (a b : MemoryContent) → b ≡ a → IsSome a.roster → unwrap_or b.roster [] ≡ unwrap_or a.roster []
 stays_roster a b same some = ap (λ (k : MemoryContent). unwrap_or k.roster []) same

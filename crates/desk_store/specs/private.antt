@@ -1,9 +1,7 @@
 pub mod Props
-pub mod Reading
-pub mod Recognized
-pub mod Statements
-pub mod Making
 pub mod SqliteLaws
 pub mod Survival
-pub mod Learning
+pub mod Failing
+pub mod Showing
+pub mod Replacing
 pub mod Collected

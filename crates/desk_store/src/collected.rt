@@ -1,17 +1,15 @@
 //! Messages, each once.
 
-ghost use Rattle.std.specs.Prelude.{◌≡◌, ◌≢◌, ◌<◌, not, true, false, [], AllPairs, Contains, IfOk, OnOk, OnErr, IfErr, string_bytes, vec_len, vec_capacity};
+ghost use Rattle.std.specs.Prelude.{◌≡◌, ◌≢◌, ◌<◌, [], AllPairs, Contains, IfOk, OnOk, OnErr, IfErr, string_bytes, vec_len, vec_capacity};
 ghost use Rattle.std.specs.BTreeSet.{insert_key};
-ghost use Rattle.std.specs.Bool.{OnFalse};
 ghost use Rattle.std.specs.String.{string_cmp};
-ghost use Rattle.messages.specs.Wire.{IsMessage};
+ghost use Rattle.messages.specs.Wire.{IsMessage, wire};
 ghost use Rattle.messages.specs.declared.message.Message.{Message as AnyMessage};
 ghost use Rattle.desk_store.specs.private.Collected.{IsPut, has_text};
-ghost use Rattle.desk_store.specs.private.Learning.{Learns, Knows};
 ghost use Rattle.desk_store.specs.declared.error.KeeperError.TheVariants as error;
 
 use crate::error::KeeperError;
-use messages::{Message, text};
+use messages::Message;
 use std::alloc::Global;
 use std::collections::BTreeSet;
 use std::marker::Model;
@@ -37,38 +35,40 @@ impl Model for Collected {
     ghost invariant = { λ c. IsKept c.messages.items c.texts.keys };
 }
 
-/// Puts the text to the texts, and tells whether it was missing there.
-fn add_text(texts: &mut BTreeSet<String>, key: String) -> Result<bool, KeeperError>
-    ensures told { IfOk result (λ is_new. is_new ≡ not (has_text texts.old.keys (string_bytes key))) }
-    ensures keys { OnOk result (texts.new.keys ≡ insert_key string_cmp texts.old.keys key) }
-    ensures same { IfOk result (λ is_new. OnFalse is_new (texts.new.keys ≡ texts.old.keys)) }
-    ensures unchanged { OnErr result (texts.new.keys ≡ texts.old.keys) }
-    ensures err { IfErr result (λ e. e ≡ error.NoMemory) }
+/// Whether the text is one of the texts.
+fn knows(texts: &BTreeSet<String>, text: &str) -> bool
+    ensures { result ≡ has_text texts.now.keys text.now }
 {
-    let is_new = texts.insert(key)?;
-    Ok(is_new)
+    texts.contains(text)
 }
 
-/// Puts the message's text to the texts, and tells whether it was missing there. Where it ends well, the list has room for one more.
-///
-/// The message is lent, so no exit of this drops it.
-fn learn(
+/// A copy of the message, and one of its text. Where it ends well, the list has room for one more.
+fn copied(
     alloc: Global,
     messages: &mut Vec<Message>,
-    texts: &mut BTreeSet<String>,
     message: &Message,
-) -> Result<bool, KeeperError>
+    text: &str,
+) -> Result<(Message, String), KeeperError>
+    ensures message { IfOk result (λ copy. copy.0 ≡ message.now) }
+    ensures text { IfOk result (λ copy. string_bytes copy.1 ≡ text.now) }
     ensures same { messages.new.items ≡ messages.old.items }
     ensures room { OnOk result (vec_len messages.new < vec_capacity messages.new) }
-    ensures learns { IfOk result (λ is_new. is_new ≡ true → Learns message.now texts.old.keys texts.new.keys) }
-    ensures knows { IfOk result (λ is_new. is_new ≡ false → Knows message.now texts.old.keys texts.new.keys) }
+    ensures err { IfErr result (λ e. e ≡ error.NoMemory) }
+{
+    let key = String::from_str(alloc, text)?;
+    messages.reserve(1)?;
+    let copy = message.clone()?;
+    Ok((copy, key))
+}
+
+/// Puts the text to the texts.
+fn add_text(texts: &mut BTreeSet<String>, key: String) -> Result<(), KeeperError>
+    ensures keys { OnOk result (texts.new.keys ≡ insert_key string_cmp texts.old.keys key) }
     ensures unchanged { OnErr result (texts.new.keys ≡ texts.old.keys) }
     ensures err { IfErr result (λ e. e ≡ error.NoMemory) }
 {
-    let key = text(alloc, message)?;
-    messages.reserve(1)?;
-    let is_new = add_text(texts, key)?;
-    Ok(is_new)
+    texts.insert(key)?;
+    Ok(())
 }
 
 impl Collected {
@@ -83,25 +83,26 @@ impl Collected {
         }
     }
 
-    /// Puts the message after the others, unless it is there already.
-    pub(crate) fn put(&mut self, message: Message) -> Result<(), KeeperError>
-        requires { IsMessage message }
-        ensures put { OnOk result (IsPut self.old message self.new) }
+    /// Puts a copy of the message, whose text this is, after the others, unless it is there already.
+    pub(crate) fn put(&mut self, message: &Message, text: &str) -> Result<(), KeeperError>
+        requires message { IsMessage message.now }
+        requires text { text.now ≡ wire message.now }
+        ensures put { OnOk result (IsPut self.old message.now self.new) }
         ensures unchanged { OnErr result (self.new ≡ self.old) }
         ensures err { IfErr result (λ e. e ≡ error.NoMemory) }
     {
-        // A call drops the message: where an exit drops it in line, each of its fields is proved again there.
-        match learn(self.alloc, &mut self.messages, &mut self.texts, &message) {
-            Ok(true) => {
-                self.messages.push_reserved(message);
-                Ok(())
-            }
-            Ok(false) => {
-                drop(message);
+        if knows(&self.texts, text) {
+            return Ok(());
+        }
+        let (copy, key) = copied(self.alloc, &mut self.messages, message, text)?;
+        // A call drops the copy: where an exit drops it in line, each of its fields is proved again there.
+        match add_text(&mut self.texts, key) {
+            Ok(()) => {
+                self.messages.push_reserved(copy);
                 Ok(())
             }
             Err(error) => {
-                drop(message);
+                drop(copy);
                 Err(error)
             }
         }

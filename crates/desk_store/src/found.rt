@@ -7,6 +7,8 @@ pub enum Found {
     Empty,
     /// A desk, with this text as its roster's.
     Desk(String),
+    /// A desk of an older form, which is to be rebuilt.
+    OldDesk,
     /// Something of a desk's, and no desk.
     NotADesk,
 }

@@ -1,11 +1,11 @@
 //! The keeper of a desk.
 
-ghost use Rattle.std.specs.Prelude.{◌≡◌, ℕ, ◌≤◌, ◌⊎◌, List, IfOk, OnOk, OnErr, Err};
-ghost use Rattle.messages.specs.Wire.{IsMessage};
+ghost use Rattle.std.specs.Prelude.{◌≡◌, ℕ, ◌≤◌, ◌⊎◌, List, length, IfOk, OnOk, OnErr, Err};
+ghost use Rattle.messages.specs.Wire.{IsMessage, wire};
 ghost use Rattle.messages.specs.declared.message.Message.{Message as AnyMessage};
-ghost use Rattle.desk_store.specs.Sets.{IsNothing, SameSet, IsWith, Lists, With};
+ghost use Rattle.desk_tables.specs.Sets.{IsNothing, SameSet, IsWith, Lists, With};
 ghost use Rattle.desk_store.specs.Keeping.{Tells, HasFailed};
-ghost use Rattle.desk_store.specs.Left.{Left, IsAsKept, IsDeskOf, IsNothingOrFresh, IsWithOrWithout, LeavesOnly};
+ghost use Rattle.desk_store.specs.Left.{Left, IsAsKept, IsDeskOf, IsNothingOrFresh, IsReplacedOrNot, IsWithOrWithout, LeavesOnly};
 
 use crate::error::KeeperError;
 use crate::found::Found;
@@ -28,6 +28,9 @@ pub trait Keeper {
 
     /// It keeps a desk.
     ghost is_desk: { Self → Type 0 };
+
+    /// It keeps a desk of an older form, which is to be rebuilt.
+    ghost is_old: { Self → Type 0 };
 
     /// The text of the desk's roster.
     ghost roster: { Self → List ℕ };
@@ -55,7 +58,7 @@ pub trait Keeper {
 
     /// Tells what it keeps. That stays as it is.
     fn look(&mut self) -> Result<Found, KeeperError>
-        ensures found { is_up self.new → IfOk result (Tells (is_empty self.old) (is_desk self.old) (roster self.old)) }
+        ensures found { is_up self.new → IfOk result (Tells (is_empty self.old) (is_desk self.old) (is_old self.old) (roster self.old)) }
         ensures same { is_up self.new → is_same self.old self.new }
         ensures was_up { is_up self.new → is_up self.old }
         ensures was_clean { is_clean self.new → is_clean self.old }
@@ -63,7 +66,7 @@ pub trait Keeper {
         ensures counts { failures self.old ≤ failures self.new }
         ensures cause { result ≡ Err KeeperError.Storage → HasFailed (failures self.old) (failures self.new) }
         ensures up { is_up self.old → is_clean self.new → OnOk result (is_up self.new) }
-        ensures crash { is_up self.old → is_clean self.new → LeavesOnly (may_leave self.new) (IsAsKept (is_empty self.old) (is_desk self.old) (roster self.old) (holds self.old)) };
+        ensures crash { is_up self.old → is_clean self.new → LeavesOnly (may_leave self.new) (IsAsKept (is_empty self.old) (is_desk self.old) (is_old self.old) (roster self.old) (holds self.old)) };
 
     /// Makes a desk of this roster text, without messages, in one commit.
     fn make(&mut self, text: &str) -> Result<(), KeeperError>
@@ -77,15 +80,19 @@ pub trait Keeper {
         ensures shuts { is_up self.old → is_clean self.new → is_up self.new ⊎ HasFailed (failures self.old) (failures self.new) }
         ensures counts { failures self.old ≤ failures self.new }
         ensures cause { result ≡ Err KeeperError.Storage → HasFailed (failures self.old) (failures self.new) }
+        ensures up { is_up self.old → is_clean self.new → OnOk result (is_up self.new) }
         ensures crash { is_up self.old → is_clean self.new → LeavesOnly (may_leave self.new) (IsNothingOrFresh text.now) }
         ensures lasting { is_up self.old → is_clean self.new → OnOk result (LeavesOnly (may_leave self.new) (IsDeskOf text.now (λ _. ⊥))) }
-        ensures durable { is_up self.new → LeavesOnly (may_leave self.new) (IsAsKept (is_empty self.new) (is_desk self.new) (roster self.new) (holds self.new)) };
+        ensures durable { is_up self.new → LeavesOnly (may_leave self.new) (IsAsKept (is_empty self.new) (is_desk self.new) (is_old self.new) (roster self.new) (holds self.new)) };
 
-    /// Adds the message to the desk's, in one commit. One that the desk has already changes nothing.
-    fn add(&mut self, message: Message) -> Result<(), KeeperError>
+    /// Adds the message, whose text this is, to the desk's, in one commit. One that the desk has already changes nothing.
+    fn add(&mut self, message: &Message, text: &str) -> Result<(), KeeperError>
         requires desk { is_up self.old → is_desk self.old }
-        requires message { IsMessage message }
-        ensures added { is_up self.new → OnOk result (IsWith (holds self.old) message (holds self.new)) }
+        requires message { IsMessage message.now }
+        requires text { text.now ≡ wire message.now }
+        requires short { length text.now ≤ 16_384 }
+        ensures added { is_up self.new → OnOk result (IsWith (holds self.old) message.now (holds self.new)) }
+        ensures repeated { is_up self.new → holds self.old message.now → OnOk result (is_same self.old self.new) }
         ensures unchanged { is_up self.new → OnErr result (is_same self.old self.new) }
         ensures desk { is_up self.new → is_desk self.new }
         ensures roster { is_up self.new → roster self.new ≡ roster self.old }
@@ -94,9 +101,30 @@ pub trait Keeper {
         ensures shuts { is_up self.old → is_clean self.new → is_up self.new ⊎ HasFailed (failures self.old) (failures self.new) }
         ensures counts { failures self.old ≤ failures self.new }
         ensures cause { result ≡ Err KeeperError.Storage → HasFailed (failures self.old) (failures self.new) }
-        ensures crash { is_up self.old → is_clean self.new → LeavesOnly (may_leave self.new) (IsWithOrWithout (roster self.old) (holds self.old) message) }
-        ensures lasting { is_up self.old → is_clean self.new → OnOk result (LeavesOnly (may_leave self.new) (IsDeskOf (roster self.old) (With (holds self.old) message))) }
+        ensures up { is_up self.old → is_clean self.new → OnOk result (is_up self.new) }
+        ensures crash { is_up self.old → is_clean self.new → LeavesOnly (may_leave self.new) (IsWithOrWithout (roster self.old) (holds self.old) message.now) }
+        ensures lasting { is_up self.old → is_clean self.new → OnOk result (LeavesOnly (may_leave self.new) (IsDeskOf (roster self.old) (With (holds self.old) message.now))) }
         ensures durable { is_up self.new → LeavesOnly (may_leave self.new) (IsDeskOf (roster self.new) (holds self.new)) };
+
+    /// Replaces the desk's roster text, in one commit, and makes what is kept beside the messages anew from them. A desk of an older form
+    /// becomes one of today's. The messages stay.
+    fn replace(&mut self, text: &str) -> Result<(), KeeperError>
+        requires { is_up self.old → is_desk self.old ⊎ is_old self.old }
+        ensures desk { is_up self.new → OnOk result (is_desk self.new) }
+        ensures recorded { is_up self.new → OnOk result (roster self.new ≡ text.now) }
+        ensures held { is_up self.new → OnOk result (SameSet (holds self.old) (holds self.new)) }
+        ensures unchanged { is_up self.new → OnErr result (is_same self.old self.new) }
+        ensures was_up { is_up self.new → is_up self.old }
+        ensures was_clean { is_clean self.new → is_clean self.old }
+        ensures shuts { is_up self.old → is_clean self.new → is_up self.new ⊎ HasFailed (failures self.old) (failures self.new) }
+        ensures counts { failures self.old ≤ failures self.new }
+        ensures cause { result ≡ Err KeeperError.Storage → HasFailed (failures self.old) (failures self.new) }
+        ensures up { is_up self.old → is_clean self.new → OnOk result (is_up self.new) }
+        ensures crash { is_up self.old → is_clean self.new
+            → LeavesOnly (may_leave self.new) (IsReplacedOrNot (is_desk self.old) (is_old self.old) (roster self.old) text.now (holds self.old)) }
+        ensures lasting { is_up self.old → is_clean self.new → OnOk result (LeavesOnly (may_leave self.new) (IsDeskOf text.now (holds self.old))) }
+        ensures durable { is_up self.new
+            → LeavesOnly (may_leave self.new) (IsAsKept (is_empty self.new) (is_desk self.new) (is_old self.new) (roster self.new) (holds self.new)) };
 
     /// Brings the desk's messages into memory, where `messages` lends them. What is kept stays as it is.
     fn load(&mut self) -> Result<(), KeeperError>
@@ -108,6 +136,7 @@ pub trait Keeper {
         ensures shuts { is_up self.old → is_clean self.new → is_up self.new ⊎ HasFailed (failures self.old) (failures self.new) }
         ensures counts { failures self.old ≤ failures self.new }
         ensures cause { result ≡ Err KeeperError.Storage → HasFailed (failures self.old) (failures self.new) }
+        ensures up { is_up self.old → is_clean self.new → OnOk result (is_up self.new) }
         ensures crash { is_up self.old → is_clean self.new → LeavesOnly (may_leave self.new) (IsDeskOf (roster self.old) (holds self.old)) };
 
     /// The messages that were brought into memory, each once, in an order of the keeper's own.
@@ -136,6 +165,9 @@ pub trait Keeper {
 
     /// Where a desk is kept, the same is the same desk.
     ghost stays_desk: { (a b : Self) → is_same a b → is_desk a → is_desk b };
+
+    /// Where a desk of an older form is kept, the same is one too, and of the same messages.
+    ghost stays_old: { (a b : Self) → is_same a b → is_old a → is_old b × SameSet (holds a) (holds b) };
 
     ghost stays_roster: { (a b : Self) → is_same a b → is_desk a → roster b ≡ roster a };
 

@@ -3,14 +3,13 @@
 
 mod collected;
 mod error;
+mod failing;
 mod found;
 mod keeper;
-mod making;
 mod memory;
-mod reading;
-mod recognize;
+mod replacing;
+mod settled;
 mod sqlite_keeper;
-mod statements;
 
 pub use error::KeeperError;
 pub use found::Found;

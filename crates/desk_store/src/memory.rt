@@ -1,7 +1,7 @@
 //! A keeper in memory.
 
 ghost use Rattle.std.specs.Prelude.{◌≡◌, ◌≢◌, [], None, AllPairs};
-ghost use Rattle.desk_store.specs.Sets.{Lists};
+ghost use Rattle.desk_tables.specs.Sets.{Lists};
 ghost use Rattle.desk_store.specs.Memory as memory;
 
 use crate::collected::Collected;
@@ -12,7 +12,7 @@ use messages::Message;
 use std::alloc::Global;
 use std::marker::Model;
 
-/// A desk in memory, or nothing of a desk's. It is always up, and never answers `Storage`.
+/// A desk in memory, or nothing of a desk's. It is always up, never answers `Storage`, and keeps no desk of an older form.
 #[derive(Drop)]
 pub struct MemoryKeeper {
     alloc: Global,
@@ -51,6 +51,8 @@ impl Keeper for MemoryKeeper {
 
     ghost is_desk = { λ k. IsSome k.roster };
 
+    ghost is_old = { λ k. ⊥ };
+
     ghost roster = { λ k. unwrap_or k.roster [] };
 
     ghost holds = { λ k. memory.Holds k };
@@ -81,6 +83,8 @@ impl Keeper for MemoryKeeper {
 
     ghost stays_desk = { laws.stays_desk };
 
+    ghost stays_old = { laws.stays_old };
+
     ghost stays_roster = { laws.stays_roster };
 
     ghost stays_set = { laws.stays_set };
@@ -100,8 +104,14 @@ impl Keeper for MemoryKeeper {
         Ok(())
     }
 
-    fn add(&mut self, message: Message) -> Result<(), KeeperError> {
-        self.messages.put(message)
+    fn add(&mut self, message: &Message, text: &str) -> Result<(), KeeperError> {
+        self.messages.put(message, text)
+    }
+
+    fn replace(&mut self, text: &str) -> Result<(), KeeperError> {
+        let recorded = String::from_str(self.alloc, text)?;
+        self.roster = Some(recorded);
+        Ok(())
     }
 
     fn load(&mut self) -> Result<(), KeeperError> {

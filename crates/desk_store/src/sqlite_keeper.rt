@@ -1,35 +1,36 @@
 //! A keeper over a database.
 
-ghost use Rattle.std.specs.Prelude.{◌≡◌, ◌↔◌, ◌≤◌, false, string_bytes, IsSomeAnd, IfOk, IsOk, IsErr, OnOk, OnErr, Err};
-ghost use Rattle.messages.specs.Wire.{wire, IsMessage};
+ghost use Rattle.std.specs.Prelude.{◌≡◌, ◌↔◌, false};
 ghost use Rattle.sqlite.specs.State.{HasCleanDisk};
 ghost use Rattle.sqlite.specs.Held.{state};
-ghost use Rattle.desk_store.specs.Keeping.{HasFailed};
-ghost use Rattle.desk_store.specs.Sets.{Lists, SameSet};
-ghost use Rattle.desk_store.specs.Stored.{HoldsText, IsDeskDatabase, IsFree, IsWritten, content_of};
-ghost use Rattle.desk_store.specs.SqliteStates.{IsUp, Rests};
+ghost use Rattle.desk_tables.specs.Kept.{HoldsText};
+ghost use Rattle.desk_tables.specs.Sets.{Lists, SameSet};
+ghost use Rattle.desk_tables.specs.SqliteStates.{IsUp, Rests};
+ghost use Rattle.desk_tables.specs.Stored.{content_of};
+ghost use Rattle.desk_schema.specs.Shapes.{IsVacant};
+ghost use Rattle.desk_opening.specs.Opened.{IsKept, IsOldDesk};
 ghost use Rattle.desk_store.specs.Crash.{MayLeave};
 ghost use Rattle.desk_store.specs.private.Props.{Rests-prop};
+ghost use Rattle.desk_store.specs.private.Showing.{shown};
 ghost use Rattle.desk_store.specs.private.SqliteLaws as laws;
 
 use crate::error::KeeperError;
+use crate::failing::{storage, told};
 use crate::found::Found;
 use crate::keeper::Keeper;
-use crate::making::create;
-use crate::reading::{are_messages, messages_in, roster_of};
-use crate::recognize::{has_desk, is_free, lacks_sequence};
-use crate::statements::{insert, select_bodies, select_desk, settles};
-use messages::{Message, text};
-use sqlite::{Alter, Connection, Error, ErrorCode};
+use crate::replacing::replace_in;
+use crate::settled::settles;
+use desk_opening::{Contents, Found as InDatabase, look, messages_of};
+use desk_schema::{is_ready, make};
+use desk_tables::{Fault, arrive};
+use messages::Message;
+use sqlite::{Alter, Connection};
 use std::alloc::Global;
-use sudo_words::NoMemory;
-
-/// The longest text that is read as a message again.
-const MOST_BYTES: usize = 16_384;
 
 /// A desk in a database over any store, or a database that has none. Between calls all that it shows is committed.
 ///
-/// It counts a failure for each call that the database refuses, for whatever reason, and where the database holds what no desk writes.
+/// It counts a failure for each call that is refused, for whatever reason: so for a look at a desk whose rows are none that its
+/// messages come to, and for want of memory.
 pub struct SqliteKeeper<S: Alter> {
     alloc: Global,
     conn: Connection<S>,
@@ -75,8 +76,9 @@ impl<S: Alter> SqliteKeeper<S> {
         ensures database { (state S.Store result.conn).now ≡ (state S.Store self.conn).now }
         ensures up { IsUp (state S.Store result.conn) ↔ IsUp (state S.Store self.conn) }
         ensures clean { HasCleanDisk (state S.Store result.conn) ↔ HasCleanDisk (state S.Store self.conn) }
-        ensures empty { IsFree (state S.Store result.conn).now.schema ↔ IsFree (state S.Store self.conn).now.schema }
-        ensures desk { IsDeskDatabase (state S.Store result.conn).now ↔ IsDeskDatabase (state S.Store self.conn).now }
+        ensures empty { IsVacant (state S.Store result.conn).now.schema ↔ IsVacant (state S.Store self.conn).now.schema }
+        ensures desk { IsKept (state S.Store result.conn).now ↔ IsKept (state S.Store self.conn).now }
+        ensures old { IsOldDesk (state S.Store result.conn).now ↔ IsOldDesk (state S.Store self.conn).now }
         ensures roster { (content_of (state S.Store result.conn).now).roster ≡ (content_of (state S.Store self.conn).now).roster }
         ensures set { SameSet (HoldsText (state S.Store self.conn).now) (HoldsText (state S.Store result.conn).now) }
         ensures none { result.failed ≡ 0 }
@@ -97,85 +99,31 @@ impl<S: Alter + Drop> Drop for SqliteKeeper<S> {
     }
 }
 
-/// Counts a failure, and tells its cause.
-fn told(failed: &mut u64, error: Error) -> KeeperError
-    ensures failed { HasFailed failed.old failed.new }
-    ensures counts { failed.old ≤ failed.new }
+/// What the keeper tells of what was found. The messages are let go.
+fn shown(found: InDatabase) -> Found
+    ensures { result ≡ shown found }
 {
-    *failed = failed.saturating_add(1);
-    match error {
-        Error::SqliteFailure(ErrorCode::OutOfMemory) => KeeperError::NoMemory,
-        _ => KeeperError::Storage,
-    }
-}
-
-/// Counts a failure of the storage.
-fn storage(failed: &mut u64) -> KeeperError
-    ensures failed { HasFailed failed.old failed.new }
-    ensures counts { failed.old ≤ failed.new }
-{
-    *failed = failed.saturating_add(1);
-    KeeperError::Storage
-}
-
-/// The message's text. The message is dropped here, at one exit.
-fn text_of(alloc: Global, message: Message) -> Result<String, NoMemory>
-    ensures { IfOk result (λ body. string_bytes body ≡ wire message) }
-{
-    text(alloc, &message)
-}
-
-/// The message's text, where it is of the length that is read. A longer one is a failure of the storage.
-fn written(alloc: Global, failed: &mut u64, message: Message) -> Result<String, KeeperError>
-    requires { IsMessage message }
-    ensures text { IfOk result (λ body. string_bytes body ≡ wire message) }
-    ensures written { IfOk result (λ body. IsWritten (string_bytes body)) }
-    ensures counts { failed.old ≤ failed.new }
-    ensures cause { result ≡ Err KeeperError.Storage → HasFailed failed.old failed.new }
-{
-    let body = text_of(alloc, message)?;
-    if body.as_bytes().len() > MOST_BYTES {
-        return Err(storage(failed));
-    }
-    Ok(body)
-}
-
-/// What came of an INSERT. Where the database refused it, that is a failure, and it is counted.
-fn concluded(failed: &mut u64, inserted: Result<usize, Error>) -> Result<(), KeeperError>
-    ensures done { OnOk result (IsOk inserted) }
-    ensures refused { OnErr result (IsErr inserted) }
-    ensures counted { OnErr result (HasFailed failed.old failed.new) }
-    ensures counts { failed.old ≤ failed.new }
-{
-    match inserted {
-        Ok(_) => Ok(()),
-        Err(error) => Err(told(failed, error)),
-    }
-}
-
-/// Keeps the messages that were read, in place of those that were kept. Where the rows show something else, that is a failure of the storage.
-fn keep(
-    failed: &mut u64,
-    messages: &mut Vec<Message>,
-    read: Option<Vec<Message>>,
-) -> Result<(), KeeperError>
-    ensures kept { OnOk result (IsSomeAnd read (λ found. messages.new.items ≡ found.items)) }
-    ensures counted { OnErr result (HasFailed failed.old failed.new) }
-    ensures counts { failed.old ≤ failed.new }
-{
-    match read {
-        Some(found) => {
-            *messages = found;
-            Ok(())
+    match found {
+        InDatabase::Empty => Found::Empty,
+        InDatabase::Desk(contents) => {
+            let Contents { roster, messages } = contents;
+            drop(messages);
+            Found::Desk(roster)
         }
-        None => Err(storage(failed)),
+        InDatabase::Old(contents) => {
+            drop(contents);
+            Found::OldDesk
+        }
+        InDatabase::NotADesk => Found::NotADesk,
     }
 }
 
 impl<S: Alter> Keeper for SqliteKeeper<S> {
-    ghost is_empty = { λ k. IsFree (state S.Store k.conn).now.schema };
+    ghost is_empty = { λ k. IsVacant (state S.Store k.conn).now.schema };
 
-    ghost is_desk = { λ k. IsDeskDatabase (state S.Store k.conn).now };
+    ghost is_desk = { λ k. IsKept (state S.Store k.conn).now };
+
+    ghost is_old = { λ k. IsOldDesk (state S.Store k.conn).now };
 
     ghost roster = { λ k. (content_of (state S.Store k.conn).now).roster };
 
@@ -207,67 +155,68 @@ impl<S: Alter> Keeper for SqliteKeeper<S> {
 
     ghost stays_desk = { λ a b same desk. laws.stays_desk _ _ same desk };
 
+    ghost stays_old = { λ a b same old. laws.stays_old _ _ same old };
+
     ghost stays_roster = { λ a b same desk. laws.stays_roster _ _ same };
 
     ghost stays_set = { λ a b same desk. laws.stays_set _ _ same };
 
+    /// A desk whose rows are none that its messages come to is refused, and counted as a failure.
     fn look(&mut self) -> Result<Found, KeeperError> {
         settles(&self.conn);
-        let schema = self.conn.schema();
-        if is_free(schema) {
-            return Ok(Found::Empty);
+        match look(self.alloc, &mut self.conn) {
+            Ok(found) => Ok(shown(found)),
+            Err(fault) => Err(told(&mut self.failed, fault)),
         }
-        if !has_desk(schema) {
-            return Ok(Found::NotADesk);
-        }
-        let rows = match select_desk(&mut self.conn) {
-            Ok(rows) => rows,
-            Err(error) => return Err(told(&mut self.failed, error)),
-        };
-        let Some(roster) = roster_of(self.alloc, rows.as_slice())? else {
-            return Ok(Found::NotADesk);
-        };
-        let rows = match select_bodies(&mut self.conn) {
-            Ok(rows) => rows,
-            Err(error) => return Err(told(&mut self.failed, error)),
-        };
-        if !are_messages(self.alloc, rows.as_slice())? {
-            return Ok(Found::NotADesk);
-        }
-        Ok(Found::Desk(roster))
     }
 
-    /// A database is refused, as what fails is, that counts by AUTOINCREMENT without the table of the counts.
+    /// A database is refused, as what fails is, where a foreign key waits for a desk's tables, and where a table counts by
+    /// AUTOINCREMENT without the table of the counts.
     fn make(&mut self, text: &str) -> Result<(), KeeperError> {
         settles(&self.conn);
-        if !self.conn.is_autocommit() || lacks_sequence(self.conn.schema()) {
+        if !self.conn.is_autocommit() || !is_ready(self.conn.schema()) {
             return Err(storage(&mut self.failed));
         }
-        let made = create(&mut self.conn, text);
+        let made = make(&mut self.conn, text);
         settles(&self.conn);
         match made {
             Ok(()) => Ok(()),
-            Err(error) => Err(told(&mut self.failed, error)),
+            Err(error) => Err(told(&mut self.failed, Fault::Database(error))),
         }
     }
 
-    /// A message whose text is longer than what is read as one is refused, as what a database refuses is.
-    fn add(&mut self, message: Message) -> Result<(), KeeperError> {
+    fn add(&mut self, message: &Message, text: &str) -> Result<(), KeeperError> {
         settles(&self.conn);
-        let body = written(self.alloc, &mut self.failed, message)?;
-        let inserted = insert(&mut self.conn, body.as_str());
+        if !self.conn.is_autocommit() {
+            return Err(storage(&mut self.failed));
+        }
+        let arrived = arrive(self.alloc, &mut self.conn, message, text);
         settles(&self.conn);
-        concluded(&mut self.failed, inserted)
+        match arrived {
+            Ok(()) => Ok(()),
+            Err(refused) => Err(told(&mut self.failed, refused)),
+        }
+    }
+
+    fn replace(&mut self, text: &str) -> Result<(), KeeperError> {
+        settles(&self.conn);
+        let replaced = replace_in(self.alloc, &mut self.conn, text);
+        settles(&self.conn);
+        match replaced {
+            Ok(()) => Ok(()),
+            Err(undone) => Err(told(&mut self.failed, undone)),
+        }
     }
 
     fn load(&mut self) -> Result<(), KeeperError> {
         settles(&self.conn);
-        let rows = match select_bodies(&mut self.conn) {
-            Ok(rows) => rows,
-            Err(error) => return Err(told(&mut self.failed, error)),
-        };
-        let read = messages_in(self.alloc, rows.as_slice())?;
-        keep(&mut self.failed, &mut self.messages, read)
+        match messages_of(self.alloc, &mut self.conn) {
+            Ok(messages) => {
+                self.messages = messages;
+                Ok(())
+            }
+            Err(fault) => Err(told(&mut self.failed, fault)),
+        }
     }
 
     fn messages(&self) -> &[Message] {

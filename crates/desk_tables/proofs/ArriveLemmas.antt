@@ -1,17 +1,17 @@
 -- How the transaction of a message that arrives ends.
 use Rattle.std.proofs.Common.{◌≡◌, inl, inr, ℕ, List, true, false, IsTrue, refl, sym, ap, subst, ◌∙◌, arith}
 use Rattle.sqlite.specs.Tree.{Trees}
-use Rattle.sqlite.specs.State.{State, HasCleanDisk, IsRolledBack, KeepsCommit, Shows, Survives}
+use Rattle.sqlite.specs.State.{State, HasCleanDisk, IsLive, IsRolledBack, KeepsCommit, Shows, Survives}
 use Rattle.sqlite.specs.Steps.{FailsToCommit}
 use Rattle.sqlite.specs.declared.error.Error.{Error}
 use Rattle.sqlite.proofs.StateLemmas.{survives_then}
-use Rattle.desk_tables.specs.Stored.{content_of, with_text}
+use Rattle.desk_tables.specs.Stored.{IsListedAs, content_of, has, with_text}
 use Rattle.desk_tables.specs.Kept.{IsDeskDatabase, Spares}
 use Rattle.desk_tables.specs.SqliteStates.{IsUp, Rests}
 use Rattle.desk_tables.specs.private.Steps.{IsStep}
 use Rattle.desk_tables.specs.private.Survival.{ArrivesAt}
 use Rattle.desk_tables.specs.private.Turning.{Received, Receives}
-use Rattle.desk_tables.proofs.OneSchema.{again}
+use Rattle.desk_tables.proofs.OneSchema.{again, listed_again}
 use Rattle.desk_tables.proofs.TurnLemmas.{clean_before}
 
 abbrev pub begun : State → State
@@ -54,15 +54,15 @@ module _ (text : List ℕ) (old last end : State) (rests : Rests old) (step : Is
 
   -- ---- it was committed
 
-  module _ (received : HasCleanDisk last → Received text (begun old) last) (desk : IsUp old → IsDeskDatabase old.now) where
+  module _ (received : HasCleanDisk last → Received text (begun old) last) (desk : IsUp old → IsDeskDatabase old.now) (live : IsLive old) where
     receives : IsUp old → HasCleanDisk last → Receives text old.now last.now
-    receives up clean = (received clean).receives (desk up)
+    receives up clean = (received clean).receives (live up.is_open).0 (desk up)
 
     -- a crash in the commit may leave the whole
     pub arrive_survives : ((db : Trees) → P db → db ≡ last.now.trees) → IsUp old → Survives old end (ArrivesAt text old.now)
     arrive_survives only up = survives_then old last end _ _ (ArrivesAt text old.now) (λ _ db no_such. absurd no_such)
         (λ clean db left. let it = receives up (clean_last clean) in subst (ArrivesAt text old.now) (sym (only db left)) (λ b same sound.
-        let again' = again last.now b it.sound sound same in record { desk = again'.desk it.desk; content = again'.content ∙ it.content; foreign = λ t there foreign. ap (λ (db : Trees). db t.tree) same ∙ it.spares.foreign t there foreign })) survives_from ends
+        let again' = again last.now b it.sound sound same in record { desk = again'.desk it.desk; content = again'.content ∙ it.content; foreign = λ t there foreign. ap (λ (db : Trees). db t.tree) same ∙ it.spares.foreign t there foreign; listed = subst (λ s. IsListedAs s b.schema) it.spares.schema (listed_again last.now b it.sound sound same) })) survives_from ends
 
     -- a commit that fails inside the transaction undoes it
     pub commit_undone : (e : Error) → (HasCleanDisk end → FailsToCommit last end e) → HasCleanDisk end → IsRolledBack last end
@@ -87,6 +87,9 @@ module _ (text : List ℕ) (old last end : State) (rests : Rests old) (step : Is
 
       pub commit_arrived : IsUp end → content_of end.now ≡ with_text text (content_of old.now)
       commit_arrived up = ap content_of (ok up.clean).1.now_is ∙ (receives (commit_ends.was_up up) (clean_last up.clean)).content
+
+      pub commit_repeated : IsUp end → has (content_of old.now) text ≡ true → end.now ≡ old.now
+      commit_repeated up there = (ok up.clean).1.now_is ∙ (received (clean_last up.clean)).repeats (desk (commit_ends.was_up up)) there
 
       pub commit_spared : IsUp end → Spares old.now end.now
       commit_spared up = subst (Spares old.now) (sym (ok up.clean).1.now_is) (receives (commit_ends.was_up up) (clean_last up.clean)).spares

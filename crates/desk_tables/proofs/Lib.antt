@@ -16,6 +16,7 @@ pub mod OpenLemmas
 pub mod Puts
 pub mod Where
 pub mod NameLemmas
+pub mod Found
 pub mod Takes
 pub mod StepLemmas
 pub mod QueryLemmas

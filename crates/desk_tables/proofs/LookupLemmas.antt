@@ -49,7 +49,7 @@ and-true : (a : Bool) → (a && true) ≡ a
 and-true true = refl
 and-true false = refl
 
-abbrev missing_test : List Term
+abbrev pub missing_test : List Term
 missing_test = op2 (Compare Eq Binary) (col 1 1) (col 0 0) ∷ []
 
 module _ (text : List ℕ) where
@@ -59,7 +59,7 @@ module _ (text : List ℕ) where
   abbrev hit : Row → List (List Row)
   hit r = cond (list_all (holds (params ∷ r ∷ [])) (missing_test)) ((params ∷ r ∷ []) ∷ []) []
 
-  hit_is : (r : Row) → list_all (holds (params ∷ r ∷ [])) missing_test ≡ has_text text r
+  pub hit_is : (r : Row) → list_all (holds (params ∷ r ∷ [])) missing_test ≡ has_text text r
   hit_is r = ap (λ b. b && true) (finds_text text (column r 1)) ∙ and-true _
 
   -- the subquery finds rows exactly where the text is there

@@ -38,14 +38,14 @@ use Rattle.desk_tables.proofs.Where.{by_name, reading, scanning}
 
 -- ---- members of lists
 
-has_permuted : {X : Type 0} (xs ys : List X) (x : X) → IsPermutation xs ys → Has xs x → Has ys x
+pub has_permuted : {X : Type 0} (xs ys : List X) (x : X) → IsPermutation xs ys → Has xs x → Has ys x
 has_permuted xs ys x same h = has_contained ys x (Contains-permutation xs ys x same (contains_had xs x h))
 
 module _ {X Y : Type 0} (p : X → Bool) (f : X → Y) where
   abbrev pub picked : List X → List Y
   picked = flat_map (λ x. cond (p x) (f x ∷ []) [])
 
-  has_picked : (xs : List X) (y : Y) → Has (picked xs) y → (x : X) × Has xs x × (p x ≡ true) × (y ≡ f x)
+  pub has_picked : (xs : List X) (y : Y) → Has (picked xs) y → (x : X) × Has xs x × (p x ≡ true) × (y ≡ f x)
   has_picked [] y h = absurd h
   has_picked (x ∷ xs) y h = go (p x) refl h (has_picked xs y)
     where
@@ -54,7 +54,7 @@ module _ {X Y : Type 0} (p : X → Bool) (f : X → Y) where
       go true is (inr there) later = let r = later there in (r.0, inr r.1, r.2, r.3)
       go false is there later = let r = later there in (r.0, inr r.1, r.2, r.3)
 
-  picked_has : (xs : List X) (x : X) → Has xs x → p x ≡ true → Has (picked xs) (f x)
+  pub picked_has : (xs : List X) (x : X) → Has xs x → p x ≡ true → Has (picked xs) (f x)
   picked_has [] x h passes = absurd h
   picked_has (z ∷ xs) x (inl same) passes = rw (← same, passes) (inl refl)
   picked_has (z ∷ xs) x (inr later) passes = has_right (cond (p z) (f z ∷ []) []) (picked xs) (f x) (picked_has xs x later passes)

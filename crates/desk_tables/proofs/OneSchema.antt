@@ -12,7 +12,7 @@ use Rattle.sqlite.specs.Effect.{Database, IsDatabase}
 use Rattle.sqlite_schema.specs.Names.{same_name, table_named, index_named, view_named}
 use Rattle.sqlite_trees.specs.Objects.{catalog_tree}
 use Rattle.sqlite_catalog.specs.Listing.{IsTableRow, IsIndexRow, IsViewRow, IsSound, is_table_row, is_index_row, is_view_row}
-use Rattle.desk_tables.specs.Stored.{Finds, HasDesk, IsFree, IsUnused, content_in}
+use Rattle.desk_tables.specs.Stored.{Finds, HasDesk, IsFree, IsListedAs, IsUnused, content_in}
 use Rattle.desk_tables.specs.Kept.{IsDeskDatabase}
 use Rattle.desk_tables.specs.private.Survival.{IsAgain}
 
@@ -76,6 +76,9 @@ module _ (s u : Schema) (trees : Trees) (first : IsSound s trees) (second : IsSo
     index = sym (index_same name) ∙ free.index;
   }
 
+  listed_as : IsListedAs s u
+  listed_as = record { tables = sym same_tables; views = λ name. sym (view_same name); indexes = λ name. sym (index_same name) }
+
   free_again : IsFree s → IsFree u
   free_again free = record {
     desk = unused_again (codes "desk") free.desk;
@@ -135,3 +138,7 @@ again a b first second same =
       desk = λ is. subst (λ (t : Trees). IsDeskDatabase (record { schema = b.schema; trees = t })) (sym same) (kept_again a.schema b.schema a.trees tables is);
       content = ap (content_in b.schema) same ∙ content_again a.schema b.schema a.trees tables;
     }
+
+-- and it lists the same tables, views and indexes
+pub listed_again : (a b : Database) → IsDatabase a → IsDatabase b → b.trees ≡ a.trees → IsListedAs a.schema b.schema
+listed_again a b first second same = listed_as a.schema b.schema a.trees first (subst (λ (t : Trees). IsSound b.schema t) same second)

@@ -1,17 +1,17 @@
 -- What a desk is after a message was taken in.
-use Rattle.std.proofs.Common.{◌≡◌, ◌≢◌, inl, inr, ℕ, List, codes, Bool, true, false, cond, ◌||◌, refl, sym, ap, subst, ◌∙◌, arith}
-use Rattle.std.proofs.lemmas.Bool.{cases_Bool, or_cases}
+use Rattle.std.proofs.Common.{◌≡◌, inl, inr, ℕ, List, codes, Bool, true, false, ◌||◌, true≢false, refl, sym, ap, subst, ◌∙◌, arith}
+use Rattle.std.proofs.lemmas.Bool.{or_cases}
 use Rattle.std.specs.List.{list_any}
 use Rattle.std.specs.Cmp.Lexicographic.{nat_list_cmp_total}
 use Rattle.std.specs.FinSet as set
-use Rattle.sqlite.specs.Effect.{Database}
+use Rattle.sqlite.specs.Effect.{Database, IsDatabase}
 use Rattle.sqlite.specs.State.{State}
 use Rattle.messages.specs.Wire.{wire}
 use Rattle.messages.specs.declared.message.Message.{Message}
 use Rattle.desk_tables.specs.Rows.{AreRows, IsRow}
 use Rattle.desk_tables.specs.Stored.{Content, IsWritten, Texts, content_of, has, is_stray, recorded, roster_of, texts_of, with_text}
 use Rattle.desk_tables.specs.Kept.{HasRows, Holds, IsDeskDatabase, IsTidy, table_in}
-use Rattle.desk_tables.specs.private.Stepping.{AddsText, WroteText}
+use Rattle.desk_tables.specs.private.Stepping.{AddsText, FindsText, WroteText}
 use Rattle.desk_tables.specs.private.Turning.{Received, Receives, Settled, Settles}
 use Rattle.desk_tables.proofs.AddLemmas.{is_same, same_sets}
 use Rattle.desk_tables.proofs.TextSets.{same_text}
@@ -59,20 +59,6 @@ module _ (a b : Database) (text : List ℕ) (count : ℕ) (adds : AddsText text 
     rows = subst (λ t. HasRows t b) (sym (ap (λ (c : Content). c.texts) content_more)) rows;
   }
 
-  -- the text was there
-  received_again : IsWritten text → count ≡ 0 → Receives text a b
-  received_again written none =
-      let there : set.contains texts text ≡ true = elim (cases_Bool (set.contains texts text)) [
-        | inl there ↦ there
-        | inr missing ↦ absurd (let one = adds.count_is ∙ ap (λ (b : Bool). cond b 0 1) missing in omega (arith, none, one))
-      ] in
-      record {
-        sound = adds.sound;
-        desk = desk_more written adds.tidy (subst (λ t. HasRows t b) (sym (there_already texts text there)) rows_still);
-        content = content_more;
-        spares = spares_but a b Messages adds.schema adds.others;
-      }
-
   -- the text is new, and the rows were settled
   module _ (m : Message) (c : Database) (settles : Settles m b c) where
     desk_same : table_in c (codes "desk") ≡ table_in a (codes "desk")
@@ -81,12 +67,8 @@ module _ (a b : Database) (text : List ℕ) (count : ℕ) (adds : AddsText text 
     content_same : content_of c ≡ with_text text (content_of a)
     content_same = λ i. record { roster = roster_of (desk_same i); texts = (ap texts_of settles.messages ∙ adds.texts) i }
 
-    received_new : IsWritten text → text ≡ wire m → (count ≢ 0) → Receives text a c
-    received_new written wired some =
-        let missing : set.contains texts text ≡ false = elim (cases_Bool (set.contains texts text)) [
-          | inl there ↦ absurd (some (adds.count_is ∙ ap (λ (b : Bool). cond b 0 1) there))
-          | inr missing ↦ missing
-        ] in
+    received_new : IsWritten text → text ≡ wire m → set.contains texts text ≡ false → Receives text a c
+    received_new written wired missing =
         let rows = settles.rows texts (ap (set.contains texts) (sym wired) ∙ missing) rows_still in
         record {
           sound = settles.sound adds.sound;
@@ -106,13 +88,32 @@ module _ (a b : Database) (text : List ℕ) (count : ℕ) (adds : AddsText text 
           spares = spares_then a b c (spares_but a b Messages adds.schema adds.others) settles.spares;
         }
 
+-- the text was there
+received_again : (a : Database) (text : List ℕ) → IsDatabase a → IsDeskDatabase a → set.contains (content_of a).texts text ≡ true → Receives text a a
+received_again a text sound is there = record {
+  sound = sound;
+  desk = is;
+  content = λ i. record { roster = (content_of a).roster; texts = sym (there_already (content_of a).texts text there) i };
+  spares = record { schema = refl; foreign = λ t has foreign. refl };
+}
+
 -- ---- states
 
-pub again : (text : List ℕ) (count : ℕ) (a b : State) → IsWritten text → count ≡ 0 → WroteText text count a b → Received text a b
-again text count a b written none wrote = record { mode = wrote.inside.mode; receives = λ is. received_again a.now b.now text count (wrote.adds is.tidy) is written none }
-
-pub anew : (text : List ℕ) (count : ℕ) (m : Message) (a b c : State) → IsWritten text → text ≡ wire m → (count ≢ 0) → WroteText text count a b → Settled m b c → Received text a c
-anew text count m a b c written wired some wrote settled = record {
-  mode = settled.mode;
-  receives = λ is. let adds = wrote.adds is.tidy in received_new a.now b.now text count adds is m c.now (settled.settles adds.tidy) written wired some;
+pub again : (text : List ℕ) (told : Bool) (a b : State) → told ≡ true → FindsText text told a b → Received text a b
+again text told a b is finds = record {
+  mode = finds.begun.mode;
+  receives = λ sound desk. subst (Receives text a.now) (sym (finds.same desk.tidy)) (received_again a.now text sound desk (sym (finds.tells desk.tidy) ∙ is));
+  repeats = λ desk there. finds.same desk.tidy;
 }
+
+pub anew : (text : List ℕ) (told : Bool) (count : ℕ) (m : Message) (a z b c : State) → IsWritten text → text ≡ wire m → told ≡ false → FindsText text told a z → WroteText text count z b → Settled m b c → Received text a c
+anew text told count m a z b c written wired is finds wrote settled = record {
+  mode = settled.mode;
+  receives = λ sound desk.
+      let adds = subst (λ d. AddsText text count d b.now) (finds.same desk.tidy) (wrote.adds (subst IsTidy (sym (finds.same desk.tidy)) desk.tidy)) in
+      received_new a.now b.now text count adds desk m c.now (settled.settles adds.tidy) written wired (missing desk);
+  repeats = λ desk there. absurd (true≢false (sym there ∙ missing desk));
+}
+  where
+    missing : IsDeskDatabase a.now → set.contains (content_of a.now).texts text ≡ false
+    missing desk = sym (finds.tells desk.tidy) ∙ is

@@ -14,14 +14,14 @@ use Rattle.sqlite_rules.proofs.ListLemmas.{contains_had, has_contained}
 use Rattle.messages.specs.Wire.{wire}
 use Rattle.messages.specs.declared.message.Message.{Message}
 use Rattle.desk_tables.specs.Sets.{Lists, SameSet}
-use Rattle.desk_tables.specs.Stored.{Texts, content_of, is_stray, recorded, texts_of, with_roster}
+use Rattle.desk_tables.specs.Stored.{IsListedAs, Texts, content_of, is_stray, recorded, texts_of, with_roster}
 use Rattle.desk_tables.specs.Kept.{HasRows, Holds, HoldsText, IsDeskDatabase, Spares, table_in}
 use Rattle.desk_tables.specs.SqliteStates.{IsUp, Rests}
 use Rattle.desk_tables.specs.private.Steps.{IsStep}
 use Rattle.desk_tables.specs.private.Survival.{ChangesAt}
 use Rattle.desk_tables.specs.private.Turning.{Recorded, Records, Renewed, Renews, Replaced, Replaces, texts_in}
 use Rattle.desk_tables.proofs.ArriveLemmas.{Ends, begun}
-use Rattle.desk_tables.proofs.OneSchema.{again}
+use Rattle.desk_tables.proofs.OneSchema.{again, listed_again}
 use Rattle.desk_tables.proofs.RefillLemmas.{found_among, in_texts}
 use Rattle.desk_tables.proofs.RowSets.{rows_same}
 use Rattle.desk_tables.proofs.TextSets.{same_text}
@@ -35,7 +35,7 @@ there_among (n ∷ ms) m (inl same) = or_true_left (same_text (wire m) (wire n))
 there_among (n ∷ ms) m (inr later) = or_true_right (same_text (wire m) (wire n)) (list_any (same_text (wire m)) (map wire ms)) (there_among ms m later)
 
 -- the texts of the listed messages are the texts of the set
-same_messages : (texts : Texts) (ms : List Message) → Lists (Holds texts) ms → SameSet (Holds (texts_in ms)) (Holds texts)
+pub same_messages : (texts : Texts) (ms : List Message) → Lists (Holds texts) ms → SameSet (Holds (texts_in ms)) (Holds texts)
 same_messages texts ms lists m = (
   (λ held.
       let it = found_among ms (wire m) (sym (in_texts ms (wire m)) ∙ held.1) in
@@ -97,7 +97,7 @@ module _ (roster : List ℕ) (old last end : State) (rests : Rests old) (step : 
     pub replace_survives : ((db : Trees) → P db → db ≡ last.now.trees) → IsUp old → Survives old end (ChangesAt roster old.now)
     replace_survives only up = survives_then old last end _ _ (ChangesAt roster old.now) (λ _ db no_such. absurd no_such)
         (λ clean db left. let it = does up (clean_last clean) in subst (ChangesAt roster old.now) (sym (only db left)) (λ b same sound.
-        let again' = again last.now b it.sound sound same in record { desk = again'.desk it.desk; content = again'.content ∙ it.content; foreign = λ t there foreign. ap (λ (db : Trees). db t.tree) same ∙ it.spares.foreign t there foreign })) survives_from ends
+        let again' = again last.now b it.sound sound same in record { desk = again'.desk it.desk; content = again'.content ∙ it.content; foreign = λ t there foreign. ap (λ (db : Trees). db t.tree) same ∙ it.spares.foreign t there foreign; listed = subst (λ s. IsListedAs s b.schema) it.spares.schema (listed_again last.now b it.sound sound same) })) survives_from ends
 
     -- a commit that fails inside the transaction undoes it
     pub commit_undone : (e : Error) → (HasCleanDisk end → FailsToCommit last end e) → HasCleanDisk end → IsRolledBack last end

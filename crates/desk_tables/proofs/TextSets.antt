@@ -27,7 +27,7 @@ pub contains_bodies : (t : List ℕ) (rows : List Row) → set.contains (set.fro
 contains_bodies t rows = set.contains-from_list nat_list_cmp_total (bodies rows) t ∙ bodies_any t rows
 
 -- two tests that imply each other
-same_test : (a b : Bool) → (a ≡ true → b ≡ true) → (b ≡ true → a ≡ true) → a ≡ b
+pub same_test : (a b : Bool) → (a ≡ true → b ≡ true) → (b ≡ true → a ≡ true) → a ≡ b
 same_test true b f g = sym (f refl)
 same_test false true f g = g refl
 same_test false false f g = refl

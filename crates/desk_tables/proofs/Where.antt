@@ -231,7 +231,6 @@ pub record IsFiltered (text : List ℕ) (table : Name) : Type 0 where
   pub filter : (out-Core (out-Select sel).first).filter ≡ Some e
   pub group : (out-Core (out-Select sel).first).group ≡ []
   pub having : (out-Core (out-Select sel).first).having ≡ None
-  pub test : IsByName e
 
 assembled_where : (limit offset : Term) (c : Clauses) (st : State) → c.is_grouped ≡ false → st.steps ≡ [] → c.order ≡ []
     → assembled false limit offset c st ≡ Ok (record { from = chain (c.body.steps ++ []); filter = c.body.filter; group = None; project = map (λ (o : Output). o.term) c.body.level.shown; distinct = false; collations = []; order = []; limit = limit; offset = offset })
@@ -250,7 +249,7 @@ command_select : (s : Schema) (p : Parsed) (sel : Select) (base : ℕ) (c : Comm
 unfolding command_in
 command_select s p sel base c is h = rw (is, h) refl
 
-filtered_is : (s : Schema) (text : List ℕ) (table : Name) (it : IsFiltered text table) (m : ℕ) (t : Table) (columns : List Output) (filter : List Term) (st : State) (prog : Program)
+pub filtered_is : (s : Schema) (text : List ℕ) (table : Name) (it : IsFiltered text table) (m : ℕ) (t : Table) (columns : List Output) (filter : List Term) (st : State) (prog : Program)
     → table_named s table ≡ Some m → slice_get s.tables m ≡ Some t
     → result lower (outermost s) (level_at table m) (out-Select it.sel).first begun ≡ Ok (columns, st) → st.aggregates ≡ [] → st.steps ≡ []
     → IsLowered (scope_of s table m columns) it.e filter st
@@ -286,7 +285,7 @@ names_delete_parts : IsDelete names_delete (codes "names")
 unfolding everything
 names_delete_parts = record { p = _; e = _; parsed = refl; statement = refl; formats = refl; test = record { l = _; r = _; la = _; lb = _; ra = _; rb = _; both' = refl; left = refl; right = refl; asker = refl; number = refl; first' = refl; second = refl; e_hands = refl; l_hands = refl; r_hands = refl; lb_hands = refl; rb_hands = refl } }
 
-names_select_parts : (it : IsFiltered names_select (codes "names")) × (a : Written) × ((out-Core (out-Select it.sel).first).shown ≡ a ∷ []) × IsColumn a (codes "body")
+names_select_parts : (it : IsFiltered names_select (codes "names")) × (a : Written) × ((out-Core (out-Select it.sel).first).shown ≡ a ∷ []) × IsColumn a (codes "body") × IsByName it.e
 unfolding everything
 names_select_parts = (
   record {
@@ -308,11 +307,11 @@ names_select_parts = (
     filter = refl;
     group = refl;
     having = refl;
-    test = record { l = _; r = _; la = _; lb = _; ra = _; rb = _; both' = refl; left = refl; right = refl; asker = refl; number = refl; first' = refl; second = refl; e_hands = refl; l_hands = refl; r_hands = refl; lb_hands = refl; rb_hands = refl };
   },
   _,
   refl,
   record { e = _; text = _; one = refl; expr = refl },
+  record { l = _; r = _; la = _; lb = _; ra = _; rb = _; both' = refl; left = refl; right = refl; asker = refl; number = refl; first' = refl; second = refl; e_hands = refl; l_hands = refl; r_hands = refl; lb_hands = refl; rb_hands = refl },
 )
 
 rich_names : IsRich max_budget
@@ -346,13 +345,13 @@ names_selects s at tree found =
     let st = after_column t 2 c begun in
     let columns = shown_column t 2 c ∷ [] in
     filtered_is s names_select (codes "names") it at t columns (by_name 1 2) st _ found.named found.has (result_one lower (outermost s) (level_at (codes "names") at) core parts.1 columns begun st parts.2 one) refl refl
-    (names_lowered s at tree found columns it.e it.test st (record { b0 = refl; b1 = refl; b2 = refl; b3 = refl; b4 = refl; b5 = refl; b6 = refl })) (body_typed_names s at tree found)
+    (names_lowered s at tree found columns it.e parts.4 st (record { b0 = refl; b1 = refl; b2 = refl; b3 = refl; b4 = refl; b5 = refl; b6 = refl })) (body_typed_names s at tree found)
 
 parked_delete_parts : IsDelete parked_delete (codes "parked")
 unfolding everything
 parked_delete_parts = record { p = _; e = _; parsed = refl; statement = refl; formats = refl; test = record { l = _; r = _; la = _; lb = _; ra = _; rb = _; both' = refl; left = refl; right = refl; asker = refl; number = refl; first' = refl; second = refl; e_hands = refl; l_hands = refl; r_hands = refl; lb_hands = refl; rb_hands = refl } }
 
-parked_select_parts : (it : IsFiltered parked_select (codes "parked")) × (a : Written) × ((out-Core (out-Select it.sel).first).shown ≡ a ∷ []) × IsColumn a (codes "body")
+parked_select_parts : (it : IsFiltered parked_select (codes "parked")) × (a : Written) × ((out-Core (out-Select it.sel).first).shown ≡ a ∷ []) × IsColumn a (codes "body") × IsByName it.e
 unfolding everything
 parked_select_parts = (
   record {
@@ -374,11 +373,11 @@ parked_select_parts = (
     filter = refl;
     group = refl;
     having = refl;
-    test = record { l = _; r = _; la = _; lb = _; ra = _; rb = _; both' = refl; left = refl; right = refl; asker = refl; number = refl; first' = refl; second = refl; e_hands = refl; l_hands = refl; r_hands = refl; lb_hands = refl; rb_hands = refl };
   },
   _,
   refl,
   record { e = _; text = _; one = refl; expr = refl },
+  record { l = _; r = _; la = _; lb = _; ra = _; rb = _; both' = refl; left = refl; right = refl; asker = refl; number = refl; first' = refl; second = refl; e_hands = refl; l_hands = refl; r_hands = refl; lb_hands = refl; rb_hands = refl },
 )
 
 rich_parked : IsRich max_budget
@@ -412,7 +411,7 @@ parked_selects s at tree found =
     let st = after_column t 0 c begun in
     let columns = shown_column t 0 c ∷ [] in
     filtered_is s parked_select (codes "parked") it at t columns (by_name 2 3) st _ found.named found.has (result_one lower (outermost s) (level_at (codes "parked") at) core parts.1 columns begun st parts.2 one) refl refl
-    (parked_lowered s at tree found columns it.e it.test st (record { b0 = refl; b1 = refl; b2 = refl; b3 = refl; b4 = refl; b5 = refl; b6 = refl })) (body_typed_parked s at tree found)
+    (parked_lowered s at tree found columns it.e parts.4 st (record { b0 = refl; b1 = refl; b2 = refl; b3 = refl; b4 = refl; b5 = refl; b6 = refl })) (body_typed_parked s at tree found)
 
 -- ---- the DELETE of all rows
 
@@ -470,7 +469,7 @@ clear_typed : (s : Schema) (name : Name) (at : ℕ) (t : Table) → Finds s name
 unfolding program
 clear_typed s name at t found = rw (found.stored, found.by_tree) refl
 
-clears : (s : Schema) (text : List ℕ) (name : Name) (it : IsClear text name) (at : ℕ) (t : Table) → Finds s name at t → Means s text (command.Delete at (record { lets = []; body = scanning t.tree }))
+pub clears : (s : Schema) (text : List ℕ) (name : Name) (it : IsClear text name) (at : ℕ) (t : Table) → Finds s name at t → Means s text (command.Delete at (record { lets = []; body = scanning t.tree }))
 clears s text name it at t found =
     means s text _ (compiled_is s text it.p _ it.parsed (untimed_clear s text name it) (plain_clear s text name it _)
     (command_clear s text name it _ at t _ _ found.named found.has (cleared_is s at t) (clear_typed s name at t found))) refl refl

@@ -64,6 +64,12 @@ pub record HasDesk (s : Schema) : Type 0 where
   pub verdicts_alone : IsUnreferred s (tree_of s (codes "verdicts"))
   pub parked_alone : IsUnreferred s (tree_of s (codes "parked"))
 
+-- The second schema has the tables of the first, and finds views and indexes by the names by which the first does.
+pub record IsListedAs (s u : Schema) : Type 0 where
+  pub tables : u.tables ≡ s.tables
+  pub views : (name : List ℕ) → view_named u name ≡ view_named s name
+  pub indexes : (name : List ℕ) → index_named u name ≡ index_named s name
+
 -- no table, view or index has the name, in either case of its letters
 pub record IsUnused (s : Schema) (name : List ℕ) : Type 0 where
   pub table : table_named s name ≡ None

@@ -15,7 +15,8 @@ ghost use Rattle.desk_tables.specs.private.Turning.{JoinedParked, JoinsAll, Join
 
 use crate::fault::Fault;
 use crate::statements::{
-    has_name, parked_of, put_name, put_parked, put_text, put_verdict, take_name, take_parked,
+    has_name, has_text, parked_of, put_name, put_parked, put_text, put_verdict, take_name,
+    take_parked,
 };
 use messages::{Message, MessageFault, Request, Verdict, VerdictKind, read_message};
 use sqlite::{Alter, Row, Transaction};
@@ -201,9 +202,9 @@ pub(crate) fn receive<S: Alter>(
     ensures received { InStep (state S.Store tx.old.conn.now) (state S.Store tx.new.conn.now) (λ a b. OnOk result (Received body.now a b)) }
     ensures step { IsStep (state S.Store tx.old.conn.now) (state S.Store tx.new.conn.now) }
 {
-    let count = put_text(tx, body)?;
-    if count == 0 {
+    if has_text(tx, body)? {
         return Ok(());
     }
+    put_text(tx, body)?;
     settle(alloc, tx, message, body)
 }

@@ -1,14 +1,14 @@
 //! A message that arrives, in one commit.
 
-ghost use Rattle.std.specs.Prelude.{◌≡◌, ◌≢◌, false, AllPairs, Contains, OnOk, OnErr};
-ghost use Rattle.sqlite.specs.State.{HasCleanDisk, Survives};
+ghost use Rattle.std.specs.Prelude.{◌≡◌, ◌≢◌, true, false, AllPairs, Contains, OnOk, OnErr};
+ghost use Rattle.sqlite.specs.State.{HasCleanDisk, IsLive, Survives};
 ghost use Rattle.sqlite.specs.Held.{state};
 ghost use Rattle.messages.specs.Wire.{wire, IsMessage};
 ghost use Rattle.messages.specs.declared.message.Message.{Message as AnyMessage};
 ghost use Rattle.desk_tables.specs.Sets.{Lists};
 ghost use Rattle.desk_tables.specs.Kept.{HoldsText, IsDeskDatabase, Spares};
 ghost use Rattle.desk_tables.specs.SqliteStates.{IsUp, Rests};
-ghost use Rattle.desk_tables.specs.Stored.{IsWritten, content_of, with_roster, with_text};
+ghost use Rattle.desk_tables.specs.Stored.{IsWritten, content_of, has, with_roster, with_text};
 ghost use Rattle.desk_tables.specs.private.Survival.{ArrivesAt, ChangesAt};
 
 use crate::arrival::receive;
@@ -17,6 +17,13 @@ use crate::roster::replace_within;
 use messages::Message;
 use sqlite::{Alter, Connection};
 use std::alloc::Global;
+
+/// The database obeys its schema, as long as the store is open. It reads nothing: a proof names it.
+fn obeys<S: Alter>(conn: &Connection<S>)
+    ensures { IsLive (state S.Store conn.now) }
+{
+    let _schema = conn.schema();
+}
 
 /// Takes a message into a desk with all that it changes, in one commit. One that is there changes nothing.
 pub fn arrive<S: Alter>(
@@ -37,11 +44,14 @@ pub fn arrive<S: Alter>(
     ensures desk { IsUp (state S.Store conn.new) → IsDeskDatabase (state S.Store conn.new).now }
     ensures arrived { IsUp (state S.Store conn.new)
         → OnOk result (content_of (state S.Store conn.new).now ≡ with_text body.now (content_of (state S.Store conn.old).now)) }
+    ensures repeated { IsUp (state S.Store conn.new) → has (content_of (state S.Store conn.old).now) body.now ≡ true
+        → OnOk result ((state S.Store conn.new).now ≡ (state S.Store conn.old).now) }
     ensures others { IsUp (state S.Store conn.new) → OnOk result (Spares (state S.Store conn.old).now (state S.Store conn.new).now) }
     ensures unchanged { IsUp (state S.Store conn.new) → OnErr result ((state S.Store conn.new).now ≡ (state S.Store conn.old).now) }
     ensures survives { IsUp (state S.Store conn.old)
         → Survives (state S.Store conn.old) (state S.Store conn.new) (ArrivesAt body.now (state S.Store conn.old).now) }
 {
+    obeys(conn);
     let mut tx = conn.transaction();
     receive(alloc, &mut tx, message, body)?;
     tx.commit()?;

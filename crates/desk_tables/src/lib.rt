@@ -10,4 +10,5 @@ mod statements;
 
 pub use commit::{arrive, replace};
 pub use fault::Fault;
+pub use refill::refill_rows;
 pub use statements::put_roster;

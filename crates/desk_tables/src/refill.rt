@@ -31,7 +31,7 @@ fn refill_one<S: Alter>(
 }
 
 /// Fills the three tables of rows, where they are empty, from the messages. Each message stands there once.
-pub(crate) fn refill<S: Alter>(
+pub fn refill_rows<S: Alter>(
     alloc: Global,
     tx: &mut Transaction<'_, S>,
     messages: &[Message],
@@ -74,5 +74,5 @@ pub(crate) fn renew<S: Alter>(
     ensures step { IsStep (state S.Store tx.old.conn.now) (state S.Store tx.new.conn.now) }
 {
     clear(tx)?;
-    refill(alloc, tx, messages)
+    refill_rows(alloc, tx, messages)
 }

@@ -7,9 +7,20 @@ ghost use Rattle.sqlite.specs.Held.{state};
 ghost use Rattle.desk_tables.specs.Rows.{OfName};
 ghost use Rattle.desk_tables.specs.Kept.{IsKeyed};
 ghost use Rattle.desk_tables.specs.private.Changes.{Gains, IsEmptied, Loses};
-ghost use Rattle.desk_tables.specs.private.Stepping.{InStep, Finds, FindsParked, IsBare, Marked, Says, Wrote, WroteText, name_values, verdict_values, parked_values};
+ghost use Rattle.desk_tables.specs.private.Stepping.{InStep, Finds, FindsParked, FindsText, IsBare, Marked, Says, Wrote, WroteText, name_values, verdict_values, parked_values};
 
 use sqlite::{Alter, Error, Row, Transaction, params};
+
+/// Whether the messages have the text. The database stays as it is.
+pub(crate) fn has_text<S: Alter>(tx: &mut Transaction<'_, S>, text: &str) -> Result<bool, Error>
+    ensures same_reference { tx.new.conn.ghost_name ≡ tx.old.conn.ghost_name }
+    ensures finds { InStep (state S.Store tx.old.conn.now) (state S.Store tx.new.conn.now) (λ a b. IfOk result (λ told. FindsText text.now told a b)) }
+    ensures kept { InStep (state S.Store tx.old.conn.now) (state S.Store tx.new.conn.now) KeepsCommit }
+    ensures survives { Survives (state S.Store tx.old.conn.now) (state S.Store tx.new.conn.now) (λ _. ⊥) }
+{
+    let rows = tx.query_all("SELECT body FROM messages WHERE body = ?1", params![text])?;
+    Ok(!rows.is_empty())
+}
 
 /// Puts the text of a message in where it is missing, and counts the rows that it put in.
 pub(crate) fn put_text<S: Alter>(tx: &mut Transaction<'_, S>, text: &str) -> Result<usize, Error>

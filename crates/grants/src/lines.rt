@@ -23,6 +23,9 @@ use std::alloc::{AllocError, Global};
 use sudo_policy::{push_command, push_moment};
 use sudo_words::{Cmnd, HostName, Moment, NoMemory};
 
+/// What most lines are shorter than: with so much room a request of one command takes memory once.
+const COMMON_LENGTH: usize = 128;
+
 /// Who may run a command, on which host and as whom.
 fn push_who(text: &mut String, host: &HostName, request: &Request) -> Result<(), AllocError>
     ensures { OnOk result (string_bytes text.new ≡ string_bytes text.old ++ lines.who host.now request.now) }
@@ -82,6 +85,24 @@ fn push_commands(
     Ok(request.cmnds().len())
 }
 
+/// The same, all or none: where memory runs out, the text is as it was.
+fn push_whole(
+    alloc: Global,
+    text: &mut String,
+    host: &HostName,
+    request: &Request,
+    window: &Window,
+) -> Result<usize, NoMemory>
+    ensures ok { IfOk result (λ count. AreAdded (map (grant_rule host.now request.now window.now.start window.now.end) request.now.cmnds)
+        (string_bytes text.old) (string_bytes text.new) count) }
+    ensures err { OnErr result (string_bytes text.new ≡ string_bytes text.old) }
+{
+    let mut lines = String::with_capacity(alloc, COMMON_LENGTH)?;
+    let count = push_commands(alloc, &mut lines, host, request, window)?;
+    text.push_str(lines.as_str())?;
+    Ok(count)
+}
+
 /// Whether what has this last moment is left.
 fn is_left(after: &Option<Moment>, last: Moment) -> bool
     ensures { result ≡ lines.is_left after.now last }
@@ -110,35 +131,16 @@ fn push_left(
     after: &Option<Moment>,
 ) -> Result<usize, NoMemory>
     requires { lines.names request.now host.now ≡ true }
-    ensures { IfOk result (λ count. AreAdded (rules_left after.now host.now request.now status)
-        (string_bytes text.old) (string_bytes text.new) count) }
-{
-    match status {
-        Status::Granted(window) if is_left(after, window.end) => {
-            push_commands(alloc, text, host, request, &window)
-        }
-        _ => Ok(0),
-    }
-}
-
-/// The same lines, all or none: where memory runs out, the text is as it was.
-fn push_whole(
-    alloc: Global,
-    text: &mut String,
-    host: &HostName,
-    request: &Request,
-    status: Status,
-    after: &Option<Moment>,
-) -> Result<usize, NoMemory>
-    requires { lines.names request.now host.now ≡ true }
     ensures ok { IfOk result (λ count. AreAdded (rules_left after.now host.now request.now status)
         (string_bytes text.old) (string_bytes text.new) count) }
     ensures err { OnErr result (string_bytes text.new ≡ string_bytes text.old) }
 {
-    let mut lines = String::new(alloc);
-    let count = push_left(alloc, &mut lines, host, request, status, after)?;
-    text.push_str(lines.as_str())?;
-    Ok(count)
+    match status {
+        Status::Granted(window) if is_left(after, window.end) => {
+            push_whole(alloc, text, host, request, &window)
+        }
+        _ => Ok(0),
+    }
 }
 
 /// The request has come to something, whether it is looked up or not.
@@ -166,7 +168,7 @@ pub fn push_lines(
     ensures err { OnErr result (string_bytes text.new ≡ string_bytes text.old) }
 {
     if may_have(&s.request, host, &after) {
-        push_whole(alloc, text, host, &s.request, status(roster, s), &after)
+        push_left(alloc, text, host, &s.request, status(roster, s), &after)
     } else {
         has_status(roster, s);
         Ok(0)

@@ -14,7 +14,7 @@ use Rattle.grants.specs.declared.denial.Denial.TheVariants as denials
 use Rattle.desk_outcomes.specs.HostFile.{Line, AreLines, IsHostFile, IsHostFileAfter, lines_after, with_lines}
 use Rattle.desk.specs.Refusals.{IsWant}
 use Rattle.desk.specs.declared.refusal.Refusal.{Refusal}
-use Rattle.desk.specs.declared.refusal.Refusal.TheVariants.{UnknownRelay, UnknownHost, TooLong, NotCanonical, BadField, Denied, TooManyRules, RosterChanged, NotADesk, Storage, NoMemory, BaseTooLarge}
+use Rattle.desk.specs.declared.refusal.Refusal.TheVariants.{UnknownRelay, UnknownHost, TooLong, NotCanonical, BadField, Denied, TooManyRules, RosterChanged, NotADesk, OldSchema, Storage, NoMemory, BaseTooLarge}
 use Rattle.review.specs.Report.{IsReport}
 use Rattle.relay_http.specs.Asked.{report}
 use Rattle.relay_http.specs.Prepared.{to_question}
@@ -47,6 +47,7 @@ is_storage BadField same = other BadField refl same
 is_storage TooManyRules same = other TooManyRules refl same
 is_storage RosterChanged same = other RosterChanged refl same
 is_storage NotADesk same = other NotADesk refl same
+is_storage OldSchema same = other OldSchema refl same
 is_storage NoMemory same = other NoMemory refl same
 is_storage BaseTooLarge same = other BaseTooLarge refl same
 is_storage (Denied denials.UnknownPerson) same = other (Denied denials.UnknownPerson) refl same

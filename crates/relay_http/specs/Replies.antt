@@ -20,7 +20,7 @@ use Rattle.desk.specs.Refusals.{refusal_text}
 use Rattle.desk.specs.Texts.{AreTexts}
 use Rattle.desk.specs.declared.ack.Ack.{Ack}
 use Rattle.desk.specs.declared.refusal.Refusal.{Refusal}
-use Rattle.desk.specs.declared.refusal.Refusal.TheVariants.{UnknownRelay, UnknownHost, TooLong, NotCanonical, BadField, Denied, TooManyRules, RosterChanged, NotADesk, Storage, NoMemory, BaseTooLarge}
+use Rattle.desk.specs.declared.refusal.Refusal.TheVariants.{UnknownRelay, UnknownHost, TooLong, NotCanonical, BadField, Denied, TooManyRules, RosterChanged, NotADesk, OldSchema, Storage, NoMemory, BaseTooLarge}
 use Rattle.review.specs.Report.{IsReport}
 use Rattle.relay_http.specs.Asked.{Asked, deliver, all_messages, grants, parked, host_file, host_file_after, report, refused}
 use Rattle.relay_http.specs.Reply.{fault_line, status_of}
@@ -77,6 +77,7 @@ refusal_status (Denied denial) = status.Forbidden
 refusal_status TooManyRules = status.ServiceUnavailable
 refusal_status RosterChanged = status.ServiceUnavailable
 refusal_status NotADesk = status.ServiceUnavailable
+refusal_status OldSchema = status.ServiceUnavailable
 refusal_status Storage = status.ServiceUnavailable
 refusal_status NoMemory = status.ServiceUnavailable
 refusal_status BaseTooLarge = status.ServiceUnavailable

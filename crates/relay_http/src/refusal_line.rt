@@ -20,6 +20,7 @@ pub fn refusal_status(refusal: Refusal) -> Status
         Refusal::TooManyRules
         | Refusal::RosterChanged
         | Refusal::NotADesk
+        | Refusal::OldSchema
         | Refusal::Storage
         | Refusal::NoMemory
         | Refusal::BaseTooLarge => Status::ServiceUnavailable,
@@ -55,6 +56,7 @@ pub fn refusal_line(refusal: Refusal) -> &'static [u8]
         Refusal::TooManyRules => b"G1 TooManyRules\n",
         Refusal::RosterChanged => b"K1 RosterChanged\n",
         Refusal::NotADesk => b"K2 NotADesk\n",
+        Refusal::OldSchema => b"K3 OldSchema\n",
         Refusal::Storage => b"K4 Storage\n",
         Refusal::NoMemory => b"K5 NoMemory\n",
         Refusal::BaseTooLarge => b"K6 BaseTooLarge\n",

@@ -8,9 +8,9 @@ use Rattle.sudo_beyond.specs.declared.cases.Cases.{Cases}
 use Rattle.review.specs.declared.need.Need.{Need}
 use Rattle.review.specs.declared.need.Need.TheVariants.{Needed, Needless, Unknown}
 use Rattle.sudo_decide.specs.declared.scope.Scope.{Scope}
-use Rattle.sudo_beyond.specs.Answer.{AreTooMany, most_cases}
+use Rattle.sudo_beyond.specs.Answer.{AreFew, AreTooMany, most_cases}
 use Rattle.sudo_beyond.specs.Cases.{product}
-use Rattle.review.specs.Needs.{AreFew, IsNeedBeyond, IsNeedOn, IsNeedOver, grant_scope, own_policy}
+use Rattle.review.specs.Needs.{IsNeedBeyond, IsNeedOn, IsNeedOver, grant_scope, own_policy}
 use Rattle.review.specs.private.Reporting.{over_both}
 use Rattle.std.proofs.lemmas.List.Elements.{Contains-append_left, Contains-push, Contains-push_cases}
 use Rattle.sudo_beyond.proofs.Lists.{take_next}

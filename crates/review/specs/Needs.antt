@@ -1,17 +1,15 @@
 -- What a grant gives beyond the base, on the hosts that it names (least privilege, NIST SP 800-53 AC-6(7)).
-use Rattle.std.specs.Prelude.{ℕ, ◌≤◌, List, Contains, Some, map, codes}
+use Rattle.std.specs.Prelude.{ℕ, List, Contains, Some, map, codes}
 use Rattle.sudo_policy.specs.declared.entry.Entry.{Entry}
 use Rattle.sudo_policy.specs.declared.entry.Entry.TheVariants as entries
 use Rattle.messages.specs.Fields.{RequestFields}
 use Rattle.grants.specs.GrantRules.{grant_rule}
 use Rattle.grants.specs.declared.outcome.Window.{Window}
-use Rattle.sudo_beyond.specs.declared.cases.Cases.{Cases}
 use Rattle.review.specs.declared.need.Need.{Need}
 use Rattle.review.specs.declared.need.Need.TheVariants.{Needed, Needless, Unknown}
 use Rattle.sudo_decide.specs.declared.scope.Scope.{Scope}
-use Rattle.sudo_beyond.specs.Answer.{AreTooMany, most_cases}
+use Rattle.sudo_beyond.specs.Answer.{AreFew, AreTooMany}
 use Rattle.sudo_beyond.specs.Beyond.{SomethingBeyond}
-use Rattle.sudo_beyond.specs.Cases.{AreCases, product}
 
 -- the rules of a grant on one host, as a policy of their own
 abbrev pub own_policy : RequestFields → Window → (host : List ℕ) → List Entry
@@ -20,12 +18,6 @@ own_policy q w host = map entries.Rule (map (grant_rule host q w.start w.end) q.
 -- the grant's user, the host and the grant's target are fixed
 abbrev pub grant_scope : RequestFields → (host : List ℕ) → Scope
 grant_scope q host = record { user = Some q.by; host = Some host; runas = Some q.runas }
-
--- so few cases stand for all invocations that they are tried
-pub record AreFew (s : Scope) (a b : List Entry) : Type 0 where
-  pub cases : Cases
-  pub are_cases : AreCases s a b cases
-  pub few : product cases ≤ most_cases
 
 -- What the first policy is beyond the second: needed where it allows something more, needless where it allows nothing more, and
 -- unknown where there are too many cases to tell.

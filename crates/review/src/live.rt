@@ -13,6 +13,7 @@ use grants::{Status, Summary, Window};
 use messages::Request;
 use std::alloc::Global;
 use std::fmt::Write as _;
+use sudo_beyond::Baseline;
 use sudo_policy::Policy;
 use sudo_words::{Moment, NoMemory};
 
@@ -72,7 +73,7 @@ fn push_live_line(
 pub(crate) fn push_live(
     alloc: Global,
     out: &mut String,
-    base: &Policy,
+    base: &Baseline<'_>,
     empty: &Policy,
     summary: &Summary,
     status: &Status,

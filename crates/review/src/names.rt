@@ -13,6 +13,7 @@ use crate::need::no_policy;
 use grants::{Summary, status};
 use roster::Roster;
 use std::alloc::Global;
+use sudo_beyond::Baseline;
 use sudo_policy::Policy;
 use sudo_words::{Moment, NoMemory};
 
@@ -29,7 +30,7 @@ fn push_parts(
     alloc: Global,
     parts: &mut Parts,
     roster: &Roster,
-    base: &Policy,
+    base: &Baseline<'_>,
     empty: &Policy,
     summary: &Summary,
     at: Moment,
@@ -44,7 +45,7 @@ fn push_parts(
     push_broad(alloc, &mut parts.broad, summary, &status, at)
 }
 
-/// The lines of the names of summaries, in their order.
+/// The lines of the names of summaries, in their order. The base is compiled and measured once, for all of them.
 pub(crate) fn parts_of(
     alloc: Global,
     roster: &Roster,
@@ -55,6 +56,7 @@ pub(crate) fn parts_of(
     ensures { (set : List AnyMessage) → AllByRecursion (StandsFor set) summaries.now
         → IfOk result (HaveNames roster.now.says base.now set at summaries.now) }
 {
+    let baseline = Baseline::of(alloc, base)?;
     let empty = no_policy(alloc);
     let live = String::new(alloc);
     let barred = String::new(alloc);
@@ -65,7 +67,7 @@ pub(crate) fn parts_of(
         broad,
     };
     for summary in summaries {
-        push_parts(alloc, &mut parts, roster, base, &empty, summary, at)?;
+        push_parts(alloc, &mut parts, roster, &baseline, &empty, summary, at)?;
     }
     Ok(parts)
 }

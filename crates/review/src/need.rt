@@ -9,7 +9,7 @@ ghost use Rattle.review.specs.private.Reporting.{IsSpan, over_both};
 use grants::{Window, grant_rules, host_policy};
 use messages::Request;
 use std::alloc::Global;
-use sudo_beyond::{BeyondFault, beyond};
+use sudo_beyond::{Baseline, BeyondFault, is_anything_beyond};
 use sudo_decide::Scope;
 use sudo_policy::{Draft, Policy};
 use sudo_words::{HostName, NoMemory};
@@ -89,12 +89,12 @@ fn own_policy(
 }
 
 /// What the first policy is beyond the second, in the scope.
-fn need_beyond(alloc: Global, scope: &Scope, a: &Policy, b: &Policy) -> Result<Need, NoMemory>
+fn need_beyond(alloc: Global, scope: &Scope, a: &Policy, b: &Baseline<'_>) -> Result<Need, NoMemory>
     ensures { IfOk result (needs.IsNeedBeyond scope.now a.now b.now) }
 {
-    match beyond(alloc, scope, a, b) {
-        Ok(Some(_)) => Ok(Need::Needed),
-        Ok(None) => Ok(Need::Needless),
+    match is_anything_beyond(alloc, scope, a, b) {
+        Ok(true) => Ok(Need::Needed),
+        Ok(false) => Ok(Need::Needless),
         Err(BeyondFault::TooManyCases) => Ok(Need::Unknown),
         Err(BeyondFault::NoMemory) => Err(NoMemory),
     }
@@ -103,7 +103,7 @@ fn need_beyond(alloc: Global, scope: &Scope, a: &Policy, b: &Policy) -> Result<N
 /// What the grant is on the host.
 fn need_on(
     alloc: Global,
-    base: &Policy,
+    base: &Baseline<'_>,
     empty: &Policy,
     request: &Request,
     window: &Window,
@@ -123,7 +123,7 @@ fn need_on(
 /// What it is on these hosts. Where it is needed on one, no other is looked at.
 fn need_over(
     alloc: Global,
-    base: &Policy,
+    base: &Baseline<'_>,
     empty: &Policy,
     request: &Request,
     window: &Window,
@@ -149,7 +149,7 @@ fn need_over(
 /// Whether the grant is needed beside the base: whether on one of its hosts it gives more.
 pub(crate) fn need_of(
     alloc: Global,
-    base: &Policy,
+    base: &Baseline<'_>,
     empty: &Policy,
     request: &Request,
     window: &Window,

@@ -73,7 +73,7 @@ one_cmnd : (item : CmndItem) → length (cmnd_in item) ≤ 1
 one_cmnd (cmnd_items.Alias name) = omega arith
 one_cmnd (cmnd_items.Cmnd cmnd) = omega arith
 
-flat_long : {X Y Z : Type 0} (f : X → List Y) (g : X → List Z) (xs : List X) → ((x : X) → length (f x) ≤ length (g x)) → length (flat_map f xs) ≤ length (flat_map g xs)
+pub flat_long : {X Y Z : Type 0} (f : X → List Y) (g : X → List Z) (xs : List X) → ((x : X) → length (f x) ≤ length (g x)) → length (flat_map f xs) ≤ length (flat_map g xs)
 flat_long f g [] long = omega arith
 flat_long f g (x ∷ xs) long = omega (arith, length-append (f x) (flat_map f xs), length-append (g x) (flat_map g xs), long x, flat_long f g xs long)
 

@@ -20,5 +20,7 @@ pub mod Gaps
 pub mod Listed
 pub mod Theorem
 pub mod OneList
+pub mod Existing
+pub mod Shown
 pub mod PolicyLaws
 pub mod HasCase

@@ -32,6 +32,12 @@ pub record IsFirstBeyond (s : Scope) (a b : List Entry) (found : Option Invocati
   pub few : product cases ≤ most_cases
   pub first : FirstOf (IsGap a b) (invocations cases) found
 
+-- there are at most so many cases
+pub record AreFew (s : Scope) (a b : List Entry) : Type 0 where
+  pub cases : Cases
+  pub are_cases : AreCases s a b cases
+  pub few : product cases ≤ most_cases
+
 -- there are more
 pub record AreTooMany (s : Scope) (a b : List Entry) : Type 0 where
   pub cases : Cases

@@ -3,3 +3,4 @@
 pub mod Gathering
 -- what compiled policies answer
 pub mod Compared
+pub mod Baselines

@@ -13,7 +13,7 @@ use sudo_decide::{Invocation, Scope};
 use sudo_policy::Policy;
 
 /// The most cases that are tried.
-const MOST_CASES: usize = 1_000_000;
+pub(crate) const MOST_CASES: usize = 1_000_000;
 
 /// An invocation in the scope that the first policy allows and the second refuses (NIST SP 800-53, AC-6(7)).
 ///

@@ -39,7 +39,7 @@ fn push_entry_turns(moments: &mut Vec<Moment>, entry: &Entry) -> Result<(), NoMe
     }
 }
 
-fn push_turns(moments: &mut Vec<Moment>, p: &Policy) -> Result<(), NoMemory>
+pub fn push_turns(moments: &mut Vec<Moment>, p: &Policy) -> Result<(), NoMemory>
     ensures { OnOk result (moments.new.items ≡ moments.old.items ++ turns (rules_in p.now)) }
 {
     for entry in p.entries() {

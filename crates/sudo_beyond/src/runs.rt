@@ -97,7 +97,7 @@ fn push_listing(listed: &mut Vec<Run>, cmnd: &Cmnd) -> Result<(), NoMemory>
 }
 
 /// The paths with the lists of arguments that stand with them.
-fn listings(alloc: Global, cmnds: &[Cmnd]) -> Result<Vec<Run>, NoMemory>
+pub fn listings(alloc: Global, cmnds: &[Cmnd]) -> Result<Vec<Run>, NoMemory>
     ensures { IfOk result (λ listed. listed.items ≡ listings_of cmnds.now) }
 {
     let mut listed = Vec::new(alloc);

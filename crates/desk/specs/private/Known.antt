@@ -1,7 +1,7 @@
 -- What is known of a desk's messages. For private clauses.
 use Rattle.std.specs.Prelude.{◌≡◌, List, [], Option, Some, None}
 use Rattle.messages.specs.declared.message.Message.{Message}
-use Rattle.desk_store.specs.Sets.{Lists}
+use Rattle.desk_tables.specs.Sets.{Lists}
 use Rattle.desk_outcomes.specs.declared.gathering.Gathered.{Gathered}
 use Rattle.desk_outcomes.specs.Gathered.{AreGathered}
 use Rattle.desk.specs.declared.opening.Origin.{Origin}

@@ -1,5 +1,6 @@
 //! Files that are missing, and inputs and outputs that fail in the middle or at their end.
 
+use desk::MemoryKeeper;
 use desk_commands::{Job, Places, Store, Text, code, finish, run};
 use std::alloc::Global;
 use std::io::{BufWriter, Read, Write};
@@ -130,10 +131,11 @@ fn ended(alloc: Global, job: &Job, texts: &[&str], wrong: Wrong) -> Result<Strin
     let mut input = input_of(wrong);
     let mut out = BufWriter::new(alloc, output_of(alloc, wrong))?;
     let mut err = error_of(alloc, wrong);
-    let status = run(
+    let (status, _keeper) = run(
         alloc,
         job,
         files.as_mut_slice(),
+        MemoryKeeper::new(alloc),
         &mut input,
         &mut out,
         &mut err,

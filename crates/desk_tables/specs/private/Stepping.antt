@@ -82,6 +82,12 @@ pub record Finds (name : RequestName) (told : Bool) (old new : State) : Type 0 w
   pub same : IsTidy old.now → new.now ≡ old.now
   pub tells : IsTidy old.now → Tells (IsRow (table_in old.now (codes "names"))) name told
 
+-- the database is as it was, and this is whether the messages have the text
+pub record FindsText (text : List ℕ) (told : Bool) (old new : State) : Type 0 where
+  pub begun : IsOpenInside old new
+  pub same : IsTidy old.now → new.now ≡ old.now
+  pub tells : IsTidy old.now → told ≡ set.contains (texts_of (table_in old.now (codes "messages"))) text
+
 -- the database is as it was, and these show the name's parked verdicts
 pub record FindsParked (name : RequestName) (rows : List Row) (old new : State) : Type 0 where
   pub begun : IsOpenInside old new

@@ -2,7 +2,7 @@
 use Rattle.std.specs.Prelude.{◌≡◌, List, ℕ}
 use Rattle.sqlite.specs.Tree.{Trees}
 use Rattle.sqlite.specs.Effect.{Database, IsDatabase}
-use Rattle.desk_tables.specs.Stored.{IsFree, content_of, with_roster, with_text}
+use Rattle.desk_tables.specs.Stored.{IsFree, IsListedAs, content_of, with_roster, with_text}
 use Rattle.desk_tables.specs.Kept.{IsDeskDatabase, KeepsForeign}
 
 -- The second database keeps of a desk what the first does, whatever its schema has beside.
@@ -16,6 +16,7 @@ pub record Arrives (text : List ℕ) (old new : Database) : Type 0 where
   pub desk : IsDeskDatabase new
   pub content : content_of new ≡ with_text text (content_of old)
   pub foreign : KeepsForeign old.schema old.trees new.trees
+  pub listed : IsListedAs old.schema new.schema
 
 -- Whatever database has these trees: it is the desk, with the text more.
 abbrev pub ArrivesAt : List ℕ → Database → Trees → Type 0
@@ -26,6 +27,7 @@ pub record Changes (roster : List ℕ) (old new : Database) : Type 0 where
   pub desk : IsDeskDatabase new
   pub content : content_of new ≡ with_roster roster (content_of old)
   pub foreign : KeepsForeign old.schema old.trees new.trees
+  pub listed : IsListedAs old.schema new.schema
 
 -- Whatever database has these trees: it is the desk, with the other roster text.
 abbrev pub ChangesAt : List ℕ → Database → Trees → Type 0

@@ -1,5 +1,5 @@
 -- What several statements of a transaction make of a desk's tables.
-use Rattle.std.specs.Prelude.{◌≡◌, ◌⊎◌, map, Some, IsTrue, Bool, false, List, ℕ, codes}
+use Rattle.std.specs.Prelude.{◌≡◌, ◌⊎◌, map, Some, IsTrue, Bool, true, false, List, ℕ, codes}
 use Rattle.std.specs.FinSet as set
 use Rattle.sqlite.specs.declared.types.Value.{Value}
 use Rattle.sqlite.specs.declared.types.Value.TheVariants.{Text}
@@ -14,7 +14,7 @@ use Rattle.messages.specs.declared.message.Message.{Message}
 use Rattle.messages.specs.declared.message.Message.TheVariants.{Verdict}
 use Rattle.desk_tables.specs.Rows.{RowSet, IsRow, OfName, verdict_row}
 use Rattle.desk_tables.specs.Sets.{Lists}
-use Rattle.desk_tables.specs.Stored.{Texts, content_of, recorded, with_roster, with_text}
+use Rattle.desk_tables.specs.Stored.{Texts, content_of, has, recorded, with_roster, with_text}
 use Rattle.desk_tables.specs.private.Changes.{Gains, Joins, Loses, Names}
 use Rattle.desk_tables.specs.Kept.{HasRows, HoldsText, IsDeskDatabase, IsTidy, Spares, table_in}
 
@@ -98,9 +98,11 @@ pub record Receives (text : List ℕ) (old new : Database) : Type 0 where
   pub content : content_of new ≡ with_text text (content_of old)
   pub spares : Spares old new
 
+-- One that was there changes nothing.
 pub record Received (text : List ℕ) (old new : State) : Type 0 where
   pub mode : IsTrue new.in_transaction
-  pub receives : IsDeskDatabase old.now → Receives text old.now new.now
+  pub receives : IsDatabase old.now → IsDeskDatabase old.now → Receives text old.now new.now
+  pub repeats : IsDeskDatabase old.now → has (content_of old.now) text ≡ true → new.now ≡ old.now
 
 -- the texts of the messages
 abbrev pub texts_in : List Message → Texts

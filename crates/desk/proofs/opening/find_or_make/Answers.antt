@@ -1,8 +1,8 @@
 use Rattle.std.proofs.Common.{◌≡◌, ◌∙◌, sym, inl, inr, rules}
 use Rattle.std.specs.Prelude.{string_bytes}
 use Rattle.desk.proofs.CrashLemmas.{kept_by_opening, leaves_same, made_by_opening}
-use Rattle.desk.proofs.OpeningLemmas.{told_desk, told_empty, told_no_desk}
-use Rattle.desk.proofs.RefusalLemmas.{told_no_base, told_storage, told_want}
+use Rattle.desk.proofs.OpeningLemmas.{told_desk, told_empty, told_no_desk, told_old}
+use Rattle.desk.proofs.RefusalLemmas.{told_no_base, told_storage, told_up, told_want}
 use Rattle.desk.proofs.ServingLemmas.{failed_later, up_or_failed_later}
 use Rattle.desk.proofs.opening.find_or_make.Goals as goal
 
@@ -12,7 +12,7 @@ pub returns-in_err-look-clause-crash : goal.returns-in_err-look-clause-crash
 returns-in_err-look-clause-crash g c up clean left may =
     let K = g.K.Keeper in
     let k = c.args.keeper.now in
-    kept_by_opening (K.is_empty k) (K.is_desk k) (K.roster k) c.args.text.now (K.holds k) left (c.look.ensures.crash up clean left may)
+    kept_by_opening (K.is_empty k) (K.is_desk k) (K.is_old k) (K.roster k) c.args.text.now (K.holds k) left (c.look.ensures.crash up clean left may)
 
 pub returns-in_err-look-clause-refused : goal.returns-in_err-look-clause-refused
 returns-in_err-look-clause-refused g c up = told_want c.in_err-look.field-0.0 c.from_residual.result _ c.from_residual.ensures.1
@@ -23,22 +23,31 @@ returns-in_err-look-clause-fits g c = told_no_base c.in_err-look.field-0.0 c.fro
 pub returns-in_err-look-clause-cause : goal.returns-in_err-look-clause-cause
 returns-in_err-look-clause-cause g c is = c.look.ensures.cause (told_storage c.in_err-look.field-0.0 c.look.result c.from_residual.result c.in_err-look.was c.from_residual.ensures.1 is)
 
+pub returns-in_err-look-clause-up : goal.returns-in_err-look-clause-up
+returns-in_err-look-clause-up g c up clean = told_up c.in_err-look.field-0.0 c.from_residual.result _ c.from_residual.ensures.1
+
 -- ---- nothing of a desk's
+
+pub returns-in_err-make-in-Empty-clause-up : goal.returns-in_err-make-in-Empty-clause-up
+returns-in_err-make-in-Empty-clause-up g c up clean = told_up c.in_err-make-in-Empty.field-0.0 c.from_residual-in_err-make-in-Empty.result _ c.from_residual-in_err-make-in-Empty.ensures.1
+
+pub returns-in_ok-make-in-Empty-clause-up : goal.returns-in_ok-make-in-Empty-clause-up
+returns-in_ok-make-in-Empty-clause-up g c up clean = c.in_ok-make-in-Empty.ensures.up (c.in_ok-look.ensures.up up (c.make.ensures.was_clean clean)) clean
 
 pub returns-in_ok-make-in-Empty-clause-opens : goal.returns-in_ok-make-in-Empty-clause-opens
 returns-in_ok-make-in-Empty-clause-opens g c up =
     let K = g.K.Keeper in
     let k = c.args.keeper.now in
-    let told = told_empty (K.is_empty k) (K.is_desk k) (K.roster k) c.in_ok-look.field-0 c.in-Empty.is (c.in_ok-look.ensures.found (c.make.ensures.was_up up)) in
-    inl (told.0, told.1, c.in_ok-make-in-Empty.ensures.nothing up)
+    let told = told_empty (K.is_empty k) (K.is_desk k) (K.is_old k) (K.roster k) c.in_ok-look.field-0 c.in-Empty.is (c.in_ok-look.ensures.found (c.make.ensures.was_up up)) in
+    inl (told.0, told.1, told.2, c.in_ok-make-in-Empty.ensures.nothing up)
 
 pub returns-in_ok-make-in-Empty-clause-crash : goal.returns-in_ok-make-in-Empty-clause-crash
 returns-in_ok-make-in-Empty-clause-crash g c up clean left may =
     let K = g.K.Keeper in
     let k = c.args.keeper.now in
     let between = c.in_ok-look.ensures.up up (c.make.ensures.was_clean clean) in
-    let told = told_empty (K.is_empty k) (K.is_desk k) (K.roster k) c.in_ok-look.field-0 c.in-Empty.is (c.in_ok-look.ensures.found between) in
-    made_by_opening (K.is_empty k) (K.is_desk k) (K.roster k) c.args.text.now (K.holds k) left told.1 (c.make.ensures.crash between clean left may)
+    let told = told_empty (K.is_empty k) (K.is_desk k) (K.is_old k) (K.roster k) c.in_ok-look.field-0 c.in-Empty.is (c.in_ok-look.ensures.found between) in
+    made_by_opening (K.is_empty k) (K.is_desk k) (K.is_old k) (K.roster k) c.args.text.now (K.holds k) left told.1 told.2 (c.make.ensures.crash between clean left may)
 
 pub returns-in_ok-make-in-Empty-clause-shuts : goal.returns-in_ok-make-in-Empty-clause-shuts
 returns-in_ok-make-in-Empty-clause-shuts g c up clean =
@@ -51,8 +60,8 @@ returns-in_err-make-in-Empty-clause-crash g c up clean left may =
     let K = g.K.Keeper in
     let k = c.args.keeper.now in
     let between = c.in_ok-look.ensures.up up (c.make.ensures.was_clean clean) in
-    let told = told_empty (K.is_empty k) (K.is_desk k) (K.roster k) c.in_ok-look.field-0 c.in-Empty.is (c.in_ok-look.ensures.found between) in
-    made_by_opening (K.is_empty k) (K.is_desk k) (K.roster k) c.args.text.now (K.holds k) left told.1 (c.make.ensures.crash between clean left may)
+    let told = told_empty (K.is_empty k) (K.is_desk k) (K.is_old k) (K.roster k) c.in_ok-look.field-0 c.in-Empty.is (c.in_ok-look.ensures.found between) in
+    made_by_opening (K.is_empty k) (K.is_desk k) (K.is_old k) (K.roster k) c.args.text.now (K.holds k) left told.1 told.2 (c.make.ensures.crash between clean left may)
 
 pub returns-in_err-make-in-Empty-clause-shuts : goal.returns-in_err-make-in-Empty-clause-shuts
 returns-in_err-make-in-Empty-clause-shuts g c up clean =
@@ -80,14 +89,29 @@ pub returns-in-NotADesk-clause-refused : goal.returns-in-NotADesk-clause-refused
 returns-in-NotADesk-clause-refused g c up =
     let K = g.K.Keeper in
     let k = c.args.keeper.now in
-    let told = told_no_desk (K.is_empty k) (K.is_desk k) (K.roster k) c.in_ok-look.field-0 c.in-NotADesk.is (c.in_ok-look.ensures.found up) in
-    inr (tt, told.0, told.1)
+    let told = told_no_desk (K.is_empty k) (K.is_desk k) (K.is_old k) (K.roster k) c.in_ok-look.field-0 c.in-NotADesk.is (c.in_ok-look.ensures.found up) in
+    inr (tt, told.0, told.1, told.2)
 
 pub returns-in-NotADesk-clause-crash : goal.returns-in-NotADesk-clause-crash
 returns-in-NotADesk-clause-crash g c up clean left may =
     let K = g.K.Keeper in
     let k = c.args.keeper.now in
-    kept_by_opening (K.is_empty k) (K.is_desk k) (K.roster k) c.args.text.now (K.holds k) left (c.look.ensures.crash up clean left may)
+    kept_by_opening (K.is_empty k) (K.is_desk k) (K.is_old k) (K.roster k) c.args.text.now (K.holds k) left (c.look.ensures.crash up clean left may)
+
+-- ---- a desk of an older form
+
+pub returns-in-OldDesk-clause-refused : goal.returns-in-OldDesk-clause-refused
+returns-in-OldDesk-clause-refused g c up =
+    let K = g.K.Keeper in
+    let k = c.args.keeper.now in
+    let told = told_old (K.is_empty k) (K.is_desk k) (K.is_old k) (K.roster k) c.in_ok-look.field-0 c.in-OldDesk.is (c.in_ok-look.ensures.found up) in
+    inr (tt, told.0, told.2)
+
+pub returns-in-OldDesk-clause-crash : goal.returns-in-OldDesk-clause-crash
+returns-in-OldDesk-clause-crash g c up clean left may =
+    let K = g.K.Keeper in
+    let k = c.args.keeper.now in
+    kept_by_opening (K.is_empty k) (K.is_desk k) (K.is_old k) (K.roster k) c.args.text.now (K.holds k) left (c.look.ensures.crash up clean left may)
 
 -- ---- a desk
 
@@ -95,13 +119,13 @@ pub returns-in-Desk-clause-crash : goal.returns-in-Desk-clause-crash
 returns-in-Desk-clause-crash g c up clean left may =
     let K = g.K.Keeper in
     let k = c.args.keeper.now in
-    kept_by_opening (K.is_empty k) (K.is_desk k) (K.roster k) c.args.text.now (K.holds k) left (c.look.ensures.crash up clean left may)
+    kept_by_opening (K.is_empty k) (K.is_desk k) (K.is_old k) (K.roster k) c.args.text.now (K.holds k) left (c.look.ensures.crash up clean left may)
 
 pub returns-in-Desk-2-clause-crash : goal.returns-in-Desk-2-clause-crash
 returns-in-Desk-2-clause-crash g c up clean left may =
     let K = g.K.Keeper in
     let k = c.args.keeper.now in
-    kept_by_opening (K.is_empty k) (K.is_desk k) (K.roster k) c.args.text.now (K.holds k) left (c.look.ensures.crash up clean left may)
+    kept_by_opening (K.is_empty k) (K.is_desk k) (K.is_old k) (K.roster k) c.args.text.now (K.holds k) left (c.look.ensures.crash up clean left may)
 
 pub returns-in-Desk-clause-durable : goal.returns-in-Desk-clause-durable
 returns-in-Desk-clause-durable g c up =
@@ -110,7 +134,7 @@ returns-in-Desk-clause-durable g c up =
     let old = c.args.keeper.now in
     let new = c.look.new.self in
     let same = c.look.ensures.same up in
-    let told = told_desk (K.is_empty old) (K.is_desk old) (K.roster old) c.in_ok-look.field-0 c.in-Desk.recorded c.in-Desk.is (c.in_ok-look.ensures.found up) in
+    let told = told_desk (K.is_empty old) (K.is_desk old) (K.is_old old) (K.roster old) c.in_ok-look.field-0 c.in-Desk.recorded c.in-Desk.is (c.in_ok-look.ensures.found up) in
     leaves_same (K.may_leave new) (K.roster new) (K.roster old) (K.holds new) (K.holds old) (sym (laws.stays_roster old new same told.0))
     (laws.stays_set new old (laws.same_back old new same) (laws.stays_desk old new same told.0))
     (λ left may. (c.look.ensures.crash (c.look.ensures.was_up up) (laws.up_is_clean new up) left may).desk told.0)
@@ -118,13 +142,13 @@ returns-in-Desk-clause-durable g c up =
 pub returns-in-Desk-clause-roster : goal.returns-in-Desk-clause-roster
 returns-in-Desk-clause-roster g c = λ up.
     let laws = g.met.K.Keeper in
-    let told = told_desk (g.K.Keeper.is_empty c.args.keeper.now) (g.K.Keeper.is_desk c.args.keeper.now) (g.K.Keeper.roster c.args.keeper.now) c.in_ok-look.field-0 c.in-Desk.recorded c.in-Desk.is (c.in_ok-look.ensures.found up) in
+    let told = told_desk (g.K.Keeper.is_empty c.args.keeper.now) (g.K.Keeper.is_desk c.args.keeper.now) (g.K.Keeper.is_old c.args.keeper.now) (g.K.Keeper.roster c.args.keeper.now) c.in_ok-look.field-0 c.in-Desk.recorded c.in-Desk.is (c.in_ok-look.ensures.found up) in
     let text : string_bytes c.in-Desk.recorded ≡ c.args.text.now = search rules in
-    laws.stays_roster c.args.keeper.now c.look.new.self (c.look.ensures.same up) told.0 ∙ sym told.2 ∙ text
+    laws.stays_roster c.args.keeper.now c.look.new.self (c.look.ensures.same up) told.0 ∙ sym told.3 ∙ text
 
 pub returns-in-Desk-clause-opens : goal.returns-in-Desk-clause-opens
 returns-in-Desk-clause-opens g c = λ up.
     let laws = g.met.K.Keeper in
-    let told = told_desk (g.K.Keeper.is_empty c.args.keeper.now) (g.K.Keeper.is_desk c.args.keeper.now) (g.K.Keeper.roster c.args.keeper.now) c.in_ok-look.field-0 c.in-Desk.recorded c.in-Desk.is (c.in_ok-look.ensures.found up) in
+    let told = told_desk (g.K.Keeper.is_empty c.args.keeper.now) (g.K.Keeper.is_desk c.args.keeper.now) (g.K.Keeper.is_old c.args.keeper.now) (g.K.Keeper.roster c.args.keeper.now) c.in_ok-look.field-0 c.in-Desk.recorded c.in-Desk.is (c.in_ok-look.ensures.found up) in
     let text : string_bytes c.in-Desk.recorded ≡ c.args.text.now = search rules in
-    inr (told.0, told.1, sym told.2 ∙ text, laws.stays_set c.args.keeper.now c.look.new.self (c.look.ensures.same up) told.0)
+    inr (told.0, told.1, told.2, sym told.3 ∙ text, laws.stays_set c.args.keeper.now c.look.new.self (c.look.ensures.same up) told.0)

@@ -1,5 +1,5 @@
 use Rattle.std.proofs.Common.{◌≡◌, ◌∙◌, sym}
-use Rattle.desk_store.specs.Sets.{SameSet}
+use Rattle.desk_tables.specs.Sets.{SameSet}
 use Rattle.desk.specs.Opening.{Opens}
 use Rattle.desk.specs.Same.{AnswerAlike}
 use Rattle.desk.proofs.RestartLemmas.{held_again, of_opened, of_refused, recorded_text, same_answers, set_of_same}
@@ -13,12 +13,12 @@ returns-clause-alike g c =
     let k = c.into_keeper.result in
     let same : SameSet (K.holds old) (K.holds k) = set_of_same k old c.into_keeper.ensures.same K.holds (K.holds k) (λ m. (λ h. h, λ h. h)) in
     of_opened c.open.result
-    (λ d. K.is_up d.keeper → Opens (K.is_empty k) (K.is_desk k) (K.roster k) c.args.roster.text (K.holds k) (K.holds d.keeper))
+    (λ d. K.is_up d.keeper → Opens (K.is_empty k) (K.is_desk k) (K.is_old k) (K.roster k) c.args.roster.text (K.holds k) (K.holds d.keeper))
     (λ d. K.is_up d.keeper → K.is_up k)
     (λ d. K.is_up d.keeper → AnswerAlike f (K.holds old) (K.holds d.keeper))
     (λ r. K.is_up r.1 → K.is_up k)
     (λ d opens was up. same_answers f (K.holds old) (K.holds d.keeper)
-    (held_again (K.is_empty k) (K.is_desk k) (K.roster k) c.args.roster.text (K.holds old) (K.holds k) (K.holds d.keeper) (c.into_keeper.ensures.desk (was up)) same (opens up)))
+    (held_again (K.is_empty k) (K.is_desk k) (K.is_old k) (K.roster k) c.args.roster.text (K.holds old) (K.holds k) (K.holds d.keeper) (c.into_keeper.ensures.desk (was up)) same (opens up)))
     c.open.ensures.opens
     c.open.ensures.was_up
 
@@ -29,12 +29,12 @@ returns-clause-held g c =
     let k = c.into_keeper.result in
     let same : SameSet (K.holds old) (K.holds k) = set_of_same k old c.into_keeper.ensures.same K.holds (K.holds k) (λ m. (λ h. h, λ h. h)) in
     of_opened c.open.result
-    (λ d. K.is_up d.keeper → Opens (K.is_empty k) (K.is_desk k) (K.roster k) c.args.roster.text (K.holds k) (K.holds d.keeper))
+    (λ d. K.is_up d.keeper → Opens (K.is_empty k) (K.is_desk k) (K.is_old k) (K.roster k) c.args.roster.text (K.holds k) (K.holds d.keeper))
     (λ d. K.is_up d.keeper → K.is_up k)
     (λ d. K.is_up d.keeper → SameSet (K.holds old) (K.holds d.keeper))
     (λ r. K.is_up r.1 → K.is_up k)
     (λ d opens was up.
-    held_again (K.is_empty k) (K.is_desk k) (K.roster k) c.args.roster.text (K.holds old) (K.holds k) (K.holds d.keeper) (c.into_keeper.ensures.desk (was up)) same (opens up))
+    held_again (K.is_empty k) (K.is_desk k) (K.is_old k) (K.roster k) c.args.roster.text (K.holds old) (K.holds k) (K.holds d.keeper) (c.into_keeper.ensures.desk (was up)) same (opens up))
     c.open.ensures.opens
     c.open.ensures.was_up
 
@@ -43,12 +43,12 @@ returns-clause-roster g c =
     let K = g.K.Keeper in
     let k = c.into_keeper.result in
     of_opened c.open.result
-    (λ d. K.is_up d.keeper → Opens (K.is_empty k) (K.is_desk k) (K.roster k) c.args.roster.text (K.holds k) (K.holds d.keeper))
+    (λ d. K.is_up d.keeper → Opens (K.is_empty k) (K.is_desk k) (K.is_old k) (K.roster k) c.args.roster.text (K.holds k) (K.holds d.keeper))
     (λ d. K.is_up d.keeper → K.is_up k)
     (λ d. K.is_up d.keeper → c.args.desk.roster.text ≡ c.args.roster.text)
     (λ r. K.is_up r.1 → K.is_up k)
     (λ d opens was up. sym (c.into_keeper.ensures.roster (was up))
-    ∙ recorded_text (K.is_empty k) (K.is_desk k) (K.roster k) c.args.roster.text (K.holds k) (K.holds d.keeper) (c.into_keeper.ensures.desk (was up)) (opens up))
+    ∙ recorded_text (K.is_empty k) (K.is_desk k) (K.is_old k) (K.roster k) c.args.roster.text (K.holds k) (K.holds d.keeper) (c.into_keeper.ensures.desk (was up)) (opens up))
     c.open.ensures.opens
     c.open.ensures.was_up
 

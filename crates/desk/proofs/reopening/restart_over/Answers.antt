@@ -1,8 +1,11 @@
 use Rattle.std.proofs.Common.{◌≡◌, ◌≢◌, ◌⊎◌, ◌∙◌, ap, sym}
 use Rattle.sqlite.specs.Held.{state}
-use Rattle.desk_store.specs.Sets.{SameSet}
-use Rattle.desk_store.specs.SqliteStates.{IsUp}
-use Rattle.desk_store.specs.Stored.{HoldsText, IsDeskDatabase, IsFree, content_of}
+use Rattle.desk_tables.specs.Sets.{SameSet}
+use Rattle.desk_tables.specs.SqliteStates.{IsUp}
+use Rattle.desk_tables.specs.Kept.{HoldsText}
+use Rattle.desk_tables.specs.Stored.{content_of}
+use Rattle.desk_schema.specs.Shapes.{IsVacant}
+use Rattle.desk_opening.specs.Opened.{IsKept, IsOldDesk}
 use Rattle.grants.specs.Bases.{FitsBase}
 use Rattle.desk.specs.Opening.{Opens, Refuses}
 use Rattle.desk.specs.Refusals.{IsWant}
@@ -21,13 +24,13 @@ returns-clause-held g c =
     set_of_same given c.args.desk.keeper c.into_keeper-keeper.ensures.same (λ x. HoldsText (state S x.conn).now) (HoldsText k.now) c.renewed.ensures.set in
     of_opened c.open.result
     (λ d. IsUp (state S d.keeper.conn)
-    → Opens (IsFree k.now.schema) (IsDeskDatabase k.now) (content_of k.now).roster c.args.roster.text (HoldsText k.now) (HoldsText (state S d.keeper.conn).now))
+    → Opens (IsVacant k.now.schema) (IsKept k.now) (IsOldDesk k.now) (content_of k.now).roster c.args.roster.text (HoldsText k.now) (HoldsText (state S d.keeper.conn).now))
     (λ d. IsUp (state S d.keeper.conn) → IsUp k)
     (λ d. IsUp (state S d.keeper.conn) → SameSet (HoldsText old) (HoldsText (state S d.keeper.conn).now))
     (λ r. IsUp (state S r.1.conn) → IsUp k)
     (λ d opens was up.
     let desk = c.renewed.ensures.desk.1 (c.into_keeper-keeper.ensures.desk (c.renewed.ensures.up.0 (was up))) in
-    held_again (IsFree k.now.schema) (IsDeskDatabase k.now) (content_of k.now).roster c.args.roster.text (HoldsText old) (HoldsText k.now) (HoldsText (state S d.keeper.conn).now) desk same (opens up))
+    held_again (IsVacant k.now.schema) (IsKept k.now) (IsOldDesk k.now) (content_of k.now).roster c.args.roster.text (HoldsText old) (HoldsText k.now) (HoldsText (state S d.keeper.conn).now) desk same (opens up))
     c.open.ensures.opens
     c.open.ensures.was_up
 
@@ -48,7 +51,7 @@ returns-clause-roster g c =
     let k = state S c.renewed.result.conn in
     of_opened c.open.result
     (λ d. IsUp (state S d.keeper.conn)
-    → Opens (IsFree k.now.schema) (IsDeskDatabase k.now) (content_of k.now).roster c.args.roster.text (HoldsText k.now) (HoldsText (state S d.keeper.conn).now))
+    → Opens (IsVacant k.now.schema) (IsKept k.now) (IsOldDesk k.now) (content_of k.now).roster c.args.roster.text (HoldsText k.now) (HoldsText (state S d.keeper.conn).now))
     (λ d. IsUp (state S d.keeper.conn) → IsUp k)
     (λ d. IsUp (state S d.keeper.conn) → c.args.desk.roster.text ≡ c.args.roster.text)
     (λ r. IsUp (state S r.1.conn) → IsUp k)
@@ -56,7 +59,7 @@ returns-clause-roster g c =
     let given = c.renewed.ensures.up.0 (was up) in
     let desk = c.renewed.ensures.desk.1 (c.into_keeper-keeper.ensures.desk given) in
     sym (c.into_keeper-keeper.ensures.roster given) ∙ sym c.renewed.ensures.roster
-    ∙ recorded_text (IsFree k.now.schema) (IsDeskDatabase k.now) (content_of k.now).roster c.args.roster.text (HoldsText k.now) (HoldsText (state S d.keeper.conn).now) desk (opens up))
+    ∙ recorded_text (IsVacant k.now.schema) (IsKept k.now) (IsOldDesk k.now) (content_of k.now).roster c.args.roster.text (HoldsText k.now) (HoldsText (state S d.keeper.conn).now) desk (opens up))
     c.open.ensures.opens
     c.open.ensures.was_up
 
@@ -79,14 +82,14 @@ returns-clause-refused g c =
     let k = state S c.renewed.result.conn in
     let Fits = FitsBase c.args.base in
     of_refused c.open.result
-    (λ r. IsUp (state S r.1.conn) → IsWant r.0 ⊎ Refuses Fits (IsFree k.now.schema) (IsDeskDatabase k.now) (content_of k.now).roster text r.0)
+    (λ r. IsUp (state S r.1.conn) → IsWant r.0 ⊎ Refuses Fits (IsVacant k.now.schema) (IsKept k.now) (IsOldDesk k.now) (content_of k.now).roster text r.0)
     (λ r. IsUp (state S r.1.conn) → IsUp k)
     (λ r. IsUp (state S r.1.conn) → IsWant r.0 ⊎ ((r.0 ≡ BaseTooLarge) × (¬ Fits)) ⊎ ((r.0 ≡ RosterChanged) × (said ≢ text)))
     (λ d. IsUp (state S d.keeper.conn) → IsUp k)
     (λ r refused was up.
     let given = c.renewed.ensures.up.0 (was up) in
     let desk = c.renewed.ensures.desk.1 (c.into_keeper-keeper.ensures.desk given) in
-    refused_again Fits (IsFree k.now.schema) (IsDeskDatabase k.now) (content_of k.now).roster said text r.0 desk
+    refused_again Fits (IsVacant k.now.schema) (IsKept k.now) (IsOldDesk k.now) (content_of k.now).roster said text r.0 desk
     (sym (c.into_keeper-keeper.ensures.roster given) ∙ sym c.renewed.ensures.roster) (refused up))
     c.open.ensures.refused
     c.open.ensures.was_up

@@ -1,28 +1,15 @@
-use Rattle.std.proofs.Common.{inl, inr, sym, subst}
-use Rattle.std.proofs.lemmas.Result.{IfErr-weaker, IfOk-weaker}
-use Rattle.desk_commands.specs.Delivering.{EndsDelivering}
-use Rattle.desk_commands.specs.declared.refusal.Refusal.{Refusal as Reason}
+use Rattle.std.proofs.Common.{arith}
+use Rattle.desk_commands.specs.Kept.{kept}
+use Rattle.desk_commands.specs.private.Outcomes.{IsOutcome}
+use Rattle.desk_commands.proofs.OverLemmas.{of_two}
+use Rattle.desk_jobs.specs.declared.task.Job.TheVariants.{Deliver}
 use Rattle.desk_commands.proofs.delivering.deliver_lines.Goals as goal
 
-pub returns-clause-found : goal.returns-clause-found
-returns-clause-found g c =
-    IfOk-weaker c.deliver_to-answer.result _ _ (λ a is. record {
-      roster = c.in_ok-desk.desk.roster.says;
-      base = c.in_ok-desk.desk.base;
-      lines = is.lines;
-      answers = is.answers;
-      made = c.in_ok-desk.ensures.found.0;
-      lines_are = is.lines_are;
-      answered = is.answered;
-      status_is = is.status_is;
-      text_is = is.text_is;
-    }) (c.deliver_to-answer.ensures.found tt)
-
-pub returns-clause-err : goal.returns-clause-err
-returns-clause-err g c =
-    let ends : Reason → Type 0 = λ reason. EndsDelivering c.args.roster.now c.args.base.now reason in
-    IfErr-weaker c.deliver_to-answer.result _ _ (λ reason why. elim why [
-      | inl failed ↦ subst ends (sym failed) tt
-      | inr (inl memory) ↦ subst ends (sym memory) tt
-      | inr (inr memory) ↦ subst ends (sym memory) tt
-    ]) c.deliver_to-answer.ensures.err
+pub returns-in-len2-up-clause-outcome : goal.returns-in-len2-up-clause-outcome
+returns-in-len2-up-clause-outcome g c places err =
+    let K = g.K.Keeper in
+    of_two (λ f. f.items) c.args.files.now c.roster-item.result c.base-item.result c.as_slice.result.now c.as_slice-in-len2-up.result.now
+    (λ files. IsOutcome (Deliver places c.args.relay.now) files (kept K.is_up K.is_empty K.is_desk K.is_old K.roster K.holds K.failures c.args.keeper c.deliver_over.result.1)
+    (g.R.Read.remaining c.args.input.now) c.deliver_over.result.0 err err)
+    (omega (arith, c.in-len2-up.len_at_least)) c.roster-item.is c.base-item.is c.as_slice.ensures.value c.as_slice-in-len2-up.ensures.value
+    (λ more. c.deliver_over.ensures.outcome places more err)

@@ -1,45 +1,67 @@
-use Rattle.std.proofs.Common.{◌≡◌, ◌∙◌, List, ℕ, ap, map, string_bytes, sym}
-use Rattle.desk_commands.specs.Answers.{IsAnswer}
-use Rattle.desk_commands.specs.declared.answer.Answer.{Answer}
+use Rattle.std.proofs.Common.{◌≡◌, ◌∙◌, ap, map, refl, subst, sym}
+use Rattle.std.proofs.lemmas.Result.{IfOk-weaker}
+use Rattle.desk_commands.specs.Answers.{IsOnDesk, ReadsInput}
 use Rattle.desk_jobs.specs.declared.task.Job.{Job}
-use Rattle.desk_jobs.specs.declared.task.Job.TheVariants.{Deliver}
+use Rattle.desk_jobs.specs.declared.task.Job.TheVariants.{Beyond, Check, Decide, Deliver, Print, Rebuild, Review}
 use Rattle.desk_commands.proofs.AnswerLemmas.{of_job, quietly}
 use Rattle.desk_commands.proofs.running.answered.Goals as goal
 
-pub returns-in-Check-clause-found : goal.returns-in-Check-clause-found
-returns-in-Check-clause-found g c =
-    let input = g.R.Read.remaining c.args.input.now in
-    let answers : Job → Answer → List ℕ → Type 0 = λ j a said. IsAnswer j (map (λ f. f.items) c.args.files.now) input a.status (string_bytes a.text) said in
-    quietly c.check_first.result c.args.job.now _ answers (g.E.Write.contents c.args.err.now) c.in-Check.is (c.check_first.ensures.found c.in-Check.file input)
+pub returns-in-Check-clause-outcome : goal.returns-in-Check-clause-outcome
+returns-in-Check-clause-outcome g c =
+    quietly c.check_first.result c.args.job.now _ (map (λ f. f.items) c.args.files.now) _ (g.R.Read.remaining c.args.input.now) (g.E.Write.contents c.args.err.now) c.in-Check.is
+    (IfOk-weaker c.check_first.result _ _ (λ a is. (is, refl)) c.check_first.ensures.found) c.check_first.ensures.cause
 
-pub returns-in-Decide-clause-found : goal.returns-in-Decide-clause-found
-returns-in-Decide-clause-found g c =
-    let input = g.R.Read.remaining c.args.input.now in
-    let answers : Job → Answer → List ℕ → Type 0 = λ j a said. IsAnswer j (map (λ f. f.items) c.args.files.now) input a.status (string_bytes a.text) said in
-    quietly c.decide_by_first.result c.args.job.now _ answers (g.E.Write.contents c.args.err.now) c.in-Decide.is (c.decide_by_first.ensures.found c.in-Decide.file input)
+pub returns-in-Decide-clause-outcome : goal.returns-in-Decide-clause-outcome
+returns-in-Decide-clause-outcome g c =
+    quietly c.decide_by_first.result c.args.job.now _ (map (λ f. f.items) c.args.files.now) _ (g.R.Read.remaining c.args.input.now) (g.E.Write.contents c.args.err.now) c.in-Decide.is
+    (IfOk-weaker c.decide_by_first.result _ _ (λ a is. (is, refl)) c.decide_by_first.ensures.found) c.decide_by_first.ensures.cause
 
-pub returns-in-Beyond-clause-found : goal.returns-in-Beyond-clause-found
-returns-in-Beyond-clause-found g c =
-    let input = g.R.Read.remaining c.args.input.now in
-    let answers : Job → Answer → List ℕ → Type 0 = λ j a said. IsAnswer j (map (λ f. f.items) c.args.files.now) input a.status (string_bytes a.text) said in
-    quietly c.compared.result c.args.job.now _ answers (g.E.Write.contents c.args.err.now) c.in-Beyond.is (c.compared.ensures.found c.in-Beyond.a c.in-Beyond.b input)
+pub returns-in-Beyond-clause-outcome : goal.returns-in-Beyond-clause-outcome
+returns-in-Beyond-clause-outcome g c =
+    quietly c.compared.result c.args.job.now _ (map (λ f. f.items) c.args.files.now) _ (g.R.Read.remaining c.args.input.now) (g.E.Write.contents c.args.err.now) c.in-Beyond.is
+    (IfOk-weaker c.compared.result _ _ (λ a is. (is, refl)) c.compared.ensures.found) c.compared.ensures.cause
 
-pub returns-in-Deliver-clause-found : goal.returns-in-Deliver-clause-found
-returns-in-Deliver-clause-found g c =
-    let input = g.R.Read.remaining c.args.input.now in
-    let answers : Job → Answer → List ℕ → Type 0 = λ j a said. IsAnswer j (map (λ f. f.items) c.args.files.now) input a.status (string_bytes a.text) said in
+pub returns-in-Deliver-clause-outcome : goal.returns-in-Deliver-clause-outcome
+returns-in-Deliver-clause-outcome g c =
     let places = c.in-Deliver.places in
+    let err = g.E.Write.contents c.args.err.now in
     let is : c.args.job.now ≡ Deliver places c.as_str.result.now = c.in-Deliver.is ∙ ap (Deliver places) (sym c.as_str.ensures) in
-    quietly c.delivered.result c.args.job.now _ answers (g.E.Write.contents c.args.err.now) is (c.delivered.ensures.found places)
+    of_job c.deliver_lines.result.0 c.args.job.now _ (map (λ f. f.items) c.args.files.now) _ (g.R.Read.remaining c.args.input.now) err err is (c.deliver_lines.ensures.outcome places err)
 
-pub returns-in-Print-clause-found : goal.returns-in-Print-clause-found
-returns-in-Print-clause-found g c =
-    let input = g.R.Read.remaining c.args.input.now in
-    let answers : Job → Answer → List ℕ → Type 0 = λ j a said. IsAnswer j (map (λ f. f.items) c.args.files.now) input a.status (string_bytes a.text) said in
-    of_job c.printed.result c.args.job.now _ answers _ _ c.in-Print.is (c.printed.ensures.found c.in-Print.places)
+pub returns-in-Print-clause-outcome : goal.returns-in-Print-clause-outcome
+returns-in-Print-clause-outcome g c =
+    of_job c.print_host.result.0 c.args.job.now _ (map (λ f. f.items) c.args.files.now) _ (g.R.Read.remaining c.args.input.now) (g.E.Write.contents c.args.err.now)
+    (g.E.Write.contents c.print_host.new.err) c.in-Print.is c.print_host.ensures.outcome
 
-pub returns-in-Review-clause-found : goal.returns-in-Review-clause-found
-returns-in-Review-clause-found g c =
+pub returns-in-Review-clause-outcome : goal.returns-in-Review-clause-outcome
+returns-in-Review-clause-outcome g c =
+    of_job c.review_desk.result.0 c.args.job.now _ (map (λ f. f.items) c.args.files.now) _ (g.R.Read.remaining c.args.input.now) (g.E.Write.contents c.args.err.now)
+    (g.E.Write.contents c.review_desk.new.err) c.in-Review.is c.review_desk.ensures.outcome
+
+pub returns-in-Rebuild-clause-outcome : goal.returns-in-Rebuild-clause-outcome
+returns-in-Rebuild-clause-outcome g c =
     let input = g.R.Read.remaining c.args.input.now in
-    let answers : Job → Answer → List ℕ → Type 0 = λ j a said. IsAnswer j (map (λ f. f.items) c.args.files.now) input a.status (string_bytes a.text) said in
-    of_job c.reviewed.result c.args.job.now _ answers _ _ c.in-Review.is (c.reviewed.ensures.found c.in-Review.places)
+    let err = g.E.Write.contents c.args.err.now in
+    of_job c.rebuild_desk.result.0 c.args.job.now _ (map (λ f. f.items) c.args.files.now) _ input err err c.in-Rebuild.is
+    (c.rebuild_desk.ensures.outcome c.in-Rebuild.places input err)
+
+pub returns-in-Deliver-clause-unasked : goal.returns-in-Deliver-clause-unasked
+returns-in-Deliver-clause-unasked g c = λ never. absurd (never (subst IsOnDesk (sym c.in-Deliver.is) tt))
+
+pub returns-in-Print-clause-unasked : goal.returns-in-Print-clause-unasked
+returns-in-Print-clause-unasked g c = λ never. absurd (never (subst IsOnDesk (sym c.in-Print.is) tt))
+
+pub returns-in-Review-clause-unasked : goal.returns-in-Review-clause-unasked
+returns-in-Review-clause-unasked g c = λ never. absurd (never (subst IsOnDesk (sym c.in-Review.is) tt))
+
+pub returns-in-Rebuild-clause-unasked : goal.returns-in-Rebuild-clause-unasked
+returns-in-Rebuild-clause-unasked g c = λ never. absurd (never (subst IsOnDesk (sym c.in-Rebuild.is) tt))
+
+pub returns-in-Deliver-clause-unread : goal.returns-in-Deliver-clause-unread
+returns-in-Deliver-clause-unread g c = λ never. absurd (never (subst ReadsInput (sym c.in-Deliver.is) tt))
+
+pub returns-in-Print-clause-unread : goal.returns-in-Print-clause-unread
+returns-in-Print-clause-unread g c = λ never. c.print_host.ensures.unread (λ memory. never (subst ReadsInput (sym c.in-Print.is) memory))
+
+pub returns-in-Review-clause-unread : goal.returns-in-Review-clause-unread
+returns-in-Review-clause-unread g c = λ never. c.review_desk.ensures.unread (λ memory. never (subst ReadsInput (sym c.in-Review.is) memory))

@@ -59,12 +59,22 @@ returns-then-eq-6 c =
     let same = named (codes "review") c.args.name.now (sym c.eq-else-eq-5.ensures ∙ c.if-eq-6.true) in
     read_by_name (codes "review") c.args.name.now (rows_of (found_of c.args.matches.now)) c.review.result same c.review.ensures.found c.review.ensures.only c.review.ensures.word c.review.ensures.usage
 
+pub rebuild-requires : goal.rebuild-requires
+rebuild-requires c =
+    let same = named (codes "rebuild") c.args.name.now (sym c.eq-else-eq-6.ensures ∙ c.if-eq-7.true) in
+    wanted_at (codes "rebuild") c.args.name.now (rows_of (found_of c.args.matches.now)) same c.requires
+
+pub returns-then-eq-7 : goal.returns-then-eq-7
+returns-then-eq-7 c =
+    let same = named (codes "rebuild") c.args.name.now (sym c.eq-else-eq-6.ensures ∙ c.if-eq-7.true) in
+    read_by_name (codes "rebuild") c.args.name.now (rows_of (found_of c.args.matches.now)) c.rebuild.result same c.rebuild.ensures.found c.rebuild.ensures.only c.rebuild.ensures.word c.rebuild.ensures.usage
+
 pub serve-requires : goal.serve-requires
 serve-requires c =
-    let same = is_serve c.args.name.now (rows_of (found_of c.args.matches.now)) c.requires (sym c.eq.ensures ∙ c.if-eq.false) (sym c.eq-else-eq.ensures ∙ c.if-eq-2.false) (sym c.eq-else-eq-2.ensures ∙ c.if-eq-3.false) (sym c.eq-else-eq-3.ensures ∙ c.if-eq-4.false) (sym c.eq-else-eq-4.ensures ∙ c.if-eq-5.false) (sym c.eq-else-eq-5.ensures ∙ c.if-eq-6.false) in
+    let same = is_serve c.args.name.now (rows_of (found_of c.args.matches.now)) c.requires (sym c.eq.ensures ∙ c.if-eq.false) (sym c.eq-else-eq.ensures ∙ c.if-eq-2.false) (sym c.eq-else-eq-2.ensures ∙ c.if-eq-3.false) (sym c.eq-else-eq-3.ensures ∙ c.if-eq-4.false) (sym c.eq-else-eq-4.ensures ∙ c.if-eq-5.false) (sym c.eq-else-eq-5.ensures ∙ c.if-eq-6.false) (sym c.eq-else-eq-6.ensures ∙ c.if-eq-7.false) in
     wanted_at (codes "serve") c.args.name.now (rows_of (found_of c.args.matches.now)) same c.requires
 
-pub returns-else-eq-6 : goal.returns-else-eq-6
-returns-else-eq-6 c =
-    let same = is_serve c.args.name.now (rows_of (found_of c.args.matches.now)) c.requires (sym c.eq.ensures ∙ c.if-eq.false) (sym c.eq-else-eq.ensures ∙ c.if-eq-2.false) (sym c.eq-else-eq-2.ensures ∙ c.if-eq-3.false) (sym c.eq-else-eq-3.ensures ∙ c.if-eq-4.false) (sym c.eq-else-eq-4.ensures ∙ c.if-eq-5.false) (sym c.eq-else-eq-5.ensures ∙ c.if-eq-6.false) in
+pub returns-else-eq-7 : goal.returns-else-eq-7
+returns-else-eq-7 c =
+    let same = is_serve c.args.name.now (rows_of (found_of c.args.matches.now)) c.requires (sym c.eq.ensures ∙ c.if-eq.false) (sym c.eq-else-eq.ensures ∙ c.if-eq-2.false) (sym c.eq-else-eq-2.ensures ∙ c.if-eq-3.false) (sym c.eq-else-eq-3.ensures ∙ c.if-eq-4.false) (sym c.eq-else-eq-4.ensures ∙ c.if-eq-5.false) (sym c.eq-else-eq-5.ensures ∙ c.if-eq-6.false) (sym c.eq-else-eq-6.ensures ∙ c.if-eq-7.false) in
     read_by_name (codes "serve") c.args.name.now (rows_of (found_of c.args.matches.now)) c.serve.result same c.serve.ensures.found c.serve.ensures.only c.serve.ensures.word c.serve.ensures.usage

@@ -5,7 +5,7 @@ use Rattle.desk_tables.specs.Stored.{content_of, with_text}
 use Rattle.desk_tables.specs.Kept.{IsDeskDatabase, Spares}
 use Rattle.desk_tables.specs.SqliteStates.{IsUp}
 use Rattle.desk_tables.specs.private.Survival.{ArrivesAt}
-use Rattle.desk_tables.proofs.ArriveLemmas.{Ends, arrive_survives, commit_arrived, commit_desk, commit_ends, commit_spared, commit_up}
+use Rattle.desk_tables.proofs.ArriveLemmas.{Ends, arrive_survives, commit_arrived, commit_desk, commit_ends, commit_repeated, commit_spared, commit_up}
 use Rattle.desk_tables.proofs.commit.arrive.Goals as goal
 
 pub returns : goal.returns
@@ -18,19 +18,20 @@ returns g c =
     let step = rw begun at c.receive.ensures.step in
     let received = λ (clean : HasCleanDisk last). (rw begun at c.in_ok-receive.ensures.received) clean refl in
     let ok = λ (clean : HasCleanDisk end). let it = c.in_ok-commit.ensures.ok clean in let both : IsTrue last.in_transaction × Shows last end last.now last.now false = (it.0, it.1) in both in
-    let ends = commit_ends text old last end c.requires.rests step _ c.commit.ensures.survives received c.requires.desk ok in
+    let ends = commit_ends text old last end c.requires.rests step _ c.commit.ensures.survives received c.requires.desk c.obeys.ensures ok in
     let same : c.commit.new.self.0 ≡ c.conn-2-1.given.0 = search rules in
     let all = subst (λ h. Ends old (state g.S.Store h)) same ends in
     record {
       rests = all.rests;
       was_up = all.was_up;
       was_clean = all.was_clean;
-      up = λ before. subst (λ h. HasCleanDisk (state g.S.Store h) → IsUp (state g.S.Store h)) same (commit_up text old last end c.requires.rests step _ c.commit.ensures.survives received c.requires.desk ok);
-      desk = subst (λ h. IsUp (state g.S.Store h) → IsDeskDatabase (state g.S.Store h).now) same (commit_desk text old last end c.requires.rests step _ c.commit.ensures.survives received c.requires.desk ok);
-      arrived = subst (λ h. IsUp (state g.S.Store h) → content_of (state g.S.Store h).now ≡ with_text text (content_of old.now)) same (commit_arrived text old last end c.requires.rests step _ c.commit.ensures.survives received c.requires.desk ok);
-      others = subst (λ h. IsUp (state g.S.Store h) → Spares old.now (state g.S.Store h).now) same (commit_spared text old last end c.requires.rests step _ c.commit.ensures.survives received c.requires.desk ok);
+      up = λ before. subst (λ h. HasCleanDisk (state g.S.Store h) → IsUp (state g.S.Store h)) same (commit_up text old last end c.requires.rests step _ c.commit.ensures.survives received c.requires.desk c.obeys.ensures ok);
+      desk = subst (λ h. IsUp (state g.S.Store h) → IsDeskDatabase (state g.S.Store h).now) same (commit_desk text old last end c.requires.rests step _ c.commit.ensures.survives received c.requires.desk c.obeys.ensures ok);
+      arrived = subst (λ h. IsUp (state g.S.Store h) → content_of (state g.S.Store h).now ≡ with_text text (content_of old.now)) same (commit_arrived text old last end c.requires.rests step _ c.commit.ensures.survives received c.requires.desk c.obeys.ensures ok);
+      repeated = λ up there. subst (λ h. IsUp (state g.S.Store h) → (state g.S.Store h).now ≡ old.now) same (λ still. commit_repeated text old last end c.requires.rests step _ c.commit.ensures.survives received c.requires.desk c.obeys.ensures ok still there) up;
+      others = subst (λ h. IsUp (state g.S.Store h) → Spares old.now (state g.S.Store h).now) same (commit_spared text old last end c.requires.rests step _ c.commit.ensures.survives received c.requires.desk c.obeys.ensures ok);
       unchanged = λ up. tt;
-      survives = λ up. subst (λ h. Survives old (state g.S.Store h) (ArrivesAt text old.now)) same (arrive_survives text old last end c.requires.rests step _ c.commit.ensures.survives received c.requires.desk (λ db is. is) up);
+      survives = λ up. subst (λ h. Survives old (state g.S.Store h) (ArrivesAt text old.now)) same (arrive_survives text old last end c.requires.rests step _ c.commit.ensures.survives received c.requires.desk c.obeys.ensures (λ db is. is) up);
     }
 
 pub returns-in_err-commit-clause-survives : goal.returns-in_err-commit-clause-survives
@@ -43,4 +44,4 @@ returns-in_err-commit-clause-survives g c up =
     let step = rw begun at c.receive.ensures.step in
     let received = λ (clean : HasCleanDisk last). (rw begun at c.in_ok-receive.ensures.received) clean refl in
     let same : c.commit.new.self.0 ≡ c.conn-2-1.given.0 = search rules in
-    subst (λ h. Survives old (state g.S.Store h) (ArrivesAt text old.now)) same (arrive_survives text old last end c.requires.rests step _ c.commit.ensures.survives received c.requires.desk (λ db is. is) up)
+    subst (λ h. Survives old (state g.S.Store h) (ArrivesAt text old.now)) same (arrive_survives text old last end c.requires.rests step _ c.commit.ensures.survives received c.requires.desk c.obeys.ensures (λ db is. is) up)

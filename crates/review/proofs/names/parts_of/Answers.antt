@@ -1,6 +1,7 @@
-use Rattle.std.proofs.Common.{List, string_bytes}
+use Rattle.std.proofs.Common.{List, string_bytes, subst}
 use Rattle.grants.specs.Summaries.{Kept, StandsFor}
-use Rattle.review.specs.private.Names.{AreBarredOf, AreBroadOf, AreLiveOf, HaveNames}
+use Rattle.sudo_policy.specs.declared.entry.Entry.{Entry}
+use Rattle.review.specs.private.Names.{AddsName, AreBarredOf, AreBroadOf, AreLiveOf, HaveNames}
 use Rattle.review.proofs.NameParts.{empty_part, one_more_name}
 use Rattle.review.proofs.ReportLists.{at_place, whole_list}
 use Rattle.review.proofs.names.parts_of.Goals as goal
@@ -22,7 +23,8 @@ loop-summary-preserved c = λ set all.
     let kept = c.args.summaries.now in
     let k = c.summary-item.result in
     one_more_name c.args.roster.now.says c.args.base.now set c.args.at kept l.summary-index k l.parts c.push_parts.new.parts c.loop-summary-test.true c.summary-item.is (l.invariant set all)
-    (c.in_ok-push_parts.ensures set (at_place (StandsFor set) kept l.summary-index k c.loop-summary-test.true c.summary-item.is all))
+    (subst (λ (base : List Entry). AddsName c.args.roster.now.says base set c.args.at k l.parts c.push_parts.new.parts) c.in_ok-baseline.ensures
+    (c.in_ok-push_parts.ensures set (at_place (StandsFor set) kept l.summary-index k c.loop-summary-test.true c.summary-item.is all)))
 
 pub returns : goal.returns
 returns c = λ set all.

@@ -1,9 +1,10 @@
 use Rattle.std.proofs.Common.{◌≡◌, ◌∙◌, Ok, true, rules, subst, sym}
 use Rattle.std.proofs.lemmas.Result.{err_from_is_err_and}
+use Rattle.messages.specs.declared.message.Message.{Message}
 use Rattle.roster.specs.Rules.{is_among}
-use Rattle.desk.specs.Delivery.{Delivery, IsDeliveryAnswer}
+use Rattle.desk.specs.Delivery.{Delivery, IsBodyOf, IsDeliveryAnswer}
 use Rattle.desk.specs.private.Known.{IsKnown}
-use Rattle.desk.proofs.DeliveryLemmas.{acknowledged, held_at_ok, refused}
+use Rattle.desk.proofs.DeliveryLemmas.{acknowledged, held_at_ok, refused, same_body}
 use Rattle.desk.proofs.KnownLemmas.{known_more}
 use Rattle.desk.proofs.desk.Desk.deliver.Goals as goal
 
@@ -29,18 +30,27 @@ pub returns-clause-held : goal.returns-clause-held
 returns-clause-held g c = λ up.
     let d : Delivery = record { relay = c.args.relay.now; body = c.args.body.now } in
     let K = g.K.Keeper in
-    let held = held_at_ok (K.holds c.self.inside.keeper) (K.holds c.add.new.self) d (record {}) c.in_ok-message.message c.in_ok-message.ensures.found.0 (c.in_ok-add.ensures.added up) in
+    let held = held_at_ok (K.holds c.self.inside.keeper) (K.holds c.add-added.new.self) d (record {}) c.in_ok-message.message c.in_ok-message.ensures.found.0 (c.in_ok-added.ensures.added up) in
     rw (← c.self.view_is) held
+
+pub returns-clause-repeated : goal.returns-clause-repeated
+returns-clause-repeated g c = λ up.
+    let K = g.K.Keeper in
+    let old = c.self.inside.keeper in
+    let n = c.in_ok-message.message in
+    let again : (m : Message) → IsBodyOf c.args.body.now m → K.holds old m → K.is_same old c.add-added.new.self = λ m body held.
+    c.in_ok-added.ensures.repeated up (subst (K.holds old) (same_body c.args.body.now m n body c.in_ok-message.ensures.found.0) held) in
+    rw (← c.self.view_is) again
 
 pub invariant_of-self-2 : goal.invariant_of-self-2
 invariant_of-self-2 g c =
     let K = g.K.Keeper in
     let old = c.self.inside.keeper in
-    let new = c.add.new.self in
+    let new = c.add-added.new.self in
     let known = subst (IsKnown (K.is_up old) (K.holds old)) (sym c.take.ensures.value) c.self.invariant.4 in (
       c.self.invariant.0,
-      λ up. c.add.ensures.desk up,
-      λ up. c.add.ensures.roster up ∙ c.self.invariant.2 (c.add.ensures.was_up up),
-      λ up. c.add.ensures.durable up,
-      known_more (K.is_up old) (K.is_up new) (K.holds old) (K.holds new) c.in_ok-message.message c.take.result c.with_message-known.result known c.add.ensures.was_up c.in_ok-add.ensures.added c.with_message-known.ensures.more c.with_message-known.ensures.nothing,
+      λ up. c.add-added.ensures.desk up,
+      λ up. c.add-added.ensures.roster up ∙ c.self.invariant.2 (c.add-added.ensures.was_up up),
+      λ up. c.add-added.ensures.durable up,
+      known_more (K.is_up old) (K.is_up new) (K.holds old) (K.holds new) c.in_ok-message.message c.take.result c.with_message-known.result known c.add-added.ensures.was_up c.in_ok-added.ensures.added c.with_message-known.ensures.more c.with_message-known.ensures.nothing,
     )

@@ -1,4 +1,4 @@
-use Rattle.std.proofs.Common.{◌≡◌, ◌+◌, ◌∙◌, inl, inr, List, [], ◌∷◌, ◌++◌, map, take, Result, Err, sym, ap, subst, refl, arith, rules}
+use Rattle.std.proofs.Common.{◌≡◌, ◌⊎◌, ℕ, ◌+◌, ◌∙◌, inl, inr, List, [], ◌∷◌, ◌++◌, map, take, Result, Err, sym, ap, subst, refl, arith, rules}
 use Rattle.std.specs.List.{Contains}
 use Rattle.std.proofs.lemmas.List.{map_push}
 use Rattle.std.proofs.lemmas.List.Elements.{Contains-push_cases}
@@ -8,8 +8,9 @@ use Rattle.desk_store.specs.Keeping.{HasFailed}
 use Rattle.desk.specs.declared.ack.Ack.{Ack}
 use Rattle.desk.specs.declared.refusal.Refusal.{Refusal}
 use Rattle.desk.specs.declared.refusal.Refusal.TheVariants.{Storage}
-use Rattle.desk.specs.Delivery.{AreAnswers, Delivery, HeldAfterAll, IsDeliveryAnswer, delivery_of}
+use Rattle.desk.specs.Delivery.{AreAnswers, Delivery, HaveFailed, HeldAfterAll, IsDeliveryAnswer, WasWantingAmong, delivery_of, storage_failures}
 use Rattle.desk.proofs.DeliveryLemmas.{answers_push, held_by_none, held_push}
+use Rattle.desk.proofs.FailureLemmas.{failures_push, have_failed_push, wanting_before, wanting_or_up}
 use Rattle.desk.proofs.ServingLemmas.{failed_later, failed_sooner, served_by_none, served_once_more}
 use Rattle.desk.proofs.desk.Desk.deliver_each.Goals as goal
 
@@ -20,6 +21,7 @@ loop-relay-init g c =
     let P : List (Result Ack Refusal) → Type 0 = λ answers. AreAnswers c.args.self.now.roster.says [] answers in
     let Q : List (Result Ack Refusal) → Type 0 = λ answers. HeldAfterAll (K.holds keeper) [] answers (K.holds keeper) in
     let R : List (Result Ack Refusal) → Type 0 = λ answers. Contains answers (Err Storage) in
+    let F : List (Result Ack Refusal) → Type 0 = λ answers. HaveFailed (storage_failures answers) (K.failures keeper) (K.failures keeper) in
     let none = c.requires.none in
     record {
       answered = subst P (sym none) tt;
@@ -27,6 +29,8 @@ loop-relay-init g c =
       roster = refl;
       base = refl;
       served = served_by_none (K.is_up keeper) (K.is_clean keeper) (K.failures keeper);
+      up = λ up clean. inr up;
+      causes = subst F (sym none) (inl (omega arith));
       cause = λ failed. absurd (let there = subst R none failed in omega (arith, there.1));
       count = search rules;
       room = c.requires.room;
@@ -62,6 +66,9 @@ loop-relay-preserved g c =
     let Q : List Delivery → Type 0 = λ ds. HeldAfterAll (K.holds old.keeper) ds (answers ++ result ∷ []) (K.holds new.keeper) in
     let Q' : List (Result Ack Refusal) → Type 0 = λ as'. HeldAfterAll (K.holds old.keeper) (map delivery_of (take (i + 1) list)) as' (K.holds new.keeper) in
     let R : List (Result Ack Refusal) → Type 0 = λ as'. Contains as' (Err Storage) in
+    let U : List (Result Ack Refusal) → Type 0 = λ as'. WasWantingAmong as' ⊎ K.is_up new.keeper in
+    let H : List (Result Ack Refusal) → Type 0 = λ as'. HaveFailed (storage_failures as') (K.failures old.keeper) (K.failures new.keeper) in
+    let N : ℕ → Type 0 = λ n. HaveFailed n (K.failures old.keeper) (K.failures new.keeper) in
     record {
       answered = subst P' (sym {A = List (Result Ack Refusal)} c.push_reserved.ensures.items) (subst P (sym {A = List Delivery} more) (answers_push old.roster.says before answers d result kept.answered answer));
       held = λ up. subst Q' (sym {A = List (Result Ack Refusal)} c.push_reserved.ensures.items) (subst Q (sym {A = List Delivery} more)
@@ -70,6 +77,13 @@ loop-relay-preserved g c =
       base = done.base ∙ kept.base;
       served = served_once_more (K.is_up old.keeper) (K.is_clean old.keeper) (K.is_up mid.keeper) (K.is_clean mid.keeper) (K.is_up new.keeper) (K.is_clean new.keeper)
           (K.failures old.keeper) (K.failures mid.keeper) (K.failures new.keeper) kept.served done.was_up done.was_clean done.shuts done.counts;
+      up = λ up clean. subst U (sym {A = List (Result Ack Refusal)} c.push_reserved.ensures.items)
+          (elim (kept.up up (done.was_clean clean)) as (λ _. WasWantingAmong (answers ++ result ∷ []) ⊎ K.is_up new.keeper) [
+            | inl sooner ↦ inl (wanting_before answers result sooner)
+            | inr still ↦ wanting_or_up (K.is_up new.keeper) answers result (done.up still clean)
+          ]);
+      causes = subst H (sym {A = List (Result Ack Refusal)} c.push_reserved.ensures.items) (subst N (sym (failures_push answers result))
+          (have_failed_push (storage_failures answers) (K.failures old.keeper) (K.failures mid.keeper) (K.failures new.keeper) result kept.causes done.counts done.cause));
       cause = λ failed. elim (Contains-push_cases answers result (Err Storage) (subst R c.push_reserved.ensures.items failed))
           as (λ _. HasFailed (K.failures old.keeper) (K.failures new.keeper)) [
             | inl sooner ↦ failed_sooner (K.failures old.keeper) (K.failures mid.keeper) (K.failures new.keeper) (kept.cause sooner) done.counts

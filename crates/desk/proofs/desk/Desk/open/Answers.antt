@@ -1,6 +1,7 @@
 use Rattle.std.proofs.Common.{rules, ◌≡◌, ◌∙◌, subst}
 use Rattle.grants.specs.Bases.{FitsBase}
 use Rattle.desk.specs.Opening.{Opens}
+use Rattle.desk.proofs.CrashLemmas.{of_roster}
 use Rattle.desk.proofs.KnownLemmas.{at_first}
 use Rattle.desk.proofs.OpeningLemmas.{refused_over}
 use Rattle.desk.proofs.desk.Desk.open.Goals as goal
@@ -21,7 +22,15 @@ returns-in-Ok-clause-opens g c up =
     let K = g.K.Keeper in
     let old = c.args.keeper in
     let text : c.text.result.now ≡ c.args.roster.text = search rules in
-    subst (λ t. Opens (K.is_empty old) (K.is_desk old) (K.roster old) t (K.holds old) (K.holds c.find_or_make.new.keeper)) text (c.in-Ok.ensures.opens up)
+    subst (λ t. Opens (K.is_empty old) (K.is_desk old) (K.is_old old) (K.roster old) t (K.holds old) (K.holds c.find_or_make.new.keeper)) text (c.in-Ok.ensures.opens up)
+
+pub returns-in-Ok-clause-lasting : goal.returns-in-Ok-clause-lasting
+returns-in-Ok-clause-lasting g c up clean =
+    let K = g.K.Keeper in
+    let new = c.find_or_make.new.keeper in
+    let still = c.in-Ok.ensures.up up clean in
+    let text : c.text.result.now ≡ c.args.roster.text = search rules in
+    of_roster (K.may_leave new) c.args.roster.text (K.roster new) (K.holds new) (c.in-Ok.ensures.roster still ∙ text) (c.in-Ok.ensures.durable still)
 
 -- ---- and why there is none
 
@@ -31,5 +40,5 @@ returns-in-Err-clause-refused g c up =
     let old = c.args.keeper in
     let fits : FitsBase c.args.base = search rules in
     let text : c.text.result.now ≡ c.args.roster.text = search rules in
-    refused_over (FitsBase c.args.base) (K.is_empty old) (K.is_desk old) (K.roster old) c.text.result.now c.args.roster.text c.in-Err.refusal fits text
+    refused_over (FitsBase c.args.base) (K.is_empty old) (K.is_desk old) (K.is_old old) (K.roster old) c.text.result.now c.args.roster.text c.in-Err.refusal fits text
     c.in-Err.ensures.fits (c.in-Err.ensures.refused up)

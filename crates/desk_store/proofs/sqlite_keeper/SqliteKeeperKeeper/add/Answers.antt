@@ -1,89 +1,142 @@
-use Rattle.std.proofs.Common.{◌≡◌, ◌∙◌, ap, subst, inl, refl, arith}
+use Rattle.std.proofs.Common.{ap, inl, inr, le_refl, refl, subst}
+use Rattle.sqlite.specs.Effect.{Database}
 use Rattle.sqlite.specs.Held.{state}
 use Rattle.sqlite.specs.State.{Survives}
-use Rattle.messages.specs.Wire.{wire}
-use Rattle.desk_store.specs.Stored.{content_of, with_text}
-use Rattle.desk_store.specs.private.Survival.{GainsAt}
-use Rattle.desk_store.proofs.LeftLemmas.{gain_lasts, up_left, with_or_without}
-use Rattle.desk_store.proofs.OutcomeLemmas.{behind_err, behind_ok, failed_since, of_err, on_err, then_ok, up_or_failed}
-use Rattle.desk_store.proofs.ReadingLemmas.{with_message}
-use Rattle.desk_store.proofs.StepLemmas.{same_roster}
+use Rattle.desk_tables.specs.Stored.{Content, content_of}
+use Rattle.desk_tables.specs.private.Survival.{ArrivesAt}
+use Rattle.desk_store.proofs.ArrivalLemmas.{arrival_keeps, content_wired, held_wired}
+use Rattle.desk_store.proofs.FoundLemmas.{arrival_lasts, up_left, with_message, with_or_without}
+use Rattle.desk_store.proofs.OutcomeLemmas.{ok_no_err}
 use Rattle.desk_store.proofs.sqlite_keeper.SqliteKeeperKeeper.add.Goals as goal
 
-pub returns-clause-added : goal.returns-clause-added
-returns-clause-added g c up =
-    let old = (state g.S.Store c.args.self.now.conn).now in
-    let new = (state g.S.Store c.insert-inserted.new.conn).now in
-    let text = c.as_str.ensures.value ∙ c.in_ok-body.ensures.text in
-    behind_ok c.concluded.result c.insert-inserted.result _ _ c.concluded.ensures.done
-    (λ (content : content_of new ≡ with_text c.as_str.result.now (content_of old)). with_message old new c.args.message c.requires.message (content ∙ ap (λ t. with_text t (content_of old)) text))
-    (c.insert-inserted.ensures.inserted up)
+pub arrive-arrived-requires-clause-desk : goal.arrive-arrived-requires-clause-desk
+arrive-arrived-requires-clause-desk g c up = (c.requires.desk up).desk
 
-pub returns-clause-unchanged : goal.returns-clause-unchanged
-returns-clause-unchanged g c up = behind_err c.concluded.result c.insert-inserted.result _ c.concluded.ensures.refused (c.insert-inserted.ensures.unchanged up)
+pub arrive-arrived-requires-clause-written : goal.arrive-arrived-requires-clause-written
+arrive-arrived-requires-clause-written g c = (c.args.message.now, c.requires.message, c.requires.text, c.requires.short)
 
-pub returns-clause-roster : goal.returns-clause-roster
-returns-clause-roster g c up = same_roster c.insert-inserted.result _ _ _ (c.insert-inserted.ensures.inserted up) (c.insert-inserted.ensures.unchanged up)
+pub returns-then-not-is_autocommit-clause-added : goal.returns-then-not-is_autocommit-clause-added
+returns-then-not-is_autocommit-clause-added g c up = tt
 
-pub returns-clause-shuts : goal.returns-clause-shuts
-returns-clause-shuts g c up clean =
-    up_or_failed c.concluded.result c.insert-inserted.result _ _ c.concluded.ensures.done (c.insert-inserted.ensures.up up clean)
-    (on_err c.concluded.result _ _ (failed_since _ _ _ c.written.ensures.counts) c.concluded.ensures.counted)
+pub returns-then-not-is_autocommit-clause-repeated : goal.returns-then-not-is_autocommit-clause-repeated
+returns-then-not-is_autocommit-clause-repeated g c up there = tt
 
-pub returns-clause-counts : goal.returns-clause-counts
-returns-clause-counts g c = let first = c.written.ensures.counts in let then = c.concluded.ensures.counts in omega (arith, first, then)
+pub returns-then-not-is_autocommit-clause-unchanged : goal.returns-then-not-is_autocommit-clause-unchanged
+returns-then-not-is_autocommit-clause-unchanged g c up = refl
 
-pub returns-clause-cause : goal.returns-clause-cause
-returns-clause-cause g c is = failed_since _ _ _ c.written.ensures.counts (of_err c.concluded.result _ _ c.concluded.ensures.counted is)
+pub returns-then-not-is_autocommit-clause-desk : goal.returns-then-not-is_autocommit-clause-desk
+returns-then-not-is_autocommit-clause-desk g c up = c.requires.desk up
 
-pub returns-clause-crash : goal.returns-clause-crash
-returns-clause-crash g c up clean left may =
-    let old = state g.S.Store c.args.self.now.conn in
-    let new = state g.S.Store c.insert-inserted.new.conn in
-    let text : c.as_str.result.now ≡ wire c.args.message = c.as_str.ensures.value ∙ c.in_ok-body.ensures.text in
-    let lives = subst (λ t. Survives old new (GainsAt t old.now)) text (c.insert-inserted.ensures.survives up) in
-    with_or_without old new c.settles.ensures up clean left may c.args.message c.requires.message (c.requires.desk up) lives
+pub returns-then-not-is_autocommit-clause-roster : goal.returns-then-not-is_autocommit-clause-roster
+returns-then-not-is_autocommit-clause-roster g c up = refl
 
-pub returns-clause-lasting : goal.returns-clause-lasting
-returns-clause-lasting g c up clean =
-    let old = (state g.S.Store c.args.self.now.conn).now in
-    let new = state g.S.Store c.insert-inserted.new.conn in
-    let text = c.as_str.ensures.value ∙ c.in_ok-body.ensures.text in
-    then_ok c.concluded.result c.insert-inserted.result _ _ _ c.concluded.ensures.done (c.insert-inserted.ensures.up up clean) c.insert-inserted.ensures.inserted
-    (λ still content. gain_lasts new old c.args.message c.settles-2.ensures still c.requires.message (c.insert-inserted.ensures.desk still) (content ∙ ap (λ t. with_text t (content_of old)) text))
+pub returns-then-not-is_autocommit-clause-was_up : goal.returns-then-not-is_autocommit-clause-was_up
+returns-then-not-is_autocommit-clause-was_up g c up = up
 
-pub returns-clause-durable : goal.returns-clause-durable
-returns-clause-durable g c up left may = (up_left (state g.S.Store c.insert-inserted.new.conn) c.settles-2.ensures up left may).desk (c.insert-inserted.ensures.desk up)
+pub returns-then-not-is_autocommit-clause-was_clean : goal.returns-then-not-is_autocommit-clause-was_clean
+returns-then-not-is_autocommit-clause-was_clean g c clean = clean
 
-pub returns-in_err-body-clause-crash : goal.returns-in_err-body-clause-crash
-returns-in_err-body-clause-crash g c up clean left may = inl ((up_left (state g.S.Store c.args.self.now.conn) c.settles.ensures up left may).desk (c.requires.desk up))
+pub returns-then-not-is_autocommit-clause-shuts : goal.returns-then-not-is_autocommit-clause-shuts
+returns-then-not-is_autocommit-clause-shuts g c up clean = inl up
 
-pub returns-clause-desk : goal.returns-clause-desk
-returns-clause-desk g c up = c.insert-inserted.ensures.desk up
+pub returns-then-not-is_autocommit-clause-counts : goal.returns-then-not-is_autocommit-clause-counts
+returns-then-not-is_autocommit-clause-counts g c = c.storage.ensures.counts
 
-pub returns-clause-was_up : goal.returns-clause-was_up
-returns-clause-was_up g c up = c.insert-inserted.ensures.was_up up
+pub returns-then-not-is_autocommit-clause-cause : goal.returns-then-not-is_autocommit-clause-cause
+returns-then-not-is_autocommit-clause-cause g c is = c.storage.ensures.failed
 
-pub returns-clause-was_clean : goal.returns-clause-was_clean
-returns-clause-was_clean g c clean = c.insert-inserted.ensures.was_clean clean
+pub returns-then-not-is_autocommit-clause-up : goal.returns-then-not-is_autocommit-clause-up
+returns-then-not-is_autocommit-clause-up g c up clean = tt
 
-pub returns-in_err-body-clause-desk : goal.returns-in_err-body-clause-desk
-returns-in_err-body-clause-desk g c up = c.requires.desk up
+pub returns-then-not-is_autocommit-clause-crash : goal.returns-then-not-is_autocommit-clause-crash
+returns-then-not-is_autocommit-clause-crash g c up clean left may = inl ((up_left (state g.S.Store c.args.self.now.conn) c.settles.ensures up left may).desk (c.requires.desk up))
 
-pub returns-in_err-body-clause-roster : goal.returns-in_err-body-clause-roster
-returns-in_err-body-clause-roster g c up = refl
+pub returns-then-not-is_autocommit-clause-lasting : goal.returns-then-not-is_autocommit-clause-lasting
+returns-then-not-is_autocommit-clause-lasting g c up clean = tt
 
-pub returns-in_err-body-clause-was_up : goal.returns-in_err-body-clause-was_up
-returns-in_err-body-clause-was_up g c up = up
+pub returns-then-not-is_autocommit-clause-durable : goal.returns-then-not-is_autocommit-clause-durable
+returns-then-not-is_autocommit-clause-durable g c up left may = (up_left (state g.S.Store c.args.self.now.conn) c.settles.ensures up left may).desk (c.requires.desk up)
 
-pub returns-in_err-body-clause-was_clean : goal.returns-in_err-body-clause-was_clean
-returns-in_err-body-clause-was_clean g c clean = clean
+pub returns-in-Ok-clause-added : goal.returns-in-Ok-clause-added
+returns-in-Ok-clause-added g c up = with_message (state g.S.Store c.args.self.now.conn).now (state g.S.Store c.arrive-arrived.new.conn).now c.args.message.now c.requires.message (content_wired (state g.S.Store c.args.self.now.conn).now (state g.S.Store c.arrive-arrived.new.conn).now c.args.message.now c.args.text.now c.requires.text (c.in-Ok.ensures.arrived up))
 
-pub returns-in_err-body-clause-shuts : goal.returns-in_err-body-clause-shuts
-returns-in_err-body-clause-shuts g c up clean = inl up
+pub returns-in-Ok-clause-repeated : goal.returns-in-Ok-clause-repeated
+returns-in-Ok-clause-repeated g c up there = c.in-Ok.ensures.repeated up (held_wired (state g.S.Store c.args.self.now.conn).now c.args.message.now c.args.text.now c.requires.text there)
 
-pub returns-in_err-body-clause-counts : goal.returns-in_err-body-clause-counts
-returns-in_err-body-clause-counts g c = c.written.ensures.counts
+pub returns-in-Ok-clause-unchanged : goal.returns-in-Ok-clause-unchanged
+returns-in-Ok-clause-unchanged g c up = tt
 
-pub returns-in_err-body-clause-durable : goal.returns-in_err-body-clause-durable
-returns-in_err-body-clause-durable g c up left may = (up_left (state g.S.Store c.args.self.now.conn) c.settles.ensures up left may).desk (c.requires.desk up)
+pub returns-in-Ok-clause-roster : goal.returns-in-Ok-clause-roster
+returns-in-Ok-clause-roster g c up = ap (λ (d : Content). d.roster) (c.in-Ok.ensures.arrived up)
+
+pub returns-in-Ok-clause-desk : goal.returns-in-Ok-clause-desk
+returns-in-Ok-clause-desk g c up = arrival_keeps (state g.S.Store c.args.self.now.conn) (state g.S.Store c.arrive-arrived.new.conn) c.arrive-arrived.result c.requires.desk c.arrive-arrived.ensures.was_up c.arrive-arrived.ensures.desk c.arrive-arrived.ensures.others c.arrive-arrived.ensures.unchanged up
+
+pub returns-in-Ok-clause-was_up : goal.returns-in-Ok-clause-was_up
+returns-in-Ok-clause-was_up g c up = c.arrive-arrived.ensures.was_up up
+
+pub returns-in-Ok-clause-was_clean : goal.returns-in-Ok-clause-was_clean
+returns-in-Ok-clause-was_clean g c clean = c.arrive-arrived.ensures.was_clean clean
+
+pub returns-in-Ok-clause-shuts : goal.returns-in-Ok-clause-shuts
+returns-in-Ok-clause-shuts g c up clean = inl (c.in-Ok.ensures.up up clean)
+
+pub returns-in-Ok-clause-counts : goal.returns-in-Ok-clause-counts
+returns-in-Ok-clause-counts g c = le_refl _
+
+pub returns-in-Ok-clause-cause : goal.returns-in-Ok-clause-cause
+returns-in-Ok-clause-cause g c is = ok_no_err _ _ is
+
+pub returns-in-Ok-clause-up : goal.returns-in-Ok-clause-up
+returns-in-Ok-clause-up g c up clean = c.in-Ok.ensures.up up clean
+
+pub returns-in-Ok-clause-crash : goal.returns-in-Ok-clause-crash
+returns-in-Ok-clause-crash g c up clean left may = with_or_without (state g.S.Store c.args.self.now.conn) (state g.S.Store c.arrive-arrived.new.conn) c.settles.ensures up clean left may c.args.message.now c.requires.message (c.requires.desk up) (subst (λ t. Survives (state g.S.Store c.args.self.now.conn) (state g.S.Store c.arrive-arrived.new.conn) (ArrivesAt t (state g.S.Store c.args.self.now.conn).now)) c.requires.text (c.arrive-arrived.ensures.survives up))
+
+pub returns-in-Ok-clause-lasting : goal.returns-in-Ok-clause-lasting
+returns-in-Ok-clause-lasting g c up clean left may = let still = c.in-Ok.ensures.up up clean in arrival_lasts (state g.S.Store c.arrive-arrived.new.conn) c.settles-2.ensures still left may (state g.S.Store c.args.self.now.conn).now c.args.message.now c.requires.message (arrival_keeps (state g.S.Store c.args.self.now.conn) (state g.S.Store c.arrive-arrived.new.conn) c.arrive-arrived.result c.requires.desk c.arrive-arrived.ensures.was_up c.arrive-arrived.ensures.desk c.arrive-arrived.ensures.others c.arrive-arrived.ensures.unchanged still) (content_wired (state g.S.Store c.args.self.now.conn).now (state g.S.Store c.arrive-arrived.new.conn).now c.args.message.now c.args.text.now c.requires.text (c.in-Ok.ensures.arrived still))
+
+pub returns-in-Ok-clause-durable : goal.returns-in-Ok-clause-durable
+returns-in-Ok-clause-durable g c up left may = (up_left (state g.S.Store c.arrive-arrived.new.conn) c.settles-2.ensures up left may).desk (arrival_keeps (state g.S.Store c.args.self.now.conn) (state g.S.Store c.arrive-arrived.new.conn) c.arrive-arrived.result c.requires.desk c.arrive-arrived.ensures.was_up c.arrive-arrived.ensures.desk c.arrive-arrived.ensures.others c.arrive-arrived.ensures.unchanged up)
+
+pub returns-in-Err-clause-added : goal.returns-in-Err-clause-added
+returns-in-Err-clause-added g c up = tt
+
+pub returns-in-Err-clause-repeated : goal.returns-in-Err-clause-repeated
+returns-in-Err-clause-repeated g c up there = tt
+
+pub returns-in-Err-clause-unchanged : goal.returns-in-Err-clause-unchanged
+returns-in-Err-clause-unchanged g c up = c.in-Err.ensures.unchanged up
+
+pub returns-in-Err-clause-roster : goal.returns-in-Err-clause-roster
+returns-in-Err-clause-roster g c up = ap (λ (d : Database). (content_of d).roster) (c.in-Err.ensures.unchanged up)
+
+pub returns-in-Err-clause-desk : goal.returns-in-Err-clause-desk
+returns-in-Err-clause-desk g c up = arrival_keeps (state g.S.Store c.args.self.now.conn) (state g.S.Store c.arrive-arrived.new.conn) c.arrive-arrived.result c.requires.desk c.arrive-arrived.ensures.was_up c.arrive-arrived.ensures.desk c.arrive-arrived.ensures.others c.arrive-arrived.ensures.unchanged up
+
+pub returns-in-Err-clause-was_up : goal.returns-in-Err-clause-was_up
+returns-in-Err-clause-was_up g c up = c.arrive-arrived.ensures.was_up up
+
+pub returns-in-Err-clause-was_clean : goal.returns-in-Err-clause-was_clean
+returns-in-Err-clause-was_clean g c clean = c.arrive-arrived.ensures.was_clean clean
+
+pub returns-in-Err-clause-shuts : goal.returns-in-Err-clause-shuts
+returns-in-Err-clause-shuts g c up clean = inr c.told.ensures.failed
+
+pub returns-in-Err-clause-counts : goal.returns-in-Err-clause-counts
+returns-in-Err-clause-counts g c = c.told.ensures.counts
+
+pub returns-in-Err-clause-cause : goal.returns-in-Err-clause-cause
+returns-in-Err-clause-cause g c is = c.told.ensures.failed
+
+pub returns-in-Err-clause-up : goal.returns-in-Err-clause-up
+returns-in-Err-clause-up g c up clean = tt
+
+pub returns-in-Err-clause-crash : goal.returns-in-Err-clause-crash
+returns-in-Err-clause-crash g c up clean left may = with_or_without (state g.S.Store c.args.self.now.conn) (state g.S.Store c.arrive-arrived.new.conn) c.settles.ensures up clean left may c.args.message.now c.requires.message (c.requires.desk up) (subst (λ t. Survives (state g.S.Store c.args.self.now.conn) (state g.S.Store c.arrive-arrived.new.conn) (ArrivesAt t (state g.S.Store c.args.self.now.conn).now)) c.requires.text (c.arrive-arrived.ensures.survives up))
+
+pub returns-in-Err-clause-lasting : goal.returns-in-Err-clause-lasting
+returns-in-Err-clause-lasting g c up clean = tt
+
+pub returns-in-Err-clause-durable : goal.returns-in-Err-clause-durable
+returns-in-Err-clause-durable g c up left may = (up_left (state g.S.Store c.arrive-arrived.new.conn) c.settles-2.ensures up left may).desk (arrival_keeps (state g.S.Store c.args.self.now.conn) (state g.S.Store c.arrive-arrived.new.conn) c.arrive-arrived.result c.requires.desk c.arrive-arrived.ensures.was_up c.arrive-arrived.ensures.desk c.arrive-arrived.ensures.others c.arrive-arrived.ensures.unchanged up)

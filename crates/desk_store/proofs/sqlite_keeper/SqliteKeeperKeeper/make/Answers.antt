@@ -1,58 +1,9 @@
-use Rattle.std.proofs.Common.{inl, inr, le_refl, refl}
+use Rattle.std.proofs.Common.{ap, inl, inr, le_refl, refl}
 use Rattle.sqlite.specs.Held.{state}
-use Rattle.desk_store.proofs.LeftLemmas.{made_lasts, nothing_or_made, up_left}
-use Rattle.desk_store.proofs.MadeLemmas.{holds_nothing}
+use Rattle.desk_tables.specs.Stored.{Content}
+use Rattle.desk_store.proofs.FoundLemmas.{holds_nothing, made_kept, made_lasts, nothing_or_made, up_left}
 use Rattle.desk_store.proofs.OutcomeLemmas.{ok_no_err}
 use Rattle.desk_store.proofs.sqlite_keeper.SqliteKeeperKeeper.make.Goals as goal
-
-pub returns-then-not-is_autocommit-clause-shuts : goal.returns-then-not-is_autocommit-clause-shuts
-returns-then-not-is_autocommit-clause-shuts g c up clean = inl up
-
-pub returns-then-not-is_autocommit-clause-crash : goal.returns-then-not-is_autocommit-clause-crash
-returns-then-not-is_autocommit-clause-crash g c up clean left may = inl ((up_left (state g.S.Store c.args.self.now.conn) c.settles.ensures up left may).empty (c.requires up))
-
-pub returns-then-not-is_autocommit-clause-durable : goal.returns-then-not-is_autocommit-clause-durable
-returns-then-not-is_autocommit-clause-durable g c up left may = up_left (state g.S.Store c.args.self.now.conn) c.settles.ensures up left may
-
-pub returns-in-Ok-clause-made : goal.returns-in-Ok-clause-made
-returns-in-Ok-clause-made g c up = (c.in-Ok.ensures.made up).desk
-
-pub returns-in-Ok-clause-nothing : goal.returns-in-Ok-clause-nothing
-returns-in-Ok-clause-nothing g c up = holds_nothing (state g.S.Store c.create-made.new.conn).now _ (c.in-Ok.ensures.made up).content
-
-pub returns-in-Ok-clause-shuts : goal.returns-in-Ok-clause-shuts
-returns-in-Ok-clause-shuts g c up clean = inl (c.in-Ok.ensures.up up clean)
-
-pub returns-in-Ok-clause-crash : goal.returns-in-Ok-clause-crash
-returns-in-Ok-clause-crash g c up clean left may =
-    nothing_or_made (state g.S.Store c.args.self.now.conn) (state g.S.Store c.create-made.new.conn) c.settles.ensures up clean left may c.args.text.now (c.requires up) (c.create-made.ensures.survives up)
-
-pub returns-in-Ok-clause-was_up : goal.returns-in-Ok-clause-was_up
-returns-in-Ok-clause-was_up g c up = c.create-made.ensures.was_up up
-
-pub returns-in-Ok-clause-durable : goal.returns-in-Ok-clause-durable
-returns-in-Ok-clause-durable g c up left may = up_left (state g.S.Store c.create-made.new.conn) c.settles-2.ensures up left may
-
-pub returns-in-Err-clause-crash : goal.returns-in-Err-clause-crash
-returns-in-Err-clause-crash g c up clean left may =
-    nothing_or_made (state g.S.Store c.args.self.now.conn) (state g.S.Store c.create-made.new.conn) c.settles.ensures up clean left may c.args.text.now (c.requires up) (c.create-made.ensures.survives up)
-
-pub returns-in-Err-clause-was_up : goal.returns-in-Err-clause-was_up
-returns-in-Err-clause-was_up g c up = c.create-made.ensures.was_up up
-
-pub returns-in-Err-clause-durable : goal.returns-in-Err-clause-durable
-returns-in-Err-clause-durable g c up left may = up_left (state g.S.Store c.create-made.new.conn) c.settles-2.ensures up left may
-
-pub returns-in-Ok-clause-lasting : goal.returns-in-Ok-clause-lasting
-returns-in-Ok-clause-lasting g c up clean left may =
-    let still = c.in-Ok.ensures.up up clean in
-    made_lasts (state g.S.Store c.create-made.new.conn) c.args.text.now c.settles-2.ensures still (c.in-Ok.ensures.made still) left may
-
-pub returns-in-Err-clause-unmade : goal.returns-in-Err-clause-unmade
-returns-in-Err-clause-unmade g c up = c.in-Err.ensures.unmade up
-
-pub returns-in-Err-clause-shuts : goal.returns-in-Err-clause-shuts
-returns-in-Err-clause-shuts g c up clean = inr c.told.ensures.failed
 
 pub returns-then-not-is_autocommit-clause-made : goal.returns-then-not-is_autocommit-clause-made
 returns-then-not-is_autocommit-clause-made g c up = tt
@@ -72,23 +23,65 @@ returns-then-not-is_autocommit-clause-was_up g c up = up
 pub returns-then-not-is_autocommit-clause-was_clean : goal.returns-then-not-is_autocommit-clause-was_clean
 returns-then-not-is_autocommit-clause-was_clean g c clean = clean
 
+pub returns-then-not-is_autocommit-clause-shuts : goal.returns-then-not-is_autocommit-clause-shuts
+returns-then-not-is_autocommit-clause-shuts g c up clean = inl up
+
 pub returns-then-not-is_autocommit-clause-counts : goal.returns-then-not-is_autocommit-clause-counts
 returns-then-not-is_autocommit-clause-counts g c = c.storage.ensures.counts
 
 pub returns-then-not-is_autocommit-clause-cause : goal.returns-then-not-is_autocommit-clause-cause
 returns-then-not-is_autocommit-clause-cause g c is = c.storage.ensures.failed
 
+pub returns-then-not-is_autocommit-clause-up : goal.returns-then-not-is_autocommit-clause-up
+returns-then-not-is_autocommit-clause-up g c up clean = tt
+
+pub returns-then-not-is_autocommit-clause-crash : goal.returns-then-not-is_autocommit-clause-crash
+returns-then-not-is_autocommit-clause-crash g c up clean left may = inl ((up_left (state g.S.Store c.args.self.now.conn) c.settles.ensures up left may).empty (c.requires up))
+
 pub returns-then-not-is_autocommit-clause-lasting : goal.returns-then-not-is_autocommit-clause-lasting
 returns-then-not-is_autocommit-clause-lasting g c up clean = tt
+
+pub returns-then-not-is_autocommit-clause-durable : goal.returns-then-not-is_autocommit-clause-durable
+returns-then-not-is_autocommit-clause-durable g c up left may = up_left (state g.S.Store c.args.self.now.conn) c.settles.ensures up left may
+
+pub returns-in-Ok-clause-made : goal.returns-in-Ok-clause-made
+returns-in-Ok-clause-made g c up = made_kept c.args.text.now (state g.S.Store c.make-made.new.conn).now (c.in-Ok.ensures.made up).makes
+
+pub returns-in-Ok-clause-recorded : goal.returns-in-Ok-clause-recorded
+returns-in-Ok-clause-recorded g c up = ap (λ (d : Content). d.roster) (c.in-Ok.ensures.made up).makes.content
+
+pub returns-in-Ok-clause-nothing : goal.returns-in-Ok-clause-nothing
+returns-in-Ok-clause-nothing g c up = holds_nothing (state g.S.Store c.make-made.new.conn).now c.args.text.now (c.in-Ok.ensures.made up).makes.content
 
 pub returns-in-Ok-clause-unmade : goal.returns-in-Ok-clause-unmade
 returns-in-Ok-clause-unmade g c up = tt
 
+pub returns-in-Ok-clause-was_up : goal.returns-in-Ok-clause-was_up
+returns-in-Ok-clause-was_up g c up = c.make-made.ensures.was_up up
+
 pub returns-in-Ok-clause-was_clean : goal.returns-in-Ok-clause-was_clean
-returns-in-Ok-clause-was_clean g c clean = c.create-made.ensures.was_clean clean
+returns-in-Ok-clause-was_clean g c clean = c.make-made.ensures.was_clean clean
+
+pub returns-in-Ok-clause-shuts : goal.returns-in-Ok-clause-shuts
+returns-in-Ok-clause-shuts g c up clean = inl (c.in-Ok.ensures.up up clean)
 
 pub returns-in-Ok-clause-counts : goal.returns-in-Ok-clause-counts
 returns-in-Ok-clause-counts g c = le_refl _
+
+pub returns-in-Ok-clause-cause : goal.returns-in-Ok-clause-cause
+returns-in-Ok-clause-cause g c is = ok_no_err _ _ is
+
+pub returns-in-Ok-clause-up : goal.returns-in-Ok-clause-up
+returns-in-Ok-clause-up g c up clean = c.in-Ok.ensures.up up clean
+
+pub returns-in-Ok-clause-crash : goal.returns-in-Ok-clause-crash
+returns-in-Ok-clause-crash g c up clean left may = nothing_or_made (state g.S.Store c.args.self.now.conn) (state g.S.Store c.make-made.new.conn) c.settles.ensures up clean left may c.args.text.now (c.requires up) (c.make-made.ensures.survives up)
+
+pub returns-in-Ok-clause-lasting : goal.returns-in-Ok-clause-lasting
+returns-in-Ok-clause-lasting g c up clean left may = let still = c.in-Ok.ensures.up up clean in made_lasts (state g.S.Store c.make-made.new.conn) c.settles-2.ensures still left may c.args.text.now (c.in-Ok.ensures.made still).makes
+
+pub returns-in-Ok-clause-durable : goal.returns-in-Ok-clause-durable
+returns-in-Ok-clause-durable g c up left may = up_left (state g.S.Store c.make-made.new.conn) c.settles-2.ensures up left may
 
 pub returns-in-Err-clause-made : goal.returns-in-Err-clause-made
 returns-in-Err-clause-made g c up = tt
@@ -99,8 +92,17 @@ returns-in-Err-clause-recorded g c up = tt
 pub returns-in-Err-clause-nothing : goal.returns-in-Err-clause-nothing
 returns-in-Err-clause-nothing g c up = tt
 
+pub returns-in-Err-clause-unmade : goal.returns-in-Err-clause-unmade
+returns-in-Err-clause-unmade g c up = c.in-Err.ensures.unmade up
+
+pub returns-in-Err-clause-was_up : goal.returns-in-Err-clause-was_up
+returns-in-Err-clause-was_up g c up = c.make-made.ensures.was_up up
+
 pub returns-in-Err-clause-was_clean : goal.returns-in-Err-clause-was_clean
-returns-in-Err-clause-was_clean g c clean = c.create-made.ensures.was_clean clean
+returns-in-Err-clause-was_clean g c clean = c.make-made.ensures.was_clean clean
+
+pub returns-in-Err-clause-shuts : goal.returns-in-Err-clause-shuts
+returns-in-Err-clause-shuts g c up clean = inr c.told.ensures.failed
 
 pub returns-in-Err-clause-counts : goal.returns-in-Err-clause-counts
 returns-in-Err-clause-counts g c = c.told.ensures.counts
@@ -108,8 +110,14 @@ returns-in-Err-clause-counts g c = c.told.ensures.counts
 pub returns-in-Err-clause-cause : goal.returns-in-Err-clause-cause
 returns-in-Err-clause-cause g c is = c.told.ensures.failed
 
+pub returns-in-Err-clause-up : goal.returns-in-Err-clause-up
+returns-in-Err-clause-up g c up clean = tt
+
+pub returns-in-Err-clause-crash : goal.returns-in-Err-clause-crash
+returns-in-Err-clause-crash g c up clean left may = nothing_or_made (state g.S.Store c.args.self.now.conn) (state g.S.Store c.make-made.new.conn) c.settles.ensures up clean left may c.args.text.now (c.requires up) (c.make-made.ensures.survives up)
+
 pub returns-in-Err-clause-lasting : goal.returns-in-Err-clause-lasting
 returns-in-Err-clause-lasting g c up clean = tt
 
-pub returns-in-Ok-clause-cause : goal.returns-in-Ok-clause-cause
-returns-in-Ok-clause-cause g c is = ok_no_err _ _ is
+pub returns-in-Err-clause-durable : goal.returns-in-Err-clause-durable
+returns-in-Err-clause-durable g c up left may = up_left (state g.S.Store c.make-made.new.conn) c.settles-2.ensures up left may

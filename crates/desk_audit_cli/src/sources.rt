@@ -1,0 +1,74 @@
+//! The messages of the standard input.
+
+use crate::trouble::Trouble;
+use desk::{Desk, MemoryKeeper, Refusal};
+use std::alloc::Global;
+use std::io::{BufReader, Read, Write};
+use std::{io, mem};
+
+/// All of the standard input.
+fn whole(rt: &HostRuntime) -> Result<Vec<u8>, Trouble> {
+    let Ok(mut input) = BufReader::new(rt.alloc(), rt.stdin()) else {
+        return Err(Trouble::NoMemory);
+    };
+    let mut bytes = Vec::new(rt.alloc());
+    match input.read_to_end(&mut bytes) {
+        Ok(_) => Ok(bytes),
+        Err(error) if error.kind() == io::ErrorKind::OutOfMemory => Err(Trouble::NoMemory),
+        Err(_) => Err(Trouble::FileFailed),
+    }
+}
+
+/// The lines of the bytes, and what stands after the last newline, unless that is nothing.
+fn lines(alloc: Global, bytes: &[u8]) -> Result<Vec<Vec<u8>>, Trouble> {
+    let mut lines = Vec::new(alloc);
+    let mut line = Vec::new(alloc);
+    for byte in bytes {
+        if *byte == b'\n' {
+            lines.push(mem::replace(&mut line, Vec::new(alloc)))?;
+        } else {
+            line.push(*byte)?;
+        }
+    }
+    if !line.is_empty() {
+        lines.push(line)?;
+    }
+    Ok(lines)
+}
+
+/// Says on the standard error why the desk does not take a line.
+fn complain(rt: &HostRuntime, number: usize, refusal: Refusal) -> Result<(), Trouble> {
+    let mut err = rt.stderr();
+    if writeln!(err, "line {number}: {refusal}").is_err() {
+        return Err(Trouble::FileFailed);
+    }
+    Ok(())
+}
+
+/// Delivers a line to the desk. One that the desk does not take is named; for want of memory nothing can be told.
+fn take(
+    rt: &HostRuntime,
+    desk: &mut Desk<MemoryKeeper>,
+    relay: &str,
+    number: usize,
+    line: &[u8],
+) -> Result<(), Trouble> {
+    match desk.deliver(relay, line) {
+        Ok(_) => Ok(()),
+        Err(refusal) => match refusal {
+            Refusal::NoMemory | Refusal::Storage => Err(refusal.into()),
+            _ => complain(rt, number, refusal),
+        },
+    }
+}
+
+/// Delivers the lines of the standard input to the desk, as those of the roster's first relay.
+pub(crate) fn take_lines(rt: &HostRuntime, desk: &mut Desk<MemoryKeeper>) -> Result<(), Trouble> {
+    let relay = String::from_str(rt.alloc(), desk.roster().first_relay().as_str())?;
+    let bytes = whole(rt)?;
+    let lines = lines(rt.alloc(), bytes.as_slice())?;
+    for (index, line) in lines.iter().enumerate() {
+        take(rt, desk, relay.as_str(), index.saturating_add(1), line)?;
+    }
+    Ok(())
+}

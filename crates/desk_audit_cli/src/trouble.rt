@@ -1,0 +1,82 @@
+//! Why the program gives no answer.
+
+use desk_audit::WordsFault;
+use desk_commands::Refusal;
+use std::alloc::{AllocError, AllocFailed};
+use std::fmt;
+use sudo_words::NoMemory;
+
+/// Why there is no answer.
+#[derive(Drop)]
+pub(crate) enum Trouble {
+    /// The command line is not the program's.
+    Usage,
+    /// A word of the command line has not the form that its place asks for.
+    BadWord,
+    /// Memory ran out.
+    NoMemory,
+    /// A file could not be read, or an answer not be written.
+    FileFailed,
+    /// There is no store at this path.
+    NoStore(String),
+    /// The store at this path changed each time that it was read.
+    Busy(String),
+    /// What `desk` would refuse as well.
+    Refused(Refusal),
+}
+
+impl fmt::Display for Trouble {
+    fn fmt<W: fmt::Write>(&self, f: &mut fmt::Formatter<W>) -> fmt::Result {
+        match self {
+            Trouble::Usage => f.write_str(
+                "usage: desk-audit ROSTER BASE STORE [--from AT] [--until AT] [--host H] [--person P] [--json]",
+            ),
+            Trouble::BadWord => f.write_str("F2 BadWord"),
+            Trouble::NoMemory => f.write_str("NoMemory"),
+            Trouble::FileFailed => f.write_str("F1 FileFailed"),
+            Trouble::NoStore(path) => write!(f, "no store here: {path}"),
+            Trouble::Busy(path) => write!(f, "the store is written to: {path}"),
+            Trouble::Refused(refusal) => write!(f, "{refusal}"),
+        }
+    }
+}
+
+impl From<WordsFault> for Trouble {
+    fn from(e: WordsFault) -> Trouble {
+        match e {
+            WordsFault::Help | WordsFault::Usage => Trouble::Usage,
+            WordsFault::BadWord => Trouble::BadWord,
+            WordsFault::NoMemory => Trouble::NoMemory,
+        }
+    }
+}
+
+impl From<Refusal> for Trouble {
+    fn from(e: Refusal) -> Trouble {
+        Trouble::Refused(e)
+    }
+}
+
+impl From<desk::Refusal> for Trouble {
+    fn from(e: desk::Refusal) -> Trouble {
+        Trouble::Refused(Refusal::Desk(e))
+    }
+}
+
+impl From<NoMemory> for Trouble {
+    fn from(_e: NoMemory) -> Trouble {
+        Trouble::NoMemory
+    }
+}
+
+impl From<AllocError> for Trouble {
+    fn from(_e: AllocError) -> Trouble {
+        Trouble::NoMemory
+    }
+}
+
+impl<T: Drop> From<AllocFailed<T>> for Trouble {
+    fn from(_e: AllocFailed<T>) -> Trouble {
+        Trouble::NoMemory
+    }
+}

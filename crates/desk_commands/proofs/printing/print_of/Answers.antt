@@ -1,0 +1,63 @@
+use Rattle.std.proofs.Common.{◌≡◌, ◌∙◌, List, Err, ap, string_bytes, subst, sym}
+use Rattle.sudo_policy.specs.declared.entry.Entry.{Entry}
+use Rattle.roster.specs.Fields.{Reading}
+use Rattle.desk_store.specs.Keeping.{HasFailed}
+use Rattle.desk_store.specs.Sets.{SameSet}
+use Rattle.desk.proofs.ServingLemmas.{failed_later}
+use Rattle.desk_commands.specs.Printing.{PrintsHost}
+use Rattle.desk_commands.specs.Taking.{HeldWith, Takes}
+use Rattle.desk_commands.specs.declared.refusal.Refusal.TheVariants as reasons
+use Rattle.desk_commands.specs.private.Outcomes.{EndsFile}
+use Rattle.desk_commands.proofs.PrintLemmas.{ends_file, prints}
+use Rattle.desk_jobs.specs.declared.status.Status.TheVariants.{Done}
+use Rattle.desk_commands.proofs.printing.print_of.Goals as goal
+
+pub returns-in-Ok-clause-found : goal.returns-in-Ok-clause-found
+returns-in-Ok-clause-found g c =
+    let K = g.K.Keeper in
+    let laws = g.met.K.Keeper in
+    let input = g.R.Read.remaining c.args.input.now in
+    let old = c.args.desk.now in
+    let mid = c.take_input.new.desk in
+    let new = c.file_of.new.desk in
+    let taking = c.in_ok-take_input.ensures.taken in
+    let same_roster : mid.roster ≡ old.roster = c.in_ok-take_input.ensures.roster in
+    let same_base : mid.base ≡ old.base = c.in_ok-take_input.ensures.base in
+    let taken : Takes c.args.store.now mid.roster.says input taking.0 taking.1 =
+    subst (λ (r : Reading). Takes c.args.store.now r.says input taking.0 taking.1) (sym same_roster) taking.2 in
+    let held : K.is_up mid.keeper → SameSet (HeldWith mid.roster.says taking.0 (K.holds old.keeper)) (K.holds mid.keeper) =
+    subst (λ (r : Reading). K.is_up mid.keeper → SameSet (HeldWith r.says taking.0 (K.holds old.keeper)) (K.holds mid.keeper)) (sym same_roster) taking.4 in
+    let of_mid = prints mid.roster.says mid.base c.args.store.now input (K.holds old.keeper) (K.holds mid.keeper) (K.holds new.keeper)
+    (K.is_up new.keeper × K.is_desk new.keeper) (K.is_up new.keeper) (K.is_up mid.keeper) taking.0 taking.1 taken held c.args.host.now c.args.after
+    c.file_of.result c.in-Ok.text (string_bytes c.in-Ok.text) (λ known. known.0) c.file_of.ensures.served.up c.in-Ok.is c.file_of.ensures.unknown
+    (λ set up lists. c.in-Ok.ensures.printed set up lists) (λ set up lists. c.in-Ok.ensures.rights set up lists)
+    (λ known. let same = c.file_of.ensures.same known.0 in
+    laws.stays_set mid.keeper new.keeper same (laws.stays_desk new.keeper mid.keeper (laws.same_back mid.keeper new.keeper same) known.1)) in (
+      taking.1,
+      subst (λ (b : List Entry). PrintsHost old.roster.says b c.args.store.now c.args.host.now c.args.after (K.holds old.keeper) (K.holds new.keeper)
+          (K.is_up new.keeper × K.is_desk new.keeper) input Done (string_bytes c.in-Ok.text) taking.1) same_base
+          (subst (λ (r : Reading). PrintsHost r.says mid.base c.args.store.now c.args.host.now c.args.after (K.holds old.keeper) (K.holds new.keeper)
+          (K.is_up new.keeper × K.is_desk new.keeper) input Done (string_bytes c.in-Ok.text) taking.1) same_roster of_mid),
+      taking.3,
+    )
+
+pub returns-in-Err-clause-cause : goal.returns-in-Err-clause-cause
+returns-in-Err-clause-cause g c =
+    let K = g.K.Keeper in
+    let input = g.R.Read.remaining c.args.input.now in
+    let old = c.args.desk.now in
+    let mid = c.take_input.new.desk in
+    let new = c.file_of.new.desk in
+    let taking = c.in_ok-take_input.ensures.taken in
+    let same_roster : mid.roster ≡ old.roster = c.in_ok-take_input.ensures.roster in
+    let taken : Takes c.args.store.now mid.roster.says input taking.0 taking.1 =
+    subst (λ (r : Reading). Takes c.args.store.now r.says input taking.0 taking.1) (sym same_roster) taking.2 in
+    let held : K.is_up mid.keeper → SameSet (HeldWith mid.roster.says taking.0 (K.holds old.keeper)) (K.holds mid.keeper) =
+    subst (λ (r : Reading). K.is_up mid.keeper → SameSet (HeldWith r.says taking.0 (K.holds old.keeper)) (K.holds mid.keeper)) (sym same_roster) taking.4 in
+    subst (λ (r : Reading). EndsFile r.says c.args.store.now c.args.host.now c.args.after (K.holds old.keeper) (K.is_up new.keeper)
+    (HasFailed (K.failures old.keeper) (K.failures new.keeper)) input (reasons.Desk c.in-Err.refusal)) same_roster
+    (ends_file mid.roster.says mid.base c.args.store.now input (K.holds old.keeper) (K.holds mid.keeper) (K.holds new.keeper)
+    (K.is_up new.keeper) (K.is_up new.keeper) (K.is_up mid.keeper) taking.0 taking.1 taken held c.args.host.now c.args.after (HasFailed (K.failures old.keeper) (K.failures new.keeper))
+    c.file_of.result c.in-Err.refusal c.file_of.ensures.served.up c.in-Err.is c.file_of.ensures.unknown
+    (λ set lines up lists are few. c.in-Err.ensures.few set lines up lists are few) c.in-Err.ensures.err
+    (λ storage. failed_later _ _ _ c.take_input.ensures.served.counts (c.file_of.ensures.cause (c.in-Err.is ∙ ap Err storage))))

@@ -1,0 +1,36 @@
+-- What a job finds at a keeper, and what it leaves there: as far as its answer and its refusal speak of it.
+use Rattle.std.specs.Prelude.{◌⊎◌, ℕ, List}
+use Rattle.messages.specs.declared.message.Message.{Message}
+use Rattle.desk_store.specs.Keeping.{HasFailed}
+
+-- What a keeper keeps: nothing of a desk's, a desk of this roster's text, a desk of an older form, or something else; and a desk's messages.
+pub record Keeps : Type 1 where
+  pub empty : Type 0
+  pub desk : Type 0
+  pub old : Type 0
+  pub roster : List ℕ
+  pub holds : Message → Type 0
+
+-- What it keeps as the job begins and as it ends, and what is known of it then: it is up; its count of failures rose or stands at its greatest.
+pub record Kept : Type 1 where
+  pub before : Keeps
+  pub after : Keeps
+  pub up : Type 0
+  pub failed : Type 0
+
+-- the same, by what a keeper's contract says of it
+abbrev pub kept : {K : Type 0} → (is_up is_empty is_desk is_old : K → Type 0) → (roster : K → List ℕ) → (holds : K → Message → Type 0) → (failures : K → ℕ)
+    → (before after : K) → Kept
+kept is_up is_empty is_desk is_old roster holds failures before after = record {
+  before = record { empty = is_empty before; desk = is_desk before; old = is_old before; roster = roster before; holds = holds before };
+  after = record { empty = is_empty after; desk = is_desk after; old = is_old after; roster = roster after; holds = holds after };
+  up = is_up after;
+  failed = HasFailed (failures before) (failures after);
+}
+
+-- the messages of a desk, of either form, if one is kept: none, where none is
+abbrev pub held_in : (Desk Old : Type 0) → (holds : Message → Type 0) → Message → Type 0
+held_in Desk Old holds message = (Desk ⊎ Old) × holds message
+
+abbrev pub held : Keeps → Message → Type 0
+held k = held_in k.desk k.old k.holds

@@ -1,0 +1,2 @@
+-- What only private clauses and proofs cite: no public contract speaks of it.
+pub mod Outcomes

@@ -1,0 +1,63 @@
+//! Giving a desk another roster.
+
+ghost use Rattle.std.specs.Prelude.{◌≡◌, ◌∷◌, ℕ, List, Option, IfOk, codes, map, string_bytes};
+ghost use Rattle.desk.specs.private.Serving.{IsServed};
+ghost use Rattle.desk_commands.specs.Kept.{kept};
+ghost use Rattle.desk_commands.specs.private.Outcomes.{IsOutcome};
+ghost use Rattle.desk_jobs.specs.declared.status.Status.TheVariants.{Done};
+ghost use Rattle.desk_jobs.specs.declared.task.Job.TheVariants as jobs;
+ghost use Rattle.desk_jobs.specs.declared.task.Places.{Places as Parts};
+
+use crate::answer::Answer;
+use crate::opening::rebuild_over;
+use crate::refusal::Refusal;
+use desk::Keeper;
+use desk_jobs::Status;
+use std::alloc::{AllocError, Global};
+
+/// What is answered where it is done.
+fn ok(alloc: Global) -> Result<Answer, AllocError>
+    ensures { IfOk result (λ a. (a.status ≡ Done) × (string_bytes a.text ≡ codes "ok\n")) }
+{
+    Ok(Answer {
+        text: String::from_str(alloc, "ok\n")?,
+        status: Status::Done,
+    })
+}
+
+/// Gives the desk that the keeper keeps the roster of the first file, and answers `ok`; and the keeper. The answer is made first: once the desk is
+/// rebuilt, no want of memory refuses it.
+fn rebuilt<K: Keeper>(
+    alloc: Global,
+    roster: &[u8],
+    base: &[u8],
+    keeper: K,
+) -> (Result<Answer, Refusal>, K)
+    ensures outcome { (places : Parts) (more : List (List ℕ)) (input err : Option (List ℕ)) → IsOutcome (jobs.Rebuild places) (roster.now ∷ base.now ∷ more)
+        (kept K.is_up K.is_empty K.is_desk K.is_old K.roster K.holds K.failures keeper result.1) input result.0 err err }
+    ensures served { IsServed (K.is_up keeper) (K.is_clean keeper) (K.is_up result.1) (K.is_clean result.1) (K.failures keeper) (K.failures result.1) }
+{
+    let Ok(answer) = ok(alloc) else {
+        return (Err(Refusal::NoMemory), keeper);
+    };
+    match rebuild_over(alloc, roster, base, keeper) {
+        Ok(desk) => (Ok(answer), desk.into_keeper()),
+        Err((refusal, keeper)) => (Err(refusal), keeper),
+    }
+}
+
+/// The same, over the job's files.
+pub fn rebuild_desk<K: Keeper>(
+    alloc: Global,
+    files: &[Vec<u8>],
+    keeper: K,
+) -> (Result<Answer, Refusal>, K)
+    ensures outcome { (places : Parts) (input err : Option (List ℕ)) → IsOutcome (jobs.Rebuild places) (map (λ f. f.items) files.now)
+        (kept K.is_up K.is_empty K.is_desk K.is_old K.roster K.holds K.failures keeper result.1) input result.0 err err }
+    ensures served { IsServed (K.is_up keeper) (K.is_clean keeper) (K.is_up result.1) (K.is_clean result.1) (K.failures keeper) (K.failures result.1) }
+{
+    match files {
+        [roster, base, ..] => rebuilt(alloc, roster.as_slice(), base.as_slice(), keeper),
+        _ => (Err(Refusal::FileFailed), keeper),
+    }
+}

@@ -1,0 +1,6 @@
+-- the statements
+pub mod PartLemmas
+pub mod EmptyLemmas
+-- the transaction
+pub mod PrepareLemmas
+pub mod MoveLemmas

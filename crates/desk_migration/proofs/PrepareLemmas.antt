@@ -1,0 +1,163 @@
+-- An older desk's tables, emptied and with `verdicts` beside, are a desk's of today.
+use Rattle.std.proofs.Common.{◌≡◌, ◌≢◌, ◌++◌, [], ◌∷◌, length, codes, sym, ap, subst, ◌∙◌, arith}
+use Rattle.std.specs.List.{AllByRecursion}
+use Rattle.sqlite.specs.Schema.{Schema}
+use Rattle.sqlite.specs.Table.{Table}
+use Rattle.sqlite.specs.Change.{next_tree}
+use Rattle.sqlite.specs.Effect.{Database}
+use Rattle.sqlite.specs.State.{State}
+use Rattle.sqlite_rules.specs.Lists.{Has}
+use Rattle.sqlite_rules.proofs.ListLemmas.{all_has}
+use Rattle.desk_tables.specs.Kept.{IsForeign, IsTidy, table_in}
+use Rattle.desk_tables.specs.Stored.{Finds, IsUnreferred, tree_of}
+use Rattle.desk_tables.proofs.AddLemmas.{all_at}
+use Rattle.desk_tables.proofs.StepLemmas.{keyed_none, neat_none}
+use Rattle.desk_schema.specs.declared.part.Part.{Part}
+use Rattle.desk_schema.specs.declared.part.Part.TheVariants as part
+use Rattle.desk_schema.specs.Migratable.{IsMigratable}
+use Rattle.desk_schema.specs.Parts.{name_of, table_at}
+use Rattle.desk_schema.specs.Shapes.{FindsPart, IsOld, Lacks}
+use Rattle.desk_schema.specs.private.Making.{Adds, AddsPart, Grows, HasEmpty}
+use Rattle.desk_schema.proofs.GrowLemmas.{grows_more, same_itself}
+use Rattle.desk_schema.proofs.Grown.{finds_new, finds_still}
+use Rattle.desk_schema.proofs.MadeLemmas.{alone, append_none, bare, keeps_itself, none_in}
+use Rattle.desk_schema.proofs.RecognizedLemmas.{tree_is}
+use Rattle.desk_schema.proofs.ShapeLemmas.{desk_of, tree_in}
+use Rattle.desk_migration.specs.Migrated.{IsBeside}
+use Rattle.desk_migration.specs.private.Moving.{Emptied, EmptiesAll, Prepared, Prepares}
+use Rattle.desk_migration.proofs.PartLemmas.{apart, below_next, has_got, mark_of}
+
+has_empty : (b : Database) (p : Part) (it : FindsPart b.schema p) → table_in b (name_of p) ≡ [] → IsUnreferred b.schema (tree_of b.schema (name_of p)) → HasEmpty b p
+has_empty b p it none alone' = record {
+  at = it.0;
+  tree = it.1;
+  finds = it.2;
+  empty = ap b.trees (sym (tree_in b.schema p it)) ∙ none;
+  alone = subst (IsUnreferred b.schema) (tree_in b.schema p it) alone';
+}
+
+module _ (b c : Database) (adds : Adds (table_at part.Verdicts 0) b c) where
+  -- a table that is found is found still, in its tree
+  found_still : (p : Part) → FindsPart b.schema p → FindsPart c.schema p
+  found_still p it = (it.0, it.1, subst (λ (s : Schema). Finds s (name_of p) it.0 (table_at p it.1)) (sym adds.schema) (finds_still b.schema (table_at part.Verdicts 0) (name_of p) it.0 (table_at p it.1) it.2))
+
+  tree_still : (p : Part) → FindsPart b.schema p → tree_of c.schema (name_of p) ≡ tree_of b.schema (name_of p)
+  unfolding found_still
+  tree_still p it = tree_in c.schema p (found_still p it) ∙ sym (tree_in b.schema p it)
+
+  rows_still : (p : Part) → FindsPart b.schema p → table_in c (name_of p) ≡ table_in b (name_of p)
+  rows_still p it =
+      let tree : (table_at p it.1).tree ≡ tree_of b.schema (name_of p) = tree_is p it.1 ∙ sym (tree_in b.schema p it) in
+      ap c.trees (tree_still p it ∙ sym tree) ∙ all_at (λ (t : Table). c.trees t.tree ≡ b.trees t.tree) b.schema.tables it.0 (table_at p it.1) it.2.has adds.others ∙ ap b.trees tree
+
+  -- the new table is found behind them
+  fresh : Lacks b.schema part.Verdicts → tree_of c.schema (codes "verdicts") ≡ next_tree b.schema
+  fresh lacks = tree_in c.schema part.Verdicts (
+    length b.schema.tables,
+    next_tree b.schema,
+    subst (λ (s : Schema). Finds s (codes "verdicts") (length b.schema.tables) (table_at part.Verdicts (next_tree b.schema))) (sym adds.schema)
+        (finds_new b.schema (table_at part.Verdicts 0) (codes "verdicts") lacks.table (same_itself part.Verdicts 0) adds.stored),
+  )
+
+module _ (a b c : Database) (was : IsOld a.schema) (may_a : IsMigratable a.schema) (e : EmptiesAll a b) (adds : Adds (table_at part.Verdicts 0) b c) where
+  old : IsOld b.schema
+  old = subst IsOld (sym e.schema) was
+
+  may : IsMigratable b.schema
+  may = subst IsMigratable (sym e.schema) may_a
+
+  begins : Grows (part.Desk ∷ part.Marks ∷ part.Parked ∷ part.Names ∷ []) (part.Verdicts ∷ []) b b
+  begins = record {
+    has = (
+      has_empty b part.Desk old.common.desk e.empty.0 may.desk,
+      (has_empty b part.Marks old.marks e.empty.1.0 may.marks, (has_empty b part.Parked old.common.parked e.empty.1.1.0 may.parked, (has_empty b part.Names old.common.names e.empty.1.1.1.0 may.names, tt))),
+    );
+    open' = (record { lacks = old.verdicts; unnamed = may.verdicts }, tt);
+    counted = may.counted;
+    kept = keeps_itself b.schema.tables b.trees;
+    more = [];
+    tables = append_none b.schema.tables;
+  }
+
+  g : Grows (part.Verdicts ∷ part.Desk ∷ part.Marks ∷ part.Parked ∷ part.Names ∷ []) [] b c
+  g = grows_more part.Verdicts (part.Desk ∷ part.Marks ∷ part.Parked ∷ part.Names ∷ []) [] b b c tt begins adds
+
+  v : HasEmpty c part.Verdicts
+  v = g.has.0
+
+  d : HasEmpty c part.Desk
+  d = g.has.1.0
+
+  k : HasEmpty c part.Marks
+  k = g.has.1.1.0
+
+  p : HasEmpty c part.Parked
+  p = g.has.1.1.1.0
+
+  n : HasEmpty c part.Names
+  n = g.has.1.1.1.1.0
+
+  tidy : IsTidy c
+  tidy = record {
+    desk = desk_of c.schema
+        (record { desk = (d.at, d.tree, d.finds); messages = found_still b c adds part.Messages old.common.messages; names = (n.at, n.tree, n.finds); parked = (p.at, p.tree, p.finds) })
+        (v.at, v.tree, v.finds) (alone c part.Desk d) (alone c part.Names n) (alone c part.Verdicts v) (alone c part.Parked p);
+    names = neat_none 1 _ (none_in _ (bare c part.Names n));
+    verdicts = keyed_none _ (none_in _ (bare c part.Verdicts v));
+    parked = neat_none 2 _ (none_in _ (bare c part.Parked p));
+  }
+
+  -- ---- the tables that were there
+
+  there_now : (t : Table) → Has a.schema.tables t → Has b.schema.tables t
+  there_now t there = subst (λ (s : Schema). Has s.tables t) (sym e.schema) there
+
+  rows_kept : (t : Table) → Has a.schema.tables t → AllByRecursion (λ q. t.tree ≢ tree_of a.schema (name_of q)) (part.Desk ∷ part.Marks ∷ part.Parked ∷ part.Names ∷ []) → c.trees t.tree ≡ a.trees t.tree
+  rows_kept t there others = all_has (λ (u : Table). c.trees u.tree ≡ b.trees u.tree) b.schema.tables t adds.others (there_now t there) ∙ e.others t there others
+
+  messages_kept : table_in c (codes "messages") ≡ table_in a (codes "messages")
+  messages_kept =
+      let m = was.common.messages in
+      let tree = tree_in a.schema part.Messages m in
+      let other = λ (q : Part) (it : FindsPart a.schema q) (differ : mark_of part.Messages ≢ mark_of q). λ (same : m.1 ≡ tree_of a.schema (name_of q)). apart a.schema part.Messages q m it differ (tree ∙ same) in
+      let now : tree_of c.schema (codes "messages") ≡ m.1 = tree_still b c adds part.Messages old.common.messages ∙ ap (λ s. tree_of s (codes "messages")) e.schema ∙ tree in
+      ap c.trees now
+      ∙ rows_kept (table_at part.Messages m.1) (has_got a.schema.tables m.0 (table_at part.Messages m.1) m.2.has) (
+        other part.Desk was.common.desk (λ e. omega (arith, e)),
+        (other part.Marks was.marks (λ e. omega (arith, e)), (other part.Parked was.common.parked (λ e. omega (arith, e)), (other part.Names was.common.names (λ e. omega (arith, e)), tt))),
+      )
+      ∙ ap a.trees (sym tree)
+
+  foreign : (t : Table) → Has a.schema.tables t → IsBeside a.schema t.tree → IsForeign c.schema t.tree
+  foreign t there beside = record {
+    desk = λ same. beside.desk (same ∙ tree_before part.Desk old.common.desk);
+    messages = λ same. beside.messages (same ∙ tree_before part.Messages old.common.messages);
+    names = λ same. beside.names (same ∙ tree_before part.Names old.common.names);
+    verdicts = λ same. let low = below_next b.schema t (there_now t there) in let next : t.tree ≡ next_tree b.schema = same ∙ fresh b c adds old.verdicts in omega (arith, low, next);
+    parked = λ same. beside.parked (same ∙ tree_before part.Parked old.common.parked);
+  }
+    where
+      tree_before : (q : Part) → FindsPart b.schema q → tree_of c.schema (name_of q) ≡ tree_of a.schema (name_of q)
+      tree_before q it = tree_still b c adds q it ∙ ap (λ s. tree_of s (name_of q)) e.schema
+
+  pub prepares : Prepares a c
+  prepares = record {
+    tidy = tidy;
+    desk = bare c part.Desk d;
+    names = bare c part.Names n;
+    verdicts = bare c part.Verdicts v;
+    parked = bare c part.Parked p;
+    marks = record { at = k.at; tree = k.tree; finds = k.finds; empty = k.empty };
+    messages = messages_kept;
+    grown = (next_tree b.schema, ap (λ (s : Schema). s.tables) adds.schema ∙ ap (λ (s : Schema). s.tables ++ table_at part.Verdicts (next_tree b.schema) ∷ []) e.schema);
+    others = λ t there beside. rows_kept t there (beside.desk, (beside.marks, (beside.parked, (beside.names, tt))));
+    foreign = foreign;
+  }
+
+pub prepared : (a b c : State) → Emptied a b → AddsPart part.Verdicts b c → Prepared a c
+prepared a b c empties adds = record {
+  mode = adds.inside.mode;
+  prepares = λ was may.
+      let e = empties.empties was may in
+      prepares a.now b.now c.now was may e (adds.adds (subst IsOld (sym e.schema) was).verdicts (subst IsMigratable (sym e.schema) may).counted);
+}

@@ -1,0 +1,40 @@
+//! The tables of an older desk, emptied.
+
+ghost use Rattle.std.specs.Prelude.{◌≡◌, OnOk};
+ghost use Rattle.sqlite.specs.Held.{state};
+ghost use Rattle.desk_tables.specs.private.Stepping.{InStep};
+ghost use Rattle.desk_tables.specs.private.Steps.{IsStep};
+ghost use Rattle.desk_migration.specs.private.Clearing.{Cleared};
+ghost use Rattle.desk_migration.specs.private.Moving.{Emptied};
+
+use crate::statements::{delete, rows_left};
+use desk_schema::Part;
+use desk_tables::Fault;
+use sqlite::{Alter, Transaction};
+
+/// Empties the table. A row whose rowid is no whole number stays behind a DELETE: where one is left, it is refused.
+fn clear<S: Alter>(tx: &mut Transaction<'_, S>, part: Part) -> Result<(), Fault>
+    ensures same_reference { tx.new.conn.ghost_name ≡ tx.old.conn.ghost_name }
+    ensures cleared { InStep (state S.Store tx.old.conn.now) (state S.Store tx.new.conn.now) (λ a b. OnOk result (Cleared part a b)) }
+    ensures step { IsStep (state S.Store tx.old.conn.now) (state S.Store tx.new.conn.now) }
+{
+    delete(tx, part)?;
+    let rows = rows_left(tx, part)?;
+    if rows.is_empty() {
+        Ok(())
+    } else {
+        Err(Fault::Stray)
+    }
+}
+
+/// Empties the tables of an older desk, but its messages.
+pub(crate) fn clear_all<S: Alter>(tx: &mut Transaction<'_, S>) -> Result<(), Fault>
+    ensures same_reference { tx.new.conn.ghost_name ≡ tx.old.conn.ghost_name }
+    ensures emptied { InStep (state S.Store tx.old.conn.now) (state S.Store tx.new.conn.now) (λ a b. OnOk result (Emptied a b)) }
+    ensures step { IsStep (state S.Store tx.old.conn.now) (state S.Store tx.new.conn.now) }
+{
+    clear(tx, Part::Names)?;
+    clear(tx, Part::Parked)?;
+    clear(tx, Part::Marks)?;
+    clear(tx, Part::Desk)
+}

@@ -1,0 +1,45 @@
+//! An older desk's tables, made those of a desk of today, within a transaction.
+
+ghost use Rattle.std.specs.Prelude.{◌≡◌, ◌≢◌, AllPairs, Contains, OnOk};
+ghost use Rattle.sqlite.specs.Held.{state};
+ghost use Rattle.messages.specs.Wire.{IsMessage};
+ghost use Rattle.messages.specs.declared.message.Message.{Message as AnyMessage};
+ghost use Rattle.desk_tables.specs.private.Stepping.{InStep};
+ghost use Rattle.desk_tables.specs.private.Steps.{IsStep};
+ghost use Rattle.desk_migration.specs.private.Moving.{Moved, Prepared};
+
+use crate::clearing::clear_all;
+use desk_schema::{Part, add_table};
+use desk_tables::{Fault, put_roster, refill_rows};
+use messages::Message;
+use sqlite::{Alter, Transaction};
+use std::alloc::Global;
+
+/// Makes the tables those of a desk of today, with no row but the messages.
+fn prepare<S: Alter>(tx: &mut Transaction<'_, S>) -> Result<(), Fault>
+    ensures same_reference { tx.new.conn.ghost_name ≡ tx.old.conn.ghost_name }
+    ensures prepared { InStep (state S.Store tx.old.conn.now) (state S.Store tx.new.conn.now) (λ a b. OnOk result (Prepared a b)) }
+    ensures step { IsStep (state S.Store tx.old.conn.now) (state S.Store tx.new.conn.now) }
+{
+    clear_all(tx)?;
+    add_table(tx, Part::Verdicts)?;
+    Ok(())
+}
+
+/// Makes the desk one of today, of this roster text, with the rows of its messages. Each message stands there once.
+pub(crate) fn move_within<S: Alter>(
+    alloc: Global,
+    tx: &mut Transaction<'_, S>,
+    roster: &str,
+    messages: &[Message],
+) -> Result<(), Fault>
+    requires once { AllPairs (λ m n. m ≢ n) messages.now }
+    requires messages { (m : AnyMessage) → Contains messages.now m → IsMessage m }
+    ensures same_reference { tx.new.conn.ghost_name ≡ tx.old.conn.ghost_name }
+    ensures moved { InStep (state S.Store tx.old.conn.now) (state S.Store tx.new.conn.now) (λ a b. OnOk result (Moved roster.now messages.now a b)) }
+    ensures step { IsStep (state S.Store tx.old.conn.now) (state S.Store tx.new.conn.now) }
+{
+    prepare(tx)?;
+    put_roster(tx, roster)?;
+    refill_rows(alloc, tx, messages)
+}

@@ -1,0 +1,19 @@
+-- the statements that read
+pub mod Rowids
+pub mod PartQueries
+pub mod ReadLemmas
+-- the tests
+pub mod Compared
+pub mod RowsCompared
+pub mod KeyedCompared
+pub mod PlainRows
+-- the tests by halving
+pub mod NameLemmas
+pub mod IndexLemmas
+pub mod OnceLemmas
+-- what was read is so of the database
+pub mod ReadingLemmas
+pub mod WholeRows
+pub mod Shown
+pub mod TextsShown
+pub mod OpenedLemmas

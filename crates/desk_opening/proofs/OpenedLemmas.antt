@@ -1,0 +1,133 @@
+-- What is judged of the rows that were read is so of the database.
+use Rattle.std.proofs.Common.{◌≡◌, ℕ, Bool, true, List, [], Contains, Option, None, Some, codes, unwrap_or, sym, ap, subst, ◌∙◌}
+use Rattle.std.specs.Prelude.{string_bytes}
+use Rattle.sqlite.specs.declared.types.Value.{Value}
+use Rattle.sqlite.specs.Order.{Row, column}
+use Rattle.sqlite.specs.Effect.{Database, IsDatabase}
+use Rattle.messages.specs.declared.message.Message.{Message}
+use Rattle.desk_tables.specs.Kept.{HoldsText, IsNoReal, table_in}
+use Rattle.desk_tables.specs.Rows.{AreRows, IsRow}
+use Rattle.desk_tables.specs.Sets.{SameSet}
+use Rattle.desk_tables.specs.Stored.{content_of}
+use Rattle.desk_tables.proofs.RowSets.{rows_same}
+use Rattle.desk_schema.specs.declared.part.Part.TheVariants as part
+use Rattle.desk_schema.specs.References.{AreUnreferred}
+use Rattle.desk_schema.specs.Shapes.{FindsPart, HasCommon, IsOld, IsUnmarked, IsVacant}
+use Rattle.desk_schema.proofs.ShapeLemmas.{desk_of}
+use Rattle.desk_opening.specs.declared.found.Found.{Found}
+use Rattle.desk_opening.specs.declared.found.Found.TheVariants as found
+use Rattle.desk_opening.specs.Opened.{FoundIn, HasContents, IsDamaged, IsDeskBesideRows, IsKept}
+use Rattle.desk_opening.specs.Rows.{HaveRowids}
+use Rattle.desk_opening.specs.private.Judged.{AreContents, IsWhole, Judges, JudgesOld, Strays}
+use Rattle.desk_opening.specs.private.Reading.{AreHeld}
+use Rattle.desk_opening.specs.private.Selecting.{ShowsRows, ShowsTexts}
+use Rattle.desk_opening.proofs.Shown.{SameRows, held_too, identified, recorded_two, same_back, same_rows_in}
+use Rattle.desk_opening.proofs.TextsShown.{contents_there, messages_listed, none_there}
+
+-- ---- parts that are there
+
+pub not_vacant : (s : Rattle.sqlite.specs.Schema.Schema) → HasCommon s → ¬ IsVacant s
+not_vacant s has vacant = let e : ◌≡◌ {A = Option ℕ} (Some has.desk.0) None = sym has.desk.2.named ∙ vacant.desk.table in absurd cc
+
+pub not_old : (s : Rattle.sqlite.specs.Schema.Schema) → FindsPart s part.Verdicts → ¬ IsOld s
+not_old s has old = let e : ◌≡◌ {A = Option ℕ} (Some has.0) None = sym has.2.named ∙ old.verdicts.table in absurd cc
+
+-- ---- a desk of today
+
+-- each of the rows that were read has a rowid
+pub rows_identified : (db : Database) → IsDatabase db → HasCommon db.schema → FindsPart db.schema part.Verdicts → (N V P : List Row) → ShowsRows db N V P → HaveRowids N × HaveRowids V × HaveRowids P
+rows_identified db sound common verdicts N V P rows =
+    (identified db sound part.Names tt common.names N rows.names_are, identified db sound part.Verdicts tt verdicts V rows.verdicts_are, identified db sound part.Parked tt common.parked P rows.parked_are)
+
+module _ (db : Database) (sound : IsDatabase db) (common : HasCommon db.schema) (verdicts : FindsPart db.schema part.Verdicts) (unmarked : IsUnmarked db)
+    (D M N V P : List Row) (alone : Bool) (texts : ShowsTexts db D M) (rows : ShowsRows db N V P) (tells : (alone ≡ true → AreUnreferred db.schema) × (AreUnreferred db.schema → alone ≡ true)) where
+  names_in : SameRows N (table_in db (codes "names"))
+  names_in = same_rows_in db sound part.Names tt common.names N rows.names_are
+
+  verdicts_in : SameRows V (table_in db (codes "verdicts"))
+  verdicts_in = same_rows_in db sound part.Verdicts tt verdicts V rows.verdicts_are
+
+  parked_in : SameRows P (table_in db (codes "parked"))
+  parked_in = same_rows_in db sound part.Parked tt common.parked P rows.parked_are
+
+  beside : (roster : List ℕ) → HasContents 2 db roster → IsDeskBesideRows db
+  beside roster contents = record { common = common; verdicts = verdicts; unmarked = unmarked; contents = (roster, contents) }
+
+  -- the number of a request is no floating-point number
+  module _ (S : Message → Type 0) (r : AreRows S (IsRow (table_in db (codes "names"))) (IsRow (table_in db (codes "verdicts"))) (IsRow (table_in db (codes "parked")))) where
+    whole_names : (x : List Value) → IsRow (table_in db (codes "names")) x → IsNoReal (column x 1)
+    whole_names x there = let it = r.names_each x there in subst (λ y. IsNoReal (column y 1)) (sym it.4) tt
+
+    whole_parked : (x : List Value) → IsRow (table_in db (codes "parked")) x → IsNoReal (column x 2)
+    whole_parked x there = let it = r.parked_each x there in subst (λ y. IsNoReal (column y 2)) (sym it.3) tt
+
+  kept : (roster : List ℕ) (all : List Message) → AreContents 2 D M roster all → IsWhole alone all N V P → IsKept db
+  kept roster all are whole =
+      let contents = contents_there 2 db D M texts roster all are in
+      let un = tells.0 whole.alone_is in
+      let held = held_too (λ m. Contains all m) N V P _ _ _ names_in verdicts_in parked_in whole.held in
+      let set : SameSet (λ m. Contains all m) (HoldsText db) = λ m. let both = messages_listed 2 db D M texts roster all are m in (both.1, both.0) in
+      record {
+        desk = record {
+          tidy = record {
+            desk = desk_of db.schema common verdicts un.desk un.names un.verdicts un.parked;
+            names = record { keyed = held.names; whole = whole_names (λ m. Contains all m) held.rows };
+            verdicts = held.verdicts;
+            parked = record { keyed = held.parked; whole = whole_parked (λ m. Contains all m) held.rows };
+          };
+          marked = (roster, sym (recorded_two (table_in db (codes "desk"))) ∙ contents.marked, contents.utf8);
+          texts = contents.texts;
+          only = contents.only;
+          rows = rows_same (λ m. Contains all m) (HoldsText db) set _ _ _ held.rows;
+        };
+        unmarked = unmarked;
+      }
+
+  whole : (roster : List ℕ) (all : List Message) → AreContents 2 D M roster all → IsKept db → IsWhole alone all N V P
+  whole roster all are is =
+      let desk = is.desk.tidy.desk in
+      let set : SameSet (HoldsText db) (λ m. Contains all m) = messages_listed 2 db D M texts roster all are in
+      let stored : AreHeld (λ m. Contains all m) (table_in db (codes "names")) (table_in db (codes "verdicts")) (table_in db (codes "parked")) = record {
+        rows = rows_same (HoldsText db) (λ m. Contains all m) set _ _ _ is.desk.rows;
+        names = is.desk.tidy.names.keyed;
+        verdicts = is.desk.tidy.verdicts;
+        parked = is.desk.tidy.parked.keyed;
+      } in
+      record {
+        alone_is = tells.1 (record { desk = desk.desk_alone; names = desk.names_alone; verdicts = desk.verdicts_alone; parked = desk.parked_alone });
+        held = held_too (λ m. Contains all m) _ _ _ N V P (same_back _ _ names_in) (same_back _ _ verdicts_in) (same_back _ _ parked_in) stored;
+      }
+
+  roster_is : (roster : List ℕ) → HasContents 2 db roster → (content_of db).roster ≡ roster
+  roster_is roster contents = ap (λ o. unwrap_or o []) (sym (recorded_two (table_in db (codes "desk"))) ∙ contents.marked)
+
+  pub found_in : (f : Found) → Judges D M N V P alone f → FoundIn db f
+  found_in found.Empty h = absurd h
+  found_in (found.Desk c) h = (
+    kept (string_bytes c.roster) c.messages.items h.0 h.1,
+    roster_is (string_bytes c.roster) (contents_there 2 db D M texts (string_bytes c.roster) c.messages.items h.0),
+    messages_listed 2 db D M texts (string_bytes c.roster) c.messages.items h.0,
+  )
+  found_in (found.Old c) h = absurd h
+  found_in found.NotADesk h = (
+    not_vacant db.schema common,
+    λ is. none_there 2 db D M texts h is.contents.0 is.contents.1,
+    λ old. not_old db.schema verdicts old.tables,
+  )
+
+  pub damaged_in : Strays D M N V P alone → IsDamaged db
+  damaged_in h = (beside h.0 (contents_there 2 db D M texts h.0 h.1 h.2), λ is. h.3 (whole h.0 h.1 h.2 is))
+
+-- ---- an older desk
+
+pub old_in : (db : Database) → IsOld db.schema → (D M : List Row) → ShowsTexts db D M → (f : Found) → JudgesOld D M f → FoundIn db f
+old_in db old D M texts found.Empty h = absurd h
+old_in db old D M texts (found.Desk c) h = absurd h
+old_in db old D M texts (found.Old c) h =
+    let contents = contents_there 1 db D M texts (string_bytes c.roster) c.messages.items h in
+    (record { tables = old; contents = (string_bytes c.roster, contents) }, contents.marked, messages_listed 1 db D M texts (string_bytes c.roster) c.messages.items h)
+old_in db old D M texts found.NotADesk h = (
+  not_vacant db.schema old.common,
+  λ is. not_old db.schema is.verdicts old,
+  λ is. none_there 1 db D M texts h is.contents.0 is.contents.1,
+)

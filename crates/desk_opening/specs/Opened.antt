@@ -1,0 +1,74 @@
+-- What a database is found to keep as it is opened.
+use Rattle.std.specs.Prelude.{◌≡◌, ◌&&◌, cond, false, true, Bool, ℕ, pos, List, [], ◌∷◌, Option, Some, None, codes, string_bytes, IsUtf8}
+use Rattle.std.specs.List.{list_any}
+use Rattle.std.specs.Ordering.{int_eq}
+use Rattle.sqlite.specs.declared.types.Value.{Value}
+use Rattle.sqlite.specs.declared.types.Value.TheVariants.{Null, Int, Real, Text, Blob}
+use Rattle.sqlite.specs.Order.{Row, column}
+use Rattle.sqlite.specs.Effect.{Database}
+use Rattle.desk_tables.specs.Kept.{HoldsText, IsDeskDatabase, table_in}
+use Rattle.desk_tables.specs.Sets.{Lists}
+use Rattle.desk_tables.specs.Stored.{IsWritten, content_of, has, is_stray, text_at}
+use Rattle.desk_schema.specs.declared.part.Part.TheVariants.{Verdicts}
+use Rattle.desk_schema.specs.Shapes.{FindsPart, HasCommon, IsOld, IsUnmarked, IsVacant}
+use Rattle.desk_opening.specs.declared.found.Found.{Found}
+use Rattle.desk_opening.specs.declared.found.Found.TheVariants.{Empty, Desk, Old, NotADesk}
+
+-- ---- the row of `desk`
+
+abbrev pub is_number : ℕ → Value → Bool
+is_number number Null = false
+is_number number (Int n) = int_eq n (pos number)
+is_number number (Real x) = false
+is_number number (Text t) = false
+is_number number (Blob b) = false
+
+-- the roster's text, where there is one row, and it has the id 1 and this schema
+abbrev pub recorded_as : ℕ → List Row → Option (List ℕ)
+recorded_as version [] = None
+recorded_as version (r ∷ []) = cond (is_number 1 (column r 0) && is_number version (column r 2)) (text_at (column r 3)) None
+recorded_as version (r ∷ s ∷ rs) = None
+
+-- ---- what is kept
+
+-- `desk` has its row, of this schema, and `messages` has texts of messages alone
+pub record HasContents (version : ℕ) (db : Database) (roster : List ℕ) : Type 0 where
+  pub marked : recorded_as version (table_in db (codes "desk")) ≡ Some roster
+  pub utf8 : IsUtf8 roster
+  pub texts : list_any is_stray (table_in db (codes "messages")) ≡ false
+  pub only : (text : List ℕ) → has (content_of db) text ≡ true → IsWritten text
+
+-- `messages` has texts of messages alone
+pub record HasTexts (db : Database) : Type 0 where
+  pub texts : list_any is_stray (table_in db (codes "messages")) ≡ false
+  pub only : (text : List ℕ) → has (content_of db) text ≡ true → IsWritten text
+
+-- A desk of today: its tables, each with the rows of its messages, and nothing in the `marks` of an older desk.
+pub record IsKept (db : Database) : Type 0 where
+  pub desk : IsDeskDatabase db
+  pub unmarked : IsUnmarked db
+
+-- Its tables are a desk's of today, and its texts too, whatever the rows that follow from these.
+pub record IsDeskBesideRows (db : Database) : Type 0 where
+  pub common : HasCommon db.schema
+  pub verdicts : FindsPart db.schema Verdicts
+  pub unmarked : IsUnmarked db
+  pub contents : (roster : List ℕ) × HasContents 2 db roster
+
+-- An older desk, of schema 1.
+pub record IsOldDesk (db : Database) : Type 0 where
+  pub tables : IsOld db.schema
+  pub contents : (roster : List ℕ) × HasContents 1 db roster
+
+-- ---- what is found
+
+-- what is told of a database
+abbrev pub FoundIn : Database → Found → Type 0
+FoundIn db Empty = IsVacant db.schema
+FoundIn db (Desk c) = IsKept db × ((content_of db).roster ≡ string_bytes c.roster) × Lists (HoldsText db) c.messages.items
+FoundIn db (Old c) = IsOldDesk db × (recorded_as 1 (table_in db (codes "desk")) ≡ Some (string_bytes c.roster)) × Lists (HoldsText db) c.messages.items
+FoundIn db NotADesk = (¬ IsVacant db.schema) × (¬ IsDeskBesideRows db) × (¬ IsOldDesk db)
+
+-- A desk's tables and texts are there, and the rows that follow from these, or foreign keys, are none that a desk writes.
+abbrev pub IsDamaged : Database → Type 0
+IsDamaged db = IsDeskBesideRows db × (¬ IsKept db)

@@ -1,0 +1,5 @@
+pub mod Compare
+pub mod Names
+pub mod Selecting
+pub mod Reading
+pub mod Judged

@@ -1,0 +1,63 @@
+-- What the rows that are read say, and what a call that reads leaves as it is.
+use Rattle.std.specs.Prelude.{◌≡◌, ◌≤◌, ◌&&◌, cond, List, [], ◌∷◌, ℕ, Contains, Option, None, length, map}
+use Rattle.sqlite.specs.declared.types.Value.{Value}
+use Rattle.sqlite.specs.declared.types.Value.TheVariants.{Text}
+use Rattle.sqlite.specs.Order.{Row, column}
+use Rattle.sqlite.specs.State.{HasCleanDisk, State, Survives}
+use Rattle.messages.specs.Wire.{wire, IsMessage}
+use Rattle.messages.specs.declared.message.Message.{Message}
+use Rattle.desk_tables.specs.Kept.{IsKeyed}
+use Rattle.desk_tables.specs.Rows.{AreRows, IsRow}
+use Rattle.desk_tables.specs.SqliteStates.{IsUp, Rests}
+use Rattle.desk_tables.specs.Stored.{IsWritten, text_at}
+use Rattle.desk_opening.specs.private.Compare.{is_number}
+
+-- ---- calls that read
+
+-- The database is as it was, and nothing is committed.
+pub record Reads (old new : State) : Type 0 where
+  pub rests : Rests new
+  pub was_up : IsUp new → IsUp old
+  pub was_clean : HasCleanDisk new → HasCleanDisk old
+  pub same : IsUp new → new.now ≡ old.now
+  pub survives : IsUp old → HasCleanDisk new → Survives old new (λ _. ⊥)
+
+-- ---- the desk's row
+
+-- the roster's text, of rows that show an id 1, this schema and the roster
+abbrev pub shown_mark : ℕ → List Row → Option (List ℕ)
+shown_mark version [] = None
+shown_mark version (r ∷ []) = cond (is_number 1 (column r 0) && is_number version (column r 1)) (text_at (column r 2)) None
+shown_mark version (r ∷ s ∷ rs) = None
+
+-- ---- the messages
+
+-- the value is no text of a message
+abbrev pub IsForeign : Value → Type 0
+IsForeign v = (text : List ℕ) → v ≡ Text text → ¬ IsWritten text
+
+abbrev pub body : Message → Value
+body m = Text (wire m)
+
+-- a message whose text is of the length that is read
+pub record IsKeepable (m : Message) : Type 0 where
+  pub message : IsMessage m
+  pub short : length (wire m) ≤ 16_384
+
+-- the first columns are the texts of these messages
+pub record AreBodies (rows : List Row) (messages : List Message) : Type 0 where
+  pub texts : map (λ r. column r 0) rows ≡ map body messages
+  pub only : (m : Message) → Contains messages m → IsKeepable m
+
+-- one of the first columns is no text of a message
+abbrev pub HasForeign : List Row → Type 0
+HasForeign rows = (r : Row) × Contains rows r × IsForeign (column r 0)
+
+-- ---- the rows of the other three
+
+-- they are those of the messages, and each has its own rowid
+pub record AreHeld (S : Message → Type 0) (N V P : List Row) : Type 0 where
+  pub rows : AreRows S (IsRow N) (IsRow V) (IsRow P)
+  pub names : IsKeyed N
+  pub verdicts : IsKeyed V
+  pub parked : IsKeyed P

@@ -1,0 +1,182 @@
+//! What a database keeps, as it is opened.
+
+ghost use Rattle.std.specs.Prelude.{◌≡◌, ◌≢◌, ◌↔◌, Contains, true, false, Err, IsTrue, IfOk, IfSome, IfNone, OnOk, string_bytes};
+ghost use Rattle.sqlite.specs.State.{HasCleanDisk, IsLive};
+ghost use Rattle.sqlite.specs.Held.{state};
+ghost use Rattle.desk_tables.specs.SqliteStates.{IsUp, Rests};
+ghost use Rattle.desk_tables.specs.declared.fault.Fault.TheVariants as fault;
+ghost use Rattle.desk_schema.specs.declared.part.Part.TheVariants as part;
+ghost use Rattle.desk_schema.specs.Shapes.{FindsPart, HasCommon, IsOld, IsShape, IsUnmarked};
+ghost use Rattle.desk_schema.specs.References.{AreUnreferred};
+ghost use Rattle.desk_opening.specs.Opened.{FoundIn, IsDamaged};
+ghost use Rattle.desk_opening.specs.Rows.{HaveRowids};
+ghost use Rattle.desk_opening.specs.private.Reading.{Reads};
+ghost use Rattle.messages.specs.Wire.{IsMessage};
+ghost use Rattle.messages.specs.declared.message.Message.{Message as AnyMessage};
+ghost use Rattle.desk_opening.specs.private.Judged.{AreContents, IsWhole, Judges, JudgesOld, LackContents, Strays};
+
+use crate::found::{Contents, Found};
+use crate::reading::{all_stored, are_held, roster_of};
+use crate::statements::rows_of;
+use crate::tables::{Rows, Texts, rows_beside, texts_of};
+use desk_schema::{Part, Shape, are_unreferred, shape_of};
+use desk_tables::Fault;
+use sqlite::{Alter, Connection, Error};
+use std::alloc::Global;
+use sudo_words::NoMemory;
+
+/// The roster's text and the messages, where the rows show these and nothing else, in this schema.
+fn contents_of(alloc: Global, texts: &Texts, version: u32) -> Result<Option<Contents>, NoMemory>
+    ensures some { IfOk result (λ found. IfSome found (λ c.
+        AreContents version texts.now.desk.items texts.now.messages.items (string_bytes c.roster) c.messages.items)) }
+    ensures none { IfOk result (λ found. IfNone found (LackContents version texts.now.desk.items texts.now.messages.items)) }
+{
+    let Some(roster) = roster_of(alloc, texts.desk.as_slice(), version)? else {
+        return Ok(None);
+    };
+    let Some(messages) = all_stored(alloc, texts.messages.as_slice())? else {
+        return Ok(None);
+    };
+    Ok(Some(Contents { roster, messages }))
+}
+
+/// Whether the rows are those of the contents, and no foreign key refers to the tables.
+fn is_whole(alloc: Global, contents: &Contents, rows: &Rows, alone: bool) -> Result<bool, NoMemory>
+    requires { (m : AnyMessage) → Contains contents.now.messages.items m → IsMessage m }
+    ensures whole { IfOk result (λ is. IsTrue is → IsWhole alone contents.now.messages.items rows.now.names.items rows.now.verdicts.items rows.now.parked.items) }
+    ensures only { HaveRowids rows.now.names.items → HaveRowids rows.now.verdicts.items → HaveRowids rows.now.parked.items
+        → IsWhole alone contents.now.messages.items rows.now.names.items rows.now.verdicts.items rows.now.parked.items → IfOk result (λ is. IsTrue is) }
+{
+    if !alone {
+        return Ok(false);
+    }
+    are_held(
+        alloc,
+        contents.messages.as_slice(),
+        rows.names.as_slice(),
+        rows.verdicts.as_slice(),
+        rows.parked.as_slice(),
+    )
+}
+
+/// What a desk of today is found to be, by its rows.
+fn judge(alloc: Global, texts: &Texts, rows: &Rows, alone: bool) -> Result<Found, Fault>
+    ensures found { IfOk result (λ f.
+        Judges texts.now.desk.items texts.now.messages.items rows.now.names.items rows.now.verdicts.items rows.now.parked.items alone f) }
+    ensures stray { HaveRowids rows.now.names.items → HaveRowids rows.now.verdicts.items → HaveRowids rows.now.parked.items → result ≡ Err fault.Stray
+        → Strays texts.now.desk.items texts.now.messages.items rows.now.names.items rows.now.verdicts.items rows.now.parked.items alone }
+{
+    let Some(contents) = contents_of(alloc, texts, 2)? else {
+        return Ok(Found::NotADesk);
+    };
+    if is_whole(alloc, &contents, rows, alone)? {
+        Ok(Found::Desk(contents))
+    } else {
+        drop(contents);
+        Err(Fault::Stray)
+    }
+}
+
+/// What an older desk is found to be, by its rows.
+fn judge_old(alloc: Global, texts: &Texts) -> Result<Found, NoMemory>
+    ensures { IfOk result (λ f. JudgesOld texts.now.desk.items texts.now.messages.items f) }
+{
+    match contents_of(alloc, texts, 1)? {
+        Some(contents) => Ok(Found::Old(contents)),
+        None => Ok(Found::NotADesk),
+    }
+}
+
+/// What the database's schema has of a desk's tables.
+fn shape_in<S: Alter>(conn: &Connection<S>) -> Shape
+    ensures { IsShape (state S.Store conn.now).now.schema result }
+{
+    shape_of(conn.schema())
+}
+
+/// Whether no foreign key refers to a desk's tables that lose rows.
+fn is_alone<S: Alter>(conn: &Connection<S>) -> bool
+    ensures alone { IsTrue result ↔ AreUnreferred (state S.Store conn.now).now.schema }
+    ensures live { IsLive (state S.Store conn.now) }
+{
+    are_unreferred(conn.schema())
+}
+
+/// Looks at a database that has a desk's tables.
+fn look_within<S: Alter>(alloc: Global, conn: &mut Connection<S>) -> Result<Found, Fault>
+    requires rests { Rests (state S.Store conn.old) }
+    requires common { IsUp (state S.Store conn.old) → HasCommon (state S.Store conn.old).now.schema }
+    requires verdicts { IsUp (state S.Store conn.old) → FindsPart (state S.Store conn.old).now.schema part.Verdicts }
+    requires unmarked { IsUp (state S.Store conn.old) → IsUnmarked (state S.Store conn.old).now }
+    ensures reads { Reads (state S.Store conn.old) (state S.Store conn.new) }
+    ensures up { IsUp (state S.Store conn.old) → HasCleanDisk (state S.Store conn.new) → OnOk result (IsUp (state S.Store conn.new)) }
+    ensures found { IsUp (state S.Store conn.new) → IfOk result (FoundIn (state S.Store conn.old).now) }
+    ensures damaged { IsUp (state S.Store conn.new) → result ≡ Err fault.Stray → IsDamaged (state S.Store conn.old).now }
+{
+    let alone = is_alone(conn);
+    let texts = texts_of(conn)?;
+    let rows = rows_beside(conn)?;
+    judge(alloc, &texts, &rows, alone)
+}
+
+/// Whether the older desk's `marks` have a row.
+fn has_marks<S: Alter>(conn: &mut Connection<S>) -> Result<bool, Error>
+    requires rests { Rests (state S.Store conn.old) }
+    requires found { IsUp (state S.Store conn.old) → FindsPart (state S.Store conn.old).now.schema part.Marks }
+    ensures reads { Reads (state S.Store conn.old) (state S.Store conn.new) }
+    ensures up { IsUp (state S.Store conn.old) → HasCleanDisk (state S.Store conn.new) → OnOk result (IsUp (state S.Store conn.new)) }
+    ensures none { IsUp (state S.Store conn.new) → IfOk result (λ some. some ≡ false → IsUnmarked (state S.Store conn.old).now) }
+    ensures some { IsUp (state S.Store conn.new) → IfOk result (λ some. some ≡ true → ¬ IsUnmarked (state S.Store conn.old).now) }
+{
+    let marks = rows_of(conn, Part::Marks)?;
+    Ok(!marks.is_empty())
+}
+
+/// Looks at a database that has a desk's tables, and those of the older desk that it was.
+fn look_migrated<S: Alter>(alloc: Global, conn: &mut Connection<S>) -> Result<Found, Fault>
+    requires rests { Rests (state S.Store conn.old) }
+    requires common { IsUp (state S.Store conn.old) → HasCommon (state S.Store conn.old).now.schema }
+    requires verdicts { IsUp (state S.Store conn.old) → FindsPart (state S.Store conn.old).now.schema part.Verdicts }
+    requires marks { IsUp (state S.Store conn.old) → FindsPart (state S.Store conn.old).now.schema part.Marks }
+    ensures reads { Reads (state S.Store conn.old) (state S.Store conn.new) }
+    ensures up { IsUp (state S.Store conn.old) → HasCleanDisk (state S.Store conn.new) → OnOk result (IsUp (state S.Store conn.new)) }
+    ensures found { IsUp (state S.Store conn.new) → IfOk result (FoundIn (state S.Store conn.old).now) }
+    ensures damaged { IsUp (state S.Store conn.new) → result ≡ Err fault.Stray → IsDamaged (state S.Store conn.old).now }
+{
+    if has_marks(conn)? {
+        return Ok(Found::NotADesk);
+    }
+    look_within(alloc, conn)
+}
+
+/// Looks at a database that has an older desk's tables.
+fn look_old<S: Alter>(alloc: Global, conn: &mut Connection<S>) -> Result<Found, Fault>
+    requires rests { Rests (state S.Store conn.old) }
+    requires old { IsUp (state S.Store conn.old) → IsOld (state S.Store conn.old).now.schema }
+    ensures reads { Reads (state S.Store conn.old) (state S.Store conn.new) }
+    ensures up { IsUp (state S.Store conn.old) → HasCleanDisk (state S.Store conn.new) → OnOk result (IsUp (state S.Store conn.new)) }
+    ensures found { IsUp (state S.Store conn.new) → IfOk result (FoundIn (state S.Store conn.old).now) }
+    ensures not_stray { result ≢ Err fault.Stray }
+{
+    let texts = texts_of(conn)?;
+    Ok(judge_old(alloc, &texts)?)
+}
+
+/// Tells what the database keeps. It stays as it is.
+///
+/// A desk whose rows are not those that its messages come to is refused, as `Fault::Stray`.
+pub fn look<S: Alter>(alloc: Global, conn: &mut Connection<S>) -> Result<Found, Fault>
+    requires rests { Rests (state S.Store conn.old) }
+    ensures reads { Reads (state S.Store conn.old) (state S.Store conn.new) }
+    ensures up { IsUp (state S.Store conn.old) → HasCleanDisk (state S.Store conn.new) → OnOk result (IsUp (state S.Store conn.new)) }
+    ensures found { IsUp (state S.Store conn.new) → IfOk result (FoundIn (state S.Store conn.old).now) }
+    ensures damaged { IsUp (state S.Store conn.new) → result ≡ Err fault.Stray → IsDamaged (state S.Store conn.old).now }
+{
+    match shape_in(conn) {
+        Shape::Free => Ok(Found::Empty),
+        Shape::Other => Ok(Found::NotADesk),
+        Shape::Old => look_old(alloc, conn),
+        Shape::Migrated => look_migrated(alloc, conn),
+        Shape::Desk => look_within(alloc, conn),
+    }
+}

@@ -1,0 +1,26 @@
+//! Opening a database: what it keeps of a desk, and whether its rows are those that its messages come to.
+#![tactic(auto)]
+
+mod compare;
+mod found;
+mod found_in;
+mod known;
+mod listed;
+mod names;
+mod once;
+mod places;
+mod reading;
+mod rows;
+mod statements;
+mod stored;
+mod table;
+mod tables;
+mod walk;
+
+pub use found::{Contents, Found};
+pub use found_in::look;
+pub use listed::messages_of;
+pub use once::are_keyed;
+pub use rows::are_rows;
+pub use statements::select_of;
+pub use stored::Stored;

@@ -1,0 +1,61 @@
+//! The messages of a desk alone.
+
+ghost use Rattle.std.specs.Prelude.{◌≡◌, ◌≢◌, Err, IfOk, IfSome, IfNone, OnOk};
+ghost use Rattle.sqlite.specs.State.{HasCleanDisk};
+ghost use Rattle.sqlite.specs.Held.{state};
+ghost use Rattle.desk_tables.specs.Kept.{HoldsText};
+ghost use Rattle.desk_tables.specs.Sets.{Lists};
+ghost use Rattle.desk_tables.specs.SqliteStates.{IsUp, Rests};
+ghost use Rattle.desk_tables.specs.declared.fault.Fault.TheVariants as fault;
+ghost use Rattle.desk_schema.specs.declared.part.Part.TheVariants as part;
+ghost use Rattle.desk_schema.specs.Shapes.{FindsPart};
+ghost use Rattle.desk_opening.specs.Opened.{HasTexts};
+ghost use Rattle.desk_opening.specs.private.Reading.{AreBodies, HasForeign, Reads};
+
+use crate::reading::message_in;
+use crate::statements::rows_of;
+use desk_schema::Part;
+use desk_tables::Fault;
+use messages::Message;
+use sqlite::{Alter, Connection, Row};
+use std::alloc::Global;
+use sudo_words::NoMemory;
+
+/// The messages whose texts the rows show, where they show nothing else.
+fn messages_in(alloc: Global, rows: &[Row]) -> Result<Option<Vec<Message>>, NoMemory>
+    ensures all { IfOk result (λ found. IfSome found (λ ms. AreBodies rows.now ms.items)) }
+    ensures none { IfOk result (λ found. IfNone found (HasForeign rows.now)) }
+{
+    let mut messages = Vec::new(alloc);
+    for row in rows {
+        let Some(message) = message_in(alloc, row)? else {
+            return Ok(None);
+        };
+        messages.push(message)?;
+    }
+    Ok(Some(messages))
+}
+
+/// The messages, or a failure where the rows show something else.
+fn messages_shown(alloc: Global, rows: &[Row]) -> Result<Vec<Message>, Fault>
+    ensures all { IfOk result (λ ms. AreBodies rows.now ms.items) }
+    ensures stray { result ≡ Err fault.Stray → HasForeign rows.now }
+{
+    match messages_in(alloc, rows)? {
+        Some(messages) => Ok(messages),
+        None => Err(Fault::Stray),
+    }
+}
+
+/// The messages of the desk that the database keeps, in an order of its own. It stays as it is.
+pub fn messages_of<S: Alter>(alloc: Global, conn: &mut Connection<S>) -> Result<Vec<Message>, Fault>
+    requires rests { Rests (state S.Store conn.old) }
+    requires found { IsUp (state S.Store conn.old) → FindsPart (state S.Store conn.old).now.schema part.Messages }
+    ensures reads { Reads (state S.Store conn.old) (state S.Store conn.new) }
+    ensures up { IsUp (state S.Store conn.old) → HasCleanDisk (state S.Store conn.new) → OnOk result (IsUp (state S.Store conn.new)) }
+    ensures whole { IsUp (state S.Store conn.new) → HasTexts (state S.Store conn.old).now → result ≢ Err fault.Stray }
+    ensures listed { IsUp (state S.Store conn.new) → IfOk result (λ ms. Lists (HoldsText (state S.Store conn.old).now) ms.items) }
+{
+    let rows = rows_of(conn, Part::Messages)?;
+    messages_shown(alloc, rows.as_slice())
+}

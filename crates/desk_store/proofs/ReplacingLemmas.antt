@@ -1,0 +1,104 @@
+-- What the calls leave, one after the other, that replace the roster's text.
+use Rattle.std.proofs.Common.{◌≡◌, ℕ, List, Result, Ok, Err, inl, le_refl, refl, subst}
+use Rattle.std.specs.Prelude.{IsErr, OnErr, OnOk}
+use Rattle.sqlite.specs.Tree.{Trees}
+use Rattle.sqlite.specs.Effect.{Database}
+use Rattle.sqlite.specs.State.{State, HasCleanDisk, Survives}
+use Rattle.sqlite.proofs.StateLemmas.{survives_then, survives_weaker}
+use Rattle.desk_tables.specs.Kept.{IsDeskDatabase, Spares}
+use Rattle.desk_tables.specs.SqliteStates.{IsUp, Rests}
+use Rattle.desk_tables.specs.Stored.{content_of, with_roster}
+use Rattle.desk_tables.specs.private.Survival.{ChangesAt}
+use Rattle.desk_schema.proofs.MarksLemmas.{unmarked_spared, unmarked_still}
+use Rattle.desk_opening.specs.declared.found.Contents.{Contents}
+use Rattle.desk_opening.specs.declared.found.Found.{Found}
+use Rattle.desk_opening.specs.declared.found.Found.TheVariants as found
+use Rattle.desk_migration.specs.Migrated.{MigratesAt}
+use Rattle.desk_opening.specs.Opened.{FoundIn, IsKept}
+use Rattle.desk_opening.specs.private.Reading.{Reads}
+use Rattle.desk_store.specs.private.Replacing.{Becomes, BecomesAt, Replaces}
+
+-- what was found, by its case
+pub found_today : (db : Database) (f : Found) (c : Contents) → f ≡ found.Desk c → FoundIn db f → FoundIn db (found.Desk c)
+found_today db f c is told = subst (FoundIn db) is told
+
+pub found_older : (db : Database) (f : Found) (c : Contents) → f ≡ found.Old c → FoundIn db f → FoundIn db (found.Old c)
+found_older db f c is told = subst (FoundIn db) is told
+
+-- a call that did nothing
+survives_same : (s : State) (P : Trees → Type 0) → Survives s s P
+survives_same s P = record { clean = le_refl _; shield = λ h. h; counts = le_refl _; limit = refl; closes = λ clean open'. inl open'; crash = λ clean db left. inl left }
+
+pub nothing_done : {A E : Type 0} (roster : List ℕ) (s : State) (e : E) → Rests s → Replaces {A = A} roster s s (Err e)
+nothing_done roster s e rests = record {
+  rests = rests;
+  was_up = λ up. up;
+  was_clean = λ clean. clean;
+  up = λ up clean. tt;
+  becomes = λ up. tt;
+  unchanged = λ up. refl;
+  survives = λ up clean. survives_same s (BecomesAt roster s.now);
+}
+
+pub nothing_came : {A E : Type 0} (roster : List ℕ) (s : State) (r : Result A E) → IsErr r → Rests s → Replaces roster s s r
+nothing_came roster s (Ok x) is rests = absurd cc
+nothing_came roster s (Err e) is rests = nothing_done roster s e rests
+
+module _ {A E : Type 0} (roster : List ℕ) (a b : State) (reads : Reads a b) where
+  -- a call that read, and then a refusal
+  pub read_refused : (e : E) → Replaces {A = A} roster a b (Err e)
+  read_refused e = record {
+    rests = reads.rests;
+    was_up = reads.was_up;
+    was_clean = reads.was_clean;
+    up = λ up clean. tt;
+    becomes = λ up. tt;
+    unchanged = reads.same;
+    survives = λ up clean. survives_weaker a b (λ _. ⊥) (BecomesAt roster a.now) (λ _ db none. absurd none) (reads.survives up clean);
+  }
+
+  pub read_only : (r : Result A E) → IsErr r → Replaces roster a b r
+  read_only (Ok x) is = absurd cc
+  read_only (Err e) is = read_refused e
+
+  -- a call that read, and then one that replaced
+  pub then_replaces : (c : State) (r : Result A E) → (IsUp a → HasCleanDisk b → IsUp b) → Replaces roster b c r → Replaces roster a c r
+  then_replaces c r still two = record {
+    rests = two.rests;
+    was_up = λ up. reads.was_up (two.was_up up);
+    was_clean = λ clean. reads.was_clean (two.was_clean clean);
+    up = λ up clean. two.up (still up (two.was_clean clean)) clean;
+    becomes = λ up. subst (λ (d : Database). OnOk r (Becomes roster d c.now)) (reads.same (two.was_up up)) (two.becomes up);
+    unchanged = λ up. subst (λ (d : Database). OnErr r (c.now ≡ d)) (reads.same (two.was_up up)) (two.unchanged up);
+    survives = λ up clean.
+        let mid = still up (two.was_clean clean) in
+        survives_then a b c (λ _. ⊥) (BecomesAt roster b.now) (BecomesAt roster a.now) (λ _ db none. absurd none) (λ _ db is. subst (λ (d : Database). BecomesAt roster d db) (reads.same mid) is)
+        (reads.survives up (two.was_clean clean)) (two.survives mid clean);
+  }
+
+-- ---- a desk of today
+
+both_ok : {A E P Q R : Type 0} (r : Result A E) → OnOk r P → OnOk r Q → (P → Q → R) → OnOk r R
+both_ok (Ok x) p q on = on p q
+both_ok (Err e) p q on = tt
+
+module _ {A E : Type 0} (roster : List ℕ) (old new : State) (r : Result A E) (kept : IsUp old → IsKept old.now) (was_up : IsUp new → IsUp old) where
+  pub today_becomes : (up : IsUp new) → IsDeskDatabase new.now → OnOk r (content_of new.now ≡ with_roster roster (content_of old.now)) → OnOk r (Spares old.now new.now) → OnOk r (Becomes roster old.now new.now)
+  today_becomes up desk content spares =
+      let was = kept (was_up up) in
+      both_ok r content spares (λ c s. record { desk = record { desk = desk; unmarked = unmarked_still old.now new.now was.desk.tidy.desk s was.unmarked }; content = c })
+
+  pub today_survives : IsUp old → Survives old new (ChangesAt roster old.now) → Survives old new (BecomesAt roster old.now)
+  today_survives up lives =
+      let was = kept up in
+      survives_weaker old new (ChangesAt roster old.now) (BecomesAt roster old.now) (λ _ trees at db same sound.
+      let it = at db same sound in record { desk = record { desk = it.desk; unmarked = unmarked_spared old.now db it.listed was.desk.tidy.desk it.foreign was.unmarked }; content = it.content }) lives
+
+-- ---- a desk of an older form
+
+module _ {A E : Type 0} (roster : List ℕ) (old new : State) (r : Result A E) where
+  pub older_becomes : OnOk r (IsKept new.now) → OnOk r (content_of new.now ≡ with_roster roster (content_of old.now)) → OnOk r (Becomes roster old.now new.now)
+  older_becomes kept content = both_ok r kept content (λ k c. record { desk = k; content = c })
+
+  pub older_survives : Survives old new (MigratesAt roster old.now) → Survives old new (BecomesAt roster old.now)
+  older_survives lives = survives_weaker old new (MigratesAt roster old.now) (BecomesAt roster old.now) (λ _ trees at db same sound. let it = at db same sound in record { desk = it.kept; content = it.content }) lives

@@ -1,0 +1,7 @@
+use Rattle.std.proofs.Common.{take}
+use Rattle.desk_store.proofs.EachOnce.{AreSame}
+use Rattle.desk_store.proofs.replacing.each_once.Given as goal
+
+-- those that were gone through
+abbrev pub invariant-loop-stored : goal.invariant-loop-stored
+invariant-loop-stored l = AreSame (take l.stored-index l.all) l.messages

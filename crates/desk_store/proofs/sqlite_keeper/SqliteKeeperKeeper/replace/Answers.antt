@@ -1,0 +1,84 @@
+use Rattle.std.proofs.Common.{ap, inl, inr, le_refl}
+use Rattle.sqlite.specs.Held.{state}
+use Rattle.desk_tables.specs.Stored.{Content}
+use Rattle.desk_store.proofs.FoundLemmas.{replaced_or_not, roster_lasts, same_texts, up_left}
+use Rattle.desk_store.proofs.OutcomeLemmas.{ok_no_err}
+use Rattle.desk_store.proofs.sqlite_keeper.SqliteKeeperKeeper.replace.Goals as goal
+
+pub returns-in-Ok-clause-desk : goal.returns-in-Ok-clause-desk
+returns-in-Ok-clause-desk g c up = (c.in-Ok.ensures.becomes up).desk
+
+pub returns-in-Ok-clause-recorded : goal.returns-in-Ok-clause-recorded
+returns-in-Ok-clause-recorded g c up = ap (λ (d : Content). d.roster) (c.in-Ok.ensures.becomes up).content
+
+pub returns-in-Ok-clause-held : goal.returns-in-Ok-clause-held
+returns-in-Ok-clause-held g c up = same_texts (state g.S.Store c.args.self.now.conn).now (state g.S.Store c.replace_in-replaced.new.conn).now (ap (λ (d : Content). d.texts) (c.in-Ok.ensures.becomes up).content)
+
+pub returns-in-Ok-clause-unchanged : goal.returns-in-Ok-clause-unchanged
+returns-in-Ok-clause-unchanged g c up = tt
+
+pub returns-in-Ok-clause-was_up : goal.returns-in-Ok-clause-was_up
+returns-in-Ok-clause-was_up g c up = c.replace_in-replaced.ensures.was_up up
+
+pub returns-in-Ok-clause-was_clean : goal.returns-in-Ok-clause-was_clean
+returns-in-Ok-clause-was_clean g c clean = c.replace_in-replaced.ensures.was_clean clean
+
+pub returns-in-Ok-clause-shuts : goal.returns-in-Ok-clause-shuts
+returns-in-Ok-clause-shuts g c up clean = inl (c.in-Ok.ensures.up up clean)
+
+pub returns-in-Ok-clause-counts : goal.returns-in-Ok-clause-counts
+returns-in-Ok-clause-counts g c = le_refl _
+
+pub returns-in-Ok-clause-cause : goal.returns-in-Ok-clause-cause
+returns-in-Ok-clause-cause g c is = ok_no_err _ _ is
+
+pub returns-in-Ok-clause-up : goal.returns-in-Ok-clause-up
+returns-in-Ok-clause-up g c up clean = c.in-Ok.ensures.up up clean
+
+pub returns-in-Ok-clause-crash : goal.returns-in-Ok-clause-crash
+returns-in-Ok-clause-crash g c up clean left may = replaced_or_not (state g.S.Store c.args.self.now.conn) (state g.S.Store c.replace_in-replaced.new.conn) c.settles.ensures up clean left may c.args.text.now (c.replace_in-replaced.ensures.survives up clean)
+
+pub returns-in-Ok-clause-lasting : goal.returns-in-Ok-clause-lasting
+returns-in-Ok-clause-lasting g c up clean left may = let still = c.in-Ok.ensures.up up clean in roster_lasts (state g.S.Store c.replace_in-replaced.new.conn) c.settles-2.ensures still left may c.args.text.now (state g.S.Store c.args.self.now.conn).now (c.in-Ok.ensures.becomes still)
+
+pub returns-in-Ok-clause-durable : goal.returns-in-Ok-clause-durable
+returns-in-Ok-clause-durable g c up left may = up_left (state g.S.Store c.replace_in-replaced.new.conn) c.settles-2.ensures up left may
+
+pub returns-in-Err-clause-desk : goal.returns-in-Err-clause-desk
+returns-in-Err-clause-desk g c up = tt
+
+pub returns-in-Err-clause-recorded : goal.returns-in-Err-clause-recorded
+returns-in-Err-clause-recorded g c up = tt
+
+pub returns-in-Err-clause-held : goal.returns-in-Err-clause-held
+returns-in-Err-clause-held g c up = tt
+
+pub returns-in-Err-clause-unchanged : goal.returns-in-Err-clause-unchanged
+returns-in-Err-clause-unchanged g c up = c.in-Err.ensures.unchanged up
+
+pub returns-in-Err-clause-was_up : goal.returns-in-Err-clause-was_up
+returns-in-Err-clause-was_up g c up = c.replace_in-replaced.ensures.was_up up
+
+pub returns-in-Err-clause-was_clean : goal.returns-in-Err-clause-was_clean
+returns-in-Err-clause-was_clean g c clean = c.replace_in-replaced.ensures.was_clean clean
+
+pub returns-in-Err-clause-shuts : goal.returns-in-Err-clause-shuts
+returns-in-Err-clause-shuts g c up clean = inr c.told.ensures.failed
+
+pub returns-in-Err-clause-counts : goal.returns-in-Err-clause-counts
+returns-in-Err-clause-counts g c = c.told.ensures.counts
+
+pub returns-in-Err-clause-cause : goal.returns-in-Err-clause-cause
+returns-in-Err-clause-cause g c is = c.told.ensures.failed
+
+pub returns-in-Err-clause-up : goal.returns-in-Err-clause-up
+returns-in-Err-clause-up g c up clean = tt
+
+pub returns-in-Err-clause-crash : goal.returns-in-Err-clause-crash
+returns-in-Err-clause-crash g c up clean left may = replaced_or_not (state g.S.Store c.args.self.now.conn) (state g.S.Store c.replace_in-replaced.new.conn) c.settles.ensures up clean left may c.args.text.now (c.replace_in-replaced.ensures.survives up clean)
+
+pub returns-in-Err-clause-lasting : goal.returns-in-Err-clause-lasting
+returns-in-Err-clause-lasting g c up clean = tt
+
+pub returns-in-Err-clause-durable : goal.returns-in-Err-clause-durable
+returns-in-Err-clause-durable g c up left may = up_left (state g.S.Store c.replace_in-replaced.new.conn) c.settles-2.ensures up left may

@@ -1,0 +1,31 @@
+-- What a call that replaces the roster's text leaves of a connection.
+use Rattle.std.specs.Prelude.{◌≡◌, ◌⊎◌, List, ℕ, OnOk, OnErr, Result}
+use Rattle.sqlite.specs.Tree.{Trees}
+use Rattle.sqlite.specs.Effect.{Database, IsDatabase}
+use Rattle.sqlite.specs.State.{HasCleanDisk, State, Survives}
+use Rattle.desk_tables.specs.SqliteStates.{IsUp, Rests}
+use Rattle.desk_tables.specs.Stored.{content_of, with_roster}
+use Rattle.desk_opening.specs.Opened.{IsKept, IsOldDesk}
+
+-- a desk of either form
+abbrev pub IsEither : Database → Type 0
+IsEither db = IsKept db ⊎ IsOldDesk db
+
+-- a desk of today, of the other roster text, and with the messages that there were
+pub record Becomes (roster : List ℕ) (old new : Database) : Type 0 where
+  pub desk : IsKept new
+  pub content : content_of new ≡ with_roster roster (content_of old)
+
+-- whatever database has these trees
+abbrev pub BecomesAt : List ℕ → Database → Trees → Type 0
+BecomesAt roster old trees = (db : Database) → db.trees ≡ trees → IsDatabase db → Becomes roster old db
+
+-- All of it was done in one commit, or nothing.
+pub record Replaces {A E : Type 0} (roster : List ℕ) (old new : State) (result : Result A E) : Type 0 where
+  pub rests : Rests new
+  pub was_up : IsUp new → IsUp old
+  pub was_clean : HasCleanDisk new → HasCleanDisk old
+  pub up : IsUp old → HasCleanDisk new → OnOk result (IsUp new)
+  pub becomes : IsUp new → OnOk result (Becomes roster old.now new.now)
+  pub unchanged : IsUp new → OnErr result (new.now ≡ old.now)
+  pub survives : IsUp old → HasCleanDisk new → Survives old new (BecomesAt roster old.now)

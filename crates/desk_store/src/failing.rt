@@ -1,0 +1,54 @@
+//! Failures of a keeper over a database, told and counted.
+
+ghost use Rattle.std.specs.Prelude.{◌≡◌, ◌↔◌, ◌≤◌, IsTrue};
+ghost use Rattle.desk_store.specs.Keeping.{HasFailed};
+ghost use Rattle.desk_store.specs.private.Failing.{IsOfMemory};
+ghost use Rattle.desk_store.specs.declared.error.KeeperError.TheVariants as errors;
+
+use crate::error::KeeperError;
+use desk_tables::Fault;
+use sqlite::{Error, ErrorCode};
+
+/// Whether a growth was refused.
+fn is_of_memory(fault: &Fault) -> bool
+    ensures { IsTrue result ↔ IsOfMemory fault.now }
+{
+    matches!(
+        fault,
+        Fault::NoMemory | Fault::Database(Error::SqliteFailure(ErrorCode::OutOfMemory))
+    )
+}
+
+/// Counts a failure.
+fn count(failed: &mut u64)
+    ensures failed { HasFailed failed.old failed.new }
+    ensures counts { failed.old ≤ failed.new }
+{
+    *failed = failed.saturating_add(1);
+}
+
+/// Counts a failure, and tells its cause: want of memory, or the storage.
+///
+/// Want of memory is counted too: what it stops is undone, and the disk may fail there, which shuts the store.
+pub(crate) fn told(failed: &mut u64, fault: Fault) -> KeeperError
+    ensures failed { HasFailed failed.old failed.new }
+    ensures counts { failed.old ≤ failed.new }
+    ensures memory { (result ≡ errors.NoMemory) ↔ IsOfMemory fault }
+{
+    count(failed);
+    if is_of_memory(&fault) {
+        KeeperError::NoMemory
+    } else {
+        KeeperError::Storage
+    }
+}
+
+/// Counts a failure of the storage.
+pub(crate) fn storage(failed: &mut u64) -> KeeperError
+    ensures failed { HasFailed failed.old failed.new }
+    ensures counts { failed.old ≤ failed.new }
+    ensures cause { result ≡ errors.Storage }
+{
+    count(failed);
+    KeeperError::Storage
+}

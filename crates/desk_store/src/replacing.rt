@@ -1,0 +1,87 @@
+//! Another roster's text for a desk of either form, in one commit.
+
+ghost use Rattle.std.specs.Prelude.{◌≡◌, Contains, IfOk};
+ghost use Rattle.sqlite.specs.Held.{state};
+ghost use Rattle.messages.specs.declared.message.Message.{Message as AnyMessage};
+ghost use Rattle.desk_tables.specs.Kept.{HoldsText};
+ghost use Rattle.desk_tables.specs.Sets.{Lists, SameSet};
+ghost use Rattle.desk_tables.specs.SqliteStates.{IsUp, Rests};
+ghost use Rattle.desk_opening.specs.Opened.{IsKept, IsOldDesk};
+ghost use Rattle.desk_store.specs.private.Replacing.{IsEither, Replaces};
+
+use crate::collected::Collected;
+use desk_migration::migrate;
+use desk_opening::{Contents, Found, Stored, look};
+use desk_tables::{Fault, replace};
+use sqlite::{Alter, Connection};
+use std::alloc::Global;
+use sudo_words::NoMemory;
+
+/// The messages, each once.
+fn each_once(alloc: Global, all: &[Stored]) -> Result<Collected, NoMemory>
+    ensures { IfOk result (λ c. SameSet (λ m. Contains all.now m) (λ m. Contains c m)) }
+{
+    let mut messages = Collected::new(alloc);
+    for stored in all {
+        let Ok(()) = messages.put(stored.message(), stored.body()) else {
+            return Err(NoMemory);
+        };
+    }
+    Ok(messages)
+}
+
+/// Replaces the roster's text of a desk of today, whose contents these are.
+fn replace_today<S: Alter>(
+    alloc: Global,
+    conn: &mut Connection<S>,
+    roster: &str,
+    contents: &Contents,
+) -> Result<(), Fault>
+    requires rests { Rests (state S.Store conn.old) }
+    requires desk { IsUp (state S.Store conn.old) → IsKept (state S.Store conn.old).now }
+    requires listed { IsUp (state S.Store conn.old) → Lists (HoldsText (state S.Store conn.old).now) contents.now.messages.items }
+    ensures { Replaces roster.now (state S.Store conn.old) (state S.Store conn.new) result }
+{
+    if !conn.is_autocommit() {
+        return Err(Fault::Stray);
+    }
+    let messages = each_once(alloc, contents.messages.as_slice())?;
+    replace(alloc, conn, roster, messages.as_slice())
+}
+
+/// Replaces the roster's text of a desk of an older form, whose contents these are. It becomes one of today.
+fn replace_older<S: Alter>(
+    alloc: Global,
+    conn: &mut Connection<S>,
+    roster: &str,
+    contents: &Contents,
+) -> Result<(), Fault>
+    requires rests { Rests (state S.Store conn.old) }
+    requires desk { IsUp (state S.Store conn.old) → IsOldDesk (state S.Store conn.old).now }
+    requires listed { IsUp (state S.Store conn.old) → Lists (HoldsText (state S.Store conn.old).now) contents.now.messages.items }
+    ensures { Replaces roster.now (state S.Store conn.old) (state S.Store conn.new) result }
+{
+    if !conn.is_autocommit() {
+        return Err(Fault::Stray);
+    }
+    let messages = each_once(alloc, contents.messages.as_slice())?;
+    migrate(alloc, conn, roster, messages.as_slice())
+}
+
+/// Replaces the roster's text of what the database keeps. A desk of an older form becomes one of today.
+pub(crate) fn replace_in<S: Alter>(
+    alloc: Global,
+    conn: &mut Connection<S>,
+    roster: &str,
+) -> Result<(), Fault>
+    requires rests { Rests (state S.Store conn.old) }
+    requires kept { IsUp (state S.Store conn.old) → IsEither (state S.Store conn.old).now }
+    ensures { Replaces roster.now (state S.Store conn.old) (state S.Store conn.new) result }
+{
+    let found = look(alloc, conn)?;
+    match found {
+        Found::Desk(contents) => replace_today(alloc, conn, roster, &contents),
+        Found::Old(contents) => replace_older(alloc, conn, roster, &contents),
+        Found::Empty | Found::NotADesk => Err(Fault::Stray),
+    }
+}

@@ -1,0 +1,15 @@
+//! What a crash leaves of a connection that rests.
+
+ghost use Rattle.sqlite.specs.Held.{state};
+ghost use Rattle.desk_tables.specs.SqliteStates.{Rests};
+ghost use Rattle.desk_store.specs.private.Survival.{Settled};
+
+use sqlite::{Alter, Connection};
+
+/// While the store is up, a crash leaves what the connection shows. It reads nothing: a proof names it.
+pub(crate) fn settles<S: Alter>(conn: &Connection<S>)
+    requires { Rests (state S.Store conn.now) }
+    ensures { Settled (state S.Store conn.now) }
+{
+    let _schema = conn.schema();
+}

@@ -1,0 +1,504 @@
+#!/usr/bin/env python3
+"""The desk while reads and writes fail, the disk fills, and its file is changed under it.
+
+A read that fails at each byte of a request is H1, and nothing is answered or stored. A write that
+fails at each byte of a reply is H2: what went out is the beginning of the reply, and a message is
+stored. The next peer is answered as ever. Each call on the file of a desk fails in turn, once or
+from then on; a disk is full at each page; a file may grow to each page and no further; it is
+removed, cut, replaced or made read-only while it is served, or its log is removed; and a byte is
+turned in each page. Each answer is the plain one or a named refusal, and what was acknowledged is
+there afterwards. `peers_faults.py WORDS..` runs another program than build/desk; `--only PART..`
+before them tries some of the parts, and `--whole` each place instead of some.
+"""
+
+from __future__ import annotations
+
+import contextlib
+import os
+import random
+import shutil
+import sqlite3
+import subprocess
+import sys
+import tempfile
+import time
+from collections.abc import Callable, Iterator
+
+import desk
+
+import store_files
+from failing import CALL, CALLS, ERRORS, READ, WRITE, Plan
+from tally import PATIENCE, Count, program, try_parts
+
+GRANTS = 8_000
+AT = "20260105093000Z"
+REQUEST, APPROVAL = desk.request(), desk.approval()
+LISTED = desk.asked(b"GET", b"/v1/messages")
+STATED = (b"serving ", b"ended: ")
+REPLIES = (b"HTTP/1.1 200 OK\r\n", b"HTTP/1.1 503 Service Unavailable\r\n")
+# A program without a proof is slow over a file: SPARSE=8 tries an eighth of the places.
+SPARSE = int(os.environ.get("SPARSE", "1"))
+
+
+class Trial:
+    """What the parts share: the program, a folder, the counts, and whether each place is tried."""
+
+    def __init__(self, words: list[str], folder: str, is_whole: bool) -> None:
+        self.words, self.folder, self.is_whole = words, folder, is_whole
+        self.count = Count()
+
+    def path(self, name: str) -> str:
+        return os.path.join(self.folder, name)
+
+    def step(self, most: int) -> int:
+        """How far places are apart: 1 where each is tried."""
+        return 1 if self.is_whole else most * SPARSE
+
+    def deliver(
+        self, store: str, lines: list[str], *before: str, plan: Plan | None = None
+    ) -> tuple[int, str, str]:
+        words = [*before, *self.words, "deliver", desk.ROSTER, desk.BASE, store, "chat"]
+        done = subprocess.run(
+            words,
+            input="".join(f"{line}\n" for line in lines),
+            capture_output=True,
+            text=True,
+            timeout=PATIENCE,
+            env=plan.environment if plan else None,
+            check=False,
+        )
+        return done.returncode, done.stdout, done.stderr
+
+    def review(self, store: str) -> tuple[int, str, str]:
+        done = desk.run([*self.words, "review", desk.ROSTER, desk.BASE, store, AT], "", PATIENCE)
+        return done.returncode, done.stdout, done.stderr
+
+
+def lines_of(given: bytes) -> list[bytes]:
+    """What a server says on its standard error of what failed."""
+    return [line for line in given.splitlines() if not line.startswith(STATED)]
+
+
+def clear(store: str) -> None:
+    for end in ("", "-wal", "-shm"):
+        with contextlib.suppress(FileNotFoundError):
+            os.unlink(store + end)
+
+
+def kept(store: str) -> list[str]:
+    """The messages of a file; none where it is no desk's by now."""
+    if not os.path.exists(store):
+        return []
+    with contextlib.suppress(sqlite3.OperationalError):
+        return store_files.read(store)[1]
+    return []
+
+
+def body_of(reply: bytes) -> list[str]:
+    return reply.partition(b"\r\n\r\n")[2].decode().splitlines()
+
+
+def ask(server: desk.Server, given: bytes) -> bytes:
+    """What comes of a reply until the desk lets the peer go."""
+    whole = b""
+    with server.connect(seconds=PATIENCE) as peer, contextlib.suppress(ConnectionError):
+        peer.sendall(given)
+        while piece := peer.recv(65_536):
+            whole += piece
+    return whole
+
+
+# ---- an exchange
+
+
+class Exchanges:
+    """A server whose peers fail: what is asked, what the whole reply is, and what it has to say."""
+
+    def __init__(self, trial: Trial, plan: Plan, server: desk.Server) -> None:
+        self.trial, self.plan, self.server = trial, plan, server
+        self.said: list[bytes] = []
+
+    def fails(self, what: int, place: int, error: str, given: bytes, whole: bytes) -> None:
+        """One exchange fails at a place, and the next is answered."""
+        count, title = self.trial.count, f"{given[:40]!r}, {error} at byte {place}"
+        is_read = what == READ
+        self.plan.set(what, place, ERRORS[error])
+        got = ask(self.server, given)
+        count.same(title, got, b"" if is_read else whole[:place])
+        count.same(f"{title}: calls that failed", self.plan.failures(), 1)
+        self.plan.clear()
+        self.said.append(b"H1 ReadFailed" if is_read else b"H2 WriteFailed")
+        parked = ask(self.server, desk.asked(b"HEAD", b"/v1/parked"))
+        count.holds(f"{title}: the next", parked.startswith(REPLIES[0]), parked)
+
+    def passes(self, what: int, place: int, given: bytes, whole: bytes) -> None:
+        """Behind the last byte nothing is read or written."""
+        self.plan.set(what, place)
+        self.trial.count.same(f"{given[:40]!r}, behind its end", ask(self.server, given), whole)
+        if what == WRITE:
+            # (a reply is followed by reads, until the peer closes)
+            self.trial.count.same("calls that failed", self.plan.failures(), 0)
+        self.plan.clear()
+
+
+def fail_posts(trial: Trial) -> None:
+    """A message's POST fails at each byte of its 70 bytes and of its head, and so does its reply.
+    What was not read whole is not stored; what was, is, whether the reply went out or not."""
+    with serving(trial) as asked:
+        ack = b"HTTP/1.1 200 OK\r\nContent-Type: text/plain\r\nContent-Length: 4\r\n"
+        ack += b"Connection: close\r\n\r\nack\n"
+        held: set[str] = set()
+        given = desk.posted(b"chat", APPROVAL.encode())
+        for place in range(len(given)):
+            for error in ERRORS if trial.is_whole or place % 8 == 0 else ("EIO",):
+                if error != "nothing":
+                    asked.fails(READ, place, error, given, ack)
+        listed(trial, asked.server, held)
+        asked.passes(READ, len(given), given, ack)
+        held.add(APPROVAL)
+        for place in range(len(ack)):
+            body = desk.approval(100 + place)
+            error = list(ERRORS)[place % len(ERRORS)]
+            asked.fails(WRITE, place, error, desk.posted(b"chat", body.encode()), ack)
+            held.add(body)
+        listed(trial, asked.server, held)
+        asked.passes(WRITE, len(ack), desk.posted(b"chat", desk.approval(99).encode()), ack)
+        listed(trial, asked.server, held | {desk.approval(99)})
+
+
+def listed(trial: Trial, server: desk.Server, held: set[str]) -> None:
+    trial.count.same("what is stored", body_of(ask(server, LISTED)), sorted(held))
+
+
+def fail_questions(trial: Trial) -> None:
+    """The file of a host with 8,000 grants, as GET and as HEAD: each byte of the request, each byte
+    of HEAD's reply, and of GET's each at its ends and some between."""
+    store = trial.path("large.db")
+    grants = GRANTS if trial.is_whole else 800 // SPARSE
+    lines = [line for no in range(grants) for line in (desk.request(no), desk.approval(no))]
+    trial.count.same("the grants", trial.deliver(store, lines), (0, "ack\n" * 2 * grants, ""))
+    with serving(trial, store) as asked:
+        for method in (b"GET", b"HEAD"):
+            given = desk.asked(method, b"/v1/hosts/db1/sudoers")
+            whole = ask(asked.server, given)
+            trial.count.holds("a whole reply", whole.startswith(REPLIES[0]), whole[:80])
+            for place in range(0, len(given), 1 if trial.is_whole else 5):
+                asked.fails(READ, place, "EIO", given, whole)
+            for place in places(whole, trial.is_whole):
+                asked.fails(WRITE, place, "EIO", given, whole)
+            asked.passes(WRITE, len(whole), given, whole)
+
+
+def places(whole: bytes, is_whole: bool) -> list[int]:
+    """Each byte of a short reply; of a long one its ends, each 4,096 bytes, and some by chance."""
+    if len(whole) < 1_000:
+        return [*range(0, len(whole), 1 if is_whole else 7)]
+    chance, most = random.Random(len(whole)), 200 if is_whole else 8
+    between = {it + near for it in range(4_096, len(whole), 4_096) for near in (-1, 0, 1)}
+    between |= {chance.randrange(len(whole)) for _ in range(most)}
+    some = between if is_whole else chance.sample(sorted(between), 8)
+    return sorted({*range(most), *range(len(whole) - most // 2, len(whole)), *some})
+
+
+@contextlib.contextmanager
+def serving(trial: Trial, store: str = "-") -> Iterator[Exchanges]:
+    """A server with a plan; behind it, what it said of failures is compared."""
+    plan = Plan(trial.folder)
+    with open(trial.path("said"), "w+b") as said:
+        with desk.Server(
+            store, program=trial.words, environment=plan.environment, stderr=said
+        ) as server:
+            asked = Exchanges(trial, plan, server)
+            yield asked
+            server.end()
+        said.seek(0)
+        trial.count.same("the standard error", lines_of(said.read()), asked.said)
+
+
+# ---- calls on the file
+
+
+def fail_calls(trial: Trial) -> None:
+    """Each call on the file of a delivery fails, once or from then on."""
+    store, plan = trial.path("calls.db"), Plan(trial.folder)
+    lines = [APPROVAL, REQUEST]
+    befores: list[list[str]] = [[], [desk.approval(8)]]
+    for held in befores:
+        clear(store)
+        trial.deliver(store, held)
+        first = {end: open(store + end, "rb").read() for end in ("", "-wal")} if held else {}
+        plan.set(CALL, 0)
+        trial.count.same("plain", trial.deliver(store, lines, plan=plan)[1:], ("ack\nack\n", ""))
+        calls, rows = plan.calls(), store_files.read(store)
+        trial.count.holds("calls on the file", calls > 5, calls)
+        some = range(1, calls + 1, trial.step(5))
+        for what, place in [(what, place) for what in (CALL, CALLS) for place in some]:
+            clear(store)
+            for end, data in first.items():
+                desk.write(*os.path.split(store + end), data)
+            plan.set(what, place)
+            got = trial.deliver(store, lines, plan=plan)
+            plan.clear()
+            title = f"a delivery whose call {place} fails, {what}, over {len(held)} messages"
+            is_refused(trial, title, got, lines)
+            acked = {line for line, said in zip(lines, got[1].splitlines()) if said == "ack"}
+            found = {*kept(store)}
+            trial.count.holds(
+                title, acked <= found <= {*lines, *held} and {*held} <= found, (found, got)
+            )
+            again = trial.deliver(store, lines)
+            trial.count.same(f"{title}, then once more", again, (0, "ack\nack\n", ""))
+            trial.count.same(f"{title}: the rows", store_files.read(store), rows)
+
+
+def is_refused(trial: Trial, title: str, got: tuple[int, str, str], lines: list[str]) -> None:
+    """Whether each line is acknowledged or K4, or all is refused by name."""
+    status, out, err = got
+    said = out.splitlines()
+    is_lines = len(said) == len(lines) and {*said} <= {"ack", "K4 Storage"} and not err
+    is_whole = not out and err in ("F1 FileFailed\n", "K4 Storage\n")
+    is_right = status == 0 and {*said} == {"ack"} or status == 2
+    trial.count.holds(title, (is_lines or is_whole) and is_right, got)
+
+
+def fail_calls_served(trial: Trial) -> None:
+    """A call on the file fails under a POST to a desk that is served; after a restart what was
+    acknowledged is there, and at most what was sent beside."""
+    store, plan = trial.path("served.db"), Plan(trial.folder)
+    for place in range(1, 40, trial.step(7)):
+        for what in (CALL, CALLS):
+            clear(store)
+            with desk.Server(store, program=trial.words, environment=plan.environment) as server:
+                ask(server, desk.posted(b"chat", REQUEST.encode()))
+                plan.set(what, place)
+                got = ask(server, desk.posted(b"chat", APPROVAL.encode()))
+                failures = plan.failures()
+                plan.clear()
+                listed_now = ask(server, LISTED)
+            title = f"a POST whose call {place} fails, {what}"
+            is_ack = got.endswith(b"\r\n\r\nack\n")
+            is_k4 = got.endswith(b"\r\n\r\nK4 Storage\n")
+            trial.count.holds(title, is_ack or (is_k4 and failures > 0), got)
+            found = {*kept(store)}
+            acked = {REQUEST, APPROVAL} if is_ack else {REQUEST}
+            trial.count.holds(f"{title}: kept", acked <= found <= {REQUEST, APPROVAL}, found)
+            if listed_now.startswith(REPLIES[0]):
+                now = {*body_of(listed_now)}
+                trial.count.holds(f"{title}: asked", acked <= now <= {REQUEST, APPROVAL}, now)
+            else:
+                trial.count.holds(
+                    f"{title}: asked", listed_now.endswith(b"\r\n\r\nK4 Storage\n"), listed_now
+                )
+            again = trial.deliver(store, [APPROVAL])
+            trial.count.same(f"{title}: once more", again, (0, "ack\n", ""))
+
+
+# ---- the disk
+
+
+def fill_disk(trial: Trial) -> None:
+    """A file system of 1 MiB on which so many pages are left; then it is freed again."""
+    if os.geteuid() != 0:
+        print("fill_disk is left out: this is not root")
+        return
+    mount = trial.path("disk")
+    os.mkdir(mount)
+    lines = [REQUEST, *map(desk.approval, range(12))]
+    subprocess.run(["mount", "-t", "tmpfs", "-o", "size=1m", "none", mount], check=True)
+    try:
+        for pages in range(0, 100, trial.step(9)):
+            store, filler = os.path.join(mount, "desk.db"), os.path.join(mount, "filler")
+            clear(store)
+            fill(filler, pages)
+            got = trial.deliver(store, lines)
+            is_refused(trial, f"a disk with {pages} pages", got, lines)
+            acked = {line for line, said in zip(lines, got[1].splitlines()) if said == "ack"}
+            trial.count.holds(f"{pages} pages: kept", acked <= {*kept(store)} <= {*lines}, acked)
+            os.unlink(filler)
+            again = trial.deliver(store, lines)
+            trial.count.same(f"{pages} pages, freed", again, (0, "ack\n" * len(lines), ""))
+            trial.count.same(f"{pages} pages: the rows", kept(store), sorted(lines))
+        fill_served(trial, mount)
+    finally:
+        subprocess.run(["umount", "-l", mount], check=True)
+
+
+def fill(path: str, pages: int) -> None:
+    """Fills the disk but for so many pages of 4 KiB."""
+    with open(path, "wb") as file, contextlib.suppress(OSError):
+        while True:
+            file.write(bytes(4_096))
+            file.flush()
+    held = os.path.getsize(path)
+    os.truncate(path, max(0, held // 4_096 - pages) * 4_096)
+
+
+def fill_served(trial: Trial, mount: str) -> None:
+    """A desk that is served while its disk fills goes on by itself where there is room again."""
+    store, filler = os.path.join(mount, "desk.db"), os.path.join(mount, "filler")
+    clear(store)
+    acked: list[str] = []
+    with desk.Server(store, program=trial.words) as server:
+
+        def post(body: str) -> bytes:
+            return ask(server, desk.posted(b"chat", body.encode()))
+
+        trial.count.holds("a disk with room", post(REQUEST).endswith(b"ack\n"))
+        fill(filler, 6)
+        replies = []
+        for no in range(60):
+            replies.append(post(desk.approval(no)))
+            if replies[-1].endswith(b"\r\n\r\nack\n"):
+                acked.append(desk.approval(no))
+        ends = {reply.partition(b"\r\n\r\n")[2] for reply in replies}
+        trial.count.same("a disk that fills", ends, {b"ack\n", b"K4 Storage\n"})
+        os.unlink(filler)
+        trial.count.holds("a disk that is freed", post(desk.approval(999)).endswith(b"ack\n"))
+        found = {*body_of(ask(server, LISTED))}
+    trial.count.holds("all that was acknowledged", {*acked, REQUEST, desk.approval(999)} <= found)
+    trial.count.same("after a restart", {*kept(store)} >= {*acked, REQUEST}, True)
+
+
+def limit_file(trial: Trial) -> None:
+    """The file may grow to each page, and no further (`ulimit -f`)."""
+    store, lines = trial.path("limit.db"), [REQUEST, *map(desk.approval, range(12))]
+    for pages in range(0, 90, trial.step(11)):
+        clear(store)
+        before = [
+            "prlimit",
+            f"--fsize={pages * 4_096}",
+            "sh",
+            "-c",
+            "trap '' XFSZ; exec \"$@\"",
+            "sh",
+        ]
+        got = trial.deliver(store, lines, *before)
+        is_refused(trial, f"a file of up to {pages} pages", got, lines)
+        acked = {line for line, said in zip(lines, got[1].splitlines()) if said == "ack"}
+        trial.count.holds(f"up to {pages} pages: kept", acked <= {*kept(store)} <= {*lines}, acked)
+        again = trial.deliver(store, lines)
+        trial.count.same(f"up to {pages} pages, then more", again, (0, "ack\n" * len(lines), ""))
+
+
+# ---- the file, changed while it is served
+
+
+def change_served(trial: Trial) -> None:
+    """The file is removed, cut, replaced or made read-only while it is served, or its log is
+    removed. The desk goes on: each answer is of what it holds, or K4; at the next start what it
+    finds is refused by name, or is a desk of messages that it was sent."""
+    other = trial.path("other.db")
+    trial.deliver(other, [desk.approval(77)])
+    changes: dict[str, Callable[[str], object]] = {
+        "removed": lambda store: os.unlink(store),
+        "cut to nothing": lambda store: os.truncate(store, 0),
+        "cut to a page": lambda store: os.truncate(store, 4_096),
+        "cut in a page": lambda store: os.truncate(store, 5_000),
+        "replaced": lambda store: os.replace(shutil.copy(other, other + ".copy"), store),
+        "made read-only": lambda store: os.chmod(store, 0o400),
+        "without its log": lambda store: os.unlink(store + "-wal"),
+        "with its log cut": lambda store: os.truncate(store + "-wal", 5_000),
+    }
+    for title, change in changes.items():
+        store, sent = trial.path("changed.db"), [
+            REQUEST,
+            APPROVAL,
+            *map(desk.approval, range(20 // min(SPARSE, 5))),
+        ]
+        clear(store)
+        trial.deliver(store, sent[:2])
+        with desk.Server(store, program=trial.words) as server:
+            trial.count.same(title, body_of(ask(server, LISTED)), sorted(sent[:2]))
+            change(store)
+            acked = {*sent[:2]}
+            for body in sent[2:]:
+                reply = ask(server, desk.posted(b"chat", body.encode()))
+                is_ack = reply.endswith(b"\r\n\r\nack\n")
+                acked |= {body} if is_ack else set()
+                trial.count.holds(
+                    f"{title}: a message", is_ack or reply.endswith(b"\r\n\r\nK4 Storage\n"), reply
+                )
+            reply = ask(server, LISTED)
+            found = {*body_of(reply)}
+            trial.count.holds(
+                f"{title}: all messages",
+                (reply.startswith(REPLIES[0]) and acked <= found <= {*sent})
+                or reply.endswith(b"\r\n\r\nK4 Storage\n"),
+                reply[-200:],
+            )
+            trial.count.holds(f"{title}: the desk is there", server.process.poll() is None)
+        status, out, err = trial.review(store)
+        is_named = status == 2 and not out and err in ("F1 FileFailed\n", "K2 NotADesk\n")
+        trial.count.holds(f"{title}: the next start", is_named or status == 0, (status, out, err))
+        if status == 0:
+            held = {*kept(store)}
+            trial.count.holds(f"{title}: what it finds", held <= {*sent, desk.approval(77)}, held)
+
+
+# ---- a byte, turned
+
+
+def turn_bytes(trial: Trial) -> None:
+    """A byte is turned in each page of a file of ten messages, all of whose bits or one: the
+    question is refused by name, or answered as before."""
+    whole, store = trial.path("ten.db"), trial.path("turned.db")
+    sent = [REQUEST, APPROVAL, *(desk.approval(no, kind="refuse") for no in range(20, 28))]
+    trial.count.same("ten messages", trial.deliver(whole, sent), (0, "ack\n" * 10, ""))
+    before = trial.review(whole)
+    with open(whole, "rb") as file:
+        data = file.read()
+    step, outcomes = trial.step(331), dict[str, int]()
+    for place in range(0, len(data), step):
+        for mask in (0xFF,) if not trial.is_whole else (0xFF, 1 << place % 8):
+            clear(store)
+            turned = data[place] ^ mask
+            desk.write(
+                trial.folder, "turned.db", data[:place] + bytes([turned]) + data[place + 1 :]
+            )
+            got = trial.review(store)
+            is_named = got[:2] == (2, "") and got[2] in (
+                "F1 FileFailed\n",
+                "K1 RosterChanged\n",
+                "K2 NotADesk\n",
+            )
+            is_right = is_named or got == before
+            trial.count.holds(f"byte {place} of {len(data)} turned by {mask:#x}", is_right, got)
+            name = got[2].strip() or ("as before" if is_right else "another answer")
+            outcomes[name] = outcomes.get(name, 0) + 1
+    print(f"a byte turned in a file of {len(data)} bytes: {outcomes}")
+
+
+PARTS = (
+    fail_posts,
+    fail_questions,
+    fail_calls,
+    fail_calls_served,
+    fill_disk,
+    limit_file,
+    change_served,
+    turn_bytes,
+)
+
+
+def main() -> int:
+    words = sys.argv[1:]
+    is_whole = "--whole" in words[:1]
+    parts, words = try_parts(PARTS, words[is_whole:])
+    wrong = tried = 0
+    for part in parts:
+        begun = time.monotonic()
+        with tempfile.TemporaryDirectory(dir=desk.MEMORY) as folder:
+            trial = Trial(program(words) or desk.PROGRAM, folder, is_whole)
+            try:
+                part(trial)
+            except (OSError, sqlite3.Error, subprocess.SubprocessError) as error:
+                trial.count.holds(part.__name__, False, repr(error))
+        tried, wrong = tried + trial.count.tried, wrong + trial.count.wrong
+        seconds = time.monotonic() - begun
+        print(f"{part.__name__}: {trial.count.tried} tried, {seconds:.0f} seconds", flush=True)
+    print(f"{tried} things were tried while reads and writes failed: {wrong} went otherwise")
+    return 1 if wrong else 0
+
+
+if __name__ == "__main__":
+    sys.exit(main())
