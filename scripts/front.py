@@ -26,11 +26,6 @@ def certify(folder: str, *words: str, dates: tuple[str, str] | None = None) -> N
     subprocess.run(["sh", AUTHORITY, folder, *words], check=True, env=env)
 
 
-def free_port() -> int:
-    with socket.create_server(("127.0.0.1", 0)) as held:
-        return held.getsockname()[1]
-
-
 class Recorder:
     """Stands between front and desk, and keeps the bytes that each connection brought to the
     desk."""

@@ -20,6 +20,7 @@ import time
 
 import desk
 import front
+from ports import free_port
 
 OTHERS = 200
 FETCHERS = 20
@@ -467,7 +468,7 @@ def logged(line: dict[str, str]) -> tuple[str, str]:
 
 
 def under_nginx(folder: str) -> list[tuple[int, int]]:
-    store, port = os.path.join(folder, "desk.db"), front.free_port()
+    store, port = os.path.join(folder, "desk.db"), free_port()
     with desk.Server(store, program=desk.named()) as server:
         recorder = front.Recorder(server.address)
         with front.front(front.nginx_words(folder, port, recorder.address), port):
@@ -481,7 +482,7 @@ def under_nginx(folder: str) -> list[tuple[int, int]]:
 
 
 def under_haproxy(folder: str) -> list[tuple[int, int]]:
-    port = front.free_port()
+    port = free_port()
     with desk.Server(program=desk.named()) as server, front.front(
         front.haproxy_words(folder, port, server.address), port
     ):

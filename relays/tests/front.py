@@ -7,7 +7,8 @@ the header of the person anew, whatever the client sent.
 import subprocess
 from pathlib import Path
 
-from relays.tests.site import ROOT, SECRET, Site, free_port, wait_for_port
+from relays.tests.site import ROOT, SECRET, Site, wait_for_port
+from scripts.ports import free_port
 
 NGINX = "/usr/sbin/nginx"
 EXAMPLE = ROOT / "relays" / "front.example.conf"

@@ -9,6 +9,8 @@ import subprocess
 import time
 from pathlib import Path
 
+from scripts.ports import free_ports
+
 ROOT = Path(__file__).resolve().parents[2]
 DESK = os.environ.get("DESK", str(ROOT / "build" / "desk"))
 RELAY = str(ROOT / "relays" / "desk-relay")
@@ -28,12 +30,6 @@ secret = "{folder}/page.secret"
 SECRET = "0123456789abcdef0123456789abcdef"
 
 
-def free_port() -> int:
-    """A port of loopback that nothing has now."""
-    with socket.create_server(("127.0.0.1", 0)) as listener:
-        return int(listener.getsockname()[1])
-
-
 def wait_for_port(port: int, seconds: float = 120.0) -> None:
     """Waits until something listens."""
     until = time.monotonic() + seconds
@@ -49,7 +45,7 @@ class Site:
     """A desk over a file, and a relay beside it."""
 
     def __init__(self, folder: Path) -> None:
-        self.folder, self.port, self.page = folder, free_port(), free_port()
+        self.folder, (self.port, self.page) = folder, free_ports(2)
         self.desk: subprocess.Popen[str] | None = None
         self.started: list[subprocess.Popen[bytes]] = []
         (folder / "site.roster").write_bytes(ROSTER.read_bytes())

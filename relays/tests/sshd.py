@@ -5,7 +5,8 @@ import pwd
 import subprocess
 from pathlib import Path
 
-from relays.tests.site import RELAY, Site, free_port, wait_for_port
+from relays.tests.site import RELAY, Site, wait_for_port
+from scripts.ports import free_port
 
 SSHD = "/usr/sbin/sshd"
 CONFIG = """\

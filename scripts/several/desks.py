@@ -13,7 +13,8 @@ import threading
 import time
 
 from desk_broker import snapshot
-from several.programs import Failure, Program, Programs, free_ports, is_listening, wait_until
+from ports import free_ports
+from several.programs import Failure, Program, Programs, is_listening, wait_until
 from several.sites import RELAYS
 
 LAG = re.compile(r"the longest lag ([0-9.]+) s")

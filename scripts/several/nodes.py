@@ -14,7 +14,8 @@ import subprocess
 import typing
 
 import desk
-from several.programs import Failure, Program, Programs, free_ports, is_listening, wait_until
+from ports import free_ports
+from several.programs import Failure, Program, Programs, is_listening, wait_until
 
 ROOT = pathlib.Path(desk.ROOT)
 CONFIG = ROOT / "examples" / "broker" / "rabbitmq.conf"

@@ -5,7 +5,6 @@ from __future__ import annotations
 import contextlib
 import os
 import pathlib
-import random
 import signal
 import socket
 import subprocess
@@ -15,20 +14,6 @@ from collections.abc import Callable, Iterator
 
 class Failure(Exception):
     """The test cannot go on."""
-
-
-# Below those that the system gives to clients: a client might have a port while its server is away.
-PORTS = range(20_000, 30_000)
-
-
-def free_ports(count: int) -> list[int]:
-    """Ports of loopback that nobody has now, all different."""
-    found: list[int] = []
-    while len(found) < count:
-        port = random.choice(PORTS)
-        with contextlib.suppress(OSError), socket.create_server(("127.0.0.1", port)):
-            found += [port] if port not in found else []
-    return found
 
 
 def is_listening(port: int) -> bool:
