@@ -12,6 +12,9 @@ use Rattle.desk.specs.declared.opening.Origin.{Origin}
 use Rattle.desk.specs.declared.opening.Origin.TheVariants.{Made}
 use Rattle.desk.specs.private.Known.{IsKnown, IsKnownAtFirst}
 
+lists_still : (S T : Message → Type 0) (list : List Message) → SameSet S T → Lists S list → Lists T list
+lists_still S T list same lists n = (λ held. (lists n).0 ((same n).1 held), λ among. (same n).0 ((lists n).1 among))
+
 pub with_lists : (S T : Message → Type 0) (m : Message) (list : List Message) → IsWith S m T → Lists S list → Lists T (list ++ m ∷ [])
 with_lists S T m list grown lists = λ n. (there n, back n)
   where
@@ -32,20 +35,21 @@ with_lists S T m list grown lists = λ n. (there n, back n)
 -- the same is held
 pub known_still : (Up Later : Type 0) (S T : Message → Type 0) (o : Option Gathered) → IsKnown Up S o → (Later → Up) → (Later → SameSet S T) → IsKnown Later T o
 known_still Up Later S T None known was same = tt
-known_still Up Later S T (Some g) known was same =
-    (known.0, known.1, λ later n. (λ held. (known.2 (was later) n).0 ((same later n).1 held), λ among. (same later n).0 ((known.2 (was later) n).1 among)))
+known_still Up Later S T (Some g) known was same = λ later.
+    let k = known (was later) in (k.0, lists_still S T k.0 (same later) k.1, k.2)
 
 -- a message more is held
-pub known_more : (Up Later : Type 0) (S T : Message → Type 0) (m : Message) (old new : Option Gathered) → IsKnown Up S old → (Later → Up) → (Later → IsWith S m T) → ((set : List Message) → IfSome old (AreGathered set) → IfSome new (AreGathered (set ++ m ∷ []))) → (old ≡ None → new ≡ None) → IsKnown Later T new
+pub known_more : (Up Later : Type 0) (S T : Message → Type 0) (m : Message) (old new : Option Gathered) → IsKnown Up S old → (Later → Up) → (Later → IsWith S m T)
+    → ((set : List Message) → IfSome old (AreGathered set) → IfSome new (AreGathered (set ++ m ∷ []))) → (old ≡ None → new ≡ None) → IsKnown Later T new
 known_more Up Later S T m None None known was grown more nothing = tt
 known_more Up Later S T m None (Some g) known was grown more nothing =
     let wrong : ◌≡◌ {A = Option Gathered} (Some g) None = nothing refl in absurd cc
 known_more Up Later S T m (Some g) None known was grown more nothing = tt
-known_more Up Later S T m (Some g) (Some h) known was grown more nothing =
-    (known.0 ++ m ∷ [], more known.0 known.1, λ later. with_lists S T m known.0 (grown later) (known.2 (was later)))
+known_more Up Later S T m (Some g) (Some h) known was grown more nothing = λ later.
+    let k = known (was later) in (k.0 ++ m ∷ [], with_lists S T m k.0 (grown later) k.1, more k.0 k.2)
 
 -- of a desk that was made nothing is held
 pub at_first : (Up : Type 0) (S : Message → Type 0) (origin : Origin) (o : Option Gathered) → IsKnownAtFirst origin o → (Up → origin ≡ Made → IsNothing S) → IsKnown Up S o
 at_first Up S origin None first nothing = tt
-at_first Up S origin (Some g) first nothing =
-    ([], first.1, λ up n. (λ held. absurd (nothing up first.0 n held), λ among. absurd (no_member n among)))
+at_first Up S origin (Some g) first nothing = λ up.
+    ([], λ n. (λ held. absurd (nothing up first.0 n held), λ among. absurd (no_member n among)), first.1)

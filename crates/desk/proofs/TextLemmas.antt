@@ -88,11 +88,6 @@ texts_of_set s t texts same are = record {
   all = λ m h. are.all m ((same m).1 h);
 }
 
--- What a keeper lends has the messages that it holds.
-pub lent_messages : (S T : Message → Type 0) (lent set : List Message) → SameSet S T → Lists T lent → Lists S set → SameMessages lent set
-lent_messages S T lent set same held listed m =
-    (λ h. (listed m).0 ((same m).1 ((held m).1 h)), λ h. (held m).0 ((same m).0 ((listed m).1 h)))
-
 in_other : (s : List Message) (a b : List (List ℕ)) → AreTexts s a → AreTexts s b → (text : List ℕ) → Contains a text → Contains b text
 in_other s a b x y text h = let found = x.each text h in subst (Contains b) (sym found.2) (y.all found.0 found.1)
 

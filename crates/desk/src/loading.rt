@@ -8,25 +8,26 @@ ghost use Rattle.desk.specs.Refusals.{IsWant};
 ghost use Rattle.desk.specs.declared.refusal.Refusal.TheVariants as refusal;
 ghost use Rattle.desk_store.specs.Keeping.{HasFailed};
 ghost use Rattle.desk_store.specs.Left.{IsDeskOf, LeavesOnly};
-ghost use Rattle.desk_tables.specs.Sets.{SameSet};
+ghost use Rattle.desk_tables.specs.Sets.{Lists, SameSet};
 
 use crate::refusal::Refusal;
 use desk_outcomes::Gathered;
 use desk_store::{Keeper, KeeperError};
 use messages::Message;
-use std::alloc::Global;
 
-/// Brings the messages into memory, where the keeper lends them. The desk stays as it is, and so does what a crash leaves of it, and what is
-/// known of the messages, which is named for the proof alone.
-pub(crate) fn load<K: Keeper>(keeper: &mut K, _known: &Option<Gathered>) -> Result<(), KeeperError>
+/// The keeper's messages. The desk stays as it is, and so does what a crash leaves of it, and what is known of the messages, which is
+/// named for the proof alone.
+pub(crate) fn listed<K: Keeper>(
+    keeper: &mut K,
+    _known: &Option<Gathered>,
+) -> Result<Vec<Message>, KeeperError>
     requires desk { K.is_up keeper.old → K.is_desk keeper.old }
     requires known { IsKnown (K.is_up keeper.old) (K.holds keeper.old) _known.now }
     ensures known { IsKnown (K.is_up keeper.new) (K.holds keeper.new) _known.now }
-    ensures loaded { K.is_up keeper.new → OnOk result (K.is_loaded keeper.new) }
+    ensures listed { K.is_up keeper.new → IfOk result (λ list. Lists (K.holds keeper.old) list.items) }
     ensures same { K.is_up keeper.new → K.is_same keeper.old keeper.new }
     ensures desk { K.is_up keeper.new → K.is_desk keeper.new }
     ensures roster { K.is_up keeper.new → K.roster keeper.new ≡ K.roster keeper.old }
-    ensures set { K.is_up keeper.new → SameSet (K.holds keeper.old) (K.holds keeper.new) }
     ensures was_up { K.is_up keeper.new → K.is_up keeper.old }
     ensures was_clean { K.is_clean keeper.new → K.is_clean keeper.old }
     ensures shuts { K.is_up keeper.old → K.is_clean keeper.new → K.is_up keeper.new ⊎ HasFailed (K.failures keeper.old) (K.failures keeper.new) }
@@ -35,13 +36,12 @@ pub(crate) fn load<K: Keeper>(keeper: &mut K, _known: &Option<Gathered>) -> Resu
     ensures cause { result ≡ Err KeeperError.Storage → HasFailed (K.failures keeper.old) (K.failures keeper.new) }
     ensures durable { K.is_up keeper.new → LeavesOnly (K.may_leave keeper.new) (IsDeskOf (K.roster keeper.new) (K.holds keeper.new)) }
 {
-    keeper.load()
+    keeper.messages()
 }
 
-/// What is known of the messages: what was known already, or else it is gathered from the keeper's. The desk stays as it is, and so does
+/// What is known of the messages: what was known already, or else the keeper gathers it. The desk stays as it is, and so does
 /// what a crash leaves of it.
 pub(crate) fn known_of<K: Keeper>(
-    alloc: Global,
     known: Option<Gathered>,
     keeper: &mut K,
 ) -> Result<Gathered, Refusal>
@@ -65,10 +65,7 @@ pub(crate) fn known_of<K: Keeper>(
 {
     match known {
         Some(gathered) => Ok(gathered),
-        None => {
-            load(keeper, &None)?;
-            Ok(Gathered::of(alloc, keeper.messages())?)
-        }
+        None => Ok(keeper.gather()?),
     }
 }
 

@@ -41,7 +41,7 @@ impl<K: Keeper> Desk<K> {
         ensures counts { K.failures self.old.keeper ≤ K.failures self.new.keeper }
         ensures cause { result ≡ Err refusal.Storage → HasFailed (K.failures self.old.keeper) (K.failures self.new.keeper) }
     {
-        let known = known_of(self.alloc, self.known.take(), &mut self.keeper)?;
+        let known = known_of(self.known.take(), &mut self.keeper)?;
         let status = status_in(&self.roster, &known, name);
         self.known = Some(known);
         Ok(status)
@@ -64,7 +64,7 @@ impl<K: Keeper> Desk<K> {
         ensures counts { K.failures self.old.keeper ≤ K.failures self.new.keeper }
         ensures cause { result ≡ Err refusal.Storage → HasFailed (K.failures self.old.keeper) (K.failures self.new.keeper) }
     {
-        let known = known_of(self.alloc, self.known.take(), &mut self.keeper)?;
+        let known = known_of(self.known.take(), &mut self.keeper)?;
         let list = live_in(self.alloc, &self.roster, &known, at);
         self.known = Some(known);
         Ok(list?)
@@ -87,7 +87,7 @@ impl<K: Keeper> Desk<K> {
         ensures counts { K.failures self.old.keeper ≤ K.failures self.new.keeper }
         ensures cause { result ≡ Err refusal.Storage → HasFailed (K.failures self.old.keeper) (K.failures self.new.keeper) }
     {
-        let known = known_of(self.alloc, self.known.take(), &mut self.keeper)?;
+        let known = known_of(self.known.take(), &mut self.keeper)?;
         let texts = parked_in(self.alloc, &known);
         self.known = Some(known);
         Ok(texts?)
@@ -111,7 +111,7 @@ impl<K: Keeper> Desk<K> {
         ensures counts { K.failures self.old.keeper ≤ K.failures self.new.keeper }
         ensures cause { result ≡ Err refusal.Storage → HasFailed (K.failures self.old.keeper) (K.failures self.new.keeper) }
     {
-        let known = known_of(self.alloc, self.known.take(), &mut self.keeper)?;
+        let known = known_of(self.known.take(), &mut self.keeper)?;
         let list = summaries_in(self.alloc, &known);
         self.known = Some(known);
         Ok(list?)
@@ -136,7 +136,7 @@ impl<K: Keeper> Desk<K> {
         ensures counts { K.failures self.old.keeper ≤ K.failures self.new.keeper }
         ensures cause { result ≡ Err refusal.Storage → HasFailed (K.failures self.old.keeper) (K.failures self.new.keeper) }
     {
-        let known = known_of(self.alloc, self.known.take(), &mut self.keeper)?;
+        let known = known_of(self.known.take(), &mut self.keeper)?;
         let held = holdings_in(self.alloc, &known);
         self.known = Some(known);
         Ok(held?)
@@ -238,7 +238,7 @@ impl<K: Keeper> Desk<K> {
         if !self.roster.has_host(host) {
             return Err(Refusal::UnknownHost);
         }
-        let known = known_of(self.alloc, self.known.take(), &mut self.keeper)?;
+        let known = known_of(self.known.take(), &mut self.keeper)?;
         let file = host_file_in(self.alloc, &self.roster, &self.base, &known, host, after);
         self.known = Some(known);
         Ok(file?)

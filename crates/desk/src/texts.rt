@@ -11,7 +11,7 @@ ghost use Rattle.desk.specs.Texts.{AreTexts};
 ghost use Rattle.desk.specs.declared.refusal.Refusal.TheVariants as refusal;
 
 use crate::desk::Desk;
-use crate::loading::load;
+use crate::loading::listed;
 use crate::refusal::Refusal;
 use desk_store::Keeper;
 use messages::{Message, text};
@@ -36,9 +36,8 @@ impl<K: Keeper> Desk<K> {
         ensures counts { K.failures self.old.keeper ≤ K.failures self.new.keeper }
         ensures cause { result ≡ Err refusal.Storage → HasFailed (K.failures self.old.keeper) (K.failures self.new.keeper) }
     {
-        load(&mut self.keeper, &self.known)?;
-        let set = self.keeper.messages();
-        Ok(texts_in(self.alloc, set)?)
+        let set = listed(&mut self.keeper, &self.known)?;
+        Ok(texts_in(self.alloc, set.as_slice())?)
     }
 }
 

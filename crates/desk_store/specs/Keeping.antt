@@ -1,5 +1,8 @@
--- What a look at a keeper tells, and what a count of failures says.
+-- What a look at a keeper tells, what it knows of its messages, and what a count of failures says.
 use Rattle.std.specs.Prelude.{◌≡◌, ◌⊎◌, ℕ, ◌<◌, ◌≤◌, ◌-◌, ◌^◌, List, string_bytes}
+use Rattle.messages.specs.declared.message.Message.{Message}
+use Rattle.desk_tables.specs.Sets.{Lists}
+use Rattle.desk_outcomes.specs.Gathered.{AreGathered, Known}
 use Rattle.desk_store.specs.declared.found.Found.{Found}
 use Rattle.desk_store.specs.declared.found.Found.TheVariants as found
 
@@ -9,6 +12,10 @@ Tells Empty Desk Old roster found.Empty = Empty × (¬ Desk) × (¬ Old)
 Tells Empty Desk Old roster (found.Desk text) = Desk × (¬ Empty) × (¬ Old) × (string_bytes text ≡ roster)
 Tells Empty Desk Old roster found.OldDesk = Old × (¬ Empty) × (¬ Desk)
 Tells Empty Desk Old roster found.NotADesk = (¬ Empty) × (¬ Desk) × (¬ Old)
+
+-- What is known of the set's messages, in whatever order they are listed.
+abbrev pub IsKnownOf : (Message → Type 0) → Known → Type 0
+IsKnownOf S known = (list : List Message) × Lists S list × AreGathered list known
 
 -- the count of failures rose, or stands at the greatest number of 64 bits
 abbrev pub HasFailed : (before after : ℕ) → Type 0

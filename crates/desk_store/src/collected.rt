@@ -43,7 +43,7 @@ fn knows(texts: &BTreeSet<String>, text: &str) -> bool
 }
 
 /// A copy of the message, and one of its text. Where it ends well, the list has room for one more.
-fn copied(
+fn copies(
     alloc: Global,
     messages: &mut Vec<Message>,
     message: &Message,
@@ -94,7 +94,7 @@ impl Collected {
         if knows(&self.texts, text) {
             return Ok(());
         }
-        let (copy, key) = copied(self.alloc, &mut self.messages, message, text)?;
+        let (copy, key) = copies(self.alloc, &mut self.messages, message, text)?;
         // A call drops the copy: where an exit drops it in line, each of its fields is proved again there.
         match add_text(&mut self.texts, key) {
             Ok(()) => {
@@ -115,5 +115,15 @@ impl Collected {
         ensures once { AllPairs (λ m n. m ≢ n) result.now }
     {
         &self.messages
+    }
+
+    /// A copy of the messages.
+    pub(crate) fn copied(&self) -> Result<Vec<Message>, KeeperError>
+        ensures value { IfOk result (λ list. list.items ≡ self.now) }
+        ensures only { (m : AnyMessage) → Contains self.now m → IsMessage m }
+        ensures once { AllPairs (λ m n. m ≢ n) self.now }
+        ensures err { IfErr result (λ e. e ≡ error.NoMemory) }
+    {
+        Ok(self.messages.clone()?)
     }
 }

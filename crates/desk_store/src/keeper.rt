@@ -4,11 +4,12 @@ ghost use Rattle.std.specs.Prelude.{◌≡◌, ℕ, ◌≤◌, ◌⊎◌, List, 
 ghost use Rattle.messages.specs.Wire.{IsMessage, wire};
 ghost use Rattle.messages.specs.declared.message.Message.{Message as AnyMessage};
 ghost use Rattle.desk_tables.specs.Sets.{IsNothing, SameSet, IsWith, Lists, With};
-ghost use Rattle.desk_store.specs.Keeping.{Tells, HasFailed};
+ghost use Rattle.desk_store.specs.Keeping.{IsKnownOf, Tells, HasFailed};
 ghost use Rattle.desk_store.specs.Left.{Left, IsAsKept, IsDeskOf, IsNothingOrFresh, IsReplacedOrNot, IsWithOrWithout, LeavesOnly};
 
 use crate::error::KeeperError;
 use crate::found::Found;
+use desk_outcomes::Gathered;
 use messages::Message;
 
 /// What keeps a desk: nothing of a desk's, or a desk's roster text and the set of its messages, or what is no desk.
@@ -37,9 +38,6 @@ pub trait Keeper {
 
     /// The message is one of the desk's.
     ghost holds: { Self → AnyMessage → Type 0 };
-
-    /// The messages were brought into memory, and nothing was added since.
-    ghost is_loaded: { Self → Type 0 };
 
     /// The storage has been honest, and no failure has shut it.
     ghost is_up: { Self → Type 0 };
@@ -126,10 +124,11 @@ pub trait Keeper {
         ensures durable { is_up self.new
             → LeavesOnly (may_leave self.new) (IsAsKept (is_empty self.new) (is_desk self.new) (is_old self.new) (roster self.new) (holds self.new)) };
 
-    /// Brings the desk's messages into memory, where `messages` lends them. What is kept stays as it is.
-    fn load(&mut self) -> Result<(), KeeperError>
+    /// What is known of the desk's messages: a summary for each name that somebody asks under, and the verdicts that wait for their request.
+    /// What is kept stays as it is.
+    fn gather(&mut self) -> Result<Gathered, KeeperError>
         requires { is_up self.old → is_desk self.old }
-        ensures loaded { is_up self.new → OnOk result (is_loaded self.new) }
+        ensures known { is_up self.new → IfOk result (IsKnownOf (holds self.old)) }
         ensures same { is_up self.new → is_same self.old self.new }
         ensures was_up { is_up self.new → is_up self.old }
         ensures was_clean { is_clean self.new → is_clean self.old }
@@ -139,9 +138,18 @@ pub trait Keeper {
         ensures up { is_up self.old → is_clean self.new → OnOk result (is_up self.new) }
         ensures crash { is_up self.old → is_clean self.new → LeavesOnly (may_leave self.new) (IsDeskOf (roster self.old) (holds self.old)) };
 
-    /// The messages that were brought into memory, each once, in an order of the keeper's own.
-    fn messages(&self) -> &[Message]
-        ensures { is_loaded self.now → Lists (holds self.now) result.now };
+    /// The desk's messages, in an order of the keeper's own. What is kept stays as it is.
+    fn messages(&mut self) -> Result<Vec<Message>, KeeperError>
+        requires { is_up self.old → is_desk self.old }
+        ensures listed { is_up self.new → IfOk result (λ list. Lists (holds self.old) list.items) }
+        ensures same { is_up self.new → is_same self.old self.new }
+        ensures was_up { is_up self.new → is_up self.old }
+        ensures was_clean { is_clean self.new → is_clean self.old }
+        ensures shuts { is_up self.old → is_clean self.new → is_up self.new ⊎ HasFailed (failures self.old) (failures self.new) }
+        ensures counts { failures self.old ≤ failures self.new }
+        ensures cause { result ≡ Err KeeperError.Storage → HasFailed (failures self.old) (failures self.new) }
+        ensures up { is_up self.old → is_clean self.new → OnOk result (is_up self.new) }
+        ensures crash { is_up self.old → is_clean self.new → LeavesOnly (may_leave self.new) (IsDeskOf (roster self.old) (holds self.old)) };
 
     /// How many failures it has counted, up to the greatest number of 64 bits.
     fn failures(&self) -> u64

@@ -5,6 +5,7 @@ mod collected;
 mod error;
 mod failing;
 mod found;
+mod gathering;
 mod keeper;
 mod memory;
 mod replacing;

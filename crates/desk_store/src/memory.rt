@@ -1,13 +1,13 @@
 //! A keeper in memory.
 
-ghost use Rattle.std.specs.Prelude.{◌≡◌, ◌≢◌, [], None, AllPairs};
-ghost use Rattle.desk_tables.specs.Sets.{Lists};
+ghost use Rattle.std.specs.Prelude.{◌≡◌, ◌≢◌, [], None, AllPairs, IfOk};
 ghost use Rattle.desk_store.specs.Memory as memory;
 
 use crate::collected::Collected;
 use crate::error::KeeperError;
 use crate::found::Found;
 use crate::keeper::Keeper;
+use desk_outcomes::Gathered;
 use messages::Message;
 use std::alloc::Global;
 use std::marker::Model;
@@ -56,8 +56,6 @@ impl Keeper for MemoryKeeper {
     ghost roster = { λ k. unwrap_or k.roster [] };
 
     ghost holds = { λ k. memory.Holds k };
-
-    ghost is_loaded = { λ k. ⊤ };
 
     ghost is_up = { λ k. ⊤ };
 
@@ -114,16 +112,15 @@ impl Keeper for MemoryKeeper {
         Ok(())
     }
 
-    fn load(&mut self) -> Result<(), KeeperError> {
-        Ok(())
+    fn gather(&mut self) -> Result<Gathered, KeeperError> {
+        Ok(Gathered::of(self.alloc, self.messages.as_slice())?)
     }
 
     /// The messages, each once, in the order in which they came.
-    fn messages(&self) -> &[Message]
-        ensures lists { Lists (memory.Holds self.now) result.now }
-        ensures once { AllPairs (λ m n. m ≢ n) result.now }
+    fn messages(&mut self) -> Result<Vec<Message>, KeeperError>
+        ensures once { IfOk result (λ list. AllPairs (λ m n. m ≢ n) list.items) }
     {
-        self.messages.as_slice()
+        self.messages.copied()
     }
 
     fn failures(&self) -> u64 {

@@ -4,7 +4,7 @@ ghost use Rattle.std.specs.Prelude.{◌≡◌, ◌↔◌, false};
 ghost use Rattle.sqlite.specs.State.{HasCleanDisk};
 ghost use Rattle.sqlite.specs.Held.{state};
 ghost use Rattle.desk_tables.specs.Kept.{HoldsText};
-ghost use Rattle.desk_tables.specs.Sets.{Lists, SameSet};
+ghost use Rattle.desk_tables.specs.Sets.{SameSet};
 ghost use Rattle.desk_tables.specs.SqliteStates.{IsUp, Rests};
 ghost use Rattle.desk_tables.specs.Stored.{content_of};
 ghost use Rattle.desk_schema.specs.Shapes.{IsVacant};
@@ -17,10 +17,12 @@ ghost use Rattle.desk_store.specs.private.SqliteLaws as laws;
 use crate::error::KeeperError;
 use crate::failing::{storage, told};
 use crate::found::Found;
+use crate::gathering::gather_in;
 use crate::keeper::Keeper;
 use crate::replacing::replace_in;
 use crate::settled::settles;
 use desk_opening::{Contents, Found as InDatabase, look, messages_of};
+use desk_outcomes::Gathered;
 use desk_schema::{is_ready, make};
 use desk_tables::{Fault, arrive};
 use messages::Message;
@@ -34,7 +36,6 @@ use std::alloc::Global;
 pub struct SqliteKeeper<S: Alter> {
     alloc: Global,
     conn: Connection<S>,
-    messages: Vec<Message>,
     failed: u64,
     ghost rests: { Rests (state S.Store conn) } by { Rests-prop (state S.Store conn) },
 }
@@ -50,7 +51,6 @@ impl<S: Alter> SqliteKeeper<S> {
         SqliteKeeper {
             alloc,
             conn,
-            messages: Vec::new(alloc),
             failed: 0,
         }
     }
@@ -63,7 +63,6 @@ impl<S: Alter> SqliteKeeper<S> {
         let SqliteKeeper {
             alloc: _,
             conn,
-            messages: _,
             failed: _,
         } = self;
         conn
@@ -93,7 +92,6 @@ impl<S: Alter + Drop> Drop for SqliteKeeper<S> {
         let SqliteKeeper {
             alloc: _,
             conn: _,
-            messages: _,
             failed: _,
         } = self;
     }
@@ -128,8 +126,6 @@ impl<S: Alter> Keeper for SqliteKeeper<S> {
     ghost roster = { λ k. (content_of (state S.Store k.conn).now).roster };
 
     ghost holds = { λ k. HoldsText (state S.Store k.conn).now };
-
-    ghost is_loaded = { λ k. Lists (HoldsText (state S.Store k.conn).now) k.messages.items };
 
     ghost is_up = { λ k. IsUp (state S.Store k.conn) };
 
@@ -208,19 +204,20 @@ impl<S: Alter> Keeper for SqliteKeeper<S> {
         }
     }
 
-    fn load(&mut self) -> Result<(), KeeperError> {
+    fn gather(&mut self) -> Result<Gathered, KeeperError> {
         settles(&self.conn);
-        match messages_of(self.alloc, &mut self.conn) {
-            Ok(messages) => {
-                self.messages = messages;
-                Ok(())
-            }
+        match gather_in(self.alloc, &mut self.conn) {
+            Ok(gathered) => Ok(gathered),
             Err(fault) => Err(told(&mut self.failed, fault)),
         }
     }
 
-    fn messages(&self) -> &[Message] {
-        self.messages.as_slice()
+    fn messages(&mut self) -> Result<Vec<Message>, KeeperError> {
+        settles(&self.conn);
+        match messages_of(self.alloc, &mut self.conn) {
+            Ok(messages) => Ok(messages),
+            Err(fault) => Err(told(&mut self.failed, fault)),
+        }
     }
 
     fn failures(&self) -> u64 {

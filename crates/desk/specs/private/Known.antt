@@ -1,16 +1,16 @@
 -- What is known of a desk's messages. For private clauses.
 use Rattle.std.specs.Prelude.{◌≡◌, List, [], Option, Some, None}
 use Rattle.messages.specs.declared.message.Message.{Message}
-use Rattle.desk_tables.specs.Sets.{Lists}
 use Rattle.desk_outcomes.specs.declared.gathering.Gathered.{Gathered}
 use Rattle.desk_outcomes.specs.Gathered.{AreGathered}
+use Rattle.desk_store.specs.Keeping.{IsKnownOf}
 use Rattle.desk.specs.declared.opening.Origin.{Origin}
 use Rattle.desk.specs.declared.opening.Origin.TheVariants.{Made}
 
--- It is what is known of some list of messages, and while the keeper is up that has just the messages of the set. Nothing need be known.
+-- While the keeper is up, it is what is known of the set. Nothing need be known.
 abbrev pub IsKnown : (Up : Type 0) → (Message → Type 0) → Option Gathered → Type 0
 IsKnown Up S None = Unit {0}
-IsKnown Up S (Some g) = (list : List Message) × AreGathered list g × (Up → Lists S list)
+IsKnown Up S (Some g) = Up → IsKnownOf S g
 
 -- Of a desk that was made it is what is known of no messages.
 abbrev pub IsKnownAtFirst : Origin → Option Gathered → Type 0

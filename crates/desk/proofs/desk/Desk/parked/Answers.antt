@@ -14,6 +14,6 @@ returns-clause-parked g c =
     let new = c.known_of.new.keeper in
     let known = c.in_ok-known.ensures.known in
     let answer : (set : List Message) → K.is_up new → Lists (K.holds old) set → AreParked set (map string_bytes c.in_ok-texts.field-0.items) = λ set up lists.
-    let same = same_listed (K.holds old) known.0 set (known.2 up) lists in
-    parked_of_set known.0 set (map string_bytes c.in_ok-texts.field-0.items) same (c.in_ok-texts.ensures known.0 known.1) in
+    let same = same_listed (K.holds old) (known up).0 set (known up).1 lists in
+    parked_of_set (known up).0 set (map string_bytes c.in_ok-texts.field-0.items) same (c.in_ok-texts.ensures (known up).0 (known up).2) in
     rw (← c.self.view_is) answer

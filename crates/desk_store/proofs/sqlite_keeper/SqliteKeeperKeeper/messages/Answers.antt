@@ -1,18 +1,15 @@
-use Rattle.std.proofs.Common.{inl, inr, le_refl, subst, sym}
-use Rattle.sqlite.specs.Effect.{Database}
+use Rattle.std.proofs.Common.{inl, inr, le_refl}
 use Rattle.sqlite.specs.Held.{state}
-use Rattle.desk_tables.specs.Kept.{HoldsText}
-use Rattle.desk_tables.specs.Sets.{Lists}
 use Rattle.desk_schema.proofs.ShapeLemmas.{common_of}
 use Rattle.desk_store.proofs.FoundLemmas.{as_kept}
 use Rattle.desk_store.proofs.OutcomeLemmas.{ok_no_err}
-use Rattle.desk_store.proofs.sqlite_keeper.SqliteKeeperKeeper.load.Goals as goal
+use Rattle.desk_store.proofs.sqlite_keeper.SqliteKeeperKeeper.messages.Goals as goal
 
 pub messages_of-requires-clause-found : goal.messages_of-requires-clause-found
 messages_of-requires-clause-found g c up = (common_of (state g.S.Store c.args.self.now.conn).now.schema (c.requires up).desk.tidy.desk).0.messages
 
-pub returns-in-Ok-clause-loaded : goal.returns-in-Ok-clause-loaded
-returns-in-Ok-clause-loaded g c up = subst (λ (d : Database). Lists (HoldsText d) c.in-Ok.messages.items) (sym (c.messages_of.ensures.reads.same up)) (c.in-Ok.ensures.listed up)
+pub returns-in-Ok-clause-listed : goal.returns-in-Ok-clause-listed
+returns-in-Ok-clause-listed g c up = c.in-Ok.ensures.listed up
 
 pub returns-in-Ok-clause-same : goal.returns-in-Ok-clause-same
 returns-in-Ok-clause-same g c up = c.messages_of.ensures.reads.same up
@@ -38,8 +35,8 @@ returns-in-Ok-clause-up g c up clean = c.in-Ok.ensures.up up clean
 pub returns-in-Ok-clause-crash : goal.returns-in-Ok-clause-crash
 returns-in-Ok-clause-crash g c up clean left may = (as_kept (state g.S.Store c.args.self.now.conn) (state g.S.Store c.messages_of.new.conn) c.settles.ensures up clean left may (c.messages_of.ensures.reads.survives up clean)).desk (c.requires up)
 
-pub returns-in-Err-clause-loaded : goal.returns-in-Err-clause-loaded
-returns-in-Err-clause-loaded g c up = tt
+pub returns-in-Err-clause-listed : goal.returns-in-Err-clause-listed
+returns-in-Err-clause-listed g c up = tt
 
 pub returns-in-Err-clause-same : goal.returns-in-Err-clause-same
 returns-in-Err-clause-same g c up = c.messages_of.ensures.reads.same up

@@ -1,0 +1,32 @@
+//! What is known of the messages of a desk in a database.
+
+ghost use Rattle.std.specs.Prelude.{IfOk, OnOk};
+ghost use Rattle.sqlite.specs.State.{HasCleanDisk};
+ghost use Rattle.sqlite.specs.Held.{state};
+ghost use Rattle.desk_tables.specs.Kept.{HoldsText};
+ghost use Rattle.desk_tables.specs.SqliteStates.{IsUp, Rests};
+ghost use Rattle.desk_schema.specs.declared.part.Part.TheVariants as part;
+ghost use Rattle.desk_schema.specs.Shapes.{FindsPart};
+ghost use Rattle.desk_opening.specs.private.Reading.{Reads};
+ghost use Rattle.desk_store.specs.Keeping.{IsKnownOf};
+
+use desk_opening::messages_of;
+use desk_outcomes::Gathered;
+use desk_tables::Fault;
+use sqlite::{Alter, Connection};
+use std::alloc::Global;
+
+/// What is known of the messages of the desk that the database keeps. It stays as it is.
+pub(crate) fn gather_in<S: Alter>(
+    alloc: Global,
+    conn: &mut Connection<S>,
+) -> Result<Gathered, Fault>
+    requires rests { Rests (state S.Store conn.old) }
+    requires found { IsUp (state S.Store conn.old) → FindsPart (state S.Store conn.old).now.schema part.Messages }
+    ensures reads { Reads (state S.Store conn.old) (state S.Store conn.new) }
+    ensures up { IsUp (state S.Store conn.old) → HasCleanDisk (state S.Store conn.new) → OnOk result (IsUp (state S.Store conn.new)) }
+    ensures known { IsUp (state S.Store conn.new) → IfOk result (IsKnownOf (HoldsText (state S.Store conn.old).now)) }
+{
+    let messages = messages_of(alloc, conn)?;
+    Ok(Gathered::of(alloc, messages.as_slice())?)
+}
