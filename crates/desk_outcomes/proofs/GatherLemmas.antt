@@ -33,7 +33,7 @@ none_gathered m ordered empty = record {
 
 -- ---- a message about another name
 
-still_at : (set : List Message) (m : Message) (name : RequestName) → (Mentions m name → ⊥) → (o : Option Kept) → IsAt set name o → IsAt (set ++ m ∷ []) name o
+pub still_at : (set : List Message) (m : Message) (name : RequestName) → (Mentions m name → ⊥) → (o : Option Kept) → IsAt set name o → IsAt (set ++ m ∷ []) name o
 still_at set m name other None nobody = λ q h named.
     elim (Contains-push_cases set m (Request q) h) as (λ _. ⊥) [
       | inl old ↦ nobody q old named
@@ -77,7 +77,7 @@ among_messages (w ∷ vs) v m =
       | inr later ↦ Contains-behind (Verdict w) (map of_verdict vs) (Verdict v) (among_messages vs v later)
     ]
 
-among_verdicts : (vs : List VerdictFields) (v : VerdictFields) → Contains (map of_verdict vs) (Verdict v) → Contains vs v
+pub among_verdicts : (vs : List VerdictFields) (v : VerdictFields) → Contains (map of_verdict vs) (Verdict v) → Contains vs v
 among_verdicts [] v m = absurd (no_member (Verdict v) m)
 among_verdicts (w ∷ vs) v m =
     elim (Contains-cases (Verdict w) (map of_verdict vs) (Verdict v) m) as (λ _. Contains (w ∷ vs) v) [
@@ -85,7 +85,7 @@ among_verdicts (w ∷ vs) v m =
       | inr later ↦ Contains-behind w vs v (among_verdicts vs v later)
     ]
 
-no_request : (vs : List VerdictFields) (q : RequestFields) → Contains (map of_verdict vs) (Request q) → ⊥
+pub no_request : (vs : List VerdictFields) (q : RequestFields) → Contains (map of_verdict vs) (Request q) → ⊥
 no_request [] q m = no_member (Request q) m
 no_request (w ∷ vs) q m =
     elim (Contains-cases (Verdict w) (map of_verdict vs) (Request q) m) as (λ _. ⊥) [ inl wrong ↦ absurd cc | inr later ↦ no_request vs q later ]

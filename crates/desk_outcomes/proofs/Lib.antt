@@ -19,4 +19,5 @@ pub mod Existence
 pub mod SummaryLemmas
 pub mod PastGrants
 pub mod ByNameLemmas
+pub mod RowLemmas
 mod WorkedGrant

@@ -206,10 +206,10 @@ module _ (f : RosterFields Cmnd) (s t : List Message) (a : Alike f s t) where
 
 -- ---- parked
 
-turned_set : (s t : List Message) → SameMessages s t → SameMessages t s
+pub turned_set : (s t : List Message) → SameMessages s t → SameMessages t s
 turned_set s t same = λ m. ((same m).1, (same m).0)
 
-parked_one : (s t : List Message) → SameMessages s t → (v : VerdictFields) → IsParked s v → IsParked t v
+pub parked_one : (s t : List Message) → SameMessages s t → (v : VerdictFields) → IsParked s v → IsParked t v
 parked_one s t same v is =
     record { given = (same (Verdict v)).0 is.given; waits = λ q h named. is.waits q ((same (Request q)).1 h) named }
 

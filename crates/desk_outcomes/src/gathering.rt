@@ -4,15 +4,17 @@ ghost use Rattle.std.specs.Prelude.{◌≡◌, List, [], ◌∷◌, ◌++◌, ma
 ghost use Rattle.std.specs.BTreeMap.{IsOrdered};
 ghost use Rattle.messages.specs.Fields.{VerdictFields};
 ghost use Rattle.messages.specs.Names.{IsAbout, name_cmp, name_of};
+ghost use Rattle.messages.specs.NameRows.{ShowSet};
+ghost use Rattle.messages.specs.declared.name_row.NameRow.{NameRow as AnyRow};
 ghost use Rattle.messages.specs.declared.request_name.RequestName.{RequestName as AnyName};
 ghost use Rattle.messages.specs.declared.message.Message.{Message as AnyMessage};
 ghost use Rattle.messages.specs.declared.message.Message.TheVariants as message_of;
 ghost use Rattle.grants.specs.Summaries.{StandsFor};
 ghost use Rattle.desk_outcomes.specs.Gathered.{AreGathered};
-ghost use Rattle.desk_outcomes.specs.private.ByName.{AreByName, IsByName, at_name, verdicts_at};
+ghost use Rattle.desk_outcomes.specs.private.ByName.{AreAlone, AreByName, Gathers, GathersRows, HasNoVerdict, IsByName, IsRowOf, at_name, verdicts_at};
 
-use grants::{Summary, apply, ask, ask_again};
-use messages::{Message, Request, RequestName, Verdict};
+use grants::{Summary, apply, ask, ask_again, dispute};
+use messages::{Message, NameRow, Request, RequestName, Verdict};
 use std::alloc::Global;
 use std::collections::BTreeMap;
 use std::marker::Model;
@@ -146,6 +148,55 @@ fn put_verdict(
     }
 }
 
+/// The summary of the row's request, before any verdict.
+fn summary_of(alloc: Global, row: &NameRow) -> Result<Summary, NoMemory>
+    ensures stands { (set : List AnyMessage) → HasNoVerdict set → IsRowOf set row.now → IfOk result (StandsFor set) }
+    ensures same_request { IfOk result (λ s. s.request ≡ row.now.request) }
+{
+    let mut summary = ask(alloc, &row.request)?;
+    if !row.is_disputed {
+        return Ok(summary);
+    }
+    dispute(&mut summary);
+    Ok(summary)
+}
+
+/// Adds the summary of the row's request, where it is the first row of its name.
+fn put_row(
+    alloc: Global,
+    summaries: &mut BTreeMap<RequestName, Summary>,
+    row: &NameRow,
+) -> Result<(), NoMemory>
+    ensures alone { AreAlone summaries.old → OnOk result (AreAlone summaries.new) }
+    ensures rows { (set : List AnyMessage) (rows : List AnyRow) → HasNoVerdict set → IsRowOf set row.now → GathersRows set rows summaries.old
+        → OnOk result (GathersRows set (rows ++ row.now ∷ []) summaries.new) }
+{
+    let name = row.request.name()?;
+    match summaries.get(&name) {
+        Some(_) => Ok(()),
+        None => {
+            let summary = summary_of(alloc, row)?;
+            summaries.insert(name, summary)?;
+            Ok(())
+        }
+    }
+}
+
+/// A summary for each name that has a row, before any verdict.
+fn summaries_of(
+    alloc: Global,
+    rows: &[NameRow],
+) -> Result<BTreeMap<RequestName, Summary>, NoMemory>
+    ensures alone { IfOk result AreAlone }
+    ensures known { (set : List AnyMessage) → ShowSet (λ m. Contains set m) rows.now [] → IfOk result (Gathers set) }
+{
+    let mut summaries = BTreeMap::new(alloc);
+    for row in rows {
+        put_row(alloc, &mut summaries, row)?;
+    }
+    Ok(summaries)
+}
+
 impl Gathered {
     /// What is known of no messages. It takes no memory.
     pub fn new(alloc: Global) -> Gathered
@@ -156,6 +207,32 @@ impl Gathered {
             summaries: BTreeMap::new(alloc),
             waiting: BTreeMap::new(alloc),
         }
+    }
+
+    /// What is known of the requests of which these are the rows, before any verdict.
+    fn of_names(alloc: Global, names: &[NameRow]) -> Result<Gathered, NoMemory>
+        ensures { (set : List AnyMessage) → ShowSet (λ m. Contains set m) names.now [] → IfOk result (AreGathered set) }
+    {
+        let summaries = summaries_of(alloc, names)?;
+        Ok(Gathered {
+            alloc,
+            summaries,
+            waiting: BTreeMap::new(alloc),
+        })
+    }
+
+    /// Adds a verdict: what is known is then that of the set with the verdict. Where memory runs out, it is still that of the set.
+    fn hear(&mut self, verdict: &Verdict) -> Result<(), NoMemory>
+        ensures ok { (set : List AnyMessage) → AreGathered set self.old
+            → OnOk result (AreGathered (set ++ message_of.Verdict verdict.now ∷ []) self.new) }
+        ensures err { (set : List AnyMessage) → AreGathered set self.old → OnErr result (AreGathered set self.new) }
+    {
+        put_verdict(
+            self.alloc,
+            &mut self.summaries,
+            &mut self.waiting,
+            verdict,
+        )
     }
 
     /// Adds a message: what is known is then that of the set with the message. Where memory runs out, it is still that of the set.
@@ -171,12 +248,7 @@ impl Gathered {
                 &mut self.waiting,
                 request,
             ),
-            Message::Verdict(verdict) => put_verdict(
-                self.alloc,
-                &mut self.summaries,
-                &mut self.waiting,
-                verdict,
-            ),
+            Message::Verdict(verdict) => self.hear(verdict),
         }
     }
 
@@ -187,6 +259,21 @@ impl Gathered {
         let mut gathered = Gathered::new(alloc);
         for message in set {
             gathered.take(message)?;
+        }
+        Ok(gathered)
+    }
+
+    /// What is known of the set that the rows of names and the verdicts show, the verdicts that wait among them. No other message is read.
+    pub fn of_rows(
+        alloc: Global,
+        names: &[NameRow],
+        verdicts: &[Verdict],
+    ) -> Result<Gathered, NoMemory>
+        ensures { (set : List AnyMessage) → ShowSet (λ m. Contains set m) names.now verdicts.now → IfOk result (AreGathered set) }
+    {
+        let mut gathered = Gathered::of_names(alloc, names)?;
+        for verdict in verdicts {
+            gathered.hear(verdict)?;
         }
         Ok(gathered)
     }

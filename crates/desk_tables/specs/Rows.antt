@@ -1,11 +1,12 @@
 -- The rows that a desk's tables have for a set of messages.
-use Rattle.std.specs.Prelude.{◌≡◌, ◌≢◌, ℕ, suc, pos, Bool, true, false, if◌then◌else◌, List, [], ◌∷◌}
+use Rattle.std.specs.Prelude.{◌≡◌, ℕ, suc, pos, Bool, if◌then◌else◌, List, [], ◌∷◌}
 use Rattle.sqlite.specs.declared.types.Value.{Value}
 use Rattle.sqlite.specs.declared.types.Value.TheVariants.{Int, Text}
 use Rattle.sqlite.specs.Order.{Row, column}
 use Rattle.sqlite_rules.specs.Lists.{Has}
 use Rattle.messages.specs.Fields.{RequestFields, VerdictFields}
 use Rattle.messages.specs.Names.{IsNamed, SameName, name_meant}
+pub use Rattle.messages.specs.NameRows.{IsMarked}
 use Rattle.messages.specs.declared.request_name.RequestName.{RequestName}
 use Rattle.messages.specs.Wire.{wire, kind_text}
 use Rattle.messages.specs.declared.message.Message.{Message}
@@ -44,11 +45,6 @@ OfName at name values = (column values at ≡ Text name.by) × (column values (s
 -- the set has a request of the name
 abbrev pub Asks : (Message → Type 0) → RequestName → Type 0
 Asks S name = (q : RequestFields) × S (Request q) × IsNamed q name
-
--- the set has another request of the request's name, or has none
-abbrev pub IsMarked : (Message → Type 0) → RequestFields → (disputed : Bool) → Type 0
-IsMarked S q true = (p : RequestFields) × S (Request p) × SameName p q × (p ≢ q)
-IsMarked S q false = (p : RequestFields) → S (Request p) → SameName p q → p ≡ q
 
 -- Each name with a request has one row, which has one such request and tells whether there is another. Each verdict has a
 -- row: among the verdicts where its name has a request, and among those that are parked where it has none.

@@ -39,7 +39,7 @@ pub use status_laws::{
     bounds_of_window, completion_is_nth_smallest, one_status, order_is_free, rights_of_the_moment,
     uncounted_changes_nothing, who_does_not_count, worked_days, worked_statuses,
 };
-pub use summary::{Summary, apply, ask, ask_again};
+pub use summary::{Summary, apply, ask, ask_again, dispute};
 pub use summary_laws::one_summary;
 pub use within::is_inside;
 pub use within_laws::{each_reaches_something, forms_of_inclusion, worked_inclusions};

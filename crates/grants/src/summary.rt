@@ -1,6 +1,7 @@
 //! What a set of messages says of one request.
 
-ghost use Rattle.std.specs.Prelude.{◌≡◌, List, [], ◌∷◌, ◌++◌, IfOk, IfSome, IfNone, OnOk, OnErr};
+ghost use Rattle.std.specs.Prelude.{◌≡◌, ◌≢◌, List, [], ◌∷◌, ◌++◌, IfOk, IfSome, IfNone, OnOk, OnErr};
+ghost use Rattle.messages.specs.Fields.{RequestFields};
 ghost use Rattle.messages.specs.Names.{SameName, IsAbout, name_of};
 ghost use Rattle.messages.specs.declared.message.Message.{Message as AnyMessage};
 ghost use Rattle.messages.specs.declared.message.Message.TheVariants as message_of;
@@ -103,6 +104,17 @@ pub fn ask_again(s: &mut Summary, request: &Request)
     if !s.request.is_same(request) {
         s.is_disputed = true;
     }
+}
+
+/// Marks the request as one of two of its name. It takes no memory.
+pub fn dispute(s: &mut Summary)
+    // Where it stood for a set, it stands for the set with any other request of the name.
+    ensures stands { (set : List AnyMessage) (p : RequestFields) → SameName p s.old.request → p ≢ s.old.request
+        → StandsFor set s.old → StandsFor (set ++ message_of.Request p ∷ []) s.new }
+    // It stays that of the name.
+    ensures same_request { s.new.request ≡ s.old.request }
+{
+    s.is_disputed = true;
 }
 
 /// Adds a verdict about the request.

@@ -5,3 +5,4 @@ pub mod Uniqueness
 pub mod KindLemmas
 mod WorkedTexts
 pub mod NameOrder
+pub mod SetsShown

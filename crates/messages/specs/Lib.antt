@@ -1,6 +1,7 @@
 pub mod Order
 pub mod Fields
 pub mod Names
+pub mod NameRows
 pub mod Shown
 pub mod Wire
 pub mod WorkedTexts

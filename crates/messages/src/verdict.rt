@@ -1,12 +1,15 @@
 //! Verdicts.
 
-ghost use Rattle.std.specs.Prelude.{◌≡◌, ◌↔◌, IsTrue};
+ghost use Rattle.std.specs.Prelude.{◌≡◌, ◌<◌, ◌≤◌, ◌↔◌, IsTrue, Some, None};
 ghost use Rattle.messages.specs.Fields.{IsVerdict};
 
 use crate::kind::VerdictKind;
 use std::alloc::AllocError;
 use std::marker::Model;
 use sudo_words::{Moment, Name};
+
+/// The last number of a request.
+const LAST_NUMBER: u32 = 999_999_999;
 
 /// A verdict on the request with a number of an asker, who is called `of`.
 ///
@@ -33,6 +36,23 @@ impl Model for Verdict {
 }
 
 impl Verdict {
+    /// The verdict that says this: none where the number is past 999,999,999.
+    pub fn new(kind: VerdictKind, of: Name, no: u32, by: Name, at: Moment) -> Option<Verdict>
+        ensures some { no ≤ 999_999_999 → result ≡ Some (record { at = at; by = by; kind = kind; no = no; of = of }) }
+        ensures none { 999_999_999 < no → result ≡ None }
+    {
+        if no > LAST_NUMBER {
+            return None;
+        }
+        Some(Verdict {
+            at,
+            by,
+            kind,
+            no,
+            of,
+        })
+    }
+
     /// When it was given.
     pub fn at(&self) -> Moment
         ensures value { result ≡ self.now.at }

@@ -4,8 +4,11 @@ use Rattle.std.specs.declared.alloc.Global.{Global}
 use Rattle.std.specs.BTreeMap.{BTreeMap, IsOrdered, get}
 use Rattle.messages.specs.Fields.{VerdictFields}
 use Rattle.messages.specs.Names.{IsNamed, NobodyAsks, name_cmp, name_meant}
+use Rattle.messages.specs.NameRows.{IsMarked}
+use Rattle.messages.specs.declared.name_row.NameRow.{NameRow}
 use Rattle.messages.specs.declared.request_name.RequestName.{RequestName}
 use Rattle.messages.specs.declared.message.Message.{Message}
+use Rattle.messages.specs.declared.message.Message.TheVariants.{Request, Verdict}
 use Rattle.grants.specs.Summaries.{Kept, StandsFor}
 use Rattle.desk_outcomes.specs.Parked.{IsParked}
 
@@ -24,6 +27,29 @@ pub record IsSummaryOf (messages : List Message) (name : RequestName) (k : Kept)
 pub record Gathers (messages : List Message) (summaries : BTreeMap RequestName Kept) : Type 0 where
   pub ordered : IsOrdered name_cmp summaries
   pub each : (name : RequestName) → MatchOption (at_name summaries name) (NobodyAsks messages name) (IsSummaryOf messages name)
+
+-- ---- summaries of requests alone
+
+-- the set has no verdict
+abbrev pub HasNoVerdict : List Message → Type 0
+HasNoVerdict messages = (v : VerdictFields) → ¬ Contains messages (Verdict v)
+
+-- They are what is known of some set of requests.
+abbrev pub AreAlone : BTreeMap RequestName Kept → Type 0
+AreAlone summaries = (messages : List Message) × HasNoVerdict messages × Gathers messages summaries
+
+-- the row is of a request of the set
+abbrev pub IsRowOf : List Message → NameRow → Type 0
+IsRowOf messages row = Contains messages (Request row.request) × IsMarked (λ m. Contains messages m) row.request row.is_disputed
+
+-- no row is of the name
+abbrev pub NoRowOf : List NameRow → RequestName → Type 0
+NoRowOf rows name = (row : NameRow) → Contains rows row → ¬ IsNamed row.request name
+
+-- at each name of a row the map has a summary of the set's messages about it, and nothing at the others
+pub record GathersRows (messages : List Message) (rows : List NameRow) (summaries : BTreeMap RequestName Kept) : Type 0 where
+  pub ordered : IsOrdered name_cmp summaries
+  pub each : (name : RequestName) → MatchOption (at_name summaries name) (NoRowOf rows name) (IsSummaryOf messages name)
 
 -- ---- verdicts that wait
 

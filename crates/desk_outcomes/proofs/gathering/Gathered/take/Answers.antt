@@ -1,7 +1,7 @@
 use Rattle.std.proofs.Common.{[], ◌∷◌, ◌++◌, sym, subst}
 use Rattle.std.specs.Prelude.{OnOk}
 use Rattle.messages.specs.declared.message.Message.{Message}
-use Rattle.messages.specs.declared.message.Message.TheVariants.{Request, Verdict}
+use Rattle.messages.specs.declared.message.Message.TheVariants.{Request}
 use Rattle.desk_outcomes.specs.Gathered.{AreGathered}
 use Rattle.desk_outcomes.proofs.ByNameLemmas.{after_err, after_ok, known, opened, still_by_name}
 use Rattle.desk_outcomes.proofs.gathering.Gathered.take.Goals as goal
@@ -25,21 +25,6 @@ returns-in-Request-clause-err c = λ set are.
     let by = opened set inside.summaries inside.waiting c.args.self.now c.self.view_is c.self.invariant are in
     after_err c.put_request.result set (set ++ Request c.in-Request.request ∷ []) c.put_request.new.summaries c.put_request.new.waiting (c.put_request.ensures set by)
 
-pub invariant_of-self-in-Verdict : goal.invariant_of-self-in-Verdict
-invariant_of-self-in-Verdict c =
-    let some = c.self.invariant in
-    still_by_name c.put_verdict.result some.0 (some.0 ++ Verdict c.in-Verdict.verdict ∷ []) c.put_verdict.new.summaries c.put_verdict.new.waiting (c.put_verdict.ensures some.0 some.1)
-
 pub returns-in-Verdict-clause-ok : goal.returns-in-Verdict-clause-ok
 returns-in-Verdict-clause-ok c = λ set are.
-    let inside = c.self.inside in
-    let by = opened set inside.summaries inside.waiting c.args.self.now c.self.view_is c.self.invariant are in
-    let s = c.put_verdict.new.summaries in
-    let w = c.put_verdict.new.waiting in
-    subst (λ (m : Message). OnOk c.put_verdict.result (AreGathered (set ++ m ∷ []) (known s w))) (sym c.in-Verdict.is) (after_ok c.put_verdict.result set (set ++ Verdict c.in-Verdict.verdict ∷ []) s w (c.put_verdict.ensures set by))
-
-pub returns-in-Verdict-clause-err : goal.returns-in-Verdict-clause-err
-returns-in-Verdict-clause-err c = λ set are.
-    let inside = c.self.inside in
-    let by = opened set inside.summaries inside.waiting c.args.self.now c.self.view_is c.self.invariant are in
-    after_err c.put_verdict.result set (set ++ Verdict c.in-Verdict.verdict ∷ []) c.put_verdict.new.summaries c.put_verdict.new.waiting (c.put_verdict.ensures set by)
+    subst (λ (m : Message). OnOk c.hear.result (AreGathered (set ++ m ∷ []) c.hear.new.self)) (sym c.in-Verdict.is) (c.hear.ensures.ok set are)
