@@ -1,5 +1,5 @@
 -- What a look at a keeper tells, and what a count of failures says.
-use Rattle.std.specs.Prelude.{◌≡◌, ◌⊎◌, ℕ, ◌<◌, ◌≤◌, ◌-◌, ◌^◌, List, string_bytes}
+use Rattle.std.specs.Prelude.{◌≡◌, ◌⊎◌, ℕ, ◌<◌, ◌≤◌, ◌+◌, ◌-◌, ◌^◌, List, min, string_bytes}
 use Rattle.desk_store.specs.declared.found.Found.{Found}
 use Rattle.desk_store.specs.declared.found.Found.TheVariants as found
 
@@ -13,3 +13,7 @@ Tells Empty Desk Old roster found.NotADesk = (¬ Empty) × (¬ Desk) × (¬ Old)
 -- the count of failures rose, or stands at the greatest number of 64 bits
 abbrev pub HasFailed : (before after : ℕ) → Type 0
 HasFailed before after = (before < after) ⊎ (2 ^ 64 - 1 ≤ after)
+
+-- two counts of failures as one, up to the greatest number of 64 bits
+abbrev pub together : (below own : ℕ) → ℕ
+together below own = min (below + own) (2 ^ 64 - 1)

@@ -129,4 +129,6 @@ impl Keeper for MemoryKeeper {
     fn failures(&self) -> u64 {
         0
     }
+
+    fn lasts(&self) {}
 }
