@@ -1,5 +1,5 @@
 -- What a look at a keeper tells, what it knows of its messages, and what a count of failures says.
-use Rattle.std.specs.Prelude.{◌≡◌, ◌⊎◌, ℕ, ◌<◌, ◌≤◌, ◌-◌, ◌^◌, List, string_bytes}
+use Rattle.std.specs.Prelude.{◌≡◌, ◌⊎◌, ℕ, ◌<◌, ◌≤◌, ◌+◌, ◌-◌, ◌^◌, List, min, string_bytes}
 use Rattle.messages.specs.declared.message.Message.{Message}
 use Rattle.desk_tables.specs.Sets.{Lists}
 use Rattle.desk_outcomes.specs.Gathered.{AreGathered, Known}
@@ -20,3 +20,7 @@ IsKnownOf S known = (list : List Message) × Lists S list × AreGathered list kn
 -- the count of failures rose, or stands at the greatest number of 64 bits
 abbrev pub HasFailed : (before after : ℕ) → Type 0
 HasFailed before after = (before < after) ⊎ (2 ^ 64 - 1 ≤ after)
+
+-- two counts of failures as one, up to the greatest number of 64 bits
+abbrev pub together : (below own : ℕ) → ℕ
+together below own = min (below + own) (2 ^ 64 - 1)

@@ -155,6 +155,11 @@ pub trait Keeper {
     fn failures(&self) -> u64
         ensures { result ≡ Self.failures self.now };
 
+    /// While it is up, a crash leaves what it keeps, for the next opening. It does nothing: a keeper over another names it.
+    fn lasts(&self)
+        ensures { is_up self.now
+            → LeavesOnly (may_leave self.now) (IsAsKept (is_empty self.now) (is_desk self.now) (is_old self.now) (roster self.now) (holds self.now)) };
+
     /// Each message that is held is one that a desk knows.
     ghost holds_messages: { (k : Self) → (m : AnyMessage) → holds k m → IsMessage m };
 

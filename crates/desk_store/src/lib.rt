@@ -4,6 +4,7 @@
 mod collected;
 mod error;
 mod failing;
+mod failing_keeper;
 mod found;
 mod gathering;
 mod keeper;
@@ -13,6 +14,7 @@ mod settled;
 mod sqlite_keeper;
 
 pub use error::KeeperError;
+pub use failing_keeper::FailingKeeper;
 pub use found::Found;
 pub use keeper::Keeper;
 pub use memory::MemoryKeeper;

@@ -126,4 +126,6 @@ impl Keeper for MemoryKeeper {
     fn failures(&self) -> u64 {
         0
     }
+
+    fn lasts(&self) {}
 }

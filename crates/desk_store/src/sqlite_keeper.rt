@@ -223,4 +223,8 @@ impl<S: Alter> Keeper for SqliteKeeper<S> {
     fn failures(&self) -> u64 {
         self.failed
     }
+
+    fn lasts(&self) {
+        settles(&self.conn);
+    }
 }
