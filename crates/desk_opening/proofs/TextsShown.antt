@@ -39,7 +39,7 @@ text_there t (Blob b) h = absurd (true≢false (sym h))
 there_text : (t : List ℕ) (v : Value) → v ≡ Text t → list_any (same_text t) (text_in v) ≡ true
 there_text t v e = subst (λ w. list_any (same_text t) (text_in w) ≡ true) (sym e) (or_left (same_text t t) false ((eq_by_cmp_equiv nat_list_cmp_total).refl t))
 
-text_of : (v : Value) → not (is_text v) ≡ false → (t : List ℕ) × (v ≡ Text t)
+pub text_of : (v : Value) → not (is_text v) ≡ false → (t : List ℕ) × (v ≡ Text t)
 text_of Null h = absurd (true≢false h)
 text_of (Int n) h = absurd (true≢false h)
 text_of (Real x) h = absurd (true≢false h)
@@ -64,7 +64,7 @@ module _ (db : Database) (rows : List Row) (shows : ShowsPart Messages db rows) 
   has_row : (t : List ℕ) → has (content_of db) t ≡ true → (r : Row) × Has table r × (column r 1 ≡ Text t)
   has_row t there = let it = some_has (has_text t) table (sym (contains_bodies t table) ∙ there) in (it.0, it.1, text_there t (column it.0 1) it.2)
 
-  row_has : (t : List ℕ) (r : Row) → Has table r → column r 1 ≡ Text t → has (content_of db) t ≡ true
+  pub row_has : (t : List ℕ) (r : Row) → Has table r → column r 1 ≡ Text t → has (content_of db) t ≡ true
   row_has t r there is = contains_bodies t table ∙ some_from (has_text t) table r there (there_text t (column r 1) is)
 
   -- ---- where they are the texts of messages

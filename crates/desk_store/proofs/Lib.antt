@@ -9,6 +9,8 @@ pub mod MemoryLeft
 pub mod OneDesk
 pub mod FoundLemmas
 pub mod ArrivalLemmas
+-- what is held, as a list
+pub mod SetListed
 -- another roster's text
 pub mod EachOnce
 pub mod ReplacingLemmas

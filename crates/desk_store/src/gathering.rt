@@ -5,28 +5,31 @@ ghost use Rattle.sqlite.specs.State.{HasCleanDisk};
 ghost use Rattle.sqlite.specs.Held.{state};
 ghost use Rattle.desk_tables.specs.Kept.{HoldsText};
 ghost use Rattle.desk_tables.specs.SqliteStates.{IsUp, Rests};
-ghost use Rattle.desk_schema.specs.declared.part.Part.TheVariants as part;
-ghost use Rattle.desk_schema.specs.Shapes.{FindsPart};
+ghost use Rattle.desk_opening.specs.Opened.{IsKept};
 ghost use Rattle.desk_opening.specs.private.Reading.{Reads};
 ghost use Rattle.desk_store.specs.Keeping.{IsKnownOf};
 
-use desk_opening::messages_of;
+use desk_opening::shown_of;
 use desk_outcomes::Gathered;
 use desk_tables::Fault;
 use sqlite::{Alter, Connection};
 use std::alloc::Global;
 
-/// What is known of the messages of the desk that the database keeps. It stays as it is.
+/// What is known of the messages of the desk that the database keeps, by the rows that follow from them. It stays as it is.
 pub(crate) fn gather_in<S: Alter>(
     alloc: Global,
     conn: &mut Connection<S>,
 ) -> Result<Gathered, Fault>
     requires rests { Rests (state S.Store conn.old) }
-    requires found { IsUp (state S.Store conn.old) → FindsPart (state S.Store conn.old).now.schema part.Messages }
+    requires kept { IsUp (state S.Store conn.old) → IsKept (state S.Store conn.old).now }
     ensures reads { Reads (state S.Store conn.old) (state S.Store conn.new) }
     ensures up { IsUp (state S.Store conn.old) → HasCleanDisk (state S.Store conn.new) → OnOk result (IsUp (state S.Store conn.new)) }
     ensures known { IsUp (state S.Store conn.new) → IfOk result (IsKnownOf (HoldsText (state S.Store conn.old).now)) }
 {
-    let messages = messages_of(alloc, conn)?;
-    Ok(Gathered::of(alloc, messages.as_slice())?)
+    let shown = shown_of(alloc, conn)?;
+    Ok(Gathered::of_rows(
+        alloc,
+        shown.names.as_slice(),
+        shown.verdicts.as_slice(),
+    )?)
 }

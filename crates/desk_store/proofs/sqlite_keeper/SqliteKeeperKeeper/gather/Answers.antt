@@ -1,12 +1,11 @@
 use Rattle.std.proofs.Common.{inl, inr, le_refl}
 use Rattle.sqlite.specs.Held.{state}
-use Rattle.desk_schema.proofs.ShapeLemmas.{common_of}
 use Rattle.desk_store.proofs.FoundLemmas.{as_kept}
 use Rattle.desk_store.proofs.OutcomeLemmas.{ok_no_err}
 use Rattle.desk_store.proofs.sqlite_keeper.SqliteKeeperKeeper.gather.Goals as goal
 
-pub gather_in-requires-clause-found : goal.gather_in-requires-clause-found
-gather_in-requires-clause-found g c up = (common_of (state g.S.Store c.args.self.now.conn).now.schema (c.requires up).desk.tidy.desk).0.messages
+pub gather_in-requires-clause-kept : goal.gather_in-requires-clause-kept
+gather_in-requires-clause-kept g c up = c.requires up
 
 pub returns-in-Ok-clause-known : goal.returns-in-Ok-clause-known
 returns-in-Ok-clause-known g c up = c.in-Ok.ensures.known up
