@@ -7,6 +7,7 @@ pub mod QueryLemmas
 pub mod AnswerLemmas
 pub mod CrashLemmas
 pub mod RestartLemmas
+pub mod StopLemmas
 pub mod RebuildingLemmas
 pub mod KnownLemmas
 pub mod RefusalLemmas

@@ -15,6 +15,7 @@ mod rebuilding_laws;
 mod refusal;
 mod reopening;
 mod run_laws;
+mod stopping;
 mod texts;
 
 pub use ack::Ack;
@@ -31,4 +32,5 @@ pub use rebuilding_laws::{rebuild_again, rebuild_twice};
 pub use refusal::Refusal;
 pub use reopening::{restart, restart_over};
 pub use run_laws::{one_answer, run_free};
+pub use stopping::open_after_stop;
 pub use texts::one_text_list;

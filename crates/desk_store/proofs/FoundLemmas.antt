@@ -18,7 +18,7 @@ use Rattle.desk_schema.specs.Shapes.{IsVacant}
 use Rattle.desk_schema.specs.private.Making.{FoundsAt, Makes, fresh}
 use Rattle.desk_schema.proofs.MarksLemmas.{unmarked_spared}
 use Rattle.desk_opening.specs.Opened.{IsKept, IsOldDesk}
-use Rattle.desk_store.specs.Left.{Left, Nothing, ADesk, AnOldDesk, NoDesk, HoldsIn, IsAsKept, IsDeskOf, IsNothingOrFresh, IsOldDeskOf, IsReplacedOrNot, IsWithOrWithout}
+use Rattle.desk_store.specs.Left.{Left, Nothing, ADesk, AnOldDesk, NoDesk, HoldsIn, IsAsKept, IsDeskOf, IsFoundAs, IsNothingOrFresh, IsOldDeskOf, IsReplacedOrNot, IsWithOrWithout}
 use Rattle.desk_store.specs.Crash.{IsFound, MayLeave}
 use Rattle.desk_store.specs.private.Replacing.{Becomes, BecomesAt}
 use Rattle.desk_store.specs.private.Survival.{IsAgain, Settled}
@@ -74,6 +74,15 @@ module _ (db : Database) where
   found_nothing (ADesk c) is vacant = absurd (kept_not_vacant db is.0 vacant)
   found_nothing (AnOldDesk c) is vacant = absurd (old_not_vacant db is.0 vacant)
   found_nothing NoDesk none vacant = absurd (none.0 vacant)
+
+  -- what a look finds is what is kept
+  pub found_as : (left : Left) → IsFound db left → IsFoundAs (IsVacant db.schema) (IsKept db) (IsOldDesk db) (content_of db).roster (HoldsText db) left
+  found_as Nothing is = (is, λ kept. kept_not_vacant db kept is, λ old. old_not_vacant db old is)
+  found_as (ADesk c) is =
+      (is.0, kept_not_vacant db is.0, kept_not_old db is.0, ap (λ (x : Content). x.roster) (sym is.1), subst (λ (x : Content). SameSet (HoldsText db) (HoldsIn x)) (sym is.1) (λ m. (λ h. h, λ h. h)))
+  found_as (AnOldDesk c) is =
+      (is.0, old_not_vacant db is.0, λ kept. kept_not_old db kept is.0, subst (λ (x : Content). SameSet (HoldsText db) (HoldsIn x)) (sym is.1) (λ m. (λ h. h, λ h. h)))
+  found_as NoDesk is = is
 
 -- what is kept of the database, for the next opening
 abbrev pub AsKept : Database → Left → Type 0

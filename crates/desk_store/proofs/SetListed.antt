@@ -27,14 +27,16 @@ spelled : (rs : List Row) → ((r : Row) → Contains rs r → IsSpelled r) → 
 spelled [] each = ([], record { texts = refl; only = λ m h. absurd (no_member m h) })
 spelled (r ∷ rs) each =
     let m = each r (Contains-head r rs) in
-    let more = spelled rs (λ s h. each s (Contains-behind r rs s h)) in
-    (m.0 ∷ more.0, record {
-      texts = ap₂ (λ (v : Value) vs. v ∷ vs) m.2 more.1.texts;
-      only = λ n h. elim (Contains-cases m.0 more.0 n h) as (λ _. IsKeepable n) [
-        | inl same ↦ subst IsKeepable same m.1
-        | inr there ↦ more.1.only n there
-      ];
-    })
+    let more = spelled rs (λ s h. each s (Contains-behind r rs s h)) in (
+      m.0 ∷ more.0,
+      record {
+        texts = ap₂ (λ (v : Value) vs. v ∷ vs) m.2 more.1.texts;
+        only = λ n h. elim (Contains-cases m.0 more.0 n h) as (λ _. IsKeepable n) [
+          | inl same ↦ subst IsKeepable same m.1
+          | inr there ↦ more.1.only n there
+        ];
+      },
+    )
 
 module _ (db : Database) (is : HasTexts db) where
   abbrev table : List Row

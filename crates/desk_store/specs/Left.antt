@@ -49,6 +49,17 @@ pub record IsReplacedOrNot (Desk Old : Type 0) (recorded text : List ℕ) (S : M
   pub desk : Desk → IsDeskOf recorded S left ⊎ IsDeskOf text S left
   pub old : Old → IsOldDeskOf S left ⊎ IsDeskOf text S left
 
+-- What a keeper keeps is what was left: nothing of a desk's, the whole desk, one of an older form, or what is no desk.
+abbrev pub IsFoundAs : (Empty Desk Old : Type 0) → (roster : List ℕ) → (messages : Message → Type 0) → Left → Type 0
+IsFoundAs Empty Desk Old roster S Nothing = Empty × (¬ Desk) × (¬ Old)
+IsFoundAs Empty Desk Old roster S (ADesk c) = Desk × (¬ Empty) × (¬ Old) × (roster ≡ c.roster) × SameSet S (HoldsIn c)
+IsFoundAs Empty Desk Old roster S (AnOldDesk c) = Old × (¬ Empty) × (¬ Desk) × SameSet S (HoldsIn c)
+IsFoundAs Empty Desk Old roster S NoDesk = (¬ Empty) × (¬ Desk) × (¬ Old)
+
 -- whatever may be left has the property
 abbrev pub LeavesOnly : (MayLeave Property : Left → Type 0) → Type 0
 LeavesOnly MayLeave Property = (left : Left) → MayLeave left → Property left
+
+-- something that may be left has the property
+abbrev pub MayBe : (MayLeave Property : Left → Type 0) → Type 0
+MayBe MayLeave Property = (left : Left) × MayLeave left × Property left

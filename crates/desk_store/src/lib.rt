@@ -2,6 +2,7 @@
 #![tactic(auto)]
 
 mod collected;
+mod crash_laws;
 mod error;
 mod failing;
 mod failing_keeper;
@@ -13,6 +14,7 @@ mod replacing;
 mod settled;
 mod sqlite_keeper;
 
+pub use crash_laws::found_is_kept;
 pub use error::KeeperError;
 pub use failing_keeper::FailingKeeper;
 pub use found::Found;
