@@ -1,1 +1,6 @@
-pub mod StatusLemmas
+-- lists, what is told of a name as a message joins the set, the map of all names, the messages of the texts, and the entries of an audit
+pub mod ListLemmas
+pub mod ToldLemmas
+pub mod ByNameLemmas
+pub mod ReadLemmas
+pub mod AuditLemmas

@@ -1,11 +1,22 @@
--- What an audit tells of a name.
-use Rattle.std.specs.Prelude.{List}
+-- What an audit tells.
+use Rattle.std.specs.Prelude.{◌≡◌, List, Contains}
 use Rattle.sudo_words.specs.declared.cmnd.Cmnd.{Cmnd}
+use Rattle.messages.specs.Names.{NamePrecedes}
+use Rattle.messages.specs.Order.{AreInOrder}
 use Rattle.messages.specs.declared.message.Message.{Message}
 use Rattle.roster.specs.Fields.{RosterFields}
 use Rattle.desk_outcomes.specs.Outcomes.{ComesTo}
+use Rattle.desk_audit.specs.Told.{TellsMessages, name_in}
 use Rattle.desk_audit.specs.declared.entry.Entry.{Entry}
 
--- Its status is what the messages about its name come to.
-abbrev pub TellsStatus : RosterFields Cmnd → List Message → Entry → Type 0
-TellsStatus f messages entry = ComesTo f messages entry.name entry.status
+-- A name that a message of the set speaks of, with all its messages, and what they come to.
+pub record TellsName (f : RosterFields Cmnd) (messages : List Message) (entry : Entry) : Type 0 where
+  pub spoken : (m : Message) × Contains messages m × (name_in m ≡ entry.name)
+  pub about : TellsMessages messages entry.name entry.about
+  pub status : ComesTo f messages entry.name entry.status
+
+-- Each name that somebody asks under or that a verdict speaks of, once, in the order of names, and no others.
+pub record IsAudit (f : RosterFields Cmnd) (messages : List Message) (entries : List Entry) : Type 0 where
+  pub in_order : AreInOrder (λ d e. NamePrecedes d.name e.name) entries
+  pub each : (e : Entry) → Contains entries e → TellsName f messages e
+  pub all : (m : Message) → Contains messages m → (e : Entry) × Contains entries e × (e.name ≡ name_in m)

@@ -1,14 +1,16 @@
 //! What is said of each name.
 
-ghost use Rattle.std.specs.Prelude.{◌≡◌, ◌⊎◌, ◌≤◌, List, IfOk};
-ghost use Rattle.std.specs.List.{AllByRecursion};
+ghost use Rattle.std.specs.Prelude.{◌≡◌, ◌⊎◌, ◌≤◌, List, IfOk, IfErr, OnOk, MatchResult};
 ghost use Rattle.messages.specs.declared.message.Message.{Message as AnyMessage};
 ghost use Rattle.desk_store.specs.Keeping.{HasFailed};
 ghost use Rattle.desk_store.specs.Sets.{Lists};
-ghost use Rattle.desk_audit.specs.Audit.{TellsStatus};
+ghost use Rattle.desk_outcomes.specs.Outcomes.{ComesTo};
+ghost use Rattle.desk.specs.Refusals.{IsWant};
+ghost use Rattle.desk_audit.specs.Audit.{IsAudit};
+ghost use Rattle.desk_audit.specs.Told.{IsTooLong};
+ghost use Rattle.desk_audit.specs.private.ByName.{Gathers};
 
 use crate::gathering::{About, ByName, gather};
-use crate::pick::Pick;
 use crate::reasons::{Weight, approvals, completion, is_of_one, weigh};
 use desk::{Desk, Keeper, Refusal};
 use grants::{Denial, Status, admit};
@@ -35,7 +37,9 @@ fn entry_of<K: Keeper>(
     about: About,
 ) -> Result<Entry, Refusal>
     ensures status { (set : List AnyMessage) → K.is_up desk.new.keeper → Lists (K.holds desk.old.keeper) set
-        → IfOk result (TellsStatus desk.old.roster.says set) }
+        → IfOk result (λ entry. ComesTo desk.old.roster.says set name entry.status) }
+    ensures same { IfOk result (λ entry. (entry.name ≡ name) × (entry.about ≡ about)) }
+    ensures err { IfErr result IsWant }
     ensures unchanged { K.is_up desk.new.keeper → K.is_same desk.old.keeper desk.new.keeper }
     ensures roster { desk.new.roster ≡ desk.old.roster }
     ensures base { desk.new.base ≡ desk.old.base }
@@ -43,6 +47,7 @@ fn entry_of<K: Keeper>(
     ensures was_clean { K.is_clean desk.new.keeper → K.is_clean desk.old.keeper }
     ensures shuts { K.is_up desk.old.keeper → K.is_clean desk.new.keeper
         → K.is_up desk.new.keeper ⊎ HasFailed (K.failures desk.old.keeper) (K.failures desk.new.keeper) }
+    ensures up { K.is_up desk.old.keeper → K.is_clean desk.new.keeper → OnOk result (K.is_up desk.new.keeper) }
     ensures counts { K.failures desk.old.keeper ≤ K.failures desk.new.keeper }
 {
     let status = desk.status_of(&name)?;
@@ -53,15 +58,15 @@ fn entry_of<K: Keeper>(
     })
 }
 
-/// The entries of these names that are asked about, in their order.
+/// The entries of these names, in their order.
 fn entries_of<K: Keeper>(
     alloc: Global,
     desk: &mut Desk<K>,
-    pick: &Pick,
     all: ByName,
 ) -> Result<Vec<Entry>, Refusal>
-    ensures statuses { (set : List AnyMessage) → K.is_up desk.new.keeper → K.is_desk desk.new.keeper → Lists (K.holds desk.old.keeper) set
-        → IfOk result (λ entries. AllByRecursion (TellsStatus desk.old.roster.says set) entries.items) }
+    ensures audit { (set : List AnyMessage) → K.is_up desk.new.keeper → K.is_desk desk.new.keeper → Lists (K.holds desk.old.keeper) set
+        → Gathers set all → IfOk result (λ entries. IsAudit desk.old.roster.says set entries.items) }
+    ensures err { IfErr result IsWant }
     ensures unchanged { K.is_up desk.new.keeper → K.is_same desk.old.keeper desk.new.keeper }
     ensures roster { desk.new.roster ≡ desk.old.roster }
     ensures base { desk.new.base ≡ desk.old.base }
@@ -69,24 +74,26 @@ fn entries_of<K: Keeper>(
     ensures was_clean { K.is_clean desk.new.keeper → K.is_clean desk.old.keeper }
     ensures shuts { K.is_up desk.old.keeper → K.is_clean desk.new.keeper
         → K.is_up desk.new.keeper ⊎ HasFailed (K.failures desk.old.keeper) (K.failures desk.new.keeper) }
+    ensures up { K.is_up desk.old.keeper → K.is_clean desk.new.keeper → OnOk result (K.is_up desk.new.keeper) }
     ensures counts { K.failures desk.old.keeper ≤ K.failures desk.new.keeper }
 {
     let mut entries = Vec::new(alloc);
     for (name, about) in all {
         let entry = entry_of(desk, name, about)?;
-        if pick.has(&entry.name.by, &entry.about, &entry.status) {
-            entries.push(entry)?;
-        }
+        entries.push(entry)?;
     }
     Ok(entries)
 }
 
-/// What is said of each name that is asked about, in the order of names.
+/// What is said of each name that somebody asks under or that a verdict speaks of, in the order of names, each once and with all its messages.
 ///
-/// Each status is what the messages about the name come to, and the messages are those of `Desk::texts`. Nothing of the desk changes.
-pub fn audit<K: Keeper>(desk: &mut Desk<K>, pick: &Pick) -> Result<Vec<Entry>, Refusal>
-    ensures statuses { (set : List AnyMessage) → K.is_up desk.new.keeper → K.is_desk desk.new.keeper → Lists (K.holds desk.old.keeper) set
-        → IfOk result (λ entries. AllByRecursion (TellsStatus desk.old.roster.says set) entries.items) }
+/// Each status is what the messages about the name come to. Beside want of memory and of storage there is one refusal: `TooLong`, where the desk
+/// holds a text of over 16,384 bytes, which no delivery brings. Nothing of the desk changes.
+pub fn audit<K: Keeper>(desk: &mut Desk<K>) -> Result<Vec<Entry>, Refusal>
+    ensures audit { (set : List AnyMessage) → K.is_up desk.new.keeper → K.is_desk desk.new.keeper → Lists (K.holds desk.old.keeper) set
+        → IfOk result (λ entries. IsAudit desk.old.roster.says set entries.items) }
+    ensures refused { (set : List AnyMessage) → K.is_up desk.new.keeper → Lists (K.holds desk.old.keeper) set
+        → IfErr result (λ e. IsWant e ⊎ IsTooLong set e) }
     ensures unchanged { K.is_up desk.new.keeper → K.is_same desk.old.keeper desk.new.keeper }
     ensures roster { desk.new.roster ≡ desk.old.roster }
     ensures base { desk.new.base ≡ desk.old.base }
@@ -94,12 +101,14 @@ pub fn audit<K: Keeper>(desk: &mut Desk<K>, pick: &Pick) -> Result<Vec<Entry>, R
     ensures was_clean { K.is_clean desk.new.keeper → K.is_clean desk.old.keeper }
     ensures shuts { K.is_up desk.old.keeper → K.is_clean desk.new.keeper
         → K.is_up desk.new.keeper ⊎ HasFailed (K.failures desk.old.keeper) (K.failures desk.new.keeper) }
+    ensures up { K.is_up desk.old.keeper → K.is_clean desk.new.keeper
+        → MatchResult result (λ _. K.is_up desk.new.keeper) (λ e. IsWant e ⊎ K.is_up desk.new.keeper) }
     ensures counts { K.failures desk.old.keeper ≤ K.failures desk.new.keeper }
 {
     let texts = desk.texts()?;
     let alloc = *texts.allocator();
     let all = gather(alloc, &texts)?;
-    entries_of(alloc, desk, pick, all)
+    entries_of(alloc, desk, all)
 }
 
 /// The word for a status.

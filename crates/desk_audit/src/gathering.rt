@@ -1,8 +1,18 @@
 //! What the texts of a desk's messages say, name by name.
 
+ghost use Rattle.std.specs.Prelude.{◌≡◌, ◌⊎◌, ◌<◌, ◌++◌, ◌∷◌, [], List, map, Contains, IfOk, IfErr, OnOk, length, string_bytes};
+ghost use Rattle.messages.specs.Wire.{wire, IsMessage};
+ghost use Rattle.messages.specs.declared.message.Message.{Message as AnyMessage};
+ghost use Rattle.messages.specs.declared.request_name.RequestName.{RequestName as AnyName};
+ghost use Rattle.desk.specs.Refusals.{IsWant};
+ghost use Rattle.desk.specs.Texts.{AreTexts};
+ghost use Rattle.desk.specs.declared.refusal.Refusal.TheVariants as refusal;
+ghost use Rattle.desk_audit.specs.Told.{name_in, TellsMessages, IsTooLong};
+ghost use Rattle.desk_audit.specs.private.ByName.{Gathers, IsBehind};
+
 use desk::Refusal;
 use messages::{Message, Request, RequestName, Verdict, read_message};
-use std::alloc::Global;
+use std::alloc::{AllocError, Global};
 use std::collections::BTreeMap;
 use sudo_words::NoMemory;
 
@@ -15,55 +25,88 @@ pub struct About {
     pub verdicts: Vec<Verdict>,
 }
 
-fn nothing(alloc: Global) -> About {
+/// What is said about each name, in the order of names.
+pub(crate) type ByName = BTreeMap<RequestName, About>;
+
+/// Nothing about a name.
+fn nothing(alloc: Global) -> About
+    ensures requests { result.requests.items ≡ [] }
+    ensures verdicts { result.verdicts.items ≡ [] }
+{
     About {
         requests: Vec::new(alloc),
         verdicts: Vec::new(alloc),
     }
 }
 
-/// What is said about each name, in the order of names.
-pub(crate) type ByName = BTreeMap<RequestName, About>;
+/// The name that a message speaks of.
+fn name_of(message: &Message) -> Result<RequestName, AllocError>
+    ensures { IfOk result (λ name. name ≡ name_in message.now) }
+{
+    match message {
+        Message::Request(request) => request.name(),
+        Message::Verdict(verdict) => verdict.name_meant(),
+    }
+}
 
-fn put_request(alloc: Global, all: &mut ByName, request: Request) -> Result<(), NoMemory> {
-    let name = request.name()?;
+/// Adds a message about the name, whose text stands behind those of the set.
+fn add(about: &mut About, message: Message) -> Result<(), NoMemory>
+    ensures { (set : List AnyMessage) → IsBehind set message → TellsMessages set (name_in message) about.old
+        → OnOk result (TellsMessages (set ++ message ∷ []) (name_in message) about.new) }
+{
+    match message {
+        Message::Request(request) => about.requests.push(request)?,
+        Message::Verdict(verdict) => about.verdicts.push(verdict)?,
+    }
+    Ok(())
+}
+
+/// The first message about a name.
+fn first(alloc: Global, message: Message) -> Result<About, NoMemory>
+    ensures { (set : List AnyMessage) → IsBehind set message → ((m : AnyMessage) → Contains set m → name_in m ≡ name_in message → ⊥)
+        → IfOk result (TellsMessages (set ++ message ∷ []) (name_in message)) }
+{
+    let mut about = nothing(alloc);
+    add(&mut about, message)?;
+    Ok(about)
+}
+
+/// Adds a message, whose text stands behind those of the set.
+fn put(alloc: Global, all: &mut ByName, message: Message) -> Result<(), NoMemory>
+    ensures { (set : List AnyMessage) → IsBehind set message → Gathers set all.old
+        → OnOk result (Gathers (set ++ message ∷ []) all.new) }
+{
+    let name = name_of(&message)?;
     match all.get_mut(&name) {
-        Some(about) => about.requests.push(request)?,
+        Some(about) => add(about, message)?,
         None => {
-            let mut about = nothing(alloc);
-            about.requests.push(request)?;
+            let about = first(alloc, message)?;
             all.insert(name, about)?;
         }
     }
     Ok(())
 }
 
-fn put_verdict(alloc: Global, all: &mut ByName, verdict: Verdict) -> Result<(), NoMemory> {
-    let name = verdict.name_meant()?;
-    match all.get_mut(&name) {
-        Some(about) => about.verdicts.push(verdict)?,
-        None => {
-            let mut about = nothing(alloc);
-            about.verdicts.push(verdict)?;
-            all.insert(name, about)?;
-        }
-    }
-    Ok(())
+/// The message of a text.
+fn read(alloc: Global, text: &str) -> Result<Message, Refusal>
+    ensures found { IfOk result (λ m. (text.now ≡ wire m) × IsMessage m) }
+    ensures refused { (m : AnyMessage) → IsMessage m → text.now ≡ wire m
+        → IfErr result (λ e. IsWant e ⊎ ((e ≡ refusal.TooLong) × (16_384 < length text.now))) }
+{
+    Ok(read_message(alloc, text.as_bytes())?)
 }
 
-fn put(alloc: Global, all: &mut ByName, text: &str) -> Result<(), Refusal> {
-    match read_message(alloc, text.as_bytes())? {
-        Message::Request(request) => put_request(alloc, all, request)?,
-        Message::Verdict(verdict) => put_verdict(alloc, all, verdict)?,
-    }
-    Ok(())
-}
-
-/// What the texts say about each name. They are read in their order, which is that of their moments where it is the texts' byte order.
-pub(crate) fn gather(alloc: Global, texts: &[String]) -> Result<ByName, Refusal> {
+/// What the texts of a set say about each name. They are read in their order, which is that of their moments where it is the texts' byte order.
+pub(crate) fn gather(alloc: Global, texts: &[String]) -> Result<ByName, Refusal>
+    ensures gathers { (set : List AnyMessage) → ((m : AnyMessage) → Contains set m → IsMessage m) → AreTexts set (map string_bytes texts.now)
+        → IfOk result (Gathers set) }
+    ensures refused { (set : List AnyMessage) → ((m : AnyMessage) → Contains set m → IsMessage m) → AreTexts set (map string_bytes texts.now)
+        → IfErr result (λ e. IsWant e ⊎ IsTooLong set e) }
+{
     let mut all = BTreeMap::new(alloc);
     for text in texts {
-        put(alloc, &mut all, text.as_str())?;
+        let message = read(alloc, text.as_str())?;
+        put(alloc, &mut all, message)?;
     }
     Ok(all)
 }

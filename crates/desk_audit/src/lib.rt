@@ -1,7 +1,7 @@
 //! What became of each request that a desk holds: its status, who gave which verdict on it, which of these counted and why not, who may still
 //! approve it, and on which hosts it is in force.
 //!
-//! What is said of a name's status is the answer of `Desk::status_of` under that call's clauses, and whether a verdict counts that of
+//! Which names are told, with which messages and which status, is a clause of `audit`, and whether a verdict counts that of
 //! `Roster::eligible` and `Roster::may_revoke`. The rest, the texts too, is safe, and tested against a second reading of the rules.
 #![tactic(auto)]
 

@@ -1,5 +1,9 @@
 //! Which requests are asked about.
 
+ghost use Rattle.std.specs.Prelude.{◌≡◌, IsTrue};
+ghost use Rattle.desk_audit.specs.Picks.{AsksAboutAll};
+
+use crate::entry::Entry;
 use crate::gathering::About;
 use grants::{Status, Window};
 use messages::{Request, Verdict};
@@ -19,6 +23,14 @@ pub struct Pick {
 }
 
 impl Pick {
+    /// Whether everything is asked about.
+    fn is_whole(&self) -> bool
+        ensures only { IsTrue result → AsksAboutAll self.now }
+        ensures all { AsksAboutAll self.now → IsTrue result }
+    {
+        self.from.is_none() && self.until.is_none() && self.host.is_none() && self.person.is_none()
+    }
+
     /// Whether something between the two moments, both included, is asked about.
     pub(crate) fn has_span(&self, start: Moment, end: Moment) -> bool {
         let begins = match self.until {
@@ -74,10 +86,22 @@ impl Pick {
         }
     }
 
-    /// Whether what is said of the asker's name is asked about.
-    pub(crate) fn has(&self, asker: &Name, about: &About, status: &Option<Status>) -> bool {
-        self.has_some_span(about, status)
-            && self.has_some_host(about.requests.as_slice())
-            && self.has_someone(asker, about.verdicts.as_slice())
+    /// Whether what is said of a name is asked about.
+    fn has(&self, entry: &Entry) -> bool {
+        self.has_some_span(&entry.about, &entry.status)
+            && self.has_some_host(entry.about.requests.as_slice())
+            && self.has_someone(&entry.name.by, entry.about.verdicts.as_slice())
+    }
+
+    /// The entries that are asked about, in their order: all of them where all are.
+    pub fn among(&self, entries: Vec<Entry>) -> Vec<Entry>
+        ensures { AsksAboutAll self.now → result ≡ entries }
+    {
+        if self.is_whole() {
+            return entries;
+        }
+        let mut entries = entries;
+        entries.retain(|entry| self.has(entry));
+        entries
     }
 }

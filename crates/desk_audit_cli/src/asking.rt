@@ -23,8 +23,9 @@ fn told_by<K: Keeper>(
     question: &Question,
     desk: &mut Desk<K>,
 ) -> Result<String, Trouble> {
-    let entries = audit(desk, &question.pick)?;
-    let (roster, pick) = (desk.roster(), &question.pick);
+    let pick = &question.pick;
+    let entries = pick.among(audit(desk)?);
+    let roster = desk.roster();
     if question.as_json {
         Ok(json(rt.alloc(), roster, pick, &entries)?)
     } else {

@@ -1,11 +1,24 @@
-use Rattle.std.proofs.Common.{◌∙◌, IfOk, subst}
-use Rattle.std.specs.List.{AllByRecursion}
+use Rattle.std.proofs.Common.{◌∙◌, Global, IfOk, List, String, inl, map, subst, sym}
+use Rattle.std.specs.Prelude.{string_bytes}
+use Rattle.std.specs.List.{Contains}
+use Rattle.std.proofs.lemmas.Result.{IfErr-weaker, MatchResult-from_both, err_from_is_err_and}
+use Rattle.messages.specs.declared.message.Message.{Message}
 use Rattle.roster.specs.Fields.{Reading}
+use Rattle.desk.specs.Texts.{AreTexts}
 use Rattle.desk.specs.private.Serving.{IsServed}
 use Rattle.desk.proofs.ServingLemmas.{served_once_more}
-use Rattle.desk_audit.specs.Audit.{TellsStatus}
-use Rattle.desk_audit.proofs.StatusLemmas.{lists_same}
+use Rattle.desk_audit.specs.Audit.{IsAudit}
+use Rattle.desk_audit.proofs.AuditLemmas.{lists_same}
 use Rattle.desk_audit.proofs.entry.audit.Goals as goal
+
+-- a text was refused
+pub returns-in_err-all-clause-refused : goal.returns-in_err-all-clause-refused
+returns-in_err-all-clause-refused g c = λ set up lists.
+    let old = c.args.desk.now in
+    let P : List (String Global) → Type 0 = λ texts. AreTexts set (map string_bytes texts) in
+    let messages = λ (m : Message) (among : Contains set m). g.met.K.Keeper.holds_messages old.keeper m ((lists m).1 among) in
+    let p = err_from_is_err_and c.from_residual-in_err-all.result c.from_residual-in_err-all.ensures.1 in
+    rw (p.1, p.2) (c.in_err-all.ensures.refused set messages (subst P (sym c.deref.ensures.value) (c.in_ok-texts.ensures.texts set up lists)))
 
 pub returns : goal.returns
 returns g c =
@@ -21,19 +34,26 @@ returns g c =
     let served = served_once_more (K.is_up old.keeper) (K.is_clean old.keeper) (K.is_up mid.keeper) (K.is_clean mid.keeper) (K.is_up new.keeper) (K.is_clean new.keeper)
     (K.failures old.keeper) (K.failures mid.keeper) (K.failures new.keeper) first told.was_up told.was_clean told.shuts told.counts in
     record {
-      statuses = λ set up is_desk lists.
+      audit = λ set up is_desk lists.
           let was_up = told.was_up up in
           let same = brought.unchanged was_up in
           let was_desk = law.stays_desk new.keeper mid.keeper (law.same_back mid.keeper new.keeper (told.unchanged up)) is_desk in
           let first_desk = law.stays_desk mid.keeper old.keeper (law.same_back old.keeper mid.keeper same) was_desk in
           let still = lists_same (K.holds old.keeper) (K.holds mid.keeper) set (law.stays_set old.keeper mid.keeper same first_desk) lists in
-          let F : Reading → Type 0 = λ r. IfOk c.entries_of.result (λ es. AllByRecursion (TellsStatus r.says set) es.items) in
-          subst F brought.roster (told.statuses set up is_desk still);
+          let messages = λ (m : Message) (among : Contains set m). law.holds_messages old.keeper m ((lists m).1 among) in
+          let P : List (String Global) → Type 0 = λ texts. AreTexts set (map string_bytes texts) in
+          let gathers = c.in_ok-all.ensures.gathers set messages (subst P (sym c.deref.ensures.value) (brought.texts set was_up lists)) in
+          let F : Reading → Type 0 = λ r. IfOk c.entries_of.result (λ es. IsAudit r.says set es.items) in
+          subst F brought.roster (told.audit set up is_desk still gathers);
+      refused = λ set up lists. IfErr-weaker c.entries_of.result _ _ (λ e want. inl want) told.err;
       unchanged = λ up. law.same_on old.keeper mid.keeper new.keeper (brought.unchanged (told.was_up up)) (told.unchanged up);
       roster = told.roster ∙ brought.roster;
       base = told.base ∙ brought.base;
       was_up = served.up;
       was_clean = served.clean;
       shuts = served.shuts;
+      up = λ up clean.
+          let middle = brought.up up (told.was_clean clean) in
+          MatchResult-from_both c.entries_of.result _ _ (told.up middle clean) (IfErr-weaker c.entries_of.result _ _ (λ e want. inl want) told.err);
       counts = served.counts;
     }

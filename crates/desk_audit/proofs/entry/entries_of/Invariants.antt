@@ -1,17 +1,21 @@
-use Rattle.std.proofs.Common.{◌≡◌, List}
+use Rattle.std.proofs.Common.{◌≡◌, List, ◌++◌, map}
 use Rattle.std.specs.List.{AllByRecursion}
 use Rattle.messages.specs.declared.message.Message.{Message}
 use Rattle.desk_store.specs.Sets.{Lists}
+use Rattle.desk_outcomes.specs.Outcomes.{ComesTo}
 use Rattle.desk.specs.private.Serving.{IsServed}
-use Rattle.desk_audit.specs.Audit.{TellsStatus}
+use Rattle.desk_audit.proofs.AuditLemmas.{keyed}
 use Rattle.desk_audit.proofs.entry.entries_of.Given as goal
 
 abbrev pub invariant-loop-name : goal.invariant-loop-name
 invariant-loop-name g l = record {
+  split : map keyed l.entries.items ++ l.name-iterator ≡ l.fn.all.entries;
   told : (set : List Message) → g.K.Keeper.is_up l.desk.keeper → g.K.Keeper.is_desk l.desk.keeper → Lists (g.K.Keeper.holds l.fn.desk.keeper) set
-      → AllByRecursion (TellsStatus l.fn.desk.roster.says set) l.entries.items;
+      → AllByRecursion (λ e. ComesTo l.fn.desk.roster.says set e.name e.status) l.entries.items;
   same : g.K.Keeper.is_up l.desk.keeper → g.K.Keeper.is_same l.fn.desk.keeper l.desk.keeper;
   roster : l.desk.roster ≡ l.fn.desk.roster;
   base : l.desk.base ≡ l.fn.desk.base;
-  served : IsServed (g.K.Keeper.is_up l.fn.desk.keeper) (g.K.Keeper.is_clean l.fn.desk.keeper) (g.K.Keeper.is_up l.desk.keeper) (g.K.Keeper.is_clean l.desk.keeper) (g.K.Keeper.failures l.fn.desk.keeper) (g.K.Keeper.failures l.desk.keeper);
+  up : g.K.Keeper.is_up l.fn.desk.keeper → g.K.Keeper.is_clean l.desk.keeper → g.K.Keeper.is_up l.desk.keeper;
+  served : IsServed (g.K.Keeper.is_up l.fn.desk.keeper) (g.K.Keeper.is_clean l.fn.desk.keeper) (g.K.Keeper.is_up l.desk.keeper) (g.K.Keeper.is_clean l.desk.keeper)
+      (g.K.Keeper.failures l.fn.desk.keeper) (g.K.Keeper.failures l.desk.keeper);
 }

@@ -1,0 +1,130 @@
+-- The entries of an audit: all that a map has, each with what it comes to.
+use Rattle.std.proofs.Common.{◌≡◌, ℕ, List, [], ◌∷◌, ◌++◌, map, Option, Some, None, refl, sym, ap, ◌∙◌, subst, inl, inr}
+use Rattle.std.specs.List.{AllByRecursion, Contains}
+use Rattle.std.specs.List.Sorted.{IsStrictlySortedBy}
+use Rattle.std.specs.Map.{keys_of}
+use Rattle.std.specs.BTreeMap.{BTreeMap}
+use Rattle.std.specs.Cmp.Lexicographic.{slice_cmp}
+use Rattle.std.specs.Ordering.{nat_cmp}
+use Rattle.std.specs.declared.cmp.Ordering.TheVariants.{Equal, Less}
+use Rattle.std.proofs.lemmas.List.{append-nil, map-append}
+use Rattle.std.proofs.lemmas.List.Elements.{All-contains, All-from_recursion}
+use Rattle.std.proofs.lemmas.Map.Keys.{sorted_head, sorted_tail}
+use Rattle.std.proofs.lemmas.Map.Lookups.{exact_bytes, exact_pairs, exact_unsigned}
+use Rattle.std.proofs.lemmas.Map.Views.{btree_map_get_iff}
+use Rattle.sudo_words.specs.declared.cmnd.Cmnd.{Cmnd}
+use Rattle.messages.specs.Names.{NamePrecedes, name_cmp}
+use Rattle.messages.specs.Order.{AreInOrder}
+use Rattle.messages.specs.declared.message.Message.{Message}
+use Rattle.messages.specs.declared.request_name.RequestName.{RequestName}
+use Rattle.messages.proofs.NameOrder.{lower_from_less}
+use Rattle.roster.specs.Fields.{RosterFields}
+use Rattle.desk_store.specs.Sets.{Lists, SameSet}
+use Rattle.desk_outcomes.specs.Outcomes.{ComesTo}
+use Rattle.desk_outcomes.specs.private.ByName.{at_name}
+use Rattle.desk_outcomes.proofs.GivenLists.{turn_split}
+use Rattle.desk_outcomes.proofs.Membership.{no_member, Contains-cases}
+use Rattle.desk_outcomes.proofs.NameMaps.{at_entry, names_total}
+use Rattle.desk_outcomes.proofs.Orders.{behind_from_each}
+use Rattle.desk_audit.specs.Audit.{IsAudit, TellsName}
+use Rattle.desk_audit.specs.Told.{name_in}
+use Rattle.desk_audit.specs.declared.entry.Entry.{Entry}
+use Rattle.desk_audit.specs.declared.gathering.About.{About}
+use Rattle.desk_audit.specs.private.ByName.{Gathers, IsToldAt}
+use Rattle.desk_audit.proofs.ByNameLemmas.{Abouts, IsAt}
+use Rattle.desk_audit.proofs.ListLemmas.{from_mapped, to_mapped}
+
+-- What lists a set lists each set of the same messages.
+pub lists_same : (S T : Message → Type 0) (list : List Message) → SameSet S T → Lists S list → Lists T list
+lists_same S T list same lists m = (λ held. (lists m).0 ((same m).1 held), λ there. (same m).0 ((lists m).1 there))
+
+-- ---- as in the map
+
+abbrev pub Keyed : Type 0
+Keyed = RequestName × About
+
+-- an entry, as it stands in the map
+abbrev pub keyed : Entry → Keyed
+keyed e = (e.name, e.about)
+
+abbrev pub EntryPrecedes : (d e : Entry) → Type 0
+EntryPrecedes d e = NamePrecedes d.name e.name
+
+-- ---- their order
+
+above : (k : RequestName) (es : List Entry) → AllByRecursion (λ y. name_cmp k y ≡ Less) (keys_of (map keyed es)) → (e : Entry) → Contains es e → name_cmp k e.name ≡ Less
+above k [] all e m = absurd (no_member e m)
+above k (d ∷ es) all e m =
+    elim (Contains-cases d es e m) as (λ _. name_cmp k e.name ≡ Less) [
+      | inl same ↦ subst (λ (x : Entry). name_cmp k x.name ≡ Less) same all.0
+      | inr later ↦ above k es all.1 e later
+    ]
+
+in_order : (es : List Entry) → IsStrictlySortedBy name_cmp (keys_of (map keyed es)) → AreInOrder EntryPrecedes es
+in_order [] sorted = tt
+in_order (e ∷ es) sorted = (
+  behind_from_each EntryPrecedes e es (λ d m.
+      lower_from_less e.name d.name (above e.name es (sorted_head name_cmp e.name (keys_of (map keyed es)) sorted) d m)),
+  in_order es (sorted_tail name_cmp e.name (keys_of (map keyed es)) sorted),
+)
+
+exact_names : (a b : RequestName) → name_cmp a b ≡ Equal → a ≡ b
+exact_names a b h =
+    let pairs : ◌≡◌ {A = List ℕ × ℕ} (a.by, a.no) (b.by, b.no) = exact_pairs (slice_cmp nat_cmp) nat_cmp exact_bytes exact_unsigned (a.by, a.no) (b.by, b.no) h in
+    ap (λ (p : List ℕ × ℕ). record { by = p.0; no = p.1 }) pairs
+
+-- ---- all of them
+
+module _ (f : RosterFields Cmnd) (set : List Message) (all : Abouts) (g : Gathers set all) (entries : List Entry) (same : map keyed entries ≡ all.entries) where
+  at_its_name : (e : Entry) → Contains entries e → IsToldAt set e.name e.about
+  at_its_name e among =
+      let there : Contains all.entries (keyed e) = subst (λ (ks : List Keyed). Contains ks (keyed e)) same (to_mapped keyed entries e among) in
+      subst (IsAt set e.name) (at_entry all g.ordered (keyed e) there) (g.each e.name)
+
+  has_entry : (m : Message) → Contains set m → (e : Entry) × Contains entries e × (e.name ≡ name_in m)
+  has_entry m spoken = by_name (at_name all (name_in m)) refl (g.each (name_in m))
+    where
+      by_name : (o : Option About) → at_name all (name_in m) ≡ o → IsAt set (name_in m) o → (e : Entry) × Contains entries e × (e.name ≡ name_in m)
+      by_name None was nobody = absurd (nobody m spoken refl)
+      by_name (Some about) was is =
+          let there : Contains all.entries (name_in m, about) = (btree_map_get_iff names_total exact_names all g.ordered (name_in m) about).0 was in
+          let found = from_mapped keyed entries (name_in m, about) (subst (λ (ks : List Keyed). Contains ks (name_in m, about)) (sym same) there) in
+          (found.0, found.1, ap (λ (k : Keyed). k.0) found.2)
+
+  pub is_audit : AllByRecursion (λ e. ComesTo f set e.name e.status) entries → IsAudit f set entries
+  is_audit statuses =
+      let Status : Entry → Type 0 = λ e. ComesTo f set e.name e.status in
+      record {
+        in_order = in_order entries (subst (λ (ks : List Keyed). IsStrictlySortedBy name_cmp (keys_of ks)) (sym same) g.ordered);
+        each = λ e among.
+            let told = at_its_name e among in
+            record {
+              spoken = told.spoken;
+              about = told.told;
+              status = All-contains Status entries e (All-from_recursion Status entries statuses) among;
+            };
+        all = has_entry;
+      }
+
+-- ---- one more
+
+pub keyed_is : (e : Entry) (name : RequestName) (about : About) → e.name ≡ name → e.about ≡ about → keyed e ≡ (name, about)
+keyed_is e name about same_name same_about =
+    subst (λ (n : RequestName). keyed e ≡ (n, about)) same_name (subst (λ (a : About). keyed e ≡ (e.name, a)) same_about refl)
+
+pub split_once_more : (old new : List Entry) (e : Entry) (k : Keyed) (rest next all : List Keyed) → new ≡ old ++ e ∷ [] → keyed e ≡ k → rest ≡ k ∷ next → map keyed old ++ rest ≡ all → map keyed new ++ next ≡ all
+split_once_more old new e k rest next all more is steps split =
+    ap (λ (es : List Entry). map keyed es ++ next) more
+    ∙ ap (λ (ks : List Keyed). ks ++ next) (map-append keyed old (e ∷ []) ∙ ap (λ (x : Keyed). map keyed old ++ x ∷ []) is)
+    ∙ turn_split (map keyed old) rest next all k split steps
+
+pub split_ends : (es : List Entry) (rest all : List Keyed) → rest ≡ [] → map keyed es ++ rest ≡ all → map keyed es ≡ all
+split_ends es rest all ended split =
+    sym (append-nil (map keyed es)) ∙ subst (λ (ks : List Keyed). map keyed es ++ ks ≡ all) ended split
+
+status_push : (P : Entry → Type 0) (es : List Entry) (e : Entry) → AllByRecursion P es → P e → AllByRecursion P (es ++ e ∷ [])
+status_push P [] e all is = (is, tt)
+status_push P (d ∷ es) e all is = (all.0, status_push P es e all.1 is)
+
+pub one_status_more : (P : Entry → Type 0) (old new : List Entry) (e : Entry) → new ≡ old ++ e ∷ [] → AllByRecursion P old → P e → AllByRecursion P new
+one_status_more P old new e more all is = subst (λ (es : List Entry). AllByRecursion P es) (sym more) (status_push P old e all is)

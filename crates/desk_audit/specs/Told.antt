@@ -1,0 +1,28 @@
+-- What is told of a name's messages.
+use Rattle.std.specs.Prelude.{◌≡◌, ◌↔◌, ◌<◌, List, Contains, length}
+use Rattle.messages.specs.Fields.{RequestFields, VerdictFields}
+use Rattle.messages.specs.Names.{name_meant, name_of}
+use Rattle.messages.specs.Order.{AreInOrder, TextPrecedes}
+use Rattle.messages.specs.Wire.{request_text, verdict_text, wire}
+use Rattle.messages.specs.declared.message.Message.{Message}
+use Rattle.messages.specs.declared.message.Message.TheVariants.{Request, Verdict}
+use Rattle.messages.specs.declared.request_name.RequestName.{RequestName}
+use Rattle.desk.specs.declared.refusal.Refusal.{Refusal}
+use Rattle.desk.specs.declared.refusal.Refusal.TheVariants.{TooLong}
+use Rattle.desk_audit.specs.declared.gathering.About.{About}
+
+-- the name that somebody asks under, or that a verdict speaks of
+abbrev pub name_in : Message → RequestName
+name_in (Request q) = name_of q
+name_in (Verdict v) = name_meant v
+
+-- All messages about the name and no others, each once: its requests in the byte order of their texts, and so its verdicts.
+pub record TellsMessages (messages : List Message) (name : RequestName) (about : About) : Type 0 where
+  pub requests_in_order : AreInOrder (λ q r. TextPrecedes (request_text q) (request_text r)) about.requests.items
+  pub verdicts_in_order : AreInOrder (λ v w. TextPrecedes (verdict_text v) (verdict_text w)) about.verdicts.items
+  pub requests : (q : RequestFields) → Contains about.requests.items q ↔ (Contains messages (Request q) × (name_of q ≡ name))
+  pub verdicts : (v : VerdictFields) → Contains about.verdicts.items v ↔ (Contains messages (Verdict v) × (name_meant v ≡ name))
+
+-- The refusal of a set that has a text of over 16,384 bytes, which no delivery brings.
+abbrev pub IsTooLong : List Message → Refusal → Type 0
+IsTooLong messages e = (e ≡ TooLong) × (m : Message) × Contains messages m × (16_384 < length (wire m))
