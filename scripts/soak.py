@@ -35,12 +35,13 @@ SHORT = 50
 
 class Reader(NamedTuple):
     """What changes inputs and compares the answers, how many in all and in one batch, and answers
-    that must come, or the inputs would try little."""
+    that must come, or the inputs would try little: in the short form too, or among all alone."""
 
     soak: Callable[[list[str], str, int, str], Tally]
     inputs: int
     batch: int
-    answers: str
+    often: str
+    seldom: str = ""
 
 
 READERS = {
@@ -48,28 +49,29 @@ READERS = {
         soak_texts.messages,
         340_000,
         250,
-        (
-            "ack,M1 TooLong,M2 NotCanonical,M3 BadField,A1 UnknownPerson,A2 UnknownCeiling,A3"
-            " NotAsker,A4 HostOutside,A5 RunasOutside,A6 CommandOutside,A7 WindowTooLong,A8"
-            " WindowBackwards"
-        ),
+        "ack;M2 NotCanonical;M3 BadField;A1 UnknownPerson;A4 HostOutside;A8 WindowBackwards",
+        "M1 TooLong;A2 UnknownCeiling;A3 NotAsker;A5 RunasOutside;A6 CommandOutside;A7 WindowTooLong",
     ),
-    "requests": Reader(soak_http.requests, 600_000, 250, "200,T1,T2,T3,T4,T5,T6,T7,T8,M2,P1,P2"),
+    "requests": Reader(
+        soak_http.requests, 600_000, 250, "200;T1;T2;T3;T4;T5;T6;T7;T8;M2;P1;P2", "M3;A1"
+    ),
     "rosters": Reader(
         soak_texts.rosters,
         20_000,
         50,
-        (
-            "read,O1 NotToml,O2 UnknownKey,O3 WrongType,O4 BadName,O5 UnknownName,O6 SelfConflict,"
-            "O7 OutOfRange"
-        ),
+        "read;O1 NotToml;O2 UnknownKey;O3 WrongType;O4 BadName;O5 UnknownName",
+        "O6 SelfConflict;O7 OutOfRange",
     ),
-    "policies": Reader(soak_texts.policies, 20_000, 50, "read,S2,S3"),
+    "policies": Reader(
+        soak_texts.policies, 20_000, 50, "read;S2;S3;S4;S5;S9", "S1;S6;S7;S8;S10"
+    ),
     "stores": Reader(
         soak_stores.stores,
         20_000,
         50,
         "answered, the file;F1 FileFailed, the file;K2 NotADesk, the file;answered, the log",
+        "K4 Storage, the file;K1 RosterChanged, the file;answered, SQL;K1 RosterChanged, SQL;"
+        "K2 NotADesk, SQL;K3 OldSchema, SQL;K4 Storage, SQL",
     ),
 }
 
@@ -98,6 +100,12 @@ def batches(given: argparse.Namespace, words: list[str]) -> list[Batch]:
     return made
 
 
+def lacking(reader: Reader, tally: Tally, is_short: bool) -> list[str]:
+    """The answers that must come and did not."""
+    names = reader.often.split(";") + ([] if is_short else reader.seldom.split(";"))
+    return [name for name in names if name and name not in tally.answers]
+
+
 def main() -> int:
     parser = argparse.ArgumentParser(usage="soak.py [OPTIONS] [WORDS..]")
     parser.add_argument("--short", action="store_true")
@@ -107,6 +115,7 @@ def main() -> int:
     given, words = parser.parse_known_args()
     given.only = given.only or [*READERS]
     words = program(words) or desk.PROGRAM
+    tempfile.tempdir = desk.MEMORY
     begun, all_of, by_reader = time.monotonic(), Tally(), {name: Tally() for name in given.only}
     with multiprocessing.Pool(given.jobs) as workers:
         for batch, tally in workers.imap_unordered(soak, batches(given, words)):
@@ -118,11 +127,10 @@ def main() -> int:
                 )
     for name, tally in by_reader.items():
         print(f"{name}: {tally.inputs} inputs; {dict(tally.answers.most_common())}")
-        parts = READERS[name].answers.split(";" if name == "stores" else ",")
-        missing = [part for part in parts if part not in tally.answers]
+        missing = lacking(READERS[name], tally, given.short)
         if missing and given.batch is None:
             all_of.denied += 1
-            print(f"{name}: nothing was answered {', '.join(missing)}")
+            print(f"{name}: nothing was answered {'; '.join(missing)}")
     print(f"in {time.monotonic() - begun:.0f} seconds")
     print(
         f"soak: {all_of.inputs} inputs: {all_of.stops} stops, {all_of.hangs} hangs,"

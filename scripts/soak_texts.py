@@ -27,7 +27,7 @@ from desk_tools.site import Site  # noqa: E402
 from tests import texts  # noqa: E402
 
 FAULT = re.compile(rb"(S1 TooLong|S[2-9] [A-Za-z]+ line [0-9]+|S10 [A-Za-z]+( line [0-9]+)?)\n")
-MOST_TEXT = 1_048_576
+MOST_TEXT = 16_777_216
 LAWFUL = re.compile(rb"[\t\n\x20-\x7e]*")
 
 
