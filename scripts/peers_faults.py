@@ -5,10 +5,12 @@ A read that fails at each byte of a request is H1, and nothing is answered or st
 fails at each byte of a reply is H2: what went out is the beginning of the reply, and a message is
 stored. The next peer is answered as ever. Each call on the file of a desk fails in turn, once or
 from then on; a disk is full at each page; a file may grow to each page and no further; it is
-removed, cut, replaced or made read-only while it is served, or its log is removed; and a byte is
-turned in each page. Each answer is the plain one or a named refusal, and what was acknowledged is
-there afterwards. `peers_faults.py WORDS..` runs another program than build/desk; `--only PART..`
-before them tries some of the parts, and `--whole` each place instead of some.
+removed, cut, replaced or made read-only while it is served, or its log is removed; it lies beside
+the log of another; and a byte is turned in each page, and in its log. Each answer is the plain one
+or a named refusal, and what was acknowledged is there afterwards. `peers_faults.py WORDS..` runs
+another program than build/desk; `--only PART..` before them tries some of the parts, and `--whole`
+each place instead of some: of a long reply each of its first and last 1,000 bytes, those at each
+4,096th, and some by chance.
 """
 
 from __future__ import annotations
@@ -207,14 +209,14 @@ def fail_questions(trial: Trial) -> None:
 
 
 def places(whole: bytes, is_whole: bool) -> list[int]:
-    """Each byte of a short reply; of a long one its ends, each 4,096 bytes, and some by chance."""
+    """Each byte of a short reply; of a long one its ends, those at each 4,096th, some by chance."""
     if len(whole) < 1_000:
         return [*range(0, len(whole), 1 if is_whole else 7)]
-    chance, most = random.Random(len(whole)), 200 if is_whole else 8
+    chance, most = random.Random(len(whole)), 1_000 if is_whole else 8
     between = {it + near for it in range(4_096, len(whole), 4_096) for near in (-1, 0, 1)}
     between |= {chance.randrange(len(whole)) for _ in range(most)}
     some = between if is_whole else chance.sample(sorted(between), 8)
-    return sorted({*range(most), *range(len(whole) - most // 2, len(whole)), *some})
+    return sorted({*range(most), *range(len(whole) - most, len(whole)), *some})
 
 
 @contextlib.contextmanager
@@ -490,21 +492,21 @@ def change_served(trial: Trial) -> None:
         if "read-only" in title and os.geteuid() == 0:
             refused = trial.review(store, *UNPRIVILEGED)
             trial.count.same(f"{title}: without root's right", refused, (2, "", NAMED[0]))
-        found = starts_again(trial, title, store, {*sent, desk.approval(77)})
+        found, _ = starts_again(trial, title, store, {*sent, desk.approval(77)})
         print(f"{title}, {len(acked)} of {len(sent)} acknowledged, then started again: {found}")
 
 
-def starts_again(trial: Trial, title: str, store: str, sent: set[str]) -> str:
+def starts_again(trial: Trial, title: str, store: str, sent: set[str]) -> tuple[str, set[str]]:
     """What the next start finds is refused by name, or is a desk of messages that were sent to it
-    or to the other: which of them it is."""
+    or to the other: the refusal, or these messages."""
     status, out, err = trial.review(store)
     is_named = (status, out) == (2, "") and err in NAMED
     trial.count.holds(f"{title}: the next start", is_named or status == 0, (status, out, err))
     if status == 0:
         held = {*kept(store)}
         trial.count.holds(f"{title}: what it finds", held <= sent, held - sent)
-        return f"{len(held)} messages"
-    return err.strip()
+        return f"{len(held)} messages", held
+    return err.strip(), set()
 
 
 def mix_files(trial: Trial) -> None:
@@ -527,8 +529,10 @@ def mix_files(trial: Trial) -> None:
                 ask(server, desk.posted(b"chat", body.encode()))
             server.end(signal.SIGKILL)
         os.replace(path, store)
-        ended = starts_again(trial, title, store, {*old, *new})
-        count["a desk" if ended.endswith("messages") else ended] += 1
+        ended, held = starts_again(trial, title, store, {*old, *new})
+        desks = {"the log's desk": {*old}, "the file's desk": {*new}, "one of both": held}
+        names = [name for name, those in desks.items() if held == those]
+        count[names[0] if held else ended] += 1
     print(f"files beside the log of another: {dict(count)}")
     trial.count.holds("files that are refused, and desks", len(count) > 1, count)
 
@@ -549,10 +553,7 @@ def turn_bytes(trial: Trial) -> None:
     for place in range(0, len(data), step):
         for mask in (0xFF,) if not trial.is_whole else (0xFF, 1 << place % 8):
             clear(store)
-            turned = data[place] ^ mask
-            desk.write(
-                trial.folder, "turned.db", data[:place] + bytes([turned]) + data[place + 1 :]
-            )
+            desk.write(trial.folder, "turned.db", turned(data, place, mask))
             got = trial.review(store)
             is_named = got[:2] == (2, "") and got[2] in NAMED
             is_right = is_named or got == before
@@ -560,6 +561,41 @@ def turn_bytes(trial: Trial) -> None:
             name = got[2].strip() or ("as before" if is_right else "another answer")
             outcomes[name] = outcomes.get(name, 0) + 1
     print(f"a byte turned in a file of {len(data)} bytes: {outcomes}")
+
+
+def turn_log(trial: Trial) -> None:
+    """A byte is turned in the log of ten messages that a desk which was killed left, or the log is
+    cut there. SQLite's form cannot tell that from a log that was being written: it ends where its
+    sums no longer fit. So what is found is refused by name, or is a beginning of what was sent."""
+    store, sent = trial.path("logged.db"), [desk.request(number) for number in range(10)]
+    clear(store)
+    with desk.Server(store, program=trial.words) as server:
+        for body in sent:
+            ask(server, desk.posted(b"chat", body.encode()))
+        server.end(signal.SIGKILL)
+    first = {end: open(store + end, "rb").read() for end in ("", "-wal")}
+    log, found = first["-wal"], Counter[str]()
+    for place in range(0, len(log), trial.step(190) * 31):
+        for is_cut in (False, True):
+            clear(store)
+            desk.write(trial.folder, "logged.db", first[""])
+            changed = log[:place] if is_cut else turned(log, place, 0xFF)
+            desk.write(trial.folder, "logged.db-wal", changed)
+            title = f"a log {'cut' if is_cut else 'turned'} at byte {place} of {len(log)}"
+            got = trial.review(store)
+            if got[0] == 0:
+                held = kept(store)
+                trial.count.same(title, held, sorted(sent[: len(held)]))
+                found[f"{len(held):2} messages"] += 1
+            else:
+                trial.count.holds(title, got[:2] == (2, "") and got[2] in NAMED, got)
+                found[got[2].strip()] += 1
+    print(f"a log of {len(log)} bytes, turned or cut: {dict(sorted(found.items()))}")
+    trial.count.holds("logs that end early, and whole ones", len(found) > 3, found)
+
+
+def turned(data: bytes, place: int, mask: int) -> bytes:
+    return data[:place] + bytes([data[place] ^ mask]) + data[place + 1 :]
 
 
 PARTS = (
@@ -572,6 +608,7 @@ PARTS = (
     change_served,
     mix_files,
     turn_bytes,
+    turn_log,
 )
 
 

@@ -50,7 +50,8 @@ READERS = {
         340_000,
         250,
         "ack;M2 NotCanonical;M3 BadField;A1 UnknownPerson;A4 HostOutside;A8 WindowBackwards",
-        "M1 TooLong;A2 UnknownCeiling;A3 NotAsker;A5 RunasOutside;A6 CommandOutside;A7 WindowTooLong",
+        "M1 TooLong;A2 UnknownCeiling;A3 NotAsker;A5 RunasOutside;A6 CommandOutside;"
+        "A7 WindowTooLong",
     ),
     "requests": Reader(
         soak_http.requests, 600_000, 250, "200;T1;T2;T3;T4;T5;T6;T7;T8;M2;P1;P2", "M3;A3;A4"
@@ -69,9 +70,9 @@ READERS = {
         soak_stores.stores,
         20_000,
         50,
-        "answered, the file;F1 FileFailed, the file;K2 NotADesk, the file;answered, the log",
-        "K4 Storage, the file;K1 RosterChanged, the file;answered, SQL;K1 RosterChanged, SQL;"
-        "K2 NotADesk, SQL;K3 OldSchema, SQL;K4 Storage, SQL",
+        "as before, the file;F1 FileFailed, the file;K2 NotADesk, the file;as before, the log",
+        "K4 Storage, the file;K1 RosterChanged, the file;by its rows, the log;by its rows, SQL;"
+        "K1 RosterChanged, SQL;K2 NotADesk, SQL;K3 OldSchema, SQL;K4 Storage, SQL",
     ),
 }
 

@@ -45,7 +45,11 @@ STATEMENTS = (
     # messages with all that follows from them
     ("INSERT INTO messages VALUES (:stray)", "INSERT INTO parked VALUES (:stray, 'ann', 9999)"),
     tuple(f"DELETE FROM {table}" for table in EVERY_TABLE[1:]),
-    ("DELETE FROM messages WHERE body ->> 'of' = 'ann'", "DELETE FROM verdicts", "DELETE FROM parked"),
+    (
+        "DELETE FROM messages WHERE body ->> 'of' = 'ann'",
+        "DELETE FROM verdicts",
+        "DELETE FROM parked",
+    ),
     ("DELETE FROM messages WHERE body IN (SELECT body FROM parked)", "DELETE FROM parked"),
     (
         "DELETE FROM messages WHERE body ->> 'no' = :no",
@@ -241,7 +245,8 @@ class Soak:
         )
         wanted = self.second()
         got = self.tally.run(question(self.words, self.made.asked, self.store))
-        name = got[2].decode("ascii", "replace").strip() or "answered"
+        as_before = "as before" if got == self.made.answer else "by its rows"
+        name = got[2].decode("ascii", "replace").strip() or as_before
         self.tally.answers[f"{name}, {kind}"] += 1
         if not self.is_right(got, wanted, kind == "SQL"):
             keep = os.path.join(desk.BUILD, f"denied-{self.chance.randrange(10**9)}.db")
