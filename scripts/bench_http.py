@@ -24,6 +24,8 @@ from typing import Self
 
 import desk
 
+from ports import free_port
+
 NGINX = desk.found("nginx")
 GRANTS = b"/v1/grants/20260105093000Z"
 ROUNDS = 7
@@ -149,9 +151,7 @@ class Files:
         self.folder = folder
 
     def __enter__(self) -> Self:
-        with socket.socket() as free:
-            free.bind(("127.0.0.1", 0))
-            self.port = free.getsockname()[1]
+        self.port = free_port()
         place = os.path.join(self.folder, "nginx.conf")
         os.chmod(self.folder, 0o755)
         with open(place, "w") as file:

@@ -5,23 +5,28 @@ A read that fails at each byte of a request is H1, and nothing is answered or st
 fails at each byte of a reply is H2: what went out is the beginning of the reply, and a message is
 stored. The next peer is answered as ever. Each call on the file of a desk fails in turn, once or
 from then on; a disk is full at each page; a file may grow to each page and no further; it is
-removed, cut, replaced or made read-only while it is served, or its log is removed; and a byte is
-turned in each page. Each answer is the plain one or a named refusal, and what was acknowledged is
-there afterwards. `peers_faults.py WORDS..` runs another program than build/desk; `--only PART..`
-before them tries some of the parts, and `--whole` each place instead of some.
+removed, cut, replaced or made read-only while it is served, or its log is removed; it lies beside
+the log of another; and a byte is turned in each page, and in its log. Each answer is the plain one
+or a named refusal, and what was acknowledged is there afterwards. `peers_faults.py WORDS..` runs
+another program than build/desk; `--only PART..` before them tries some of the parts, and `--whole`
+each place instead of some: of a long reply each of its first and last 1,000 bytes, those at each
+4,096th, and some by chance.
 """
 
 from __future__ import annotations
 
 import contextlib
+import itertools
 import os
 import random
 import shutil
+import signal
 import sqlite3
 import subprocess
 import sys
 import tempfile
 import time
+from collections import Counter
 from collections.abc import Callable, Iterator
 
 import desk
@@ -35,7 +40,20 @@ AT = "20260105093000Z"
 REQUEST, APPROVAL = desk.request(), desk.approval()
 LISTED = desk.asked(b"GET", b"/v1/messages")
 STATED = (b"serving ", b"ended: ")
+NAMED = ("F1 FileFailed\n", "K1 RosterChanged\n", "K2 NotADesk\n", "K4 Storage\n")
 REPLIES = (b"HTTP/1.1 200 OK\r\n", b"HTTP/1.1 503 Service Unavailable\r\n")
+# what a delivery brings to a disk that is full, and more pages than it needs
+ROOMFUL = [REQUEST, *map(desk.approval, range(12))]
+MOST_PAGES = 180
+# what is made of numbers: requests and verdicts on them, or verdicts that wait
+MAKERS: dict[int, tuple[Callable[[int], str], ...]] = {
+    10: (desk.request, desk.approval),
+    900: (lambda number: desk.approval(900 + number),),
+}
+# takes root's right to pass over the modes of files from a program
+UNPRIVILEGED = ("setpriv", "--bounding-set", "-dac_override,-dac_read_search", "--")
+# words that begin a command which goes on past its limit of a file's size
+UNSIGNALLED = ("sh", "-c", "trap '' XFSZ; exec \"$@\"", "sh")
 # A program without a proof is slow over a file: SPARSE=8 tries an eighth of the places.
 SPARSE = int(os.environ.get("SPARSE", "1"))
 
@@ -69,8 +87,9 @@ class Trial:
         )
         return done.returncode, done.stdout, done.stderr
 
-    def review(self, store: str) -> tuple[int, str, str]:
-        done = desk.run([*self.words, "review", desk.ROSTER, desk.BASE, store, AT], "", PATIENCE)
+    def review(self, store: str, *before: str) -> tuple[int, str, str]:
+        words = [*before, *self.words, "review", desk.ROSTER, desk.BASE, store, AT]
+        done = desk.run(words, "", PATIENCE)
         return done.returncode, done.stdout, done.stderr
 
 
@@ -190,14 +209,14 @@ def fail_questions(trial: Trial) -> None:
 
 
 def places(whole: bytes, is_whole: bool) -> list[int]:
-    """Each byte of a short reply; of a long one its ends, each 4,096 bytes, and some by chance."""
+    """Each byte of a short reply; of a long one its ends, those at each 4,096th, some by chance."""
     if len(whole) < 1_000:
         return [*range(0, len(whole), 1 if is_whole else 7)]
-    chance, most = random.Random(len(whole)), 200 if is_whole else 8
+    chance, most = random.Random(len(whole)), 1_000 if is_whole else 8
     between = {it + near for it in range(4_096, len(whole), 4_096) for near in (-1, 0, 1)}
     between |= {chance.randrange(len(whole)) for _ in range(most)}
     some = between if is_whole else chance.sample(sorted(between), 8)
-    return sorted({*range(most), *range(len(whole) - most // 2, len(whole)), *some})
+    return sorted({*range(most), *range(len(whole) - most, len(whole)), *some})
 
 
 @contextlib.contextmanager
@@ -257,8 +276,11 @@ def is_refused(trial: Trial, title: str, got: tuple[int, str, str], lines: list[
     said = out.splitlines()
     is_lines = len(said) == len(lines) and {*said} <= {"ack", "K4 Storage"} and not err
     is_whole = not out and err in ("F1 FileFailed\n", "K4 Storage\n")
-    is_right = status == 0 and {*said} == {"ack"} or status == 2
-    trial.count.holds(title, (is_lines or is_whole) and is_right, got)
+    if status == 0:
+        trial.count.holds(title, is_lines and {*said} == {"ack"}, got)
+    else:
+        is_named = is_whole or is_lines and "K4 Storage" in said
+        trial.count.holds(title, status == 2 and is_named, got)
 
 
 def fail_calls_served(trial: Trial) -> None:
@@ -296,88 +318,131 @@ def fail_calls_served(trial: Trial) -> None:
 # ---- the disk
 
 
+class Outcomes:
+    """How deliveries ended that ran out of room, by their answers."""
+
+    def __init__(self, trial: Trial, title: str) -> None:
+        self.trial, self.title, self.found = trial, title, dict[str, int]()
+
+    def add(self, got: tuple[int, str, str]) -> None:
+        said = {*got[1].splitlines()}
+        name = got[2].strip() or " and ".join(sorted(said))
+        self.found[name] = self.found.get(name, 0) + 1
+
+    def told(self) -> None:
+        """Deliveries ended in each way: before the first message, between two, and not at all."""
+        print(f"{self.title}: {self.found}")
+        names = {"ack", "K4 Storage and ack"}
+        is_right = names <= {*self.found} and len(self.found) > len(names)
+        self.trial.count.holds(f"{self.title}: each way to end", is_right, self.found)
+
+
+def runs_out(
+    trial: Trial, outcomes: Outcomes, title: str, store: str, held: list[str], before: list[str]
+) -> None:
+    """A delivery that may run out of room: what it acknowledges is there, and what was held."""
+    got = trial.deliver(store, ROOMFUL, *before)
+    is_refused(trial, title, got, ROOMFUL)
+    outcomes.add(got)
+    acked = {line for line, said in zip(ROOMFUL, got[1].splitlines()) if said == "ack"}
+    found = {*kept(store)}
+    trial.count.holds(f"{title}: kept", acked | {*held} <= found <= {*ROOMFUL, *held}, got)
+
+
+def goes_on(trial: Trial, title: str, store: str, held: list[str]) -> None:
+    """With room again the same delivery is acknowledged, and the file holds all of it."""
+    again = trial.deliver(store, ROOMFUL)
+    trial.count.same(f"{title}, then room", again, (0, "ack\n" * len(ROOMFUL), ""))
+    trial.count.same(f"{title}: the rows", kept(store), sorted({*ROOMFUL, *held}))
+
+
+@contextlib.contextmanager
+def small_disk(trial: Trial) -> Iterator[str]:
+    """A file system of 1 MiB of its own."""
+    mount = trial.path("disk")
+    os.mkdir(mount)
+    subprocess.run(["mount", "-t", "tmpfs", "-o", "size=1m", "none", mount], check=True)
+    try:
+        yield mount
+    finally:
+        subprocess.run(["umount", "--lazy", mount], check=True)
+
+
 def fill_disk(trial: Trial) -> None:
-    """A file system of 1 MiB on which so many pages are left; then it is freed again."""
+    """A file system of 1 MiB of which so many pages are left, from none to as many as a delivery
+    needs: over no file, and over one at rest. Then it is freed again."""
     if os.geteuid() != 0:
         print("fill_disk is left out: this is not root")
         return
-    mount = trial.path("disk")
-    os.mkdir(mount)
-    lines = [REQUEST, *map(desk.approval, range(12))]
-    subprocess.run(["mount", "-t", "tmpfs", "-o", "size=1m", "none", mount], check=True)
-    try:
-        for pages in range(0, 100, trial.step(9)):
-            store, filler = os.path.join(mount, "desk.db"), os.path.join(mount, "filler")
-            clear(store)
-            fill(filler, pages)
-            got = trial.deliver(store, lines)
-            is_refused(trial, f"a disk with {pages} pages", got, lines)
-            acked = {line for line, said in zip(lines, got[1].splitlines()) if said == "ack"}
-            trial.count.holds(f"{pages} pages: kept", acked <= {*kept(store)} <= {*lines}, acked)
-            os.unlink(filler)
-            again = trial.deliver(store, lines)
-            trial.count.same(f"{pages} pages, freed", again, (0, "ack\n" * len(lines), ""))
-            trial.count.same(f"{pages} pages: the rows", kept(store), sorted(lines))
-        fill_served(trial, mount)
-    finally:
-        subprocess.run(["umount", "-l", mount], check=True)
+    with small_disk(trial) as mount:
+        store, filler = os.path.join(mount, "desk.db"), os.path.join(mount, "filler")
+        for held in ([], [desk.approval(900)]):
+            outcomes = Outcomes(trial, f"a full disk, over {len(held)} messages")
+            for pages in range(0, MOST_PAGES, trial.step(9)):
+                title = f"a disk with {pages} pages, over {len(held)} messages"
+                clear(store)
+                if held:
+                    trial.deliver(store, held)
+                fill(filler, pages)
+                runs_out(trial, outcomes, title, store, held, [])
+                os.unlink(filler)
+                goes_on(trial, title, store, held)
+            outcomes.told()
+        for pages in range(0, 60, trial.step(30)):
+            fill_served(trial, store, filler, pages)
 
 
 def fill(path: str, pages: int) -> None:
     """Fills the disk but for so many pages of 4 KiB."""
-    with open(path, "wb") as file, contextlib.suppress(OSError):
+    with open(path, "wb", buffering=0) as file, contextlib.suppress(OSError):
         while True:
             file.write(bytes(4_096))
-            file.flush()
-    held = os.path.getsize(path)
-    os.truncate(path, max(0, held // 4_096 - pages) * 4_096)
+    os.truncate(path, max(0, os.path.getsize(path) // 4_096 - pages) * 4_096)
 
 
-def fill_served(trial: Trial, mount: str) -> None:
-    """A desk that is served while its disk fills goes on by itself where there is room again."""
-    store, filler = os.path.join(mount, "desk.db"), os.path.join(mount, "filler")
+def fill_served(trial: Trial, store: str, filler: str, pages: int) -> None:
+    """A desk that is served while its disk fills answers K4, and questions as before. It goes on by
+    itself where there is room again, and what it acknowledged is there after it was killed."""
     clear(store)
-    acked: list[str] = []
+    held, title = {REQUEST}, f"a desk that is served on a disk with {pages} pages"
     with desk.Server(store, program=trial.words) as server:
 
-        def post(body: str) -> bytes:
-            return ask(server, desk.posted(b"chat", body.encode()))
+        def post(body: str) -> bool:
+            reply = ask(server, desk.posted(b"chat", body.encode()))
+            is_ack = reply.endswith(b"\r\n\r\nack\n")
+            is_named = is_ack or reply.endswith(b"\r\n\r\nK4 Storage\n")
+            trial.count.holds(f"{title}: a reply", is_named, reply)
+            return is_ack
 
-        trial.count.holds("a disk with room", post(REQUEST).endswith(b"ack\n"))
-        fill(filler, 6)
-        replies = []
-        for no in range(60):
-            replies.append(post(desk.approval(no)))
-            if replies[-1].endswith(b"\r\n\r\nack\n"):
-                acked.append(desk.approval(no))
-        ends = {reply.partition(b"\r\n\r\n")[2] for reply in replies}
-        trial.count.same("a disk that fills", ends, {b"ack\n", b"K4 Storage\n"})
+        trial.count.holds(f"{title}: with room", post(REQUEST))
+        fill(filler, pages)
+        sent = [desk.approval(number) for number in range(24)]
+        acked = [body for body in sent if post(body)]
+        held |= {*acked}
+        trial.count.holds(f"{title}: it fills", len(acked) < len(sent), len(acked))
+        reply = ask(server, LISTED)
+        now = {*body_of(reply)}
+        is_whole = reply.startswith(REPLIES[0]) and held <= now <= {REQUEST, *sent}
+        trial.count.holds(f"{title}: asked", is_whole or b"\r\n\r\nK4 " in reply, reply[-200:])
         os.unlink(filler)
-        trial.count.holds("a disk that is freed", post(desk.approval(999)).endswith(b"ack\n"))
-        found = {*body_of(ask(server, LISTED))}
-    trial.count.holds("all that was acknowledged", {*acked, REQUEST, desk.approval(999)} <= found)
-    trial.count.same("after a restart", {*kept(store)} >= {*acked, REQUEST}, True)
+        again = [body for body in sent if post(body)]
+        trial.count.same(f"{title}: freed", len(again), len(sent))
+        found = body_of(ask(server, LISTED))
+        trial.count.same(f"{title}: all messages", found, sorted({REQUEST, *sent}))
+        server.end(signal.SIGKILL)
+    trial.count.same(f"{title}: after a kill", kept(store), sorted({REQUEST, *sent}))
 
 
 def limit_file(trial: Trial) -> None:
-    """The file may grow to each page, and no further (`ulimit -f`)."""
-    store, lines = trial.path("limit.db"), [REQUEST, *map(desk.approval, range(12))]
-    for pages in range(0, 90, trial.step(11)):
+    """The file and its log may grow to each page, and no further (`ulimit -f`)."""
+    store, outcomes = trial.path("limit.db"), Outcomes(trial, "a file that may not grow")
+    for pages in range(0, MOST_PAGES, trial.step(11)):
         clear(store)
-        before = [
-            "prlimit",
-            f"--fsize={pages * 4_096}",
-            "sh",
-            "-c",
-            "trap '' XFSZ; exec \"$@\"",
-            "sh",
-        ]
-        got = trial.deliver(store, lines, *before)
-        is_refused(trial, f"a file of up to {pages} pages", got, lines)
-        acked = {line for line, said in zip(lines, got[1].splitlines()) if said == "ack"}
-        trial.count.holds(f"up to {pages} pages: kept", acked <= {*kept(store)} <= {*lines}, acked)
-        again = trial.deliver(store, lines)
-        trial.count.same(f"up to {pages} pages, then more", again, (0, "ack\n" * len(lines), ""))
+        before = ["prlimit", f"--fsize={pages * 4_096}", *UNSIGNALLED]
+        title = f"a file of up to {pages} pages"
+        runs_out(trial, outcomes, title, store, [], before)
+        goes_on(trial, title, store, [])
+    outcomes.told()
 
 
 # ---- the file, changed while it is served
@@ -400,11 +465,8 @@ def change_served(trial: Trial) -> None:
         "with its log cut": lambda store: os.truncate(store + "-wal", 5_000),
     }
     for title, change in changes.items():
-        store, sent = trial.path("changed.db"), [
-            REQUEST,
-            APPROVAL,
-            *map(desk.approval, range(20 // min(SPARSE, 5))),
-        ]
+        more = map(desk.approval, range(20, 20 + 20 // min(SPARSE, 5)))
+        store, sent = trial.path("changed.db"), [REQUEST, APPROVAL, *more]
         clear(store)
         trial.deliver(store, sent[:2])
         with desk.Server(store, program=trial.words) as server:
@@ -427,12 +489,52 @@ def change_served(trial: Trial) -> None:
                 reply[-200:],
             )
             trial.count.holds(f"{title}: the desk is there", server.process.poll() is None)
-        status, out, err = trial.review(store)
-        is_named = status == 2 and not out and err in ("F1 FileFailed\n", "K2 NotADesk\n")
-        trial.count.holds(f"{title}: the next start", is_named or status == 0, (status, out, err))
-        if status == 0:
-            held = {*kept(store)}
-            trial.count.holds(f"{title}: what it finds", held <= {*sent, desk.approval(77)}, held)
+        if "read-only" in title and os.geteuid() == 0:
+            refused = trial.review(store, *UNPRIVILEGED)
+            trial.count.same(f"{title}: without root's right", refused, (2, "", NAMED[0]))
+        found, _ = starts_again(trial, title, store, {*sent, desk.approval(77)})
+        print(f"{title}, {len(acked)} of {len(sent)} acknowledged, then started again: {found}")
+
+
+def starts_again(trial: Trial, title: str, store: str, sent: set[str]) -> tuple[str, set[str]]:
+    """What the next start finds is refused by name, or is a desk of messages that were sent to it
+    or to the other: the refusal, or these messages."""
+    status, out, err = trial.review(store)
+    is_named = (status, out) == (2, "") and err in NAMED
+    trial.count.holds(f"{title}: the next start", is_named or status == 0, (status, out, err))
+    if status == 0:
+        held = {*kept(store)}
+        trial.count.holds(f"{title}: what it finds", held <= sent, held - sent)
+        return f"{len(held)} messages", held
+    return err.strip(), set()
+
+
+def mix_files(trial: Trial) -> None:
+    """A file beside the log of another, which a desk that was killed did not merge: what is found
+    is refused by name, or is a desk of messages of the two."""
+    count, found = Counter[str](), [1, 3, 40] if trial.is_whole else [1, 12]
+    for merged, logged, other, first in itertools.product([0, *found], found, found, [10, 900]):
+        # requests and verdicts on them, or verdicts that wait
+        old = [make(number) for number in range(merged + logged) for make in MAKERS[first]]
+        new = [make(number) for number in range(10, 10 + other) for make in MAKERS[10]]
+        title = f"a file of {len(new)} messages beside a log of {logged} after {merged}, {first}"
+        store, path = trial.path("mixed.db"), trial.path("other.db")
+        clear(store)
+        clear(path)
+        trial.deliver(path, new)
+        if merged:
+            trial.deliver(store, old[:merged])
+        with desk.Server(store, program=trial.words) as server:
+            for body in old[merged:]:
+                ask(server, desk.posted(b"chat", body.encode()))
+            server.end(signal.SIGKILL)
+        os.replace(path, store)
+        ended, held = starts_again(trial, title, store, {*old, *new})
+        desks = {"the log's desk": {*old}, "the file's desk": {*new}, "one of both": held}
+        names = [name for name, those in desks.items() if held == those]
+        count[names[0] if held else ended] += 1
+    print(f"files beside the log of another: {dict(count)}")
+    trial.count.holds("files that are refused, and desks", len(count) > 1, count)
 
 
 # ---- a byte, turned
@@ -451,21 +553,49 @@ def turn_bytes(trial: Trial) -> None:
     for place in range(0, len(data), step):
         for mask in (0xFF,) if not trial.is_whole else (0xFF, 1 << place % 8):
             clear(store)
-            turned = data[place] ^ mask
-            desk.write(
-                trial.folder, "turned.db", data[:place] + bytes([turned]) + data[place + 1 :]
-            )
+            desk.write(trial.folder, "turned.db", turned(data, place, mask))
             got = trial.review(store)
-            is_named = got[:2] == (2, "") and got[2] in (
-                "F1 FileFailed\n",
-                "K1 RosterChanged\n",
-                "K2 NotADesk\n",
-            )
+            is_named = got[:2] == (2, "") and got[2] in NAMED
             is_right = is_named or got == before
             trial.count.holds(f"byte {place} of {len(data)} turned by {mask:#x}", is_right, got)
             name = got[2].strip() or ("as before" if is_right else "another answer")
             outcomes[name] = outcomes.get(name, 0) + 1
     print(f"a byte turned in a file of {len(data)} bytes: {outcomes}")
+
+
+def turn_log(trial: Trial) -> None:
+    """A byte is turned in the log of ten messages that a desk which was killed left, or the log is
+    cut there. SQLite's form cannot tell that from a log that was being written: it ends where its
+    sums no longer fit. So what is found is refused by name, or is a beginning of what was sent."""
+    store, sent = trial.path("logged.db"), [desk.request(number) for number in range(10)]
+    clear(store)
+    with desk.Server(store, program=trial.words) as server:
+        for body in sent:
+            ask(server, desk.posted(b"chat", body.encode()))
+        server.end(signal.SIGKILL)
+    first = {end: open(store + end, "rb").read() for end in ("", "-wal")}
+    log, found = first["-wal"], Counter[str]()
+    for place in range(0, len(log), trial.step(190) * 31):
+        for is_cut in (False, True):
+            clear(store)
+            desk.write(trial.folder, "logged.db", first[""])
+            changed = log[:place] if is_cut else turned(log, place, 0xFF)
+            desk.write(trial.folder, "logged.db-wal", changed)
+            title = f"a log {'cut' if is_cut else 'turned'} at byte {place} of {len(log)}"
+            got = trial.review(store)
+            if got[0] == 0:
+                held = kept(store)
+                trial.count.same(title, held, sorted(sent[: len(held)]))
+                found[f"{len(held):2} messages"] += 1
+            else:
+                trial.count.holds(title, got[:2] == (2, "") and got[2] in NAMED, got)
+                found[got[2].strip()] += 1
+    print(f"a log of {len(log)} bytes, turned or cut: {dict(sorted(found.items()))}")
+    trial.count.holds("logs that end early, and whole ones", len(found) > 3, found)
+
+
+def turned(data: bytes, place: int, mask: int) -> bytes:
+    return data[:place] + bytes([data[place] ^ mask]) + data[place + 1 :]
 
 
 PARTS = (
@@ -476,7 +606,9 @@ PARTS = (
     fill_disk,
     limit_file,
     change_served,
+    mix_files,
     turn_bytes,
+    turn_log,
 )
 
 

@@ -26,8 +26,9 @@ from desk_tools.found import coded, first_code  # noqa: E402
 from desk_tools.site import Site  # noqa: E402
 from tests import texts  # noqa: E402
 
-FAULT = re.compile(rb"(S1 TooLong|S[2-9] [A-Za-z]+ line [0-9]+|S10 [A-Za-z]+( line [0-9]+)?)\n")
-MOST_TEXT = 1_048_576
+FAULT = re.compile(rb"S([1-9]|10) [A-Za-z]+ line [0-9]+\n")
+MOST_TEXT = 16_777_216
+COMMENT = b"# " + b"-" * 4_000 + b"\n"
 LAWFUL = re.compile(rb"[\t\n\x20-\x7e]*")
 
 
@@ -147,6 +148,12 @@ def policies_at_first() -> list[str]:
     return found
 
 
+def lengthened(given: bytes, length: int) -> bytes:
+    """The bytes with comments behind them, as many as come to the length."""
+    count, rest = divmod(length - len(given), len(COMMENT))
+    return given + b"\n" * rest + COMMENT * count
+
+
 def policies(words: list[str], seed: str, count: int, folder: str) -> Tally:
     """Policies that were changed, one after another."""
     tally, chance, first = Tally(), random.Random(seed), policies_at_first()
@@ -160,7 +167,7 @@ def policies(words: list[str], seed: str, count: int, folder: str) -> Tally:
             else:
                 data = bytes_changed(chance, data)
         if chance.random() < 0.002:
-            data += b"\n" * (MOST_TEXT - len(data) + chance.randint(0, 1))
+            data = lengthened(data, MOST_TEXT + chance.randint(0, 1))
         tally.inputs += 1
         try:
             policy(tally, chance, words, visudo, data, folder)
@@ -185,6 +192,9 @@ def policy(
             tally.deny(data, (status, out, err), "a policy or a named fault")
         elif err.startswith(b"S1 ") != (len(data) > MOST_TEXT):
             tally.deny(len(data), err, "S1 exactly past the length")
+        elif err.startswith(b"S1 "):
+            line = data[:MOST_TEXT].count(b"\n") + 1
+            tally.compare(len(data), err, b"S1 TooLong line %d\n" % line)
         elif err.startswith(b"S2 ") and is_lawful:
             tally.deny(data, err, "S2 only with a byte that is refused")
         tally.compare((data, asked), decided, (status, out, err))

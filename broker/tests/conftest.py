@@ -1,4 +1,4 @@
-"""Where the package is, and a desk that answers as it was told."""
+"""Where the package and the scripts' ports are, and a desk that answers as it was told."""
 
 from __future__ import annotations
 
@@ -10,7 +10,8 @@ from collections.abc import Iterator
 
 import pytest
 
-sys.path.insert(0, str(pathlib.Path(__file__).resolve().parent.parent))
+ROOT = pathlib.Path(__file__).resolve().parents[2]
+sys.path[:0] = [str(ROOT / "broker"), str(ROOT / "scripts")]
 
 
 class Scripted(http.server.ThreadingHTTPServer):

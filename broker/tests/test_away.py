@@ -11,17 +11,18 @@ from desk_broker.desk import Desk
 from desk_broker.outbox import NotConfirmed
 from desk_broker.publish import Publisher
 from desk_broker.settings import Broker
+from ports import free_port
 
 
 @pytest.fixture(params=["nobody", "silent", "no name"])
 def broker(request):
-    with socket.create_server(("127.0.0.1", 0)) as server:
-        port = server.getsockname()[1]
-        if request.param == "silent":
+    if request.param == "silent":
+        with socket.create_server(("127.0.0.1", 0)) as server:
+            port = server.getsockname()[1]
             yield Broker([("127.0.0.1", port)], "desk-a", "secret", patience=0.3)
-            return
+        return
     host = "127.0.0.1" if request.param == "nobody" else "no.such.host.invalid"
-    yield Broker([(host, port)], "desk-a", "secret", patience=0.3)
+    yield Broker([(host, free_port())], "desk-a", "secret", patience=0.3)
 
 
 def test_a_consumer_goes_on_trying_and_ends_when_asked(broker, caplog):

@@ -1,9 +1,8 @@
 """What a reply of the desk means, and what no reply does."""
 
-import socket
-
 import pytest
 from desk_broker.desk import Desk, Kind, judge
+from ports import free_port
 
 
 @pytest.mark.parametrize(
@@ -69,9 +68,7 @@ def test_a_peer_that_is_silent(scripted):
 
 
 def test_nobody_listens():
-    with socket.create_server(("127.0.0.1", 0)) as server:
-        address = f"http://127.0.0.1:{server.getsockname()[1]}"
-    answer = Desk(address).post("web", b"{}")
+    answer = Desk(f"http://127.0.0.1:{free_port()}").post("web", b"{}")
     assert (answer.kind, answer.said) == (Kind.WAITS, "no reply: ConnectionRefusedError")
 
 

@@ -7,6 +7,7 @@ import socket
 import sqlite3
 import subprocess
 import time
+from contextlib import closing
 from pathlib import Path
 
 from scripts.ports import free_ports
@@ -119,12 +120,12 @@ class Site:
     def stored(self) -> list[str]:
         """The messages of the desk's store, while no desk has it."""
         assert self.desk is None
-        with sqlite3.connect(self.store) as base:
+        with closing(sqlite3.connect(self.store)) as base:
             return [row[0] for row in base.execute("SELECT body FROM messages ORDER BY body")]
 
     def kept(self) -> list[tuple[str, str]]:
         """The outbox's messages and their states."""
-        with sqlite3.connect(self.folder / "outbox.db") as base:
+        with closing(sqlite3.connect(self.folder / "outbox.db")) as base:
             return list(base.execute("SELECT body, state FROM messages ORDER BY id"))
 
     def wait_until_posted(self, seconds: float = 180.0) -> None:

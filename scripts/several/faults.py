@@ -166,5 +166,6 @@ def mount_small_disk(bench: Bench) -> None:
 
 
 def unmount_small_disk(folder: pathlib.Path) -> None:
-    """Takes it away again, or the folder could not be removed."""
-    os.spawnvp(os.P_WAIT, "umount", ["umount", str(folder / "b")])
+    """Takes it away again, or the folder could not be removed. Lazily: a file of it that somebody
+    still has open is no reason to leave the folder behind."""
+    os.spawnvp(os.P_WAIT, "umount", ["umount", "--lazy", str(folder / "b")])

@@ -156,7 +156,7 @@ def main() -> int:
             print(f"the logs are in {folder}")
         else:
             faults.unmount_small_disk(folder)
-            shutil.rmtree(folder, ignore_errors=True)
+            shutil.rmtree(folder)
     return status
 
 

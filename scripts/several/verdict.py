@@ -3,6 +3,7 @@
 from __future__ import annotations
 
 import concurrent.futures
+import contextlib
 import dataclasses
 import json
 import sqlite3
@@ -142,7 +143,8 @@ def check_kinds(bench: Bench, wanted: Wanted) -> None:
 
 def check_integrity(desk: Desk) -> None:
     """`sqlite3` finds the file whole, once the desk has ended."""
-    with sqlite3.connect(desk.store) as connection:
+    # (a connection that nobody closes has the file until it is collected, and its disk is busy)
+    with contextlib.closing(sqlite3.connect(desk.store)) as connection:
         [[said]] = connection.execute("PRAGMA integrity_check")
     if said != "ok":
         raise Failure(f"desk {desk.name}: {said}")
