@@ -45,6 +45,7 @@ pub fn open_after_stop<K: Keeper>(
     ensures rebuilding { (list : List AnyMessage) (recorded : List ℕ)
         → LeavesOnly (K.may_leave _stopped.now) (λ left. IsDeskOf recorded (λ m. Contains list m) left ⊎ IsDeskOf roster.text (λ m. Contains list m) left)
         → IfOk result (λ d. K.is_up d.keeper → SameSet (λ m. Contains list m) (K.holds d.keeper)) }
+    ensures unchanged { IfErr result (λ r. K.is_up r.1 → K.is_same found r.1) }
 {
     Desk::open(alloc, roster, base, found)
 }
