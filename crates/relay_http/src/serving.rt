@@ -1,6 +1,6 @@
 //! One exchange.
 
-ghost use Rattle.std.specs.Prelude.{◌≡◌, ◌≢◌, ◌⊎◌, ◌≤◌, ℕ, List, Err, IfSome, MatchResult, codes};
+ghost use Rattle.std.specs.Prelude.{◌≡◌, ◌≢◌, ◌⊎◌, ◌≤◌, ℕ, List, Err, IfSome, MatchResult, OnOk, codes};
 ghost use Rattle.httparse.specs.Grammar.{RequestHead};
 ghost use Rattle.desk.specs.private.Serving.{IsServed};
 ghost use Rattle.desk_store.specs.Keeping.{HasFailed};
@@ -105,6 +105,8 @@ pub fn serve_in<K: Keeper, R: Read, W: Write>(
     ensures unread { result ≡ Err NoMemory → reader.new ≡ reader.old }
     ensures read_failed { result ≡ Err ReadFailed → HasFailed reader.old.failures reader.new.failures }
     ensures write_failed { result ≡ Err WriteFailed → HasFailed writer.old.failures writer.new.failures }
+    // At Ok no read and no write failed, not even one that was tried again.
+    ensures unfailing { OnOk result ((reader.new.failures ≡ reader.old.failures) × (writer.new.failures ≡ writer.old.failures)) }
     ensures roster { desk.new.roster ≡ desk.old.roster }
     ensures base { desk.new.base ≡ desk.old.base }
     ensures was_up { K.is_up desk.new.keeper → K.is_up desk.old.keeper }
@@ -149,6 +151,8 @@ pub fn serve_one<K: Keeper, R: Read, W: Write>(
     ensures unread { result ≡ Err NoMemory → reader.new ≡ reader.old }
     ensures read_failed { result ≡ Err ReadFailed → HasFailed reader.old.failures reader.new.failures }
     ensures write_failed { result ≡ Err WriteFailed → HasFailed writer.old.failures writer.new.failures }
+    // At Ok no read and no write failed, not even one that was tried again.
+    ensures unfailing { OnOk result ((reader.new.failures ≡ reader.old.failures) × (writer.new.failures ≡ writer.old.failures)) }
     ensures roster { desk.new.roster ≡ desk.old.roster }
     ensures base { desk.new.base ≡ desk.old.base }
     ensures was_up { K.is_up desk.new.keeper → K.is_up desk.old.keeper }

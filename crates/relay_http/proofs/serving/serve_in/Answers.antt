@@ -49,3 +49,6 @@ returns-in-Err-clause-changes g c =
     let bytes = take c.in-Ok-read_request.filled c.read_request.new.buf in
     let asks : Asks bytes x.0 = asks_lent _ _ _ _ _ x.0 c.deref.ensures.value (c.read_request.ensures.len ∙ c.deref_mut.ensures.len) x.1 in
     λ _ up. all_changes _ _ _ _ _ _ _ _ (g.R.Read.remaining c.args.reader.now.inner) bytes x.0 asks c.in-Ok-read_request.ensures.asks x.2 up
+
+pub returns-in-Ok-reply_to-clause-unfailing : goal.returns-in-Ok-reply_to-clause-unfailing
+returns-in-Ok-reply_to-clause-unfailing g c = (c.in-Ok-read_request.ensures.counted, c.in-Ok-reply_to.ensures.counted)
