@@ -195,10 +195,13 @@ module _ (some : List Message) (row : NameRow) (nobody : NobodyAsks some (name_o
       (other_of row.request, there, (refl, refl), is_other row.request)
 
   is_row : IsRowOf with_row row
-  is_row = (there, elim (cases_Bool row.is_disputed) as (λ _. IsMarked (In with_row) row.request row.is_disputed) [
-    | inl two ↦ subst (IsMarked (In with_row) row.request) (sym two) (other_there two)
-    | inr one ↦ subst (IsMarked (In with_row) row.request) (sym one) (alone_there one)
-  ])
+  is_row = (
+    there,
+    elim (cases_Bool row.is_disputed) as (λ _. IsMarked (In with_row) row.request row.is_disputed) [
+      | inl two ↦ subst (IsMarked (In with_row) row.request) (sym two) (other_there two)
+      | inr one ↦ subst (IsMarked (In with_row) row.request) (sym one) (alone_there one)
+    ],
+  )
 
   still_beside : (name : RequestName) → (name_of row.request ≡ name → ⊥) → (o : Option Kept) → IsAt some name o → IsAt with_row name o
   still_beside name differ o is =

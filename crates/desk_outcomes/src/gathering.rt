@@ -183,10 +183,7 @@ fn put_row(
 }
 
 /// A summary for each name that has a row, before any verdict.
-fn summaries_of(
-    alloc: Global,
-    rows: &[NameRow],
-) -> Result<BTreeMap<RequestName, Summary>, NoMemory>
+fn summaries_of(alloc: Global, rows: &[NameRow]) -> Result<BTreeMap<RequestName, Summary>, NoMemory>
     ensures alone { IfOk result AreAlone }
     ensures known { (set : List AnyMessage) → ShowSet (λ m. Contains set m) rows.now [] → IfOk result (Gathers set) }
 {
@@ -227,12 +224,7 @@ impl Gathered {
             → OnOk result (AreGathered (set ++ message_of.Verdict verdict.now ∷ []) self.new) }
         ensures err { (set : List AnyMessage) → AreGathered set self.old → OnErr result (AreGathered set self.new) }
     {
-        put_verdict(
-            self.alloc,
-            &mut self.summaries,
-            &mut self.waiting,
-            verdict,
-        )
+        put_verdict(self.alloc, &mut self.summaries, &mut self.waiting, verdict)
     }
 
     /// Adds a message: what is known is then that of the set with the message. Where memory runs out, it is still that of the set.

@@ -15,13 +15,16 @@ loop-row-init c =
     (none_alone c.new-summaries.result c.new-summaries.ensures.ordered c.new-summaries.ensures.empty, λ set show. no_rows set c.new-summaries.result c.new-summaries.ensures.ordered c.new-summaries.ensures.empty)
 
 pub loop-row-preserved : goal.loop-row-preserved
-loop-row-preserved c = (c.in_ok-put_row.ensures.alone c.loop-row.invariant.0, λ set show.
-    let rows = c.args.rows.now in
-    let i = c.loop-row.row-index in
-    let item = c.row-item.result in
-    let among : Contains rows item = subst (Contains rows) (sym c.row-item.is) (Contains-get_or rows i item c.loop-row-test.true) in
-    let more = c.in_ok-put_row.ensures.rows set (take i rows) (shown_none set rows show) (show.each item among) (c.loop-row.invariant.1 set show) in
-    subst (λ (seen : List NameRow). GathersRows set seen c.put_row.new.summaries) (sym (take_one_more rows i item c.loop-row-test.true c.row-item.is)) more)
+loop-row-preserved c = (
+  c.in_ok-put_row.ensures.alone c.loop-row.invariant.0,
+  λ set show.
+      let rows = c.args.rows.now in
+      let i = c.loop-row.row-index in
+      let item = c.row-item.result in
+      let among : Contains rows item = subst (Contains rows) (sym c.row-item.is) (Contains-get_or rows i item c.loop-row-test.true) in
+      let more = c.in_ok-put_row.ensures.rows set (take i rows) (shown_none set rows show) (show.each item among) (c.loop-row.invariant.1 set show) in
+      subst (λ (seen : List NameRow). GathersRows set seen c.put_row.new.summaries) (sym (take_one_more rows i item c.loop-row-test.true c.row-item.is)) more,
+)
 
 pub returns-clause-alone : goal.returns-clause-alone
 returns-clause-alone c = c.loop-row.invariant.0
