@@ -1,5 +1,5 @@
 -- The text of a message is canonical JSON that reads as the message's value.
-use Rattle.std.proofs.Common.{◌≡◌, ℕ, ◌^◌, ◌<◌, ◌≤◌, ◌∙◌, true, false, List, [], ◌∷◌, ◌++◌, Option, Some, option_map, option_and_then, map, refl, sym, ap, ap₂, arith, append_assoc, append-nil, decimal, ltb}
+use Rattle.std.proofs.Common.{◌≡◌, ℕ, ◌^◌, ◌<◌, ◌≤◌, ◌∙◌, true, false, List, [], ◌∷◌, ◌++◌, Option, Some, option_map, option_and_then, map, refl, sym, ap, ap₂, subst, arith, append_assoc, append-nil, decimal, ltb}
 use Rattle.std.specs.List.{list_all}
 use Rattle.std.specs.Prelude.{codes, IsUtf8, All}
 use Rattle.std.proofs.lemmas.Fmt.{IsAscii-decimal}
@@ -19,13 +19,14 @@ use Rattle.serde_json.specs.Written.{outline, items_outline, compact_text, items
 use Rattle.serde_json.proofs.Numbers.{number_of-decimal}
 use Rattle.serde_json.proofs.Texts.{print-outline}
 use Rattle.sudo_words.specs.Command.{cmnd_text}
+use Rattle.sudo_words.specs.Word.{is_name}
 use Rattle.messages.specs.Canonical.{IsTextOf}
 use Rattle.messages.specs.Fields.{RequestFields, VerdictFields, IsNumbered, IsRequest, IsVerdict}
 use Rattle.messages.specs.private.Members.{strings, request_value, verdict_value, value_of}
 use Rattle.messages.specs.Wire.{escaped, quoted, moment_text, rest_text, list_text, kind_text, request_text, verdict_text, wire, IsMessage}
 use Rattle.messages.specs.declared.message.Message.{Message}
 use Rattle.messages.specs.declared.message.Message.TheVariants.{Request, Verdict}
-use Rattle.messages.proofs.PlainTexts.{IsPlain, IsPrinted, printed_plain, escape_printed, ascii_escaped, ascii_literal, name_plain, label_plain, moment_plain, request_plain, kind_plain, hosts_printed, cmnds_printed}
+use Rattle.messages.proofs.PlainTexts.{IsPlain, IsPrinted, printed_plain, escape_printed, ascii_escaped, ascii_literal, escaped_plain, name_plain, label_plain, moment_plain, request_plain, kind_plain, hosts_printed, cmnds_printed}
 
 -- ---- a value whose text is known, and reads as the value
 
@@ -53,6 +54,11 @@ said_text w printed = record {
   whole = refl;
   utf8 = IsUtf8-append (codes "\"" ++ escaped w) (codes "\"") (IsUtf8-append (codes "\"") (escaped w) quote_utf8 (IsUtf8-from_ascii (escaped w) (ascii_escaped w printed))) quote_utf8;
 }
+
+pub name_utf8 : (w : List ℕ) → is_name w ≡ true → IsUtf8 w
+name_utf8 w h =
+    let plain = name_plain w h in
+    subst IsUtf8 (escaped_plain w plain) (IsUtf8-from_ascii (escaped w) (ascii_escaped w (printed_plain w plain)))
 
 said_plain : (w : List ℕ) → IsPlain w → IsSaid 1 (string w) (quoted w)
 said_plain w plain = said_text w (printed_plain w plain)
