@@ -11,7 +11,7 @@ pub returns-clause-texts : goal.returns-clause-texts
 returns-clause-texts g c =
     let K = g.K.Keeper in
     let old = c.self.inside.keeper in
-    let new = c.listed-set.new.keeper in
+    let new = c.listed.new.keeper in
     let lent = c.in_ok-set.set.items in
     let answer : (set : List Message) → K.is_up new → Lists (K.holds old) set → AreTexts set (map string_bytes c.in_ok-texts_in.field-0.items) = λ set up lists.
     let same = same_listed (K.holds old) lent set (c.in_ok-set.ensures.listed up) lists in
