@@ -612,8 +612,20 @@ PARTS = (
 )
 
 
+def enter_namespace() -> None:
+    """Starts the script again in a mount namespace of its own: no disk of it is left behind, even
+    where it is killed."""
+    inside = [sys.executable, *sys.argv[:1], "--inside", *sys.argv[1:]]
+    unshare = desk.tool("unshare")
+    os.execv(unshare, [unshare, "--mount", "--propagation", "private", *inside])
+
+
 def main() -> int:
     words = sys.argv[1:]
+    if words[:1] == ["--inside"]:
+        words = words[1:]
+    elif os.geteuid() == 0:
+        enter_namespace()
     is_whole = "--whole" in words[:1]
     parts, words = try_parts(PARTS, words[is_whole:])
     wrong = tried = 0
