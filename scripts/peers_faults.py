@@ -105,11 +105,15 @@ def clear(store: str) -> None:
 
 
 def kept(store: str) -> list[str]:
-    """The messages of a file; none where it is no desk's by now."""
+    """The messages of a file; none where it has no tables yet, or is half made: `sqlite3` reads
+    none such, and the next command makes it whole."""
     if not os.path.exists(store):
         return []
-    with contextlib.suppress(sqlite3.OperationalError):
+    try:
         return store_files.read(store)[1]
+    except sqlite3.DatabaseError as error:
+        if str(error) not in ("no such table: desk", "file is not a database"):
+            raise
     return []
 
 
