@@ -105,11 +105,15 @@ def clear(store: str) -> None:
 
 
 def kept(store: str) -> list[str]:
-    """The messages of a file; none where it is no desk's by now."""
+    """The messages of a file; none where it has no tables yet, or is half made: `sqlite3` reads
+    none such, and the next command makes it whole."""
     if not os.path.exists(store):
         return []
-    with contextlib.suppress(sqlite3.OperationalError):
+    try:
         return store_files.read(store)[1]
+    except sqlite3.DatabaseError as error:
+        if str(error) not in ("no such table: desk", "file is not a database"):
+            raise
     return []
 
 
@@ -612,8 +616,20 @@ PARTS = (
 )
 
 
+def enter_namespace() -> None:
+    """Starts the script again in a mount namespace of its own: no disk of it is left behind, even
+    where it is killed."""
+    inside = [sys.executable, *sys.argv[:1], "--inside", *sys.argv[1:]]
+    unshare = desk.tool("unshare")
+    os.execv(unshare, [unshare, "--mount", "--propagation", "private", *inside])
+
+
 def main() -> int:
     words = sys.argv[1:]
+    if words[:1] == ["--inside"]:
+        words = words[1:]
+    elif os.geteuid() == 0:
+        enter_namespace()
     is_whole = "--whole" in words[:1]
     parts, words = try_parts(PARTS, words[is_whole:])
     wrong = tried = 0

@@ -65,7 +65,7 @@ peers() {
 # the short form of `make soak`
 soak() {
     python3 scripts/peers_faults.py &&
-        RUNS=20 HELD=2000 SENT=100 python3 scripts/peers_kills.py &&
+        RUNS=20 HELD=600 SENT=100 python3 scripts/peers_kills.py &&
         /usr/bin/python3 scripts/soak.py --short
 }
 
@@ -104,7 +104,7 @@ part demo demo
 part_with cases setpriv -- cases
 part_with peers root sudo visudo cvtsudoers faketime unshare curl nc sqlite3 -- peers
 part_with faults cc -- python3 scripts/faults.py
-part_with soak root cc visudo mount prlimit setpriv -- soak
+part_with soak root cc visudo unshare mount prlimit setpriv -- soak
 part_with relays-test root apt-get -- bash relays/test.sh
 part_with tools-test root apt-get -- bash tools/test.sh
 part_with pages mandoc zsh -- pages
