@@ -17,3 +17,5 @@ pub mod WholeRows
 pub mod Shown
 pub mod TextsShown
 pub mod OpenedLemmas
+pub mod ShowingLemmas
+pub mod CellLemmas

@@ -3,3 +3,4 @@ pub mod Names
 pub mod Selecting
 pub mod Reading
 pub mod Judged
+pub mod Showing

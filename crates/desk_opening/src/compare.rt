@@ -13,7 +13,7 @@ use sqlite::Row;
 use sqlite_value::value::ValueRef;
 
 /// The row has this text in the column.
-fn is_text(row: &Row, at: usize, text: &str) -> bool
+pub(crate) fn is_text(row: &Row, at: usize, text: &str) -> bool
     ensures { result ≡ compare.is_text text.now (column row.now at) }
 {
     match row.get_ref(at) {

@@ -1,6 +1,7 @@
 //! Opening a database: what it keeps of a desk, and whether its rows are those that its messages come to.
 #![tactic(auto)]
 
+mod cells;
 mod compare;
 mod found;
 mod found_in;
@@ -11,6 +12,7 @@ mod once;
 mod places;
 mod reading;
 mod rows;
+mod shown_set;
 mod statements;
 mod stored;
 mod table;
@@ -22,5 +24,6 @@ pub use found_in::look;
 pub use listed::messages_of;
 pub use once::are_keyed;
 pub use rows::are_rows;
+pub use shown_set::{ShownSet, shown_of};
 pub use statements::select_of;
 pub use stored::Stored;

@@ -20,7 +20,7 @@ use std::alloc::Global;
 use sudo_words::NoMemory;
 
 /// The text in the column, where it is UTF-8.
-fn text_at(alloc: Global, row: &Row, at: usize) -> Result<Option<String>, NoMemory>
+pub(crate) fn text_at(alloc: Global, row: &Row, at: usize) -> Result<Option<String>, NoMemory>
     ensures text { IfOk result (λ found. IfSome found (λ s. column row.now at ≡ Text (string_bytes s))) }
     ensures none { IfOk result (λ found. IfNone found ((t : List ℕ) → column row.now at ≡ Text t → ¬ IsUtf8 t)) }
 {
