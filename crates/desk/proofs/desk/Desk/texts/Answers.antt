@@ -15,5 +15,6 @@ returns-clause-texts g c =
     let lent = c.in_ok-set.set.items in
     let answer : (set : List Message) → K.is_up new → Lists (K.holds old) set → AreTexts set (map string_bytes c.in_ok-texts_in.field-0.items) = λ set up lists.
     let same = same_listed (K.holds old) lent set (c.in_ok-set.ensures.listed up) lists in
-    texts_of_set lent set (map string_bytes c.in_ok-texts_in.field-0.items) same c.in_ok-texts_in.ensures in
+    let are = rw c.as_slice.ensures.value at c.in_ok-texts_in.ensures in
+    texts_of_set lent set (map string_bytes c.in_ok-texts_in.field-0.items) same are in
     rw (← c.self.view_is) answer
