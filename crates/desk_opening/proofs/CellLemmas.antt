@@ -1,52 +1,19 @@
--- What single columns say.
-use Rattle.std.proofs.Common.{◌≡◌, ◌≢◌, ℕ, pos, Bool, true, false, true≢false, if◌then◌else◌, List, [], ◌++◌, Vec, Result, Ok, Err, IfOk, MatchResult, refl, sym, ap, subst, ◌∙◌}
-use Rattle.std.specs.Str.{bytes_eq}
-use Rattle.std.proofs.lemmas.Slice.Eq.{bytes_eq-Decides}
-use Rattle.sqlite.specs.declared.types.Value.{Value}
-use Rattle.sqlite.specs.declared.types.Value.TheVariants.{Int, Text}
-use Rattle.messages.specs.Wire.{kind_text}
-use Rattle.messages.specs.declared.kind.VerdictKind.{VerdictKind}
-use Rattle.messages.specs.declared.kind.VerdictKind.TheVariants.{Approve, Refuse, Revoke}
-use Rattle.messages.proofs.KindLemmas.{one_kind}
+-- What a message and an answer cannot be.
+use Rattle.std.proofs.Common.{◌≡◌, ◌≢◌, Result, Ok, Err, IfOk, MatchResult, Option, Some, None}
+use Rattle.std.specs.Option.{IfNone}
+use Rattle.messages.specs.Fields.{RequestFields, VerdictFields}
+use Rattle.messages.specs.declared.message.Message.{Message}
+use Rattle.messages.specs.declared.message.Message.TheVariants.{Request, Verdict}
 use Rattle.desk_tables.specs.declared.fault.Fault.{Fault}
 use Rattle.desk_tables.specs.declared.fault.Fault.TheVariants.{Stray}
-use Rattle.desk_opening.specs.private.Compare.{is_number, is_text}
 use Rattle.desk_opening.specs.private.Showing.{IsNoStray}
 
--- ---- the word of a kind
+pub not_both : (m : Message) (v : VerdictFields) (q : RequestFields) → m ≡ Verdict v → m ≡ Request q → ⊥
+not_both m v q a b = cc
 
-pub kind_is : (kind k : VerdictKind) (v : Value) (b : Bool) → v ≡ Text (kind_text kind) → b ≡ is_text (kind_text k) v → b ≡ true → k ≡ kind
-kind_is kind k v b e d h =
-    let same : bytes_eq (kind_text kind) (kind_text k) ≡ true = sym (ap (is_text (kind_text k)) e) ∙ sym d ∙ h in
-    one_kind k kind (sym ((bytes_eq-Decides (kind_text kind) (kind_text k)).0 same))
-
-kind_not : (kind k : VerdictKind) (v : Value) (b : Bool) → v ≡ Text (kind_text kind) → b ≡ is_text (kind_text k) v → b ≡ false → kind ≡ k → ⊥
-kind_not kind k v b e d h same =
-    let is : bytes_eq (kind_text kind) (kind_text k) ≡ true = (bytes_eq-Decides (kind_text kind) (kind_text k)).1 (ap kind_text same) in
-    true≢false (sym is ∙ sym (ap (is_text (kind_text k)) e) ∙ sym d ∙ h)
-
-no_kind : (kind : VerdictKind) → (kind ≡ Approve → ⊥) → (kind ≡ Refuse → ⊥) → (kind ≡ Revoke → ⊥) → ⊥
-no_kind Approve a b c = a refl
-no_kind Refuse a b c = b refl
-no_kind Revoke a b c = c refl
-
-pub some_kind : (kind : VerdictKind) (v : Value) (a b c : Bool) → v ≡ Text (kind_text kind) → a ≡ is_text (kind_text Approve) v → b ≡ is_text (kind_text Refuse) v → c ≡ is_text (kind_text Revoke) v → a ≡ false → b ≡ false → c ≡ false → ⊥
-some_kind kind v a b c e x y z f g h =
-    no_kind kind (kind_not kind Approve v a e x f) (kind_not kind Refuse v b e y g) (kind_not kind Revoke v c e z h)
-
--- ---- a flag
-
-pub flag_one : (flag : Bool) (v : Value) (b : Bool) → v ≡ Int (if flag then pos 1 else pos 0) → b ≡ is_number 1 v → b ≡ true → true ≡ flag
-flag_one true v b e d h = refl
-flag_one false v b e d h = absurd (true≢false (sym h ∙ d ∙ ap (is_number 1) e))
-
-pub flag_zero : (flag : Bool) (v : Value) (b : Bool) → v ≡ Int (if flag then pos 1 else pos 0) → b ≡ is_number 0 v → b ≡ true → false ≡ flag
-flag_zero true v b e d h = absurd (true≢false (sym h ∙ d ∙ ap (is_number 0) e))
-flag_zero false v b e d h = refl
-
-pub some_flag : (flag : Bool) (v : Value) (a b : Bool) → v ≡ Int (if flag then pos 1 else pos 0) → a ≡ is_number 1 v → b ≡ is_number 0 v → a ≡ false → b ≡ false → ⊥
-some_flag true v a b e d f h k = true≢false (sym (ap (is_number 1) e) ∙ sym d ∙ h)
-some_flag false v a b e d f h k = true≢false (sym (ap (is_number 0) e) ∙ sym f ∙ k)
+pub if_none : {A P : Type 0} (o : Option A) → o ≡ None → IfNone o P → P
+if_none (Some x) e h = absurd cc
+if_none None e h = h
 
 -- ---- an answer that is known
 

@@ -1,6 +1,6 @@
 -- What the rows of a desk that is kept show is shown of the messages that it holds.
-use Rattle.std.proofs.Common.{◌≡◌, ◌⊎◌, ◌<◌, ◌+◌, ◌≤◌, ◌&&◌, ◌==◌, inl, inr, ℕ, ℤ, pos, zero, suc, Bool, true, false, true≢false, if◌then◌else◌, List, [], ◌∷◌, ◌++◌, length, get_or, map, take, Contains, codes, refl, sym, ap, subst, ◌∙◌, arith}
-use Rattle.std.proofs.lemmas.List.{take_more}
+use Rattle.std.proofs.Common.{◌≡◌, ◌⊎◌, ◌<◌, ◌+◌, ◌≤◌, ◌&&◌, ◌==◌, inl, inr, ℕ, pos, zero, suc, Bool, true, false, true≢false, if◌then◌else◌, List, [], ◌∷◌, ◌++◌, length, get_or, map, take, Contains, codes, refl, sym, ap, subst, ◌∙◌, arith}
+use Rattle.std.proofs.lemmas.List.{take_all, take_more}
 use Rattle.std.proofs.lemmas.List.Elements.{Contains-append_left, Contains-append_right, Contains-append_cases}
 use Rattle.std.proofs.lemmas.List.Sorted.{IsPermutation-sym}
 use Rattle.std.proofs.lemmas.Bool.{cases_Bool, and_from, and_parts}
@@ -16,11 +16,10 @@ use Rattle.sqlite.specs.Effect.{Database}
 use Rattle.sqlite_rules.specs.Lists.{Has}
 use Rattle.sqlite_rules.proofs.ListLemmas.{contains_had, has_contained}
 use Rattle.sqlite_rules.proofs.ProbeLemmas.{has_mapped, mapped_has}
-use Rattle.messages.specs.Fields.{RequestFields, VerdictFields, IsVerdict}
+use Rattle.messages.specs.Fields.{RequestFields, VerdictFields}
 use Rattle.messages.specs.Names.{IsNamed, SameName, name_meant}
 use Rattle.messages.specs.NameRows.{IsMarked, ShowSet}
 use Rattle.messages.specs.Wire.{wire, kind_text, IsMessage}
-use Rattle.messages.specs.declared.kind.VerdictKind.{VerdictKind}
 use Rattle.messages.specs.declared.name_row.NameRow.{NameRow}
 use Rattle.messages.specs.declared.request_name.RequestName.{RequestName}
 use Rattle.messages.specs.declared.message.Message.{Message}
@@ -29,12 +28,11 @@ use Rattle.messages.proofs.KindLemmas.{one_kind}
 use Rattle.messages.proofs.Uniqueness.{one_message}
 use Rattle.desk_tables.specs.Kept.{HoldsText, IsKeyed, table_in}
 use Rattle.desk_tables.specs.Rows.{AreRows, Asks, IsRow, name_row, parked_row, verdict_row}
-use Rattle.desk_tables.specs.Stored.{content_of}
 use Rattle.desk_schema.specs.declared.part.Part.{Part}
 use Rattle.desk_schema.specs.declared.part.Part.TheVariants.{Names, Verdicts, Parked}
 use Rattle.desk_opening.specs.Opened.{IsKept}
 use Rattle.desk_opening.specs.private.Reading.{IsKeepable}
-use Rattle.desk_opening.specs.private.Selecting.{ShowsPart, ShowsRows, shown_of}
+use Rattle.desk_opening.specs.private.Selecting.{ShowsRows, shown_of}
 use Rattle.desk_opening.specs.private.Showing.{AreShown, ShowsName, ShowsParked, ShowsVerdict}
 use Rattle.desk_opening.proofs.Shown.{has_permuted}
 
@@ -56,11 +54,14 @@ module _ {X : Type 0} (Shows : Row → X → Type 0) where
           let low = it.2 in
           (it.0, it.1, omega (arith, low), it.3)
 
-  pub lengths_shown : (rows : List Row) (xs : List X) → AreShown Shows rows xs → length xs ≡ length rows
+  lengths_shown : (rows : List Row) (xs : List X) → AreShown Shows rows xs → length xs ≡ length rows
   lengths_shown [] [] are = refl
   lengths_shown [] (x ∷ xs) are = absurd are
   lengths_shown (r ∷ rs) [] are = absurd are
   lengths_shown (r ∷ rs) (x ∷ xs) are = ap suc (lengths_shown rs xs are.1)
+
+  pub all_taken : (rows : List Row) (xs : List X) (i : ℕ) → AreShown Shows rows xs → length rows ≤ i → take i xs ≡ xs
+  all_taken rows xs i are over = let same = lengths_shown rows xs are in take_all i xs (omega (arith, same, over))
 
   -- where each row shows something, there is what they show
   each_shown : (rows : List Row) → ((r : Row) → Has rows r → (x : X) × Shows r x) → (xs : List X) × AreShown Shows rows xs
@@ -68,7 +69,7 @@ module _ {X : Type 0} (Shows : Row → X → Type 0) where
   each_shown (r ∷ rs) each =
       let here = each r (inl refl) in
       let more = each_shown rs (λ s there. each s (inr there)) in
-      (here.0 ∷ more.0, here.1, more.1)
+      (here.0 ∷ more.0, (here.1, more.1))
 
   row_shown : (rows : List Row) (xs : List X) → AreShown Shows rows xs → (x : X) → Has xs x → (r : Row) × Has rows r × Shows r x
   row_shown [] [] are x has = absurd has
@@ -154,7 +155,7 @@ named_cases name row = elim (cases_Bool (is_of name row)) as (λ _. IsNamed row.
   | inl is ↦
       let both = and_parts (bytes_eq row.request.by name.by) (row.request.no == name.no) is in
       inl ((bytes_eq-Decides row.request.by name.by).0 both.0, (Decides-eqb row.request.no name.no).0 both.1)
-  | inr no ↦ inr (λ named. true≢false (sym (and_from (bytes_eq row.request.by name.by) (row.request.no == name.no) ((bytes_eq-Decides row.request.by name.by).1 named.0) ((Decides-eqb row.request.no name.no).1 named.1)) ∙ no))
+  | inr other ↦ inr (λ named. true≢false (sym (and_from (bytes_eq row.request.by name.by) (row.request.no == name.no) ((bytes_eq-Decides row.request.by name.by).1 named.0) ((Decides-eqb row.request.no name.no).1 named.1)) ∙ other))
 ]
 
 named_among : (names : List NameRow) (name : RequestName) → ((row : NameRow) × Has names row × IsNamed row.request name) ⊎ ((row : NameRow) → Has names row → ¬ IsNamed row.request name)

@@ -36,7 +36,8 @@ fn name_row(alloc: Global, row: &Row) -> Result<NameRow, Fault>
     ensures { (shown : AnyRow) → ShowsName row.now shown → MatchResult result (λ r. r ≡ shown) IsNoStray }
 {
     let is_disputed = flag_at(row, 4)?;
-    match message_at(alloc, row, 3)? {
+    let message = message_at(alloc, row, 3)?;
+    match message {
         Message::Request(request) => Ok(NameRow {
             request,
             is_disputed,
@@ -64,7 +65,8 @@ fn verdict(alloc: Global, row: &Row) -> Result<Verdict, Fault>
 fn parked(alloc: Global, row: &Row) -> Result<Verdict, Fault>
     ensures { (shown : VerdictFields) → ShowsParked row.now shown → MatchResult result (λ v. v ≡ shown) IsNoStray }
 {
-    match message_at(alloc, row, 1)? {
+    let message = message_at(alloc, row, 1)?;
+    match message {
         Message::Verdict(verdict) => Ok(verdict),
         Message::Request(_) => Err(Fault::Stray),
     }
@@ -76,7 +78,8 @@ fn name_rows(alloc: Global, rows: &[Row]) -> Result<Vec<NameRow>, Fault>
 {
     let mut names = Vec::new(alloc);
     for row in rows {
-        names.push(name_row(alloc, row)?)?;
+        let shown = name_row(alloc, row)?;
+        names.push(shown)?;
     }
     Ok(names)
 }
@@ -87,7 +90,8 @@ fn push_verdicts(alloc: Global, verdicts: &mut Vec<Verdict>, rows: &[Row]) -> Re
         → MatchResult result (λ _. verdicts.new.items ≡ verdicts.old.items ++ shown) IsNoStray }
 {
     for row in rows {
-        verdicts.push(verdict(alloc, row)?)?;
+        let shown = verdict(alloc, row)?;
+        verdicts.push(shown)?;
     }
     Ok(())
 }
@@ -98,7 +102,8 @@ fn push_parked(alloc: Global, verdicts: &mut Vec<Verdict>, rows: &[Row]) -> Resu
         → MatchResult result (λ _. verdicts.new.items ≡ verdicts.old.items ++ shown) IsNoStray }
 {
     for row in rows {
-        verdicts.push(parked(alloc, row)?)?;
+        let shown = parked(alloc, row)?;
+        verdicts.push(shown)?;
     }
     Ok(())
 }
