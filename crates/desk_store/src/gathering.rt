@@ -27,5 +27,7 @@ pub(crate) fn gather_in<S: Alter>(
     ensures known { IsUp (state S.Store conn.new) → IfOk result (IsKnownOf (HoldsText (state S.Store conn.old).now)) }
 {
     let shown = shown_of(alloc, conn)?;
-    Ok(Gathered::of_rows(alloc, shown.names.as_slice(), shown.verdicts.as_slice())?)
+    let names = shown.names.as_slice();
+    let verdicts = shown.verdicts.as_slice();
+    Ok(Gathered::of_rows(alloc, names, verdicts)?)
 }
