@@ -64,7 +64,7 @@ READERS = {
         "O6 SelfConflict;O7 OutOfRange",
     ),
     "policies": Reader(
-        soak_texts.policies, 20_000, 50, "read;S2;S3;S4;S5;S9", "S1;S6;S7;S8;S10"
+        soak_texts.policies, 20_000, 50, "read;S2;S3;S4;S5;S9", "S1;S6;S7;S8"
     ),
     "stores": Reader(
         soak_stores.stores,
