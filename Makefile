@@ -12,10 +12,10 @@ desk:
 try:
 	bash scripts/try.sh
 
-# A person asks by ssh and another approves; then what the desk does on the files of examples/.
-demo: desk
-	bash relays/demo.sh
-	bash scripts/demo.sh
+# A person asks by ssh and another approves; then what the desk does on the files of examples/. Over build/desk, where `make desk` has left it; else over a
+# program that is built WITHOUT A PROOF in some three minutes, and it says so.
+demo:
+	bash scripts/demos.sh
 
 # The program on each case of cases/: files, words and inputs, with all that it answers. Then reports of random sets of messages, beside a second
 # reading of the rules; and the same of desk-audit.

@@ -1,11 +1,13 @@
 #!/usr/bin/env bash
-# Asks the desk about the policy of examples/, and prints what is asked and what is answered.
+# Asks the desk about the policy of examples/, and prints what is asked and what is answered: over
+# build/desk, or the program that DESK names.
 set -uo pipefail
 cd "$(dirname "$0")/.."
+program=${DESK:-build/desk}
 
 ask() {
     printf '$ desk %s\n' "$*"
-    build/desk "$@" 2>&1
+    "$program" "$@" 2>&1
     printf '(status %s)\n\n' "$?"
 }
 
@@ -32,7 +34,7 @@ with_messages() {
     local messages=$1
     shift
     printf '$ desk %s < %s\n' "$*" "$messages"
-    build/desk "$@" < "$messages" 2>&1
+    "$program" "$@" < "$messages" 2>&1
     printf '(status %s)\n\n' "$?"
 }
 
@@ -43,7 +45,7 @@ for step in parked asked approved refused revoked; do
     with_messages "examples/$step.messages" print "${desk[@]}" db1
 done
 with_messages examples/revoked.messages print "${desk[@]}" db1 --after 20260105103000Z
-build/desk print "${desk[@]}" db1 < examples/revoked.messages > build/db1.sudo
+"$program" print "${desk[@]}" db1 < examples/revoked.messages > build/db1.sudo
 for at in 20260105091459Z 20260105091500Z 20260105102959Z 20260105103000Z; do
     ask decide build/db1.sudo ann db1 root "$at" /usr/bin/id
 done
@@ -85,7 +87,7 @@ get() {
 }
 
 printf '$ desk serve %s 127.0.0.1:0 --requests 8\n' "${desk[*]}"
-coproc served { exec timeout 120 build/desk serve "${desk[@]}" 127.0.0.1:0 --requests 8; }
+coproc served { exec timeout 120 "$program" serve "${desk[@]}" 127.0.0.1:0 --requests 8; }
 server=$served_PID
 read -r listening address <&"${served[0]}"
 printf '%s 127.0.0.1:PORT\n\n' "$listening"
