@@ -1,6 +1,11 @@
 //! A keeper in memory.
 
-ghost use Rattle.std.specs.Prelude.{◌≡◌, ◌≢◌, [], None, AllPairs, IfOk};
+ghost use Rattle.std.specs.Prelude.{◌≡◌, ◌≢◌, ⊤, [], None, AllPairs, Err, IfOk, IsSome, unwrap_or};
+ghost use Rattle.desk_tables.specs.Sets.{Lists};
+ghost use Rattle.desk_store.specs.Crash.{LeavesContent};
+ghost use Rattle.desk_store.specs.Keeping.{HasFailed};
+ghost use Rattle.desk_store.specs.Left.{IsDeskOf, LeavesOnly};
+ghost use Rattle.desk_store.specs.declared.error.KeeperError.TheVariants as errors;
 ghost use Rattle.desk_store.specs.Memory as memory;
 
 use crate::collected::Collected;
@@ -118,7 +123,12 @@ impl Keeper for MemoryKeeper {
 
     /// The messages, each once, in the order in which they came.
     fn messages(&mut self) -> Result<Vec<Message>, KeeperError>
+        requires { ⊤ → IsSome self.old.roster }
+        ensures listed { IfOk result (λ list. Lists (memory.Holds self.old) list.items) }
         ensures once { IfOk result (λ list. AllPairs (λ m n. m ≢ n) list.items) }
+        ensures same { self.new ≡ self.old }
+        ensures cause { result ≡ Err errors.Storage → HasFailed 0 0 }
+        ensures crash { LeavesOnly (LeavesContent self.new) (IsDeskOf (unwrap_or self.old.roster []) (memory.Holds self.old)) }
     {
         self.messages.copied()
     }
