@@ -12,7 +12,7 @@ use Rattle.desk.specs.declared.opening.Origin.{Origin}
 use Rattle.desk.specs.declared.opening.Origin.TheVariants.{Made}
 use Rattle.desk.specs.private.Known.{IsKnown, IsKnownAtFirst}
 
-lists_still : (S T : Message → Type 0) (list : List Message) → SameSet S T → Lists S list → Lists T list
+pub lists_still : (S T : Message → Type 0) (list : List Message) → SameSet S T → Lists S list → Lists T list
 lists_still S T list same lists n = (λ held. (lists n).0 ((same n).1 held), λ among. (same n).0 ((lists n).1 among))
 
 pub with_lists : (S T : Message → Type 0) (m : Message) (list : List Message) → IsWith S m T → Lists S list → Lists T (list ++ m ∷ [])
