@@ -31,11 +31,18 @@ echo "lines: $(wc -l < ssh.block) $(wc -l < page.block)"
 bash -eu ssh.block
 until_answers http://127.0.0.1:8080/v1/parked
 /usr/sbin/sshd
+# (255 is ssh's own status: no connection, on a machine that has much else to do)
 ask() {
-    local person=$1
+    local person=$1 status
     shift
-    ssh -F /dev/null -q -i "$person" -o StrictHostKeyChecking=no -o UserKnownHostsFile=/dev/null \
-        desk-relay@127.0.0.1 "$@" <<< y
+    for _ in 1 2 3 4 5; do
+        status=0
+        ssh -F /dev/null -i "$person" -o LogLevel=ERROR -o StrictHostKeyChecking=no \
+            -o UserKnownHostsFile=/dev/null desk-relay@127.0.0.1 "$@" <<< y || status=$?
+        [ "$status" = 255 ] || return "$status"
+        sleep 1
+    done
+    return 255
 }
 ask ann ask db-care --on db1 --as root --for 2h /usr/bin/id
 ask bob approve ann 1
