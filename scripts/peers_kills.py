@@ -114,7 +114,10 @@ def kill_delivering(trial: Trial) -> None:
         trial.begin_anew()
         first, last = (0.0, opening) if number % 2 else (opening, longest)
         words = ["deliver", desk.ROSTER, desk.BASE, trial.store, "chat"]
-        killed += trial.killed(words, lines, trial.chance.uniform(first, last))
+        was_killed = trial.killed(words, lines, trial.chance.uniform(first, last))
+        killed += was_killed
+        # (a run that ended first: the machine has become faster)
+        longest = longest if was_killed else max(opening, longest * 0.8)
         held = store_files.read(trial.store)[1]
         kept = len(held) - len(trial.held)
         title = f"a delivery killed with {kept} messages more"
@@ -146,7 +149,9 @@ def kill_rebuilding(trial: Trial) -> None:
     for _ in range(RUNS):
         trial.begin_anew()
         words = ["rebuild", new, desk.BASE, trial.store]
-        killed += trial.killed(words, [], trial.chance.uniform(0, longest))
+        was_killed = trial.killed(words, [], trial.chance.uniform(0, longest))
+        killed += was_killed
+        longest = longest if was_killed else longest * 0.8
         [(_, _, text)] = store_files.read(trial.store)[0]
         roster, other = (new, desk.ROSTER) if text == desk.read(new) else (desk.ROSTER, new)
         found.add(roster)
