@@ -116,8 +116,8 @@ def kill_delivering(trial: Trial) -> None:
         words = ["deliver", desk.ROSTER, desk.BASE, trial.store, "chat"]
         was_killed = trial.killed(words, lines, trial.chance.uniform(first, last))
         killed += was_killed
-        # (a run that ended first: the machine has become faster)
-        longest = longest if was_killed else max(opening, longest * 0.8)
+        # (the moments stay about the end of a run, however much else the machine does)
+        longest = max(opening, longest * (1.1 if was_killed else 0.8))
         held = store_files.read(trial.store)[1]
         kept = len(held) - len(trial.held)
         title = f"a delivery killed with {kept} messages more"
@@ -151,7 +151,7 @@ def kill_rebuilding(trial: Trial) -> None:
         words = ["rebuild", new, desk.BASE, trial.store]
         was_killed = trial.killed(words, [], trial.chance.uniform(0, longest))
         killed += was_killed
-        longest = longest if was_killed else longest * 0.8
+        longest *= 1.1 if was_killed else 0.8
         [(_, _, text)] = store_files.read(trial.store)[0]
         roster, other = (new, desk.ROSTER) if text == desk.read(new) else (desk.ROSTER, new)
         found.add(roster)
