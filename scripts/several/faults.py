@@ -98,12 +98,13 @@ def fill_disk(bench: Bench, chance: random.Random) -> None:
     until = time.monotonic() + bench.plan.full
     seen = 0
     with open(path, "wb", buffering=0) as filler:
-        while time.monotonic() < until:
+        # (a log that has been longer takes messages without more room: on a slow machine for long)
+        while (now := time.monotonic()) < until or (seen == 0 and now < until + 30):
             write_all(filler)
             time.sleep(0.05)
-            if (now := consumer.program.text().count("503 K4 Storage")) > seen + 2:
+            if (count := consumer.program.text().count("503 K4 Storage")) > seen + 2:
                 consumer.restart(signal.SIGKILL, 0.0)
-                seen = now
+                seen = count
     path.unlink()
     bench.checks.same("the consumer of desk b saw the full disk", seen > 0, True)
     bench.tell(f"the disk of desk b has room; its consumer saw {seen} refusals with K4")
