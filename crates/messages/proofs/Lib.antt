@@ -6,3 +6,4 @@ pub mod KindLemmas
 mod WorkedTexts
 pub mod NameOrder
 pub mod SetsShown
+pub mod Passing

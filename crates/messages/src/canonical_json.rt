@@ -1,10 +1,10 @@
 //! Canonical texts of JSON.
 
-ghost use Rattle.std.specs.Prelude.{◌≡◌, ◌⊎◌, IfOk, IfErr, IsUtf8, Some};
-ghost use Rattle.serde_json.specs.Read.{read};
+ghost use Rattle.std.specs.Prelude.{◌≡◌, ◌⊎◌, IfOk, IfErr};
 ghost use Rattle.serde_json.specs.View.{view, items_view, members_view};
 ghost use Rattle.serde_json.specs.Written as written;
 ghost use Rattle.messages.specs.Canonical.{IsCanonicalText, IsTextOf};
+ghost use Rattle.messages.specs.private.Members.{ReadsAs};
 ghost use Rattle.messages.specs.declared.fault.MessageFault.TheVariants.{NotCanonical, NoMemory};
 
 use crate::fault::MessageFault;
@@ -49,8 +49,8 @@ fn members_have_float(members: &Map<String, Value>) -> bool
 }
 
 /// The value that the bytes read as.
-fn value_of(alloc: Global, body: &[u8]) -> Result<Value, MessageFault>
-    ensures ok { IfOk result (λ v. IsUtf8 body.now × (read body.now ≡ Some (view v))) }
+pub(crate) fn value_of(alloc: Global, body: &[u8]) -> Result<Value, MessageFault>
+    ensures ok { IfOk result (λ v. ReadsAs body.now (view v)) }
     ensures err { IfErr result (λ e. (e ≡ NoMemory) ⊎ ((e ≡ NotCanonical) × ¬ IsCanonicalText body.now)) }
 {
     match Value::from_slice(alloc, body) {
@@ -62,18 +62,17 @@ fn value_of(alloc: Global, body: &[u8]) -> Result<Value, MessageFault>
     }
 }
 
-/// The value whose canonical text the bytes are.
-pub(crate) fn canonical(alloc: Global, body: &[u8]) -> Result<Value, MessageFault>
-    ensures ok { IfOk result (λ v. IsTextOf body.now (view v)) }
-    ensures err { IfErr result (λ e. (e ≡ NoMemory) ⊎ ((e ≡ NotCanonical) × ¬ IsCanonicalText body.now)) }
+/// Whether the bytes, which read as the value, are its canonical text: `NotCanonical` where they are not.
+pub(crate) fn canonical(alloc: Global, value: &Value, body: &[u8]) -> Result<(), MessageFault>
+    ensures ok { IfOk result (λ _. ReadsAs body.now (view value.now) → IsTextOf body.now (view value.now)) }
+    ensures err { IfErr result (λ e. (e ≡ NoMemory) ⊎ ((e ≡ NotCanonical) × (ReadsAs body.now (view value.now) → ¬ IsCanonicalText body.now))) }
 {
-    let value = value_of(alloc, body)?;
-    if has_float(&value) {
+    if has_float(value) {
         return Err(MessageFault::NotCanonical);
     }
     let text = value.to_string(alloc)?;
     if text.as_bytes() != body {
         return Err(MessageFault::NotCanonical);
     }
-    Ok(value)
+    Ok(())
 }

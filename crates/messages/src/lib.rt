@@ -14,6 +14,7 @@ mod read;
 mod request;
 mod request_name;
 mod same;
+mod same_text;
 mod text_laws;
 mod verdict;
 mod wire_laws;

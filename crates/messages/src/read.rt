@@ -1,6 +1,6 @@
 //! Messages read from bytes.
 
-ghost use Rattle.std.specs.Prelude.{◌≡◌, ◌⊎◌, ◌<◌, ◌≤◌, false, true, length, IfOk, IfErr, IsErrOf, IsOkAnd, MatchResult};
+ghost use Rattle.std.specs.Prelude.{◌≡◌, ◌⊎◌, ◌<◌, ◌≤◌, length, IfOk, IfErr, IfSome, IsErrOf, IsOkAnd, MatchResult, Some};
 ghost use Rattle.serde_json.specs.View.{view};
 ghost use Rattle.messages.specs.Canonical.{IsCanonicalText};
 ghost use Rattle.messages.specs.Fields.{RequestFields, VerdictFields, IsRequest, IsVerdict};
@@ -10,15 +10,15 @@ ghost use Rattle.messages.specs.declared.kind.VerdictKind.{VerdictKind as AnyKin
 ghost use Rattle.messages.specs.declared.message.Message.{Message as AnyMessage};
 ghost use Rattle.messages.specs.declared.fault.MessageFault.TheVariants.{TooLong, NotCanonical, BadField, NoMemory};
 
-use crate::canonical_json::canonical;
+use crate::canonical_json::{canonical, value_of};
 use crate::fault::MessageFault;
 use crate::kind::VerdictKind;
 use crate::lists::{cmnds_of, hosts_of};
 use crate::members::{list_member, moment_member, number_member, text_member, word_member};
 use crate::message::Message;
 use crate::request::Request;
+use crate::same_text::is_text_of;
 use crate::verdict::Verdict;
-use crate::write::text;
 use serde_json::Value;
 use std::alloc::Global;
 
@@ -100,24 +100,24 @@ fn message_of(alloc: Global, value: &Value) -> Result<Message, MessageFault>
     Ok(Message::Verdict(verdict_of(alloc, value, kind)?))
 }
 
-/// The message that has the members of a canonical text of JSON. Further members are not looked at.
-fn members_of(alloc: Global, body: &[u8]) -> Result<Message, MessageFault>
-    ensures found { IfOk result (λ m. IsMessage m × IsCanonicalText body.now) }
-    ensures only { (m : AnyMessage) → IsMessage m → body.now ≡ wire m → MatchResult result (λ n. n ≡ m) (λ e. e ≡ NoMemory) }
-    ensures err { IfErr result (λ e. ((e ≡ NotCanonical) × ¬ IsCanonicalText body.now) ⊎ ((e ≡ BadField) × IsCanonicalText body.now) ⊎ (e ≡ NoMemory)) }
-{
-    let value = canonical(alloc, body)?;
-    message_of(alloc, &value)
-}
-
-/// Whether the message has another text than these bytes.
-fn has_other_text(alloc: Global, message: &Message, body: &[u8]) -> Result<bool, MessageFault>
-    ensures same { IfOk result (λ other. other ≡ false → body.now ≡ wire message.now) }
-    ensures other { IfOk result (λ other. other ≡ true → body.now ≡ wire message.now → ⊥) }
+/// The message that has the members of the value, where the bytes are its text: a text with other members is not.
+fn message_said(alloc: Global, value: &Value, body: &[u8]) -> Result<Option<Message>, MessageFault>
+    ensures found { IfOk result (λ o. IfSome o (λ m. (body.now ≡ wire m) × IsMessage m)) }
+    ensures only { (m : AnyMessage) → IsMessage m → view value.now ≡ value_of m → body.now ≡ wire m
+        → MatchResult result (λ o. o ≡ Some m) (λ e. e ≡ NoMemory) }
     ensures err { IfErr result (λ e. e ≡ NoMemory) }
 {
-    let written = text(alloc, message)?;
-    Ok(written.as_bytes() != body)
+    match message_of(alloc, value) {
+        Ok(message) => {
+            if is_text_of(&message, body) {
+                Ok(Some(message))
+            } else {
+                Ok(None)
+            }
+        }
+        Err(MessageFault::NoMemory) => Err(MessageFault::NoMemory),
+        Err(_) => Ok(None),
+    }
 }
 
 /// The message that the bytes are the text of.
@@ -138,10 +138,11 @@ pub fn read_message(alloc: Global, body: &[u8]) -> Result<Message, MessageFault>
     if body.len() > MOST_BYTES {
         return Err(MessageFault::TooLong);
     }
-    let message = members_of(alloc, body)?;
-    // The message has every member that was read: where the text has others, it is not the message's.
-    if has_other_text(alloc, &message, body)? {
-        return Err(MessageFault::BadField);
+    let value = value_of(alloc, body)?;
+    if let Some(message) = message_said(alloc, &value, body)? {
+        return Ok(message);
     }
-    Ok(message)
+    // Only what is no message's text is written once more, to tell the two faults apart.
+    canonical(alloc, &value, body)?;
+    Err(MessageFault::BadField)
 }

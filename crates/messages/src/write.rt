@@ -184,7 +184,7 @@ fn push_request(out: &mut String, alloc: Global, r: &Request) -> Result<(), NoMe
 }
 
 #[tactic(auto, unfolding(crate::specs::Wire::escaped))]
-fn kind_name(kind: VerdictKind) -> &'static str
+pub(crate) fn kind_name(kind: VerdictKind) -> &'static str
     ensures value { result.now ≡ wires.kind_text kind }
     ensures plain { wires.escaped result.now ≡ result.now }
 {

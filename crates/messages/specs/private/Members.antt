@@ -1,6 +1,7 @@
 -- The value that a message's text reads as. For private clauses.
-use Rattle.std.specs.Prelude.{ℕ, List, [], ◌∷◌, map, codes}
+use Rattle.std.specs.Prelude.{◌≡◌, ℕ, List, [], ◌∷◌, Some, IsUtf8, map, codes}
 use Rattle.serde_json.specs.Data.{Data, number, unsigned, string, array, object, Items, no_items, item, no_members, member}
+use Rattle.serde_json.specs.Read.{read}
 use Rattle.sudo_words.specs.Command.{cmnd_text}
 use Rattle.messages.specs.Fields.{RequestFields, VerdictFields}
 use Rattle.messages.specs.Wire.{kind_text, moment_text}
@@ -35,3 +36,7 @@ verdict_value v =
 abbrev pub value_of : Message → Data
 value_of (Request r) = request_value r
 value_of (Verdict v) = verdict_value v
+
+-- the bytes are JSON that reads as the value
+abbrev pub ReadsAs : List ℕ → Data → Type 0
+ReadsAs body value = IsUtf8 body × (read body ≡ Some value)

@@ -1,0 +1,290 @@
+//! Whether bytes are the text of a message. Nothing is written for that: the text's pieces are compared with the bytes one after another, each
+//! function here standing beside the one of `write` that writes the same piece. `None` stands for bytes that differed.
+
+ghost use Rattle.std.specs.Prelude.{◌≡◌, ◌==◌, ◌||◌, ◌++◌, ◌∷◌, ◌↔◌, [], IsTrue, codes, decimal, map};
+ghost use Rattle.std.specs.List.{flat_map};
+ghost use Rattle.sudo_words.specs.Command.{arg_text, cmnd_text, escaped_byte, rule_text, spaced_arg};
+ghost use Rattle.sudo_words.specs.Moment.{IsMoment};
+ghost use Rattle.messages.specs.Wire as wires;
+ghost use Rattle.messages.specs.private.Past.{IsPast};
+
+use crate::message::Message;
+use crate::request::Request;
+use crate::verdict::Verdict;
+use crate::write::kind_name;
+use itoa::Buffer;
+use std::str;
+use sudo_words::{Arg, ArgRule, Cmnd, HostName, Moment, is_escaped};
+
+/// The length of a moment's text.
+const STAMP_LENGTH: usize = 15;
+
+/// What is left behind these bytes.
+fn past<'b>(rest: Option<&'b [u8]>, piece: &str) -> Option<&'b [u8]>
+    ensures { IsPast piece.now rest.entry result }
+{
+    rest?.strip_prefix(piece.as_bytes())
+}
+
+/// What is left behind one byte.
+fn past_plain<'b>(rest: Option<&'b [u8]>, byte: u8) -> Option<&'b [u8]>
+    ensures { IsPast (byte ∷ []) rest.entry result }
+{
+    let (first, left) = rest?.split_first()?;
+    if *first == byte { Some(left) } else { None }
+}
+
+/// Whether a backslash stands before the byte in a text between quotes.
+fn is_marked(byte: u8) -> bool
+    ensures { result ≡ (byte == 34) || (byte == 92) }
+{
+    byte == b'"' || byte == b'\\'
+}
+
+/// What is left behind one byte of a text between quotes, with its escape.
+fn past_byte<'b>(rest: Option<&'b [u8]>, byte: u8) -> Option<&'b [u8]>
+    ensures { IsPast (wires.escaped (byte ∷ [])) rest.entry result }
+{
+    if is_marked(byte) {
+        past_plain(past_plain(rest, b'\\'), byte)
+    } else {
+        past_plain(rest, byte)
+    }
+}
+
+/// What is left behind a text, with its escapes.
+fn past_escaped<'b>(rest: Option<&'b [u8]>, text: &[u8]) -> Option<&'b [u8]>
+    ensures { IsPast (wires.escaped text.now) rest.entry result }
+{
+    let mut left = rest;
+    for byte in text {
+        left = past_byte(left, *byte);
+    }
+    left
+}
+
+/// What is left behind a text between quotes.
+fn past_text<'b>(rest: Option<&'b [u8]>, text: &str) -> Option<&'b [u8]>
+    ensures { IsPast (wires.quoted text.now) rest.entry result }
+{
+    let rest = past(rest, "\"");
+    let rest = past_escaped(rest, text.as_bytes());
+    past(rest, "\"")
+}
+
+/// What is left behind a member that is a text, from what stands before its value on.
+fn past_member<'b>(rest: Option<&'b [u8]>, head: &str, text: &str) -> Option<&'b [u8]>
+    ensures { IsPast (head.now ++ wires.quoted text.now) rest.entry result }
+{
+    past_text(past(rest, head), text)
+}
+
+/// Whether a text is the moment's.
+fn is_stamp(text: &str, moment: Moment) -> bool
+    ensures { IsMoment moment → IsTrue result ↔ (text.now ≡ wires.moment_text moment) }
+{
+    match Moment::read_stamp(text) {
+        Some(found) => found == moment,
+        None => false,
+    }
+}
+
+/// What is left behind the text of a moment.
+fn past_stamp<'b>(rest: Option<&'b [u8]>, moment: Moment) -> Option<&'b [u8]>
+    ensures { IsMoment moment → IsPast (wires.moment_text moment) rest.entry result }
+{
+    let (stamp, left) = rest?.split_at_checked(STAMP_LENGTH)?;
+    match str::from_utf8(stamp) {
+        Ok(text) => {
+            if is_stamp(text, moment) {
+                Some(left)
+            } else {
+                None
+            }
+        }
+        Err(_) => None,
+    }
+}
+
+/// What is left behind a member that is a moment, from what stands before its value on.
+fn past_moment<'b>(rest: Option<&'b [u8]>, head: &str, moment: Moment) -> Option<&'b [u8]>
+    ensures { IsMoment moment → IsPast (head.now ++ wires.quoted (wires.moment_text moment)) rest.entry result }
+{
+    let rest = past(rest, head);
+    let rest = past(rest, "\"");
+    let rest = past_stamp(rest, moment);
+    past(rest, "\"")
+}
+
+fn past_number<'b>(rest: Option<&'b [u8]>, no: u32) -> Option<&'b [u8]>
+    ensures { IsPast (codes ",\"no\":" ++ decimal no) rest.entry result }
+{
+    let mut digits = Buffer::new();
+    past(past(rest, ",\"no\":"), digits.format(no))
+}
+
+/// What is left behind all that stands after the first host of a list.
+fn past_more_hosts<'b>(rest: Option<&'b [u8]>, hosts: &[HostName]) -> Option<&'b [u8]>
+    ensures { IsPast (wires.rest_text hosts.now) rest.entry result }
+{
+    match hosts {
+        [] => past(rest, "]"),
+        [host, more @ ..] => past_more_hosts(past_member(rest, ",", host.as_str()), more),
+    }
+}
+
+fn past_hosts<'b>(rest: Option<&'b [u8]>, hosts: &[HostName]) -> Option<&'b [u8]>
+    ensures { IsPast (wires.list_text hosts.now) rest.entry result }
+{
+    match hosts {
+        [] => past(rest, "[]"),
+        [host, more @ ..] => past_more_hosts(past_member(rest, "[", host.as_str()), more),
+    }
+}
+
+/// What is left behind one byte of an argument: the backslash that an argument's text has is escaped as every backslash is.
+fn past_arg_byte<'b>(rest: Option<&'b [u8]>, byte: u8) -> Option<&'b [u8]>
+    ensures { IsPast (wires.escaped (escaped_byte byte)) rest.entry result }
+{
+    if is_escaped(byte) {
+        past_byte(past_byte(rest, b'\\'), byte)
+    } else {
+        past_byte(rest, byte)
+    }
+}
+
+fn past_arg<'b>(rest: Option<&'b [u8]>, arg: &[u8]) -> Option<&'b [u8]>
+    ensures { IsPast (wires.escaped (arg_text arg.now)) rest.entry result }
+{
+    let mut left = rest;
+    for byte in arg {
+        left = past_arg_byte(left, *byte);
+    }
+    left
+}
+
+/// What is left behind arguments, with a space before each.
+fn past_args<'b>(rest: Option<&'b [u8]>, args: &[Arg]) -> Option<&'b [u8]>
+    ensures { IsPast (wires.escaped (flat_map spaced_arg args.now)) rest.entry result }
+{
+    match args {
+        [] => rest,
+        [arg, more @ ..] => { past_args(past_arg(past(rest, " "), arg.as_str().as_bytes()), more) }
+    }
+}
+
+fn past_rule<'b>(rest: Option<&'b [u8]>, rule: &ArgRule) -> Option<&'b [u8]>
+    ensures { IsPast (wires.escaped (rule_text rule.now)) rest.entry result }
+{
+    match rule {
+        ArgRule::Any => rest,
+        ArgRule::Empty => past(rest, " \\\"\\\""),
+        ArgRule::Exactly(args) => past_args(rest, args.as_slice()),
+    }
+}
+
+/// What is left behind a command's text, with its escapes.
+fn past_cmnd_text<'b>(rest: Option<&'b [u8]>, cmnd: &Cmnd) -> Option<&'b [u8]>
+    ensures { IsPast (wires.escaped (cmnd_text cmnd.now)) rest.entry result }
+{
+    match cmnd {
+        Cmnd::All => past(rest, "ALL"),
+        Cmnd::Path(file, rule) => past_rule(past_escaped(rest, file.as_str().as_bytes()), rule),
+        Cmnd::Dir(dir) => past_escaped(rest, dir.as_str().as_bytes()),
+    }
+}
+
+/// What is left behind a command between quotes, from what stands before it on.
+fn past_cmnd<'b>(rest: Option<&'b [u8]>, head: &str, cmnd: &Cmnd) -> Option<&'b [u8]>
+    ensures { IsPast (head.now ++ wires.quoted (cmnd_text cmnd.now)) rest.entry result }
+{
+    let rest = past(past(rest, head), "\"");
+    let rest = past_cmnd_text(rest, cmnd);
+    past(rest, "\"")
+}
+
+/// What is left behind all that stands after the first command of a list.
+fn past_more_cmnds<'b>(rest: Option<&'b [u8]>, cmnds: &[Cmnd]) -> Option<&'b [u8]>
+    ensures { IsPast (wires.rest_text (map cmnd_text cmnds.now)) rest.entry result }
+{
+    match cmnds {
+        [] => past(rest, "]"),
+        [cmnd, more @ ..] => past_more_cmnds(past_cmnd(rest, ",", cmnd), more),
+    }
+}
+
+fn past_cmnds<'b>(rest: Option<&'b [u8]>, cmnds: &[Cmnd]) -> Option<&'b [u8]>
+    ensures { IsPast (wires.list_text (map cmnd_text cmnds.now)) rest.entry result }
+{
+    match cmnds {
+        [] => past(rest, "[]"),
+        [cmnd, more @ ..] => past_more_cmnds(past_cmnd(rest, "[", cmnd), more),
+    }
+}
+
+/// What is left behind the members that say who asks for what, but for the commands.
+fn past_asked<'b>(rest: Option<&'b [u8]>, r: &Request) -> Option<&'b [u8]>
+    ensures { IsPast (codes "{\"at\":" ++ wires.quoted (wires.moment_text r.now.at)
+        ++ codes ",\"by\":" ++ wires.quoted r.now.by
+        ++ codes ",\"ceiling\":" ++ wires.quoted r.now.ceiling) rest.entry result }
+{
+    let rest = past_moment(rest, "{\"at\":", r.at);
+    let rest = past_member(rest, ",\"by\":", r.by.as_str());
+    past_member(rest, ",\"ceiling\":", r.ceiling.as_str())
+}
+
+/// What is left behind the members that say what and where, with the window's first moment between.
+fn past_lists<'b>(rest: Option<&'b [u8]>, r: &Request) -> Option<&'b [u8]>
+    ensures { IsPast (codes ",\"cmnds\":" ++ wires.list_text (map cmnd_text r.now.cmnds)
+        ++ codes ",\"from\":" ++ wires.quoted (wires.moment_text r.now.from)
+        ++ codes ",\"hosts\":" ++ wires.list_text r.now.hosts) rest.entry result }
+{
+    let rest = past_cmnds(past(rest, ",\"cmnds\":"), &r.cmnds);
+    let rest = past_moment(rest, ",\"from\":", r.from);
+    past_hosts(past(rest, ",\"hosts\":"), &r.hosts)
+}
+
+/// What is left behind the members after the lists.
+fn past_last<'b>(rest: Option<&'b [u8]>, r: &Request) -> Option<&'b [u8]>
+    ensures { IsPast (codes ",\"kind\":" ++ wires.quoted (codes "request")
+        ++ codes ",\"no\":" ++ decimal r.now.no
+        ++ codes ",\"runas\":" ++ wires.quoted r.now.runas
+        ++ codes ",\"until\":" ++ wires.quoted (wires.moment_text r.now.until)
+        ++ codes "}") rest.entry result }
+{
+    let rest = past_member(rest, ",\"kind\":", "request");
+    let rest = past_number(rest, r.no);
+    let rest = past_member(rest, ",\"runas\":", r.runas.as_str());
+    let rest = past_moment(rest, ",\"until\":", r.until);
+    past(rest, "}")
+}
+
+fn past_request<'b>(rest: Option<&'b [u8]>, r: &Request) -> Option<&'b [u8]>
+    ensures { IsPast (wires.request_text r.now) rest.entry result }
+{
+    let rest = past_asked(rest, r);
+    let rest = past_lists(rest, r);
+    past_last(rest, r)
+}
+
+fn past_verdict<'b>(rest: Option<&'b [u8]>, v: &Verdict) -> Option<&'b [u8]>
+    ensures { IsPast (wires.verdict_text v.now) rest.entry result }
+{
+    let rest = past_moment(rest, "{\"at\":", v.at);
+    let rest = past_member(rest, ",\"by\":", v.by.as_str());
+    let rest = past_member(rest, ",\"kind\":", kind_name(v.kind));
+    let rest = past_number(rest, v.no);
+    let rest = past_member(rest, ",\"of\":", v.of.as_str());
+    past(rest, "}")
+}
+
+/// Whether the bytes are the message's text.
+pub(crate) fn is_text_of(message: &Message, body: &[u8]) -> bool
+    ensures { IsTrue result ↔ (body.now ≡ wires.wire message.now) }
+{
+    let left = match message {
+        Message::Request(request) => past_request(Some(body), request),
+        Message::Verdict(verdict) => past_verdict(Some(body), verdict),
+    };
+    left.is_some_and(|left| left.is_empty())
+}
