@@ -1,12 +1,12 @@
 //! Whether bytes are the text of a message. Nothing is written for that: the text's pieces are compared with the bytes one after another, each
 //! function here standing beside the one of `write` that writes the same piece. `None` stands for bytes that differed.
 
-ghost use Rattle.std.specs.Prelude.{◌≡◌, ◌==◌, ◌||◌, ◌++◌, ◌∷◌, ◌↔◌, [], IsTrue, codes, decimal, map};
+ghost use Rattle.std.specs.Prelude.{◌≡◌, ◌==◌, ◌||◌, ◌++◌, ◌∷◌, ◌↔◌, [], IsTrue, Some, codes, decimal, map};
 ghost use Rattle.std.specs.List.{flat_map};
 ghost use Rattle.sudo_words.specs.Command.{arg_text, cmnd_text, escaped_byte, rule_text, spaced_arg};
 ghost use Rattle.sudo_words.specs.Moment.{IsMoment};
 ghost use Rattle.messages.specs.Wire as wires;
-ghost use Rattle.messages.specs.private.Past.{IsPast};
+ghost use Rattle.messages.specs.private.Past.{IsPast, left_of};
 
 use crate::message::Message;
 use crate::request::Request;
@@ -278,13 +278,22 @@ fn past_verdict<'b>(rest: Option<&'b [u8]>, v: &Verdict) -> Option<&'b [u8]>
     past(rest, "}")
 }
 
+/// Whether every byte was compared, and none differed.
+fn is_whole(left: Option<&[u8]>) -> bool
+    ensures { IsTrue result ↔ (left_of left.entry ≡ Some []) }
+{
+    match left {
+        Some(left) => left.is_empty(),
+        None => false,
+    }
+}
+
 /// Whether the bytes are the message's text.
 pub(crate) fn is_text_of(message: &Message, body: &[u8]) -> bool
     ensures { IsTrue result ↔ (body.now ≡ wires.wire message.now) }
 {
-    let left = match message {
-        Message::Request(request) => past_request(Some(body), request),
-        Message::Verdict(verdict) => past_verdict(Some(body), verdict),
-    };
-    left.is_some_and(|left| left.is_empty())
+    match message {
+        Message::Request(request) => is_whole(past_request(Some(body), request)),
+        Message::Verdict(verdict) => is_whole(past_verdict(Some(body), verdict)),
+    }
 }
