@@ -1,9 +1,9 @@
-use Rattle.std.proofs.Common.{ap, ◌∙◌}
-use Rattle.messages.specs.Fields.{RequestFields}
+use Rattle.messages.specs.Shown.{request_fields}
 use Rattle.messages.proofs.Passing.{past_same, past_both, lists_parts}
 use Rattle.messages.proofs.same_text.past_lists.Goals as goal
 
 pub returns : goal.returns
 returns c =
-    past_same (past_both (past_both (past_both (past_both c.past.ensures c.past_cmnds-rest.ensures) (c.past_moment-rest.ensures c.r.invariant.from)) c.past-2.ensures) c.past_hosts.ensures)
-    (lists_parts c.args.r.now c.deref.result.now c.deref-2.result.now (c.deref.ensures.value ∙ ap (λ (f : RequestFields). f.cmnds) c.r.view_is) (c.deref-2.ensures.value ∙ ap (λ (f : RequestFields). f.hosts) c.r.view_is))
+    rw (← c.r.view_is)
+    (past_same (past_both (past_both (past_both (past_both c.past.ensures c.past_cmnds-rest.ensures) (c.past_moment-rest.ensures c.r.invariant.from)) c.past-2.ensures) c.past_hosts.ensures)
+    (lists_parts (request_fields c.r.inside) c.deref.result.now c.deref-2.result.now c.deref.ensures.value c.deref-2.ensures.value))
