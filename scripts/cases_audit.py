@@ -2,8 +2,9 @@
 """Runs desk-audit on each row of cases/audit.toml, over the standard input and over a store.
 
 Asks it also of stores that are read-only, missing, empty, of another roster, damaged, and written
-to meanwhile; and compares the examples of docs/AUDIT.md and docs/AUDITING.md. `cases_audit.py DESK
-AUDIT` takes other programs than build/desk and build/desk-audit. The last line has the counts.
+to meanwhile; compares the examples of docs/AUDIT.md and docs/AUDITING.md, and runs the commands of
+the latter that need jq. `cases_audit.py DESK AUDIT` takes other programs than build/desk and
+build/desk-audit. The last line has the counts.
 """
 
 import json
@@ -26,6 +27,21 @@ Ran = subprocess.CompletedProcess[bytes]
 Expected = str | Callable[[str], bool]
 
 WIDTH = 100
+# What the commands of docs/AUDITING.md have to print of examples/audited.messages: a text that
+# stands in one block of them alone, and the block's output.
+ANSWERS = {
+    "which verdicts did not count": [
+        "conflict approve 20260105092000Z eve on ann 7",
+        "disputed approve 20260105091600Z bob on ann 8",
+        "asker approve 20260105071000Z carol on carol 1",
+        "parked approve 20260105073000Z bob on carol 2",
+        'ann ["db1"] 20260105091500Z 20260105102959Z'
+        ' ["/usr/bin/id","/usr/bin/systemctl restart postgresql"]',
+    ],
+    "asked.messages": ["  may       20260312080000Z bob carol"],
+    "for day in": ["eve                              approve-db                       audit"],
+    "second-reading.jq": [],
+}
 DESK, AUDIT = desk.named_both()
 UNPRIVILEGED = [
     *("setpriv", "--bounding-set", "-all", "--inh-caps", "-all", "--no-new-privs"),
@@ -232,6 +248,24 @@ def example(cases: Cases) -> None:
             cases.wrong.append(f"{name} has no example")
 
 
+def commands(cases: Cases) -> None:
+    """The commands of docs/AUDITING.md that ANSWERS has, one block after the other."""
+    blocks = re.findall(r"^```sh\n((?:.*\n)*?)```", desk.read("docs/AUDITING.md"), re.MULTILINE)
+    with tempfile.TemporaryDirectory() as folder:
+        os.symlink(desk.EXAMPLES, os.path.join(folder, "examples"))
+        os.mkdir(os.path.join(folder, "build"))
+        for name, program in (("desk", DESK), ("desk-audit", AUDIT)):
+            os.symlink(os.path.abspath(program), os.path.join(folder, "build", name))
+        for mark, lines in ANSWERS.items():
+            found = [block for block in blocks if mark in block]
+            if len(found) != 1:
+                cases.wrong.append(f"docs/AUDITING.md has {len(found)} blocks with {mark!r}")
+                continue
+            ran = run("bash", ["-euo", "pipefail", "-c", found[0]], folder)
+            out = "".join(line + "\n" for line in lines)
+            cases.compare(f"docs/AUDITING.md, {mark!r}", ran, out)
+
+
 def main() -> None:
     cases = Cases()
     table = tomllib.loads(desk.read("cases", "audit.toml"))
@@ -242,6 +276,7 @@ def main() -> None:
             desk.write(folder, "ROSTER", table["roster"])
             part(table, folder, cases)
     example(cases)
+    commands(cases)
     print("".join(line + "\n" for line in cases.wrong), end="")
     print(f"desk-audit: {cases.count} cases, {len(cases.wrong)} wrong")
     sys.exit(1 if cases.wrong else 0)

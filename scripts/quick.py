@@ -4,8 +4,9 @@
 The layout is the one that `rt fmt` gives (`rt ci` refuses a crate for less); each text that an edit
 replaces stands in its file exactly once; no crate has more edits in `must-fail/` than the gate's
 budget allows; `make docs` would change nothing; docs/CALLS.md has each public call, and no other;
-each file that a document names is there, and README.md is no longer than a page or two; no line of
-a script is too wide, and pyflakes finds nothing in one. Prints what is otherwise, and ends with 1
+each file that a document names is there, and so are the crates, definitions and clauses that the
+documents about the code name (names.py); README.md is no longer than a page or two; no line of a
+script is too wide, and pyflakes finds nothing in one. Prints what is otherwise, and ends with 1
 then.
 """
 
@@ -21,6 +22,7 @@ from collections.abc import Iterator
 import calls
 import desk
 import make_docs
+import names
 
 MOST_EDITS = 10
 MOST_README = 6 * 1024
@@ -144,7 +146,8 @@ def untidy() -> Iterator[str]:
 
 
 def main() -> int:
-    wrong = [*badly_laid_out(), *misfits(), *not_made(), *not_there(), *untidy(), *calls.faults()]
+    wrong = [*badly_laid_out(), *misfits(), *not_made(), *not_there(), *untidy()]
+    wrong += [*calls.faults(), *names.faults()]
     print(
         "\n".join(wrong)
         if wrong

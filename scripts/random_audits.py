@@ -3,16 +3,20 @@
 on random rosters and messages, and its text with what its JSON says.
 
 Each set is asked about whole, and once more with random options. Which messages a desk holds is
-what `desk deliver` acknowledges; all else is made here. The same sets each time. `random_audits.py
-DESK AUDIT` takes other programs than build/desk and build/desk-audit. It needs Debian's
-python3-jsonschema.
+what `desk deliver` acknowledges; all else is made here. The statuses are compared with those of
+examples/second-reading.jq as well, and some sets stand in a store that was rebuilt with another
+roster. The same sets each time. `random_audits.py DESK AUDIT` takes other programs than build/desk
+and build/desk-audit. It needs jq and Debian's python3-jsonschema.
 """
 
 import itertools
 import json
+import os
 import random
+import sqlite3
 import sys
 import tempfile
+import tomllib
 from collections.abc import Iterable, Iterator, Mapping
 from typing import Any
 
@@ -21,6 +25,9 @@ import jsonschema
 from random_reports import HOSTS, MIDNIGHT, PEOPLE, Folder, Message, Roster, message, window
 
 SETS = 200
+# how many sets are asked about under another roster than the one that admitted them
+REBUILT = 20
+READING = os.path.join(desk.EXAMPLES, "second-reading.jq")
 DESK, AUDIT = desk.named_both()
 
 # What is said of a name, or of all.
@@ -211,6 +218,50 @@ def audit(folder: Folder, given: str, pick: Pick, *more: str) -> desk.Run:
     return desk.run([AUDIT, *words, folder.roster, folder.base, "-", *more], given)
 
 
+def statuses(made: Entry) -> list[str]:
+    """The name, the status and any window of each entry, as examples/second-reading.jq has them."""
+    return [
+        " ".join(
+            [each["by"], str(each["no"]), each["status"]]
+            + [each["window"][end] for end in ("from", "until") if "window" in each]
+        )
+        for each in made["names"]
+    ]
+
+
+def second_reading(path: str, roster: Roster, texts: Iterable[str]) -> list[str]:
+    """What examples/second-reading.jq makes of the texts under the roster."""
+    read = desk.write(path, "roster.json", json.dumps(tomllib.loads(roster.text())))
+    words = ["jq", "-rn", "--slurpfile", "roster", read, "-f", READING]
+    ran = desk.run(words, "".join(text + "\n" for text in texts))
+    return [*ran.stdout.splitlines(), *ran.stderr.splitlines()]
+
+
+def texts_of(store: str) -> list[str]:
+    """The messages that a store keeps."""
+    with sqlite3.connect(store) as kept:
+        return [text for (text,) in kept.execute("SELECT body FROM messages")]
+
+
+def rebuilt(path: str, chance: random.Random) -> tuple[list[str], set[str]]:
+    """In what the statuses in a store that was rebuilt with another roster differ from a second
+    reading, and which words came."""
+    first, second = Roster(chance), Roster(chance)
+    store = os.path.join(path, "desk.db")
+    given = "".join(desk.canonical(message(chance)) + "\n" for _ in range(40))
+    folder = Folder(path, first.text(), "")
+    desk.run([DESK, "deliver", folder.roster, folder.base, store, "web"], given)
+    folder = Folder(path, second.text(), "")
+    desk.run([DESK, "rebuild", folder.roster, folder.base, store])
+    ran = desk.run([AUDIT, folder.roster, folder.base, store, "--json"])
+    if ran.returncode:
+        return [f"{second.text()}\n{given}\n{ran.stderr}"], set()
+    made = json.loads(ran.stdout)
+    read = second_reading(path, second, texts_of(store))
+    wrong = [] if read == statuses(made) else [f"{second.text()}\n{given}\n{ran.stdout}\n{read}"]
+    return wrong, {each["status"] for each in made["names"]}
+
+
 def compare(path: str, chance: random.Random, schema: Entry) -> tuple[int, list[str], set[str]]:
     """How many names and verdicts of a random set were compared, in what it is told otherwise than
     here, and which words came."""
@@ -237,6 +288,9 @@ def compare(path: str, chance: random.Random, schema: Entry) -> tuple[int, list[
             wrong.append(f"{pick}\n{shown.stdout}\n{text_of(wanted)}")
         else:
             jsonschema.validate(wanted, schema)
+    read, wanted = second_reading(path, roster, held), document(roster, held, {})
+    if read != statuses(wanted):
+        wrong.append(f"{roster.text()}\n{given}\n{read}\n{statuses(wanted)}")
     return count, wrong, seen
 
 
@@ -246,15 +300,20 @@ def main() -> None:
     jsonschema.Draft202012Validator.check_schema(schema)
     with tempfile.TemporaryDirectory() as path:
         compared = [compare(path, chance, schema) for _ in range(SETS)]
+    changed = []
+    for _ in range(REBUILT):
+        with tempfile.TemporaryDirectory() as path:
+            changed.append(rebuilt(path, chance))
     wrong = [text for _, found, _ in compared for text in found]
+    wrong += [text for found, _ in changed for text in found]
     print("\n\n".join(wrong[:3]))
-    seen = set[str]().union(*(words for _, _, words in compared))
-    lacks = {"granted", "waiting", "refused", "void", "disputed", "parked"} - seen
+    seen = set[str]().union(*(words for _, _, words in compared), *(it for _, it in changed))
+    lacks = {"granted", "waiting", "refused", "void", "disputed", "parked", "lapsed"} - seen
     lacks |= {"asker", "duty", "conflict", "late"} - seen
     count = sum(count for count, _, _ in compared)
     print(
-        f"{SETS} sets, each asked about twice, {count} names and verdicts: {len(wrong)} told"
-        " otherwise than they are made here"
+        f"{SETS} sets, each asked about twice, {count} names and verdicts, and {REBUILT} sets under"
+        f" another roster: {len(wrong)} told otherwise than they are made here"
     )
     sys.exit(f"no set has {', '.join(sorted(lacks))}" if lacks else 1 if wrong else 0)
 

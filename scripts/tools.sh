@@ -12,6 +12,8 @@ command -v curl >/dev/null || wanted+=(curl)
 command -v nc >/dev/null || wanted+=(netcat-openbsd)
 command -v cc >/dev/null || wanted+=(gcc libc6-dev)
 command -v sqlite3 >/dev/null || wanted+=(sqlite3)
+# examples/second-reading.jq, in `make cases`
+command -v jq >/dev/null || wanted+=(jq)
 command -v unshare >/dev/null && command -v setpriv >/dev/null || wanted+=(util-linux)
 # The packages, the front and the manual pages: `make package-test`, `make deb`, `make pages` and
 # `make peers`.

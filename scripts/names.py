@@ -1,0 +1,107 @@
+"""The names that the documents about the code give: files, crates, definitions and clauses.
+
+A file of a crate that a page names is there; each crate of docs/ARCHITECTURE.md stands on the
+crates that crates.txt gives it; docs/DEFINITIONS.md names definitions that stand in the files that
+it names; a clause that docs/PROOFS.md names stands in its crate. `make quick` asks for all of it.
+"""
+
+import functools
+import glob
+import os
+import re
+from collections.abc import Iterator
+
+import desk
+import make_docs
+
+PAGES = ("ARCHITECTURE", "DEFINITIONS", "PROOFS", "STORE", "AUDIT", "AUDITING")
+QUOTED = re.compile(r"`([^`]+)`")
+FILE = re.compile(r"[\w/]+\.(?:rt|antt)")
+CRATES = os.path.join(desk.ROOT, "crates")
+
+
+@functools.cache
+def files() -> dict[str, str]:
+    """The text of each file of code, definitions or proofs, by its path from crates/."""
+    paths = glob.glob(os.path.join(CRATES, "**", "*.*t"), recursive=True)
+    return {
+        os.path.relpath(path, CRATES): desk.read(path)
+        for path in paths
+        if path.endswith((".rt", ".antt"))
+    }
+
+
+def rows(page: str, columns: int) -> Iterator[list[str]]:
+    """The rows of so many columns in a page's tables."""
+    for line in desk.read("docs", f"{page}.md").splitlines():
+        cells = [cell.strip() for cell in line.strip("| ").split(" | ")]
+        if line.startswith("| ") and len(cells) == columns:
+            yield cells
+
+
+def missing_files() -> Iterator[str]:
+    for page in PAGES:
+        for name in dict.fromkeys(QUOTED.findall(desk.read("docs", f"{page}.md"))):
+            if FILE.fullmatch(name) and not any(f"/{it}".endswith(f"/{name}") for it in files()):
+                yield f"docs/{page}.md: no crate has a file {name}"
+
+
+def missing_crates() -> Iterator[str]:
+    """Crates that a row of docs/ARCHITECTURE.md does not stand on, though crates.txt says so."""
+    told = {
+        cells[0].strip("`"): QUOTED.findall(cells[2])
+        for cells in rows("ARCHITECTURE", 3)
+        if os.path.isdir(os.path.join(CRATES, cells[0].strip("`")))
+    }
+    for crate in make_docs.crates():
+        if crate not in told:
+            yield f"docs/ARCHITECTURE.md: it has no row for {crate}"
+    for line in desk.read("crates.txt").splitlines():
+        crate, _, below = line.partition(":")
+        for name in set(below.split()) & set(make_docs.crates()):
+            if name not in told.get(crate, [name]):
+                yield f"docs/ARCHITECTURE.md: {crate} stands on {name} (crates.txt)"
+
+
+def named_definitions(places: str, folder: str) -> Iterator[tuple[str, str]]:
+    """The file and the name of each definition in a cell; a file may be named without a folder."""
+    path = ""
+    for name in QUOTED.findall(places):
+        if not FILE.fullmatch(name):
+            yield path, name
+        elif name in files():
+            path, folder = name, os.path.dirname(name).removesuffix("/private")
+        else:
+            path = f"{folder}/{name}"
+
+
+def missing_definitions() -> Iterator[str]:
+    folder = ""
+    for cells in rows("DEFINITIONS", 5):
+        for path, name in named_definitions(cells[1], folder):
+            folder = os.path.dirname(path).removesuffix("/private") or folder
+            # a definition, or one that the file re-exports
+            form = rf"^(?:pub use .*\b|(?:[a-z]+ )*){re.escape(name)}\b"
+            if not re.search(form, files().get(path, ""), re.MULTILINE):
+                yield f"docs/DEFINITIONS.md: {path} has no definition {name}"
+
+
+def missing_clauses() -> Iterator[str]:
+    """Clauses of docs/PROOFS.md that no function of the crate has."""
+    crate = ""
+    for cells in rows("PROOFS", 4):
+        crate = cells[0].strip("`") or crate
+        if not os.path.isdir(os.path.join(CRATES, crate)):
+            continue
+        code = "".join(text for path, text in files().items() if path.startswith(f"{crate}/src/"))
+        for name in QUOTED.findall(cells[3]):
+            if not re.search(rf"\bensures {name}\b|\bghost {name}\b|\bfn {name}\b", code):
+                if name != "ensures" or "ensures {" not in code:
+                    yield f"docs/PROOFS.md: {crate} has no clause {name}"
+
+
+def faults() -> Iterator[str]:
+    yield from missing_files()
+    yield from missing_crates()
+    yield from missing_definitions()
+    yield from missing_clauses()
