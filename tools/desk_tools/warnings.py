@@ -7,12 +7,10 @@ from functools import cache
 from typing import Any, NamedTuple
 
 from desk_tools.found import Warning, dotted
-from desk_tools.site import LAST, Command, Site, command, day_after, day_before
+from desk_tools.site import LAST, Command, Site, command, day_after, day_before, seems_directory, without_slash
 from desk_tools.toml_text import Document, Path
 
 MOST_DAYS = 4
-# last components that are directories everywhere (hier(7))
-FOLDERS = {"bin", "boot", "etc", "games", "home", "include", "lib", "lib32", "lib64", "libexec", "local", "opt", "sbin", "share", "src", "srv", "tmp", "usr", "var"}
 TABLE = os.path.join(os.path.dirname(os.path.abspath(__file__)), "runs_others.toml")
 
 
@@ -132,8 +130,7 @@ class Warnings:
             if why is not None:
                 self.add(path, "runs-others", f"{text}: {why}")
             if seems_directory(text):
-                said = f"{text}: a file by its form, and a directory by its name: with no / at its end it allows nothing in {text}/"
-                self.add(path, "directory", said)
+                self.add(path, "directory", f"{text}: {without_slash(text)}")
 
     def approvers(self) -> None:
         """Somebody whose approval counts on none of the days on which the duty is held."""
@@ -209,8 +206,3 @@ def days_of(first: str, last: str, today: str) -> str:
 def covers(one: dict[str, str], other: dict[str, str]) -> bool:
     """Whether one entry gives the other's duty on all of the other's days."""
     return one["duty"] == other["duty"] and one["from"] <= other["from"] and other["until"] <= one["until"]
-
-
-def seems_directory(text: str) -> bool:
-    """Whether a command that is a file by its form has the name of a directory."""
-    return text.startswith("/") and " " not in text and text.rpartition("/")[2] in FOLDERS
