@@ -44,7 +44,7 @@ class Looked:
         if self.kind == "roster" and code:
             lines.append(f"{self.name}: refused; of these faults the desk names {coded(code)}")
         elif self.kind == "messages" and self.answers:
-            lines.append(f"{self.name}: {len(self.answers)} of {self.count} messages are refused")
+            lines.append(f"{self.name}: {len(self.answers)} of {self.count} {'line is' if self.count == 1 else 'lines are'} refused")
         return "".join(f"{line}\n" for line in lines)
 
 

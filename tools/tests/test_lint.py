@@ -243,6 +243,36 @@ def test_messages(lint, tmp_path):
     assert (ran.returncode, ran.stdout) == (0, "")
 
 
+VERDICT = '{"at":"20260105083000Z","by":"bob","kind":"approve","no":7,"of":"ann"}'
+ASKED = (
+    '{"at":"20260105060000Z","by":"ann","ceiling":"db-care","cmnds":["/usr/local/sbin"],"from":"20260105090000Z","hosts":["db1"],'
+    '"kind":"request","no":7,"runas":"root","until":"20260105110000Z"}'
+)
+
+
+@pytest.mark.parametrize(
+    ("text", "said"),
+    [
+        (f"\ufeff{VERDICT}", "a byte order mark stands before it: save the file without one\n"),
+        (VERDICT * 2, "byte 71: something stands behind the message: a line is one message\n"),
+        (VERDICT.replace("7", "07"), "byte 59: a number has no 0 before it\n"),
+        (VERDICT.replace("ann", "a\\:"), r'no escape of JSON: a backslash is written \\, as in "/bin/echo a\\:b"'),
+        (VERDICT.replace("083000Z", "243000Z"), "expected a moment in UTC as 20260105090000Z: 14 digits and Z, hours up to 23, "),
+        (VERDICT.replace("083000Z", "083060Z"), "minutes and seconds up to 59\n"),
+        (f"{VERDICT}\r\n", "(byte 71): a carriage return\n"),
+        (VERDICT.replace(",", ",\n"), "jq -cS . writes it so\nx.messages"),
+        (ASKED.replace(",", ",\n"), "jq -cS '.hosts |= unique | .cmnds |= unique' writes it so\n"),
+        (ASKED, "expected a command inside one of the ceiling's (/usr/local/sbin/ is one: a directory ends in /): "),
+        (f"{VERDICT}\nx\n", "x.messages: 1 of 2 lines are refused\n"),
+    ],
+)
+def test_what_to_do_is_said_of_messages(lint, tmp_path, text, said):
+    path = tmp_path / "x.messages"
+    path.write_bytes(text.encode())
+    ran = lint("--roster", ROSTER, str(path))
+    assert ran.returncode == 2 and said in ran.stdout.replace(str(path), "x.messages"), ran.stdout
+
+
 def test_a_message_over_several_lines(lint, tmp_path):
     path = tmp_path / "x.json"
     path.write_text(json.dumps({"at": "20260105083000Z", "by": "Bob", "kind": "approve", "no": 7, "of": "ann"}, indent=2))
