@@ -5,6 +5,10 @@
 # reads a pipe, and while it waits for that, the program is taken out of the folder.
 set -euo pipefail
 cd "$(dirname "$0")/.."
+command -v rt > /dev/null || {
+    echo "it needs Rattle's toolchain, the command rt (README.md, 'What you need')" >&2
+    exit 1
+}
 mkdir -p build
 rooms=$(mktemp -d "$PWD/build/try.XXXXXX")
 trap 'rm -rf "$rooms"' EXIT
@@ -63,8 +67,8 @@ failed=0
 for builder in "${builders[@]}"; do
     wait "$builder" || failed=1
 done
+[ "$failed" = 0 ] || exit 1
 cat <<'SAID'
 NOTHING OF THIS WAS PROVED. IT IS FOR TRYING OUT A CHANGE, AND FOR NOTHING ELSE:
 `make desk` PROVES AND BUILDS.
 SAID
-exit "$failed"
