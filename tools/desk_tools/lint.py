@@ -157,7 +157,7 @@ def main(words: list[str]) -> int:
     if said.explain:
         told = explain.explain(said.explain)
         if told is None:
-            print(f"desk-lint: no code is {said.explain}", file=sys.stderr)
+            print(f"desk-lint: there is no code {said.explain}: desk-codes(7) has them all", file=sys.stderr)
             return FAULTY
         sys.stdout.write(told)
         return CLEAN

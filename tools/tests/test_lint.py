@@ -282,7 +282,9 @@ def test_a_message_over_several_lines(lint, tmp_path):
 def test_words(lint, tmp_path):
     assert lint("--explain", "O4").stdout.startswith("O4 BadName (A roster (docs/ROSTER.md))\n  when: a text has not the form")
     assert lint("--explain", "badname").stdout == lint("--explain", "O4 BadName").stdout
-    assert lint("--explain", "Z9").returncode == 2
+    assert "(STORE.md, 'When the roster changes')" in lint("--explain", "K1").stdout
+    ran = lint("--explain", "Z9")
+    assert (ran.returncode, ran.stdout, ran.stderr) == (2, "", "desk-lint: there is no code Z9: desk-codes(7) has them all\n")
     ran = lint(str(tmp_path / "nothing"))
     assert (ran.returncode, ran.stderr) == (2, f"desk-lint: {tmp_path}/nothing: No such file or directory\n")
     ran = lint(str(tmp_path / "base.sudo"))
