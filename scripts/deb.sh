@@ -13,7 +13,7 @@ done
 rm -rf build/deb
 mkdir -p build/deb/steelnewt
 cp -r packaging/debian build/deb/steelnewt/debian
-PREFIX=/usr DESTDIR=$PWD/build/deb/steelnewt/tree bash scripts/install.sh
+PREFIX=/usr DESTDIR=$PWD/build/deb/steelnewt/tree bash scripts/install.sh > /dev/null
 (
     cd build/deb/steelnewt
     # What stood in the environment of an outer make means nothing here.
