@@ -2,9 +2,13 @@
 # Proves and builds the programs, and leaves them at build/desk and build/desk-audit.
 set -euo pipefail
 cd "$(dirname "$0")/.."
+command -v rt > /dev/null || {
+    echo "it needs Rattle's toolchain, the command rt (README.md, 'What you need')" >&2
+    exit 1
+}
 log=$(mktemp)
 trap 'rm -f "$log"' EXIT
-echo "proving and building the programs (some minutes on a fresh checkout) .."
+echo "proving and building the programs (half an hour and more on a fresh checkout) .."
 # Where there is room for it, crates are proved side by side first: a lane for each processor and
 # each 5 GB.
 lanes=$(awk -v cores="$(nproc)" '

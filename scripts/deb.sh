@@ -1,7 +1,7 @@
 #!/usr/bin/env bash
-# Makes Debian's packages of what `make install` installs, in build/deb: steelnewt (the desk) and
-# steelnewt-host (what fetches a host's file). Nothing is proved or built: the program is
-# build/desk, byte for byte.
+# Makes Debian's packages of what `make install` installs, in build/deb: steelnewt (the desk),
+# steelnewt-host (what fetches a host's file) and steelnewt-tools. Nothing is proved or built: the
+# program is build/desk, byte for byte.
 set -euo pipefail
 cd "$(dirname "$0")/.."
 for tool in dpkg-buildpackage dh; do
@@ -13,7 +13,7 @@ done
 rm -rf build/deb
 mkdir -p build/deb/steelnewt
 cp -r packaging/debian build/deb/steelnewt/debian
-PREFIX=/usr DESTDIR=$PWD/build/deb/steelnewt/tree bash scripts/install.sh
+PREFIX=/usr DESTDIR=$PWD/build/deb/steelnewt/tree bash scripts/install.sh > /dev/null
 (
     cd build/deb/steelnewt
     # What stood in the environment of an outer make means nothing here.

@@ -69,3 +69,4 @@ printf '%s\n' "$files" | while read -r file; do
     [ ! -x "examples/$file" ] || mode=0755
     put "$mode" "examples/$file" "$doc/examples/${file#./}"
 done
+echo "installed below $root$PREFIX: man desk; the examples are in $root$doc/examples"

@@ -146,6 +146,9 @@ def untidy() -> Iterator[str]:
 
 
 def main() -> int:
+    if shutil.which("rt") is None:
+        print("it needs Rattle's toolchain, the command rt (README.md, 'What you need')")
+        return 1
     wrong = [*badly_laid_out(), *misfits(), *not_made(), *not_there(), *untidy()]
     wrong += [*calls.faults(), *names.faults()]
     print(

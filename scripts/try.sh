@@ -5,6 +5,10 @@
 # reads a pipe, and while it waits for that, the program is taken out of the folder.
 set -euo pipefail
 cd "$(dirname "$0")/.."
+command -v rt > /dev/null || {
+    echo "it needs Rattle's toolchain, the command rt (README.md, 'What you need')" >&2
+    exit 1
+}
 mkdir -p build
 rooms=$(mktemp -d "$PWD/build/try.XXXXXX")
 trap 'rm -rf "$rooms"' EXIT
@@ -38,8 +42,14 @@ build() {
         cat "$room/log" >&2
         return 1
     fi
+    # `desk --version` names the kit that the program is proved with, and this one is not.
+    LC_ALL=C sed -i 's/proved with rattle-kit/NOT PROVED: rattle-kit/' "$room/taken"
     mv "$room/taken" "build/$name-unproved"
     chmod 0755 "build/$name-unproved"
+    if "build/$name-unproved" --version 2> /dev/null | grep 'proved with'; then
+        echo "build/$name-unproved says that it is proved" >&2
+        return 1
+    fi
     echo "built build/$name-unproved"
 }
 
@@ -57,8 +67,8 @@ failed=0
 for builder in "${builders[@]}"; do
     wait "$builder" || failed=1
 done
+[ "$failed" = 0 ] || exit 1
 cat <<'SAID'
 NOTHING OF THIS WAS PROVED. IT IS FOR TRYING OUT A CHANGE, AND FOR NOTHING ELSE:
 `make desk` PROVES AND BUILDS.
 SAID
-exit "$failed"

@@ -47,7 +47,8 @@ class Admission:
         wide = [command(text) for text in ceiling["commands"]]
         for text in value["cmnds"]:
             if not any(lies_inside(command(text), it) for it in wide):
-                self.add("A6", "cmnds", text, f"expected a command inside one of the ceiling's: {'; '.join(sorted(set(ceiling['commands']))[:8])}")
+                hint = f" ({text}/ is one: a directory ends in /)" if command(f"{text}/") in wide else ""
+                self.add("A6", "cmnds", text, f"expected a command inside one of the ceiling's{hint}: {'; '.join(sorted(set(ceiling['commands']))[:8])}")
         first, last = seconds(value["from"]), seconds(value["until"])
         assert first is not None and last is not None
         if last > first + ceiling["longest"]:

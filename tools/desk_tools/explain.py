@@ -7,6 +7,8 @@ from collections.abc import Iterator
 HERE = os.path.dirname(os.path.abspath(__file__))
 # where it is installed, and in a clone
 PLACES = (os.path.join(HERE, "..", "CODES.md"), os.path.join(HERE, "..", "..", "docs", "CODES.md"))
+# a link of Markdown
+LINK = re.compile(r"\[([^\]]+)\]\([^)]*\)")
 
 
 def document() -> str:
@@ -40,5 +42,5 @@ def explain(code: str) -> str | None:
         if code.upper() == name.partition(" ")[0] or code.lower() == name.lower() or code.lower() == name.partition(" ")[2].lower():
             told = [f"{name} ({heading})", f"  when: {row['When']}"]
             told += [f"  what to do: {row['What to do']}"] if row.get("What to do") else []
-            found.append("\n".join(told))
+            found.append(LINK.sub(r"\1", "\n".join(told)))
     return "\n".join(found) + "\n" if found else None

@@ -47,9 +47,9 @@ def first_code(faults: list[Fault]) -> str | None:
 def shown(value: Any) -> str:
     """A value on one line, shortened."""
     try:
-        text = json.dumps(value, ensure_ascii=True)
+        text = value.text if hasattr(value, "text") else json.dumps(value, ensure_ascii=True)
     except (TypeError, ValueError):
-        text = value.text if hasattr(value, "text") else str(value)
+        text = str(value)
     return text if len(text) <= MOST_SHOWN else f"{text[: MOST_SHOWN - 4]} ..{text[-1]}"
 
 

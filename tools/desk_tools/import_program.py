@@ -56,6 +56,8 @@ def counted(count: int, thing: str, things: str) -> str:
 
 
 def report(notes: list[Note], entries: int) -> str:
+    files = list(dict.fromkeys(note.place.file for note in notes))
+    notes = sorted(notes, key=lambda it: (files.index(it.place.file), it.place.line))
     lines = [f"{note.place}: {'left out' if note.is_left_out else 'note'}: {note.what}: {note.said}" for note in notes]
     if entries > MOST_ENTRIES:
         lines.append(f"the base has {entries:,} entries, and a desk's has up to {MOST_ENTRIES:,} (K6): write aliases and directories in place of many rules")

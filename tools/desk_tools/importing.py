@@ -13,6 +13,7 @@ from functools import cache
 from typing import Any, NamedTuple
 
 from desk_tools import schema
+from desk_tools.site import seems_directory, without_slash
 from desk_tools.sudoers import ALIASES, Place, Sudoers
 
 USER, RUNAS, HOST, COMMAND = ALIASES
@@ -107,10 +108,12 @@ def wider(text: str) -> str | None:
 
 @dataclass
 class Words:
-    """A list, and whether it says all that was said."""
+    """A list, whether it says all that was said, and whether what could not be said became ALL, or cost those before it."""
 
     items: list[str] = field(default_factory=list)
     is_exact: bool = True
+    is_all: bool = False
+    is_cut: bool = False
 
     def __str__(self) -> str:
         return ", ".join(self.items)
@@ -250,6 +253,7 @@ class Import:
             found.is_exact = False
             if is_wide != negated:
                 # (it may be everyone)
+                found.is_all, found.is_cut = found.is_all or not negated, found.is_cut or (negated and bool(found.items))
                 found.items = [] if negated else ["ALL"]
         return found
 
@@ -274,7 +278,7 @@ class Import:
             self.kept[kind].add(name)
             self.lines.append(f"{KINDS[kind]} {name} = {words}")
         else:
-            self.note(place, name, "its list cannot be said whole: what can is written out where the alias stands", is_left_out=False)
+            self.note(place, name, "a part of its list cannot be said, so the alias is not kept: the rest stands where it is used", is_left_out=False)
 
     def commands_of(self, place: Place, held: list[dict[str, Any]]) -> Words:
         """The list of an alias of commands; exact where each can be said."""
@@ -285,7 +289,13 @@ class Import:
                 found.is_exact = False
             else:
                 found.items.append(f"{'!' if negated else ''}{text}")
+                self.look_at(place, text)
         return found
+
+    def look_at(self, place: Place, text: str) -> None:
+        """A note on a command that surely means something else."""
+        if seems_directory(text):
+            self.note(place, text, without_slash(text), is_left_out=False)
 
     # ---- rules
 
@@ -342,6 +352,8 @@ class Import:
             self.note(where, f"!{name}", self.why_not(item) + more)
         if text is None:
             return
+        self.widened(place, lists)
+        self.look_at(where, text)
         if all(it.says_yes() for it in lists):
             users, hosts, targets = lists
             said = [f"NOTBEFORE={options['notbefore']}"] if "notbefore" in options else []
@@ -349,6 +361,16 @@ class Import:
             said += ["NOPASSWD:"] if options.get("authenticate") is False else []
             self.has_nopasswd = self.has_nopasswd or said[-1:] == ["NOPASSWD:"]
             self.lines.append(" ".join([f"{users} {hosts} = ({targets})", *said, f"{'!' if negated else ''}{text}"]))
+
+    def widened(self, place: Place, lists: tuple[Words, Words, Words]) -> None:
+        """Notes on what a rule's lists say in place of what cannot be said, and on lists that mean nobody."""
+        for what, words in zip(("users", "hosts", "targets"), lists):
+            if words.is_all:
+                self.note(place, what, "what cannot be said of them became ALL: the rule denies more than it did", is_left_out=False)
+            if words.is_cut:
+                self.note(place, what, "a denial of them cannot be said: those named before it are left out", is_left_out=False)
+            if words.is_exact and words.items and not words.says_yes():
+                self.note(place, what, f"a list of denials alone ({words}) means nobody, to sudo as well: begin it with ALL if that is meant", is_left_out=False)
 
     def written_out(self, alias: str, sign: bool, above: tuple[str, ...] = ()) -> Iterator[tuple[bool, dict[str, Any]]]:
         """The commands of an alias and of those that it names, each with its sign."""

@@ -44,7 +44,7 @@ class Looked:
         if self.kind == "roster" and code:
             lines.append(f"{self.name}: refused; of these faults the desk names {coded(code)}")
         elif self.kind == "messages" and self.answers:
-            lines.append(f"{self.name}: {len(self.answers)} of {self.count} messages are refused")
+            lines.append(f"{self.name}: {len(self.answers)} of {self.count} {'line is' if self.count == 1 else 'lines are'} refused")
         return "".join(f"{line}\n" for line in lines)
 
 
@@ -157,7 +157,7 @@ def main(words: list[str]) -> int:
     if said.explain:
         told = explain.explain(said.explain)
         if told is None:
-            print(f"desk-lint: no code is {said.explain}", file=sys.stderr)
+            print(f"desk-lint: there is no code {said.explain}: desk-codes(7) has them all", file=sys.stderr)
             return FAULTY
         sys.stdout.write(told)
         return CLEAN

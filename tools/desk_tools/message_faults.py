@@ -12,9 +12,11 @@ from desk_tools.found import Fault, dotted, shown
 MOST_BYTES = 16_384
 MOST_DEEP = 127
 KINDS = ("request", "approve", "refuse", "revoke")
+# what writes a message on one line: a verdict, and a request, whose lists have an order
+FOLD = ("jq -cS .", "jq -cS '.hosts |= unique | .cmnds |= unique'")
 TEXT = re.compile(r'"(?:[^"\\]|\\.)*"')
 NUMBER = re.compile(r"-?[0-9][0-9.eE+-]*")
-MOMENT = "expected a moment with all its digits, in UTC, as 20260105090000Z"
+MOMENT = "expected a moment in UTC as 20260105090000Z: 14 digits and Z, hours up to 23, minutes and seconds up to 59"
 
 
 class NoJson(Exception):
@@ -42,6 +44,20 @@ def outside(text: str) -> Iterator[tuple[int, str]]:
         yield at, text[at : found.start()]
         at = found.end()
     yield at, text[at:]
+
+
+def why_no_json(text: str, fault: json.JSONDecodeError) -> str:
+    """What is wrong, in the words of whoever wrote it where they are known."""
+    if text.startswith("\ufeff"):
+        return "a byte order mark stands before it: save the file without one"
+    if fault.msg == "Extra data":
+        return "something stands behind the message: a line is one message"
+    if fault.msg.startswith("Invalid \\"):
+        return r'no escape of JSON: a backslash is written \\, as in "/bin/echo a\\:b"'
+    if re.search(r"[:\[,]-?0$", text[: fault.pos]) and text[fault.pos : fault.pos + 1].isdigit():
+        return "a number has no 0 before it"
+    hint = " (a line is one message: jq -cS . writes it so)" if text.rstrip().endswith(("{", ",", "[")) else ""
+    return f"{fault.msg}{hint}"
 
 
 class Message:
@@ -86,8 +102,7 @@ class Message:
             return json.loads(text, object_pairs_hook=self.members, parse_int=self.whole, parse_float=self.broken, parse_constant=self.constant)
         except json.JSONDecodeError as fault:
             at = len(text[: fault.pos].encode("utf-8", "surrogatepass")) + 1
-            hint = " (a line is one message: jq -cS . writes it so)" if text.rstrip().endswith(("{", ",", "[")) else ""
-            raise NoJson(f"it is no JSON at byte {at}: {fault.msg}{hint}") from None
+            raise NoJson(f"it is no JSON at byte {at}: {why_no_json(text, fault)}") from None
         except RecursionError:
             raise NoJson(f"more than {MOST_DEEP} lists and objects in one another") from None
 
@@ -196,5 +211,5 @@ def folded(data: bytes) -> list[Fault] | None:
     if not isinstance(value, dict):
         return None
     message = Message(written(value).encode("utf-8", "replace"), 1)
-    message.add("M2", "", "", "expected one message a line, and this is one over several: jq -cS . writes it so")
+    message.add("M2", "", "", f"expected one message a line, and this is one over several: {FOLD[value.get('kind') == 'request']} writes it so")
     return message.look()

@@ -1,5 +1,6 @@
 """What is wrong with a roster: its structure by the published schema, and what a schema cannot say by the rules of docs/ROSTER.md."""
 
+import re
 from collections.abc import Iterator
 from datetime import date
 from typing import Any
@@ -11,28 +12,83 @@ MOST_BYTES = 1_048_576
 TYPES = {"array": "a list", "object": "a table", "string": "a text", "integer": "a whole number"}
 # what the words of each form are, by the schema's title
 FORMS = {
-    "Label": "a label: a-z, 0-9 and -, beginning with a letter, up to 32 bytes",
-    "Duty": "a duty's label: a-z, 0-9 and -, beginning with a letter, up to 32 bytes",
-    "Host name": "a host name: a-z, 0-9 and -, beginning with a letter, up to 32 bytes, and no keyword of sudo (sudoedit, sha224 ..)",
-    "User name": "a user name: a-z, 0-9, . _ and -, beginning with a letter or _, up to 32 bytes, and no keyword of sudo (sudoedit, sha224 ..)",
+    "Label": "a label: lower-case letters, 0-9 and -, beginning with a letter, up to 32 bytes",
+    "Duty": "a duty's label: lower-case letters, 0-9 and -, beginning with a letter, up to 32 bytes",
+    "Host name": "a short host name: lower-case letters, 0-9 and -, beginning with a letter, up to 32 bytes, and no keyword of sudo (sudoedit, sha224 ..)",
+    "User name": "a user name: lower-case letters, 0-9, . _ and -, beginning with a letter or _, up to 32 bytes, and no keyword of sudo (sudoedit, sha224 ..)",
     "Entry": "a duty's label, or a table of duty, from and until",
 }
+TAGS = {"PASSWD", "NOPASSWD", "EXEC", "NOEXEC", "SETENV", "NOSETENV", "LOG_INPUT", "LOG_OUTPUT", "MAIL", "FOLLOW", "INTERCEPT"}
+COMMAND_FORM = 'ALL, a directory that ends in /, or a file\'s path with nothing, `""` or 1 to 16 arguments behind it'
+PATH = re.compile(r"(?:/[A-Za-z0-9._+-]+)+/?")
+ARGUMENT = re.compile(r"(?:[A-Za-z0-9._+/@%-]|\\[,:=])+")
+
+
+def why_no_command(text: str) -> str | None:
+    """The likeliest reason why a text is no command; None where none is likely."""
+    path, *args = text.split(" ")
+    if text.split(":")[0] in TAGS:
+        return "no tag stands here"
+    if text.startswith("!"):
+        return "nothing is denied here: list what is meant to run"
+    if text.lower() == "all":
+        return "ALL is written in capitals"
+    if path == "sudoedit" or path.endswith("/sudoedit"):
+        return "sudo takes a file named sudoedit for its own command, which edits any file"
+    if not text.startswith("/"):
+        return "a path begins with /"
+    if any(mark in text for mark in "*?[]"):
+        return "there are no wildcards: a directory allows each file in it, a path alone any arguments"
+    if "  " in text or text != text.strip():
+        return "its parts stand apart by single spaces"
+    return why_no_path(path) or why_no_arguments(path, args)
+
+
+def why_no_path(path: str) -> str | None:
+    if path == "/":
+        return "/ alone is no directory here: name the directories, or write ALL"
+    if any(part in ("", ".", "..") for part in path.removesuffix("/").split("/")[1:]):
+        return "no part of a path is empty, . or .."
+    return None if PATH.fullmatch(path) else "a path has letters, digits and . _ + - alone"
+
+
+def why_no_arguments(path: str, args: list[str]) -> str | None:
+    if args and path.endswith("/"):
+        return "a directory has no arguments behind it"
+    if len(args) > 16:
+        return f"there are {len(args)} arguments"
+    if '""' in args and len(args) > 1:
+        return 'behind `""` nothing stands'
+    if any(ARGUMENT.fullmatch(re.sub(r"(?<!\\)([,:=])", r"\\\1", it)) and not ARGUMENT.fullmatch(it) for it in args):
+        return "`,` `:` and `=` have a backslash before them (write such a text between ' in TOML)"
+    if any(not ARGUMENT.fullmatch(it) for it in args if it != '""'):
+        return "an argument has letters, digits and . _ / + - @ % alone, and `,` `:` and `=` behind a backslash: no quotes, no marks of a shell"
+    return "an argument has up to 64 bytes" if any(len(it.replace("\\", "")) > 64 for it in args) else None
 
 
 def command_form(text: str) -> str:
-    """What is expected of a command, with the likeliest reason first."""
-    form = 'ALL, a directory that ends in /, or a file\'s path with nothing, `""` or 1 to 16 arguments behind it'
-    if not text.startswith("/"):
-        return f"{form}; a path begins with /"
-    if any(mark in text for mark in "*?[]"):
-        return f"{form}; there are no wildcards: a directory allows each file in it, a path alone any arguments"
-    if "  " in text or text != text.strip():
-        return f"{form}, with single spaces"
-    if text.split(" ")[0].endswith("/sudoedit"):
-        return f"{form}; sudo takes a file named sudoedit for its own command, which edits any file"
-    if any(mark in text.replace(f"\\{mark}", "") for mark in ",:="):
-        return f"{form}, with a backslash before `,` `:` and `=` (write such a text between ' in TOML)"
-    return form
+    """The likeliest reason why this is no command, and what is expected."""
+    why = why_no_command(text)
+    return f"{why}; expected {COMMAND_FORM}" if why else f"expected {COMMAND_FORM}"
+
+
+def name_form(title: str, text: str) -> str:
+    """What is expected of a name, and what stands in its place."""
+    if title == "User name" and text == "ALL":
+        return f"{FORMS[title]}: each target is named, and there is no ALL"
+    if title == "Host name" and "." in text:
+        return f"{FORMS[title]}: no domain, no address"
+    return FORMS[title]
+
+
+def type_form(title: str, kinds: list[str], value: Any) -> str:
+    """What type is expected, and how it is written where a day or a pair has another."""
+    if title == "Pair":
+        return 'a list of two duties, as in conflicts = [["approve", "audit"]]'
+    if "day" in title.lower():
+        digits = re.sub("[^0-9]", "", value.text if isinstance(value, toml_text.Stamp) else str(value))
+        return f'a day between quotes, as "{digits if len(digits) == 8 else "20260105"}"'
+    return " or ".join(TYPES[kind] for kind in kinds)
 
 
 def expected(error: Any) -> tuple[str, str]:
@@ -41,13 +97,13 @@ def expected(error: Any) -> tuple[str, str]:
     title = error.schema.get("title", "")
     if keyword == "type":
         kinds = [limit] if isinstance(limit, str) else limit
-        return "O3", f"expected {' or '.join(TYPES[kind] for kind in kinds)}"
+        return "O3", f"expected {type_form(title, kinds, value)}"
     if keyword == "pattern" and title == "Command":
-        return "O4", f"expected {command_form(value)}"
+        return "O4", command_form(value)
     if keyword == "pattern" and "day" in title.lower():
         return "O7", "expected a day from 19700101 to 20991231, as yyyymmdd"
     if keyword == "pattern":
-        return "O4", f"expected {FORMS[title]}"
+        return "O4", f"expected {name_form(title, value)}"
     if title == "Pair":
         return "O3", f"expected exactly two duties, and there are {len(value)}"
     if keyword in ("minItems", "maxItems", "maxProperties"):
@@ -98,7 +154,12 @@ class Roster:
             code, said = expected(error)
             if code == "O3" and len(path) == 2 and path[0] == "people" and isinstance(error.instance, dict):
                 said += ": a name with a dot stands between quotes, since TOML takes it for a key of a key"
+            if code == "O3" and len(path) == 2 and path[0] == "ceilings" and path[1] in self.ceiling_keys():
+                said += ": it is a key of a ceiling, whose keys stand below [ceilings.NAME]"
             self.add(code, path, error.instance, said)
+
+    def ceiling_keys(self) -> list[str]:
+        return list(schema.validator("roster").schema["$defs"]["ceiling"]["properties"])
 
     # ---- what a schema cannot say
 

@@ -4,6 +4,8 @@ from datetime import date, timedelta
 from typing import Any, NamedTuple
 
 FIRST, LAST = "19700101", "20991231"
+# last components that are directories everywhere (hier(7))
+FOLDERS = {"bin", "boot", "etc", "games", "home", "include", "lib", "lib32", "lib64", "libexec", "local", "opt", "sbin", "share", "src", "srv", "tmp", "usr", "var"}
 
 
 class Command(NamedTuple):
@@ -23,6 +25,16 @@ def command(text: str) -> Command:
         return Command("dir", path, "any", ())
     rule = "any" if not args else "none" if args == ['""'] else "these"
     return Command("file", path, rule, tuple(args) if rule == "these" else ())
+
+
+def seems_directory(text: str) -> bool:
+    """Whether a command that is a file by its form has the name of a directory."""
+    return text.startswith("/") and " " not in text and text.rpartition("/")[2] in FOLDERS
+
+
+def without_slash(text: str) -> str:
+    """What is said of such a command."""
+    return f"a file by its form, and a directory by its name: with no / at its end it allows nothing in {text}/"
 
 
 def lies_inside(asked: Command, wide: Command) -> bool:

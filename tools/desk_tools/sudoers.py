@@ -77,7 +77,8 @@ def converted(text: str, name: str) -> dict[str, Any]:
         raise BadSudoers("it needs sudo's cvtsudoers (Debian's package sudo)") from None
     if ran.returncode:
         said = ran.stderr.decode("utf-8", "replace").replace("stdin", name).strip().splitlines()
-        raise BadSudoers(f"sudo cannot read it: {' '.join(said)[:400]}")
+        # (what follows a fault's own line shows the place by marks below it)
+        raise BadSudoers(f"sudo cannot read it: {said[0][:400] if said else 'cvtsudoers does not say why'}")
     found = ran.stdout.decode("utf-8", "surrogateescape").strip()
     return json.loads(mended(found), strict=False) if found else {}
 
@@ -96,6 +97,14 @@ def logical(text: str) -> Iterator[tuple[int, str]]:
         held, began = "", 0
     if held:
         yield began, held.strip()
+
+
+def plain(lines: list[tuple[int, str]]) -> str:
+    """The text without comments, continuations and included files, each line where it stands in the file, so that sudo names its number."""
+    rows = [""] * max((number for number, _ in lines), default=0)
+    for number, line in lines:
+        rows[number - 1] = "" if INCLUDE.match(line) else line
+    return "".join(f"{row}\n" for row in rows)
 
 
 def marks(line: str, at: int, wanted: str) -> int:
@@ -160,8 +169,7 @@ class Reader:
         with open(path, "rb") as file:
             text = file.read().decode("utf-8", "surrogateescape")
         lines = list(logical(text))
-        plain = "".join(f"{line}\n" for _, line in lines if line and not INCLUDE.match(line))
-        whole = converted(plain, shown)
+        whole = converted(plain(lines), shown)
         mine, specs = Sudoers(), []
         for number, line in lines:
             place = Place(shown, number)

@@ -80,6 +80,8 @@ LOCAL_TIME = re.compile(TIME)
 DATE_TIME = re.compile(rf"{DATE}(?:[Tt ]{TIME}([Zz]|[+-]([0-9]{{2}}):([0-9]{{2}}))?)?")
 DECIMAL = re.compile(r"[+-]?(0|[1-9][0-9]*)(\.[0-9]+)?([eE][+-]?[0-9]+)?")
 PREFIXED = {"0x": ("[0-9a-fA-F]+", 16), "0o": ("[0-7]+", 8), "0b": ("[01]+", 2)}
+# what word processors and people make of a quote
+TYPOGRAPHIC = tuple("\u201c\u201d\u201e\u201f\u2018\u2019\u201a\u201b\u00ab\u00bb\u00b4`")
 # a line at which reading goes on behind a fault
 FRESH = re.compile(r"[ \t]*(?:\[\[?[\w\"'. \t-]+\]\]?[ \t]*(?:#.*)?$|[\w\"'. \t-]+=)", re.ASCII | re.MULTILINE)
 
@@ -202,9 +204,12 @@ class Reader:
         if self.text[at : at + 1] in ('"', "'") and at < len(self.text):
             return self.body(at + 1, self.text[at], False)
         found = BARE.match(self.text, at)
+        end = found.end() if found else at
+        if self.text[end : end + 1] > "\x7f":
+            raise Refused(end, f"{self.text[end]} may not stand in a key without quotes: a-z, A-Z, 0-9, - and _ may")
         if found is None:
             raise Refused(at, "a key is expected here: letters, digits, - and _, or a text between quotes")
-        return found[0], found.end()
+        return found[0], end
 
     def dotted_key(self, at: int) -> tuple[list[str], int]:
         parts: list[str] = []
@@ -239,6 +244,8 @@ class Reader:
 
     def unquoted(self, at: int) -> tuple[Node, int]:
         found = WORD.match(self.text, at)
+        if found is None and self.text[at : at + 1] in TYPOGRAPHIC:
+            raise Refused(at, f"{self.text[at]} is no quote of TOML: a text stands between \" or '")
         if found is None:
             raise Refused(at, "a value is expected here: a text between quotes, a number, a list or a table")
         word = found[0]
@@ -304,7 +311,11 @@ class Reader:
         value, at = self.value(at_value, DEPTH)
         self.end_line(at)
         value.at = began
-        along_header(root, section, key[:-1], key[-1], value, began)
+        try:
+            along_header(root, section, key[:-1], key[-1], value, began)
+        except Refused as fault:
+            where = f": this line belongs to [{'.'.join(section)}]" if section else ""
+            raise Refused(fault.at, f"{fault.said}{where}") from None
         return section, at
 
     def end_line(self, at: int) -> None:
@@ -388,5 +399,5 @@ def read(data: bytes) -> Document:
         text = data.decode("utf-8")
     except UnicodeDecodeError as fault:
         line = data.count(b"\n", 0, fault.start) + 1
-        return Document(faults=[Fault(line, f"the byte {data[fault.start]:#04x} is no UTF-8")])
+        return Document(faults=[Fault(line, f"the byte {data[fault.start]:#04x} is no UTF-8: save the file as UTF-8")])
     return Reader(text).document()

@@ -7,9 +7,10 @@ from functools import cache
 from typing import Any, NamedTuple
 
 from desk_tools.found import Warning, dotted
-from desk_tools.site import LAST, Command, Site, command, day_before
+from desk_tools.site import LAST, Command, Site, command, day_after, day_before, seems_directory, without_slash
 from desk_tools.toml_text import Document, Path
 
+MOST_DAYS = 4
 TABLE = os.path.join(os.path.dirname(os.path.abspath(__file__)), "runs_others.toml")
 
 
@@ -76,6 +77,7 @@ class Warnings:
         self.approvers()
         self.hosts()
         self.duties()
+        self.needless()
         self.people()
         return sorted(self.found)
 
@@ -89,35 +91,46 @@ class Warnings:
             self.known[ask, approve] = list(spans(events))
         return self.known[ask, approve]
 
-    def words(self, first: str, last: str) -> str:
-        """Which days a span has, for a sentence."""
-        until = "" if last == LAST else f" up to {last}"
-        return until.strip() if first == self.today else f"from {first} on{until}"
+    def days(self, spans: list[tuple[str, str]]) -> str:
+        """Which days some spans have, for a sentence; spans that follow one another are one, and no more than four are named."""
+        joined: list[tuple[str, str]] = []
+        for first, last in spans:
+            if joined and day_after(joined[-1][1]) == first:
+                first = joined.pop()[0]
+            joined.append((first, last))
+        said = [days_of(first, last, self.today) for first, last in joined]
+        return " and ".join(said[:MOST_DAYS]) + (" .." if len(said) > MOST_DAYS else "")
 
     def approvals(self, label: str) -> None:
-        """A ceiling that too few people can approve, of whoever may ask, on some day from today on."""
+        """A ceiling that too few people can approve, of whoever may ask, on some day from today on: each such fault once, with all its days."""
         ceiling = self.site.ceilings[label]
         ask, approve, needs = ceiling["ask"], ceiling["approve"], ceiling["needs"]
-        said: set[str] = set()
-        for first, last, askers, approvers in self.of_duties(ask, approve):
-            left_out = sorted(asker for asker in askers if len(approvers - {asker}) < needs)
-            if not askers:
-                what, said_so = "nobody", f"nobody may ask under it: nobody holds {ask}"
-            elif len(left_out) == len(askers):
-                what, said_so = "none", f"too few people can approve: it needs {needs}, and beside the asker {counted(approvers)} may"
+        found: dict[str, list[Span]] = {}
+        for span in self.of_duties(ask, approve):
+            left_out = sorted(asker for asker in span.askers if len(span.approvers - {asker}) < needs)
+            if not span.askers:
+                what = f"nobody holds {ask}, so nobody may ask under it"
+            elif len(left_out) == len(span.askers):
+                what = f"nobody can get {needs} {plural(needs, 'approval')}"
             elif left_out:
-                what, said_so = ",".join(left_out), f"by {', '.join(left_out)} it cannot be obtained: too few other people can approve ({counted(approvers)})"
+                what = f"{', '.join(left_out)} cannot get {needs} {plural(needs, 'approval')}"
             else:
                 continue
-            if what not in said:
-                said.add(what)
-                self.add(("ceilings", label), "approvers", " ".join([said_so, self.words(first, last)]).strip())
+            found.setdefault(what, []).append(span)
+        for what, spans in found.items():
+            days = self.days([(span.first, span.last) for span in spans])
+            first = " on the first of these days" if len({frozenset(span.approvers) for span in spans}) > 1 else ""
+            if spans[0].askers:
+                what += f": {named(spans[0].approvers)} may approve{first}, and the asker's own approval does not count"
+            self.add(("ceilings", label), "approvers", f"{days}: {what}" if days else what)
 
     def commands(self, label: str) -> None:
         for place, text in enumerate(self.site.ceilings[label]["commands"]):
-            why = risk(command(text))
+            path, why = ("ceilings", label, "commands", place), risk(command(text))
             if why is not None:
-                self.add(("ceilings", label, "commands", place), "runs-others", f"{text}: {why}")
+                self.add(path, "runs-others", f"{text}: {why}")
+            if seems_directory(text):
+                self.add(path, "directory", f"{text}: {without_slash(text)}")
 
     def approvers(self) -> None:
         """Somebody whose approval counts on none of the days on which the duty is held."""
@@ -135,6 +148,19 @@ class Warnings:
             if host not in used:
                 self.add(("hosts", place), "host", f"no ceiling has {host}: nobody can ask for anything there")
 
+    def needless(self) -> None:
+        """Days that change nothing, since the person holds the duty on all of them by another entry: it does not end with them."""
+        for person, place, entry in self.entries():
+            for other, it in enumerate(self.site.people[person]):
+                if it == entry["duty"]:
+                    why = f"item {other + 1} gives {entry['duty']} without days, so it is always held"
+                elif isinstance(it, dict) and other != place and covers(it, entry) and (not covers(entry, it) or other < place):
+                    why = f"item {other + 1} gives {entry['duty']} from {it['from']} to {it['until']}"
+                else:
+                    continue
+                self.add(("people", person, place), "days", f"these days change nothing: {why}")
+                break
+
     def duties(self) -> None:
         """A duty that nobody holds from today on, and entries that have ended."""
         held = {entry["duty"] for _, _, entry in self.entries() if entry["until"] >= self.today}
@@ -144,7 +170,7 @@ class Warnings:
                 self.add(("duties", place), "duty", f"nobody holds {duty}")
         for person, place, entry in self.entries():
             if entry["until"] < self.today:
-                said = f"{entry['duty']} ended on {entry['until']}; leave the entry: without it what was approved by it would be approved no more"
+                said = f"{entry['duty']} ended on {entry['until']}; leave the entry: without it, what was asked or approved by it would count no more"
                 self.add(("people", person, place), "ended", said, is_note=True)
 
     def entries(self) -> Iterator[tuple[str, int, dict[str, str]]]:
@@ -158,9 +184,25 @@ class Warnings:
         parts |= {duty for pair in self.site.conflicts for duty in pair}
         for person in self.site.people:
             if not self.ever[person] & parts:
-                what = f"no ceiling admits {person}" + (": no duty is held" if not self.ever[person] else "")
+                what = f"{person} may neither ask nor approve under any ceiling" + (", and holds no duty" if not self.ever[person] else "")
                 self.add(("people", person), "person", what)
 
 
-def counted(people: set[str]) -> str:
-    return ", ".join(sorted(people)) or "nobody"
+def named(people: set[str]) -> str:
+    return f"only {' and '.join(sorted(people))}" if people else "nobody"
+
+
+def plural(count: int, word: str) -> str:
+    return word if count == 1 else f"{word}s"
+
+
+def days_of(first: str, last: str, today: str) -> str:
+    """Days for a sentence; nothing where they are all from today on."""
+    if first == today:
+        return "" if last == LAST else f"up to {last}"
+    return f"from {first} on" if last == LAST else f"from {first} to {last}"
+
+
+def covers(one: dict[str, str], other: dict[str, str]) -> bool:
+    """Whether one entry gives the other's duty on all of the other's days."""
+    return one["duty"] == other["duty"] and one["from"] <= other["from"] and other["until"] <= one["until"]

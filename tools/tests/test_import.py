@@ -119,6 +119,44 @@ ann ALL = \\
     assert report.read_text().replace(str(tmp_path / "sudoers"), "sudoers").splitlines() == said
 
 
+NOTES = [
+    # whoever a denial cannot name, it denies to all; whoever an exception cannot name, those before it lose the right
+    ("ann ALL = ALL\n+net ALL = !/bin/ls\n", "sudoers:2: note: users: what cannot be said of them became ALL: the rule denies more than it did"),
+    ("ann ALL = ALL\nann 10.0.0.1 = !/bin/ls\n", "sudoers:2: note: hosts: what cannot be said of them became ALL: the rule denies more than it did"),
+    ("ALL, !+net, bob ALL = /bin/ls\n", "sudoers:1: note: users: a denial of them cannot be said: those named before it are left out"),
+    # a rule that gives nothing in sudo either, and what was surely meant
+    ("ann !db1 = /bin/ls\n", "sudoers:1: note: hosts: a list of denials alone (!db1) means nobody, to sudo as well: begin it with ALL if that is meant"),
+    ("ann ALL = /usr/local/sbin\n", "sudoers:1: note: /usr/local/sbin: a file by its form, and a directory by its name: with no / at its end it allows nothing in /usr/local/sbin/"),
+    ("Cmnd_Alias C = /opt, /bin/ls\n", "sudoers:1: note: /opt: a file by its form, and a directory by its name: with no / at its end it allows nothing in /opt/"),
+    ("User_Alias A = ann, +net\nA ALL = /bin/ls\n", "sudoers:1: note: A: a part of its list cannot be said, so the alias is not kept: the rest stands where it is used"),
+]
+
+
+@pytest.mark.parametrize(("text", "note"), NOTES)
+def test_notes(made, text, note):
+    assert note in made(text)[1]
+
+
+def test_what_needs_no_note(made):
+    assert made("ALL, !ann ALL, !db1 = /usr/local/sbin/, /bin/ls\n%ops ALL = /bin/ls\n")[1] == [
+        "sudoers:2: note: %ops: it is kim here, by getent: who joins later is not in the base",
+        "3 entries; 0 things are left out",
+    ]
+
+
+def test_the_list_is_in_the_order_of_the_file(made):
+    text = "User_Alias A = +a\nann ALL = /bin/*\nCmnd_Alias C = /bin/?\nHost_Alias H = 10.0.0.1\nA H = C\nDefaults x\n"
+    said = made(text.replace("Defaults x", "Defaults mail_badpass"))[1]
+    lines = [int(line.split(":")[1]) for line in said[:-1]]
+    assert lines == sorted(lines) and {*lines} >= {1, 2, 3, 4, 6}
+
+
+def test_the_line_of_a_fault(made):
+    """sudo's own number, whatever comments, continuations and included files stand above."""
+    text = "# one\n\nann ALL = \\\n  /bin/ls\n@include nothing\n# six\nbob ALL = bin/ls\n"
+    assert made(text, status=2)[1] == ["desk-import: sudo cannot read it: sudoers:7:11: expected a fully-qualified path name"]
+
+
 def test_hosts_of_a_list(made, tmp_path):
     (tmp_path / "hosts").write_text("# ours\n10.0.0.1 db1.example.org db1\n10.0.0.2 DB2\n192.0.2.7 web1\n")
     words = ("--host-list", str(tmp_path / "hosts"))

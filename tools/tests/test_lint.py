@@ -78,6 +78,51 @@ def test_all_faults_by_line(lint, tmp_path):
     assert lines[-1] == f"{path}: refused; of these faults the desk names O2 UnknownKey"
 
 
+WHY = [
+    # a fault that people make, and the words of the answer that say what to do
+    ("needs = 1", 'needs = "1"', "expected a whole number"),
+    ("[people]", "[people]\njürgen = []", "ü may not stand in a key without quotes"),
+    ('"ask", "x"', "“ask”, 'x'", '“ is no quote of TOML: a text stands between " or \''),
+    ('until = "20261231"', "until = 2026-12-31", ' = 2026-12-31: expected a day between quotes, as "20261231"'),
+    ('until = "20261231"', "until = 20261231", ' = 20261231: expected a day between quotes, as "20261231"'),
+    ("[ceilings.c]", "[ceilings]", "it is a key of a ceiling, whose keys stand below [ceilings.NAME]"),
+    ("longest = 60", 'longest = 60\nhosts = ["db1"]', "hosts comes twice: this line belongs to [ceilings.c]"),
+    ('[["approve", "x"]]', '["approve", "x"]', 'expected a list of two duties, as in conflicts = [["approve", "audit"]]'),
+    ('runas = ["root"]', 'runas = ["ALL"]', "each target is named, and there is no ALL"),
+    ('hosts = ["db1"]', 'hosts = ["db1.example.org"]', "expected a short host name: lower-case letters, "),
+    ("/opt/x", "all", ": ALL is written in capitals; expected"),
+    ("/opt/x", "NOPASSWD: /opt/x", ": no tag stands here; "),
+    ("/opt/x", "!/opt/x", ": nothing is denied here"),
+    ("/opt/x", "opt/x", ": a path begins with /; "),
+    ("/opt/x", "/opt/*", ": there are no wildcards"),
+    ("/opt/x", "/opt//x", ": no part of a path is empty, . or ..; "),
+    ("/opt/x", "/opt/../x", ": no part of a path is empty, . or ..; "),
+    ("/opt/x", "/", ": / alone is no directory here"),
+    ("/opt/x", "/opt/ü", ": a path has letters, digits and . _ + - alone; "),
+    ("/opt/x", "/opt/x  y", ": its parts stand apart by single spaces; "),
+    ("/opt/x", "/opt/x a | b", ": an argument has letters, digits and . _ / + - @ % alone"),
+    ("/opt/x", "/opt/x a:b", ": `,` `:` and `=` have a backslash before them"),
+    ("/opt/x", "/opt/ y", ": a directory has no arguments behind it; "),
+    ("/opt/x", "/opt/x" + " y" * 17, ": there are 17 arguments; "),
+    ("/opt/x", "/opt/x " + "y" * 65, ": an argument has up to 64 bytes; "),
+    ("/opt/x", "/opt/sudoedit", ": sudo takes a file named sudoedit for its own command"),
+]
+
+
+@pytest.mark.parametrize(("old", "new", "said"), WHY)
+def test_what_to_do_is_said(lint, tmp_path, old, new, said):
+    text = roster(
+        'ann = ["ask"]\nbob = ["approve", { duty = "x", from = "20260101", until = "20261231" }]',
+        conflicts='[["approve", "x"]]',
+        duties='["approve", "ask", "x"]',
+    )
+    assert text.count(old) >= 1
+    path = tmp_path / "roster.toml"
+    path.write_text(text.replace(old, new, 1), encoding="utf-8")
+    ran = lint(str(path))
+    assert ran.returncode == 2 and said in ran.stdout, ran.stdout
+
+
 def test_several_faults_of_syntax(lint, tmp_path):
     path = tmp_path / "roster.toml"
     path.write_text('relays = ["chat"\nhosts = ["db1"]\nduties = [\n  "a"\n  "b",\n]\nduties = x\n[people]\nann = [\'a\']\n[people]\nbob = "x\n')
@@ -101,6 +146,9 @@ def roster(people, needs=1, commands='["/opt/x"]', conflicts='[["approve", "audi
     )
 
 
+ROTATION = (
+    'bob = [{ duty = "approve", from = "20260201", until = "20260207" }]\nkim = [{ duty = "approve", from = "20260208", until = "20260214" }]\n'
+)
 SOUND = 'ann = ["ask"]\nbob = ["approve"]\ndave = ["audit"]'
 
 
@@ -108,30 +156,57 @@ SOUND = 'ann = ["ask"]\nbob = ["approve"]\ndave = ["audit"]'
     ("text", "said"),
     [
         (roster(SOUND), []),
-        (roster(SOUND, needs=2), ["approvers: too few people can approve: it needs 2, and beside the asker bob may"]),
-        (roster('ann = ["ask", "approve"]\ndave = ["audit"]'), ["approvers: too few people can approve: it needs 1, and beside the asker ann may"]),
+        (roster(SOUND, needs=2), ["approvers: nobody can get 2 approvals: only bob may approve, and the asker's own approval does not count"]),
+        (roster('ann = ["ask", "approve"]\ndave = ["audit"]'), ["approvers: nobody can get 1 approval: only ann may approve, and the asker's own approval does not count"]),
         (
             roster('ann = ["ask", "approve"]\nbob = ["ask"]\ndave = ["audit"]'),
-            ["approvers: by ann it cannot be obtained: too few other people can approve (ann)"],
+            ["approvers: ann cannot get 1 approval: only ann may approve, and the asker's own approval does not count"],
         ),
-        (roster('bob = ["approve"]\ndave = ["audit"]'), ["duty: nobody holds ask", "approvers: nobody may ask under it: nobody holds ask"]),
+        (roster('bob = ["approve"]\ndave = ["audit"]'), ["duty: nobody holds ask", "approvers: nobody holds ask, so nobody may ask under it"]),
         (
             roster('ann = ["ask"]\nbob = [{ duty = "approve", from = "20260101", until = "20260630" }]\ndave = ["audit"]'),
-            ["approvers: too few people can approve: it needs 1, and beside the asker nobody may from 20260701 on"],
+            ["approvers: from 20260701 on: nobody can get 1 approval: nobody may approve, and the asker's own approval does not count"],
         ),
         (
             roster('ann = ["ask"]\nbob = ["approve", { duty = "audit", from = "20260801", until = "20260810" }]\ndave = ["audit"]'),
-            ["approvers: too few people can approve: it needs 1, and beside the asker nobody may from 20260801 on up to 20260810"],
+            ["approvers: from 20260801 to 20260810: nobody can get 1 approval: nobody may approve, and the asker's own approval does not count"],
         ),
         (roster(f'{SOUND}\neve = ["approve", "audit"]'), ["conflict: an approval as approve never counts: audit conflicts with it on each of its days"]),
         (roster(f'{SOUND}\neve = ["approve", {{ duty = "audit", from = "20270101", until = "20270102" }}]'), []),
         (roster(SOUND, hosts='["db1", "db2"]'), ["host: no ceiling has db2: nobody can ask for anything there"]),
         (roster(SOUND, duties='["approve", "audit", "ask", "x"]'), ["duty: nobody holds x"]),
-        (roster(f"{SOUND}\neve = []"), ["person: no ceiling admits eve: no duty is held"]),
-        (roster(f'{SOUND}\neve = ["x"]', duties='["approve", "audit", "ask", "x"]'), ["person: no ceiling admits eve"]),
+        (roster(f"{SOUND}\neve = []"), ["person: eve may neither ask nor approve under any ceiling, and holds no duty"]),
+        (roster(f'{SOUND}\neve = ["x"]', duties='["approve", "audit", "ask", "x"]'), ["person: eve may neither ask nor approve under any ceiling"]),
         (
             roster(f'{SOUND}\neve = [{{ duty = "ask", from = "20250101", until = "20250630" }}]'),
-            ["ended: ask ended on 20250630; leave the entry: without it what was approved by it would be approved no more"],
+            ["ended: ask ended on 20250630; leave the entry: without it, what was asked or approved by it would count no more"],
+        ),
+        # a rotation that runs out: all its days, in one line
+        (
+            roster('ann = ["ask"]\n' + ROTATION + 'dave = ["audit"]'),
+            ["approvers: up to 20260131 and from 20260215 on: nobody can get 1 approval: nobody may approve, and the asker's own approval does not count"],
+        ),
+        (
+            roster('ann = ["ask"]\n' + ROTATION + 'dave = ["audit", "approve"]', needs=3, conflicts="[]"),
+            ["approvers: nobody can get 3 approvals: only dave may approve on the first of these days, and the asker's own approval does not count"],
+        ),
+        # an entry that does not end the duty, or adds nothing to it
+        (
+            roster(f'{SOUND}\neve = ["ask", {{ duty = "ask", from = "20260101", until = "20261231" }}]'),
+            ["days: these days change nothing: item 1 gives ask without days, so it is always held"],
+        ),
+        (
+            roster(f'{SOUND}\neve = [{{ duty = "ask", from = "20260201", until = "20260301" }}, {{ duty = "ask", from = "20260101", until = "20261231" }}]'),
+            ["days: these days change nothing: item 2 gives ask from 20260101 to 20261231"],
+        ),
+        (
+            roster(f'{SOUND}\neve = [{{ duty = "ask", from = "20260101", until = "20260301" }}, {{ duty = "ask", from = "20260201", until = "20261231" }}]'),
+            [],
+        ),
+        # a directory without its slash
+        (
+            roster(SOUND, commands='["/usr/local/sbin", "/usr/local/sbin/", "/usr/local/sbin -l", "/opt/x"]'),
+            ["directory: /usr/local/sbin: a file by its form, and a directory by its name: with no / at its end it allows nothing in /usr/local/sbin/"],
         ),
         (
             roster(SOUND, commands="""['/usr/bin/find', '/usr/bin/find ""', '/usr/bin/find /tmp']"""),
@@ -168,6 +243,36 @@ def test_messages(lint, tmp_path):
     assert (ran.returncode, ran.stdout) == (0, "")
 
 
+VERDICT = '{"at":"20260105083000Z","by":"bob","kind":"approve","no":7,"of":"ann"}'
+ASKED = (
+    '{"at":"20260105060000Z","by":"ann","ceiling":"db-care","cmnds":["/usr/local/sbin"],"from":"20260105090000Z","hosts":["db1"],'
+    '"kind":"request","no":7,"runas":"root","until":"20260105110000Z"}'
+)
+
+
+@pytest.mark.parametrize(
+    ("text", "said"),
+    [
+        (f"\ufeff{VERDICT}", "a byte order mark stands before it: save the file without one\n"),
+        (VERDICT * 2, "byte 71: something stands behind the message: a line is one message\n"),
+        (VERDICT.replace("7", "07"), "byte 59: a number has no 0 before it\n"),
+        (VERDICT.replace("ann", "a\\:"), r'no escape of JSON: a backslash is written \\, as in "/bin/echo a\\:b"'),
+        (VERDICT.replace("083000Z", "243000Z"), "expected a moment in UTC as 20260105090000Z: 14 digits and Z, hours up to 23, "),
+        (VERDICT.replace("083000Z", "083060Z"), "minutes and seconds up to 59\n"),
+        (f"{VERDICT}\r\n", "(byte 71): a carriage return\n"),
+        (VERDICT.replace(",", ",\n"), "jq -cS . writes it so\nx.messages"),
+        (ASKED.replace(",", ",\n"), "jq -cS '.hosts |= unique | .cmnds |= unique' writes it so\n"),
+        (ASKED, "expected a command inside one of the ceiling's (/usr/local/sbin/ is one: a directory ends in /): "),
+        (f"{VERDICT}\nx\n", "x.messages: 1 of 2 lines are refused\n"),
+    ],
+)
+def test_what_to_do_is_said_of_messages(lint, tmp_path, text, said):
+    path = tmp_path / "x.messages"
+    path.write_bytes(text.encode())
+    ran = lint("--roster", ROSTER, str(path))
+    assert ran.returncode == 2 and said in ran.stdout.replace(str(path), "x.messages"), ran.stdout
+
+
 def test_a_message_over_several_lines(lint, tmp_path):
     path = tmp_path / "x.json"
     path.write_text(json.dumps({"at": "20260105083000Z", "by": "Bob", "kind": "approve", "no": 7, "of": "ann"}, indent=2))
@@ -177,7 +282,9 @@ def test_a_message_over_several_lines(lint, tmp_path):
 def test_words(lint, tmp_path):
     assert lint("--explain", "O4").stdout.startswith("O4 BadName (A roster (docs/ROSTER.md))\n  when: a text has not the form")
     assert lint("--explain", "badname").stdout == lint("--explain", "O4 BadName").stdout
-    assert lint("--explain", "Z9").returncode == 2
+    assert "(STORE.md, 'When the roster changes')" in lint("--explain", "K1").stdout
+    ran = lint("--explain", "Z9")
+    assert (ran.returncode, ran.stdout, ran.stderr) == (2, "", "desk-lint: there is no code Z9: desk-codes(7) has them all\n")
     ran = lint(str(tmp_path / "nothing"))
     assert (ran.returncode, ran.stderr) == (2, f"desk-lint: {tmp_path}/nothing: No such file or directory\n")
     ran = lint(str(tmp_path / "base.sudo"))
