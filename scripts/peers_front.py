@@ -113,6 +113,13 @@ def make_certificates(folder: str) -> None:
         keep(ca, folder, kept, "relay", "chat2", dates, "chat")
     keep(ca, folder, "gone", "host", "db1b", None, "db1")
     front.certify(ca, "revoke", "../gone/host-db1")
+    front.certify(ca, "auditor", "dave")
+    for end in ("pem", "key"):
+        os.rename(
+            os.path.join(ca, f"auditor-dave.{end}"),
+            os.path.join(folder, "gone", f"auditor-dave.{end}"),
+        )
+    front.certify(ca, "revoke", "../gone/auditor-dave")
     front.certify(ca, "renew")
     other = os.path.join(folder, "other")
     front.certify(other, "init")
@@ -486,7 +493,27 @@ def under_haproxy(folder: str) -> list[tuple[int, int]]:
     with desk.Server(program=desk.named()) as server, front.front(
         front.haproxy_words(folder, port, server.address), port
     ):
-        return [ask_routes(folder, port)]
+        return [ask_routes(folder, port), stand_beside(folder, port)]
+
+
+def ended_list(folder: str) -> tuple[int, int]:
+    """Once the list of revocations has ended the front answers nobody; `renew` makes it anew, and
+    who was revoked stays so."""
+    port, statuses = free_port(), []
+    a_year_ago = [desk.tool("faketime"), "-f", "-400d"]
+    given = request("GET", "/v1/messages")
+    for before in (a_year_ago, []):
+        authority = [*before, "sh", front.AUTHORITY, os.path.join(folder, "ca"), "renew"]
+        subprocess.run(authority, check=True)
+        with desk.Server(program=desk.named()) as server, front.front(
+            front.nginx_words(folder, port, server.address), port
+        ):
+            for name in ("auditor-carol", "gone/auditor-dave"):
+                statuses.append(status(front.exchange(front.context(folder, name), port, given)))
+    if statuses != ["403", "403", "200", "403"]:
+        print(f"a list that has ended, and one that was renewed: {statuses}")
+        return 4, 1
+    return 4, 0
 
 
 def main() -> None:
@@ -496,6 +523,7 @@ def main() -> None:
         counts = under_nginx(folder)
         if os.path.exists(front.HAPROXY):
             counts += under_haproxy(folder)
+        counts.append(ended_list(folder))
     asked, wrong = (sum(each) for each in zip(*counts, strict=True))
     print(f"through the front the desk was asked {asked} times: {wrong} otherwise than they say")
     sys.exit(1 if wrong else 0)

@@ -33,6 +33,7 @@ import random_reports
 
 FETCH = os.path.join(desk.EXAMPLES, "fetch-sudoers.sh")
 CHANGED = 10_000
+HOUR = 3_600
 REPORTS = 40
 REQUEST, APPROVAL = desk.request().encode(), desk.approval().encode()
 HOST = b"Host: desk\r\n"
@@ -48,6 +49,9 @@ REPORT = (
 # how many things were asked, and how many were otherwise
 Counts = tuple[int, int]
 ACK = ("200 OK", b"ack\n")
+TOO_MANY, G1_SAID = b"G1 TooManyRules\n", "answered G1 TooManyRules"
+# requests of sixteen commands each: 8,208 lines, and a host's file has at most 8,192
+OLD, MOST_COMMANDS = 513, 16
 # every status that a reply may have
 STATUSES = {
     "200 OK",
@@ -361,7 +365,7 @@ def serving(roster: str, base: str, requests: int | None = None) -> Iterator[str
         if (
             status != (0 if requests else -signal.SIGTERM)
             or not is_right
-            or not {*lines} <= {"H1 ReadFailed", "H2 WriteFailed", *last}
+            or not {*lines} <= {"H1 ReadFailed", "H2 WriteFailed", G1_SAID, *last}
         ):
             sys.exit(f"the desk ends with status {status}: {begun}, {sorted({*lines})}")
 
@@ -800,8 +804,44 @@ def fetch_files(address: str) -> Counts:
     return len(rows), wrong
 
 
+def long_history() -> Counts:
+    """A host with more lines than a file may have, all ended but one: its whole file is G1, and
+    fetch-sudoers.sh brings the line that is in force all the same, and then its revocation."""
+    wrong = 0
+    with serving(desk.ROSTER, desk.BASE) as address, tempfile.TemporaryDirectory() as folder:
+        for number in range(OLD):
+            commands = [f"/usr/local/sbin/{number:03}-{at:02}" for at in range(MOST_COMMANDS)]
+            for body in (desk.request(number, cmnds=commands), desk.approval(number)):
+                by_bytes(address, desk.posted(b"chat", body.encode()))
+        whole = by_curl(address, ["/v1/hosts/db1/sudoers"])
+        wrong += not check("a long history", whole, ("503 Service Unavailable", TOO_MANY))
+        file = os.path.join(folder, "desk")
+        last = desk.stamp(time.time() + HOUR)
+        asked = desk.request(OLD, **window_until(last))
+        approved = desk.approval(OLD, at=stamp(-2).decode())
+        at = time.time() - HOUR / 2
+        revoked = desk.approval(OLD, kind="revoke", at=desk.stamp(at))
+        rows = ((asked, []), (approved, [last]), (revoked, [desk.stamp(at - 1)]))
+        for body, ends in rows:
+            by_bytes(address, desk.posted(b"chat", body.encode()))
+            ended, said = fetch([f"http://{address}", "db1"], file)
+            text = open(file, "rb").read() if ended == 0 else said.encode()
+            lines = re.findall(rb"^ann db1 .* NOTAFTER=(\d+Z) /usr/bin/id$", text, re.MULTILINE)
+            # (a revocation ends it a second before)
+            is_right = [it.decode() for it in lines] == ends
+            if ended or not is_right:
+                wrong += 1
+                print(f"fetch-sudoers.sh over a long history: {ended}, {lines}: {said}")
+    return 4, wrong
+
+
+def window_until(last: str) -> dict[str, str]:
+    """The moments of a request that is in force now, until that one."""
+    return {"at": stamp(-3).decode(), "from": stamp(-1).decode(), "until": last}
+
+
 def main() -> None:
-    counts = [ask_exactly(), ask_reports()]
+    counts = [ask_exactly(), ask_reports(), long_history()]
     with serving(desk.ROSTER, desk.BASE) as address:
         for part in (
             ask_all,

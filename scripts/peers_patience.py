@@ -10,7 +10,9 @@ build/desk; `--only PART..` before them tries some of the parts.
 """
 
 import contextlib
+import hashlib
 import os
+import re
 import resource
 import signal
 import socket
@@ -33,6 +35,8 @@ TO_ASK, TO_ANSWER, OFF = 10, 30, 3
 # more than the kernel keeps of a reply.
 GRANTS, COMMANDS = 230, 14
 RUDE = 6_000
+SERVE = os.path.join("packaging", "desk-serve")
+LISTENS = re.compile(r"listening at 127\.0\.0\.1:([0-9]+)")
 
 
 PARKED = desk.asked(b"GET", b"/v1/parked")
@@ -316,6 +320,68 @@ def limited_file(count: Count, words: list[str]) -> None:
             )
 
 
+def limited_service(count: Count, words: list[str]) -> None:
+    """The package's `desk-serve` ignores that signal: a write past the limit is K4, its log says
+    what to do, and the desk serves on."""
+    with tempfile.TemporaryDirectory() as folder:
+        program = desk.write(folder, "desk", '#!/bin/sh\nexec %s "$@"\n' % " ".join(words))
+        os.chmod(program, 0o755)
+        held = {"DESK": program, "ROSTER": desk.ROSTER, "BASE": desk.BASE, "ADDR": "127.0.0.1:0"}
+        with subprocess.Popen(
+            ["prlimit", f"--fsize={2**20}:{2**20}", os.path.join(desk.ROOT, SERVE)],
+            env={**os.environ, **held, "STORE": os.path.join(folder, "desk.db")},
+            stdout=subprocess.PIPE,
+            stderr=subprocess.STDOUT,
+            text=True,
+        ) as service:
+            assert service.stdout is not None
+            found = next((it for line in service.stdout if (it := LISTENS.search(line))), None)
+            port = int(found[1]) if found else 0
+            try:
+                replies = [
+                    desk.exchange(port, desk.posted(b"chat", long_request(number)))
+                    for number in range(200)
+                ]
+                is_right = replies[0].endswith(b"ack\n") and replies[-1].endswith(b"K4 Storage\n")
+                count.holds("messages past the limit of a service", is_right, replies[-1][-80:])
+            except OSError as error:
+                count.holds("the service past its limit", False, error)
+            service.terminate()
+            said = service.stdout.read()
+        is_right = "answered K4 Storage: " in said and "The desk goes on by itself" in said
+        count.holds("its log, past its limit", is_right and service.returncode == 0, said[-300:])
+
+
+def says_what_it_serves(count: Count, words: list[str]) -> None:
+    """The first lines of the standard error: how many messages, and of which roster; and a warning
+    in capital letters where the address is not loopback (in a network of its own, as root)."""
+    with open(desk.ROSTER, "rb") as file:
+        serving = f"serving 2 messages, roster {hashlib.sha256(file.read()).hexdigest()}\n"
+    with tempfile.TemporaryDirectory() as folder:
+        store = os.path.join(folder, "desk.db")
+        given = f"{desk.request()}\n{desk.approval()}\n"
+        desk.run([*words, "deliver", desk.ROSTER, desk.BASE, store, "chat"], given)
+        here = said_at(words, store, [], "127.0.0.1:0")
+        count.holds("what it says on loopback", here == [serving], here)
+        if os.geteuid() == 0:
+            said = said_at(words, store, ["unshare", "--net"], "0.0.0.0:0")
+            count.holds("what it serves", said[-1:] == [serving], said)
+            first = said[0] if said else ""
+            is_named = re.match(r"WARNING: 0\.0\.0\.0:\d+ IS NOT LOOPBACK\. ", first) is not None
+            count.holds("a warning in capital letters", is_named and first.isupper(), said)
+
+
+def said_at(words: list[str], store: str, before: list[str], address: str) -> list[str]:
+    """What a desk at the address says before anybody asks it."""
+    asked = [*before, *words, "serve", desk.ROSTER, desk.BASE, store, address]
+    with subprocess.Popen(asked, stdout=subprocess.PIPE, stderr=subprocess.PIPE) as process:
+        assert process.stdout is not None and process.stderr is not None
+        process.stdout.readline()
+        time.sleep(0.5)
+        process.terminate()
+        return process.stderr.read().decode().splitlines(keepends=True)
+
+
 def full_disk(count: Count, words: list[str]) -> None:
     """A new store on a full disk is refused at once."""
     if os.geteuid() != 0:
@@ -353,6 +419,8 @@ PARTS = (
     unread_error,
     closed_descriptors,
     limited_file,
+    limited_service,
+    says_what_it_serves,
     full_disk,
 )
 
