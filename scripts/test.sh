@@ -101,7 +101,7 @@ cp crates/desk_cli/out/desk_cli build/desk
 cp crates/desk_audit_cli/out/desk_audit_cli build/desk-audit
 
 part demo demo
-part_with cases setpriv -- cases
+part_with cases setpriv jq -- cases
 part_with peers root sudo visudo cvtsudoers faketime unshare curl nc sqlite3 -- peers
 part_with faults cc -- python3 scripts/faults.py
 part_with soak root cc visudo unshare mount prlimit setpriv -- soak
