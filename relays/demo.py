@@ -5,6 +5,8 @@ It starts a desk (build/desk, or what DESK names), sshd on a loopback port and w
 folder of its own. What is printed are the words and the answers.
 """
 
+import os
+import pwd
 import shlex
 import sys
 import tempfile
@@ -26,6 +28,8 @@ STEPS = [
     ("ann", "mine"),
     ("ann", "ask db-care --on web1 --as root --for 2h /usr/bin/id"),
 ]
+# sshd runs what a key allows with the account's shell
+SILENT = "(no answer came by ssh, which ended with {}: does this account's shell, {}, run commands?)"
 
 
 def main() -> int:
@@ -37,7 +41,11 @@ def main() -> int:
             for person, line in STEPS:
                 print(f"{person}$ ssh desk {line}")
                 ran = sshd.ssh(person, *shlex.split(line), given="y\n")
-                print((ran.stdout + ran.stderr).replace("[y/N] ", "[y/N] y"))
+                said = ran.stdout + ran.stderr
+                if not said.strip():
+                    print(SILENT.format(ran.returncode, pwd.getpwuid(os.getuid()).pw_shell))
+                    return 1
+                print(said.replace("[y/N] ", "[y/N] y"))
                 if line.startswith("approve"):
                     print("$ curl http://127.0.0.1:8080/v1/hosts/db1/sudoers")
                     print(requests.get(f"{site.url}/v1/hosts/db1/sudoers", timeout=30).text)
