@@ -81,8 +81,8 @@ def store(page: Page) -> None:
     said = page.out(rebuilt)
     page.holds("rebuilt", said == "ok\ndba ALL = (postgres) ALL\n", said)
     said = page.out(compared)
-    is_right = re.search("^< ann +7 ", said, re.M) and re.search("^> ann +7 +bob +duty$", said, re.M)
-    page.holds("what a roster changes", is_right is not None, said)
+    page.holds("what a roster takes", re.search("^< ann +7 ", said, re.M) is not None, said)
+    page.holds("and why", re.search("^> ann +7 +bob +duty$", said, re.M) is not None, said)
     old_store(page, older)
     log_alone(page)
 
