@@ -116,6 +116,8 @@ pages: build/desk
 	python3 scripts/make_pages.py build/pages
 	python3 scripts/check_pages.py
 	python3 scripts/check_readme.py
+	python3 scripts/check_documents.py
+	python3 scripts/check_runbooks.py
 
 package-test: build/desk build/desk-audit
 	bash scripts/deb.sh

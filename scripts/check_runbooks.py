@@ -300,7 +300,8 @@ def revoked(room: Room) -> None:
 
 
 def break_glass(room: Room) -> None:
-    heading, restart = "The desk is down and a right is needed", "/usr/bin/systemctl restart postgresql"
+    heading = "The desk is down and a right is needed"
+    restart = "/usr/bin/systemctl restart postgresql"
     room.begin(*granted_now())
     room.run("systemctl start desk-fetch@db1; systemctl stop desk")
     room.says(heading, "hosts have their files, and sudo asks nobody", "for an hour")
@@ -351,8 +352,10 @@ def upgrade(room: Room) -> None:
     room.begin(*messages)
     done = room.follow(heading, 0)
     room.says(heading, "Both must print nothing")
-    room.holds("it prints nothing", (done.stdout, done.stderr, done.returncode) == ("", "", 0), done)
-    room.holds("the report has the grant", re.search(r"^ann +7 ", room.read("/root/before"), 8) is not None)
+    is_silent = (done.stdout, done.stderr, done.returncode) == ("", "", 0)
+    room.holds("it prints nothing", is_silent, done)
+    is_there = re.search(r"^ann +7 ", room.read("/root/before"), re.MULTILINE) is not None
+    room.holds("the report has the grant", is_there)
     room.holds("the messages are kept", room.read("/root/messages.txt") == listed(messages))
 
 
@@ -363,7 +366,8 @@ def restore(room: Room) -> None:
     room.run(f"curl -sf {URL}/v1/messages > /root/messages.txt")
     room.post(desk.approval(50))
     # a page of the store is damaged, and its log is there
-    room.run(f"kill -KILL $(cat /run/desk.pid); sleep 0.3; pkill -P 1 -x desk; sleep 0.3; rm /run/desk.pid")
+    room.run("p=$(cat /run/desk.pid); kill -KILL $(cat /proc/$p/task/$p/children) $p")
+    room.run("rm /run/desk.pid; sleep 0.5")
     room.write(f"{HERE}/desk.db", "no database at all" * 300)
     done = room.follow(heading, 0)
     room.says(heading, "From a copy of the messages, which is enough")

@@ -44,5 +44,12 @@ for unit in desk.service desk-fetch@db1.service; do
     awk -v it="$figure" -v most="$MOST" 'BEGIN { exit !(it != "" && it + 0 <= most) }' || status=1
     verdict "systemd-analyze security $unit" $status
 done
+# `systemctl enable`, as docs/OPERATING.md has it, starts each with the machine
+wants=$room/etc/systemd/system
+status=0
+systemctl --root="$room" -q enable desk.service desk-fetch@db1.timer || status=1
+[ -L "$wants/multi-user.target.wants/desk.service" ] || status=1
+[ -L "$wants/timers.target.wants/desk-fetch@db1.timer" ] || status=1
+verdict "systemctl enable" $status
 echo "lintian and systemd on the packages: $checks checks, $wrong wrong"
 [ "$wrong" = 0 ]

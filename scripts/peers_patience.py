@@ -323,7 +323,7 @@ def limited_file(count: Count, words: list[str]) -> None:
 def limited_service(count: Count, words: list[str]) -> None:
     """The package's `desk-serve` ignores that signal: a write past the limit is K4, its log says
     what to do, and the desk serves on."""
-    with tempfile.TemporaryDirectory() as folder:
+    with tempfile.TemporaryDirectory(dir=desk.MEMORY) as folder:
         program = desk.write(folder, "desk", '#!/bin/sh\nexec %s "$@"\n' % " ".join(words))
         os.chmod(program, 0o755)
         held = {"DESK": program, "ROSTER": desk.ROSTER, "BASE": desk.BASE, "ADDR": "127.0.0.1:0"}
@@ -336,20 +336,26 @@ def limited_service(count: Count, words: list[str]) -> None:
         ) as service:
             assert service.stdout is not None
             found = next((it for line in service.stdout if (it := LISTENS.search(line))), None)
-            port = int(found[1]) if found else 0
-            try:
-                replies = [
-                    desk.exchange(port, desk.posted(b"chat", long_request(number)))
-                    for number in range(200)
-                ]
-                is_right = replies[0].endswith(b"ack\n") and replies[-1].endswith(b"K4 Storage\n")
-                count.holds("messages past the limit of a service", is_right, replies[-1][-80:])
-            except OSError as error:
-                count.holds("the service past its limit", False, error)
+            replies = until_refused(int(found[1]) if found else 0)
+            is_right = len(replies) > 2 and replies[-2].endswith(b"K4 Storage\n")
+            is_right = is_right and replies[-1].startswith(b"HTTP/1.1 200 OK\r\n")
+            count.holds("a service past its file's limit", is_right, replies[-2:])
             service.terminate()
             said = service.stdout.read()
         is_right = "answered K4 Storage: " in said and "The desk goes on by itself" in said
-        count.holds("its log, past its limit", is_right and service.returncode == 0, said[-300:])
+        count.holds("its log", is_right and service.returncode == 0, said)
+
+
+def until_refused(port: int) -> list[bytes]:
+    """The replies to messages until one is no acknowledgement, and to a question behind it."""
+    replies = []
+    with contextlib.suppress(OSError):
+        for number in range(200):
+            replies.append(desk.exchange(port, desk.posted(b"chat", long_request(number))))
+            if not replies[-1].endswith(b"ack\n"):
+                break
+        replies.append(desk.exchange(port, PARKED))
+    return replies
 
 
 def says_what_it_serves(count: Count, words: list[str]) -> None:

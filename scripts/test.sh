@@ -75,7 +75,8 @@ front() {
 
 pages() {
     python3 scripts/make_pages.py build/pages && python3 scripts/check_pages.py &&
-        python3 scripts/check_readme.py
+        python3 scripts/check_readme.py && python3 scripts/check_documents.py &&
+        python3 scripts/check_runbooks.py
 }
 
 package_test() {
@@ -107,7 +108,8 @@ part_with faults cc -- python3 scripts/faults.py
 part_with soak root cc visudo unshare mount prlimit setpriv -- soak
 part_with relays-test root apt-get -- bash relays/test.sh
 part_with tools-test root apt-get -- bash tools/test.sh
-part_with pages mandoc zsh -- pages
+part_with pages root mandoc zsh unshare ip visudo sudo faketime curl jq sqlite3 nginx openssl -- \
+    pages
 part_with peers nginx haproxy openssl sqlite3 -- front
 part_with package-test root dpkg-buildpackage dh lintian systemd-analyze sudo faketime unshare ip \
     nginx openssl strace -- package_test

@@ -1,0 +1,256 @@
+#!/usr/bin/env python3
+"""Runs the commands of docs/STORE.md, HTTP.md, AUDITING.md and OPERATING.md ('By hand') as they
+stand there, over build/desk or the program that DESK names, and compares what these pages say that
+they print. It needs Debian's packages sqlite3, curl, jq and sudo (visudo)."""
+
+from __future__ import annotations
+
+import os
+import re
+import signal
+import sqlite3
+import sys
+import tempfile
+from collections.abc import Iterator
+
+import desk
+import store_files
+
+PROGRAM = os.path.abspath(os.environ.get("DESK", desk.PROGRAM[0]))
+STORE = "build/desk.d/desk.db"
+OURS = f"build/desk %s examples/roster.toml examples/site.sudo {STORE} %s"
+APPROVED = desk.read("examples", "approved.messages")
+GRANT = "ann 7 db-care 20260105091500Z 20260105110000Z\n"
+
+
+class Page:
+    """A page, the folder in which it is followed, and what was found otherwise."""
+
+    def __init__(self, name: str, folder: str) -> None:
+        self.name, self.folder = name, folder
+        self.text = desk.read("docs", name)
+        self.tried = self.wrong = 0
+        os.symlink(desk.EXAMPLES, os.path.join(folder, "examples"))
+        os.mkdir(os.path.join(folder, "build"))
+        os.symlink(PROGRAM, os.path.join(folder, "build", "desk"))
+
+    def blocks(self, kind: str = "sh", heading: str | None = None) -> list[str]:
+        text = self.text if heading is None else self.text.split(f"\n## {heading}\n")[1]
+        text = text if heading is None else text.split("\n## ")[0]
+        return re.findall(rf"^```{kind}\n(.*?)^```$", text, re.MULTILINE | re.DOTALL)
+
+    def holds(self, what: str, is_right: bool, found: object = "") -> None:
+        self.tried += 1
+        if not is_right:
+            self.wrong += 1
+            print(f"docs/{self.name}, {what}: {str(found)[-600:]}", flush=True)
+
+    def says(self, *sentences: str) -> None:
+        text = " ".join(self.text.split())
+        for sentence in sentences:
+            self.holds(f"it no longer says {sentence!r}", sentence in text)
+
+    def run(self, script: str) -> desk.Run:
+        env = ["env", "LC_ALL=C", f"PATH={desk.PATH}"]
+        return desk.run([*env, "bash", "-c", f"cd {self.folder}\n{script}"], "", 120)
+
+    def out(self, script: str) -> str:
+        return self.run(script).stdout
+
+    def file(self, name: str) -> str:
+        with open(os.path.join(self.folder, name), encoding="utf-8") as file:
+            return file.read()
+
+
+def told(request: int) -> list[str]:
+    """The messages of examples/, the request first."""
+    lines = APPROVED.splitlines()
+    return [lines[request], lines[1 - request]]
+
+
+def store(page: Page) -> None:
+    first, inside, backup, tried, joined, rebuilt, compared, older = page.blocks()
+    said = page.out(first)
+    page.holds("a first desk", said.startswith("ack\nack\n") and "\nREVIEW 2026" in said, said)
+    host_file = page.out(OURS % ("print", "db1"))
+    page.holds("its file", "NOTAFTER=20260105110000Z /usr/bin/id\n" in host_file, host_file)
+    look_inside(page, inside)
+    page.run(backup)
+    page.holds("the file of a backup", page.out(tried) == host_file, page.run(tried))
+    page.holds("stores joined", page.out(joined) == "ack\nack\n", page.run(joined))
+    said = page.out(rebuilt)
+    page.holds("rebuilt", said == "ok\ndba ALL = (postgres) ALL\n", said)
+    said = page.out(compared)
+    page.holds("what a roster takes", re.search("^< ann +7 ", said, re.M) is not None, said)
+    page.holds("and why", re.search("^> ann +7 +bob +duty$", said, re.M) is not None, said)
+    old_store(page, older)
+    log_alone(page)
+
+
+def look_inside(page: Page, block: str) -> None:
+    """The second block: what sqlite3 finds, and the roster that the store records, to the byte."""
+    roster = desk.read("examples", "roster.toml")
+    lines = page.out(block).splitlines()
+    asked, approved = told(1)
+    size = str(len(roster.encode()))
+    wanted = ["ok", "2", *sorted([asked, approved]), size, asked, approved]
+    page.holds("to look inside", lines == wanted, lines)
+    page.holds("the recorded roster", page.file("build/recorded.toml") == roster)
+    page.says("printed, it would have a newline more, and be another roster: `K1`")
+    words = f"examples/site.sudo {STORE} db1"
+    ran = page.run(f"build/desk print build/recorded.toml {words}")
+    page.holds("a desk of the recorded one", ran.returncode == 0, ran)
+    printed = f"sqlite3 {STORE} 'SELECT roster FROM desk;' > build/printed.toml"
+    ran = page.run(f"{printed}; build/desk print build/printed.toml {words}")
+    page.holds("of a printed one", ran.stderr == "K1 RosterChanged\n", ran)
+
+
+def old_store(page: Page, block: str) -> None:
+    """A store of before `rebuild` is K2, and its messages come over."""
+    path = os.path.join(page.folder, "old.db")
+    with sqlite3.connect(path) as conn:
+        for table in ("desk", "messages"):
+            conn.execute(store_files.definition(table))
+        roster = desk.read("examples", "roster.toml")
+        conn.execute("INSERT INTO desk VALUES (1, 1, ?)", (roster,))
+        for line in APPROVED.splitlines():
+            conn.execute("INSERT INTO messages VALUES (?)", (line,))
+    conn.close()
+    ran = page.run("build/desk print examples/roster.toml examples/site.sudo old.db db1")
+    page.holds("an older store", ran.stderr == "K2 NotADesk\n", ran)
+    said = page.out(block)
+    page.holds("it comes over", said.split()[1:] == ["2", "ack", "ok"], said)
+
+
+def log_alone(page: Page) -> None:
+    """A store whose file is gone and whose log is there: copied away first, the two are whole; else
+    the next command empties the log."""
+    page.says("is gone, or empty, and its log is still there, copy the log away before")
+    with desk.Server(os.path.join(page.folder, "lost.db"), program=[PROGRAM]) as server:
+        for line in APPROVED.splitlines():
+            desk.exchange(server.port, desk.posted(b"chat", line.encode()))
+        server.end(signal.SIGKILL)
+    question = "build/desk print examples/roster.toml examples/site.sudo %s db1"
+    page.run("cp lost.db kept.db; cp lost.db-wal kept.db-wal; mv lost.db away.db")
+    said = page.out(question % "lost.db")
+    page.holds("without its file", said == "dba ALL = (postgres) ALL\n", said)
+    page.run("cp away.db lost.db; cp lost.db-wal late.db-wal; cp away.db late.db")
+    said = page.out(question % "late.db")
+    page.holds("the log is empty then", "ann" not in said, said)
+    said = page.out(question % "kept.db")
+    page.holds("what was copied away is whole", "\nann db1 " in said, said)
+
+
+def http(page: Page) -> None:
+    page.says("SIGHUP ends it as SIGTERM does")
+    with desk.Server(program=[PROGRAM]) as server:
+        address = f"http://{server.address}"
+        place, *asked = [it.replace("http://127.0.0.1:8080", address) for it in page.blocks()[1:]]
+        posted, request, messages, grants, parked, files, later, fetched, review = asked[:9]
+        shown = [it.replace("127.0.0.1:8080", server.address) for it in page.blocks("")]
+        page.holds("an approval", page.out(place + posted) == "ack\n", page.run(place + posted))
+        body = shown[0].split("\n\n")[1].strip()
+        sizes = re.findall(r"Content-Length: (\d+)", shown[0])
+        page.holds("the length that is shown", sizes == [str(len(body))], shown[0])
+        waits = page.out(place + parked)
+        page.holds("what waits", waits == page.file("approval.json") + "\n", waits)
+        page.holds("its reply", whole(page, place + posted) == shown[1].strip(), shown[1])
+        page.holds("a request", page.out(place + request) == "ack\n", page.run(place + request))
+        by_jq(page, place)
+        made = [told(1)[0], page.file("approval.json")]
+        said = page.out(place + messages)
+        page.holds("all messages", said == "".join(sorted(it + "\n" for it in made)), said)
+        said = page.out(place + grants)
+        page.holds("the grants", said == shown[2], said)
+        for what, block in (("the files", files), ("a file after a moment", later)):
+            said = page.out(place + block)
+            page.holds(what, said.startswith("dba ALL = (postgres) ALL\n"), said)
+        ran = page.run(place + fetched.replace("/etc/sudoers.d/desk", "fetched"))
+        page.holds("a fetch", "dba ALL" in page.file("fetched"), ran)
+        page.holds("a report", whole(page, place + review) == shown[3].strip(), shown[3])
+        refused = shown[-1].splitlines()
+        said = whole(page, place + refused[0].removeprefix("$ "))
+        page.holds("a refusal", said == "\n".join(refused[1:]).strip(), said)
+        page.holds("SIGHUP", server.end(signal.SIGHUP) == -signal.SIGHUP)
+
+
+def whole(page: Page, block: str) -> str:
+    """What curl shows of the reply with its head."""
+    return page.out(block.replace("curl ", "curl -s -i ")).replace("\r", "").strip()
+
+
+def by_jq(page: Page, place: str) -> None:
+    """The text that jq makes, as the page says, and with its newline."""
+    page.says("Where `jq` makes the text: `jq -cjS`")
+    members = '{"kind":"approve", "by":"carol", "of":"ann", "no":7, "at":"20260105084000Z"}'
+    route = '"$desk/v1/relays/chat/messages"'
+    for words, wanted in (("-cS", "M2 NotCanonical\n"), ("-cjS", "ack\n")):
+        # (a repeat of an approval that was posted: the set stays as it is)
+        by = members.replace("carol", "bob").replace("0840", "0830")
+        said = page.out(f"{place}echo '{by}' | jq {words} . | curl -s --data-binary @- {route}")
+        page.holds(f"jq {words}", said == wanted, said)
+
+
+def auditing(page: Page) -> None:
+    report, grep, every, decided, beyond, other = page.blocks()
+    said = page.out(report)
+    is_right = said.endswith("PARKED\n0\n") and re.search("^ann +7", said, re.M) is not None
+    page.holds("a report", is_right, said)
+    said = page.out(grep)
+    page.holds("who asked and approved", said == APPROVED, said)
+    said = page.out(every)
+    page.holds("all grants that were", len(re.findall("^ann +7 ", said, re.M)) >= 1, said)
+    said = page.out(decided)
+    page.holds("what a base allows", said == "dba ALL = (postgres) ALL\ndeny\n1\n", said)
+    said = page.out(beyond)
+    # (the base of examples/base.sudo gives more, to backup as well)
+    is_right = re.fullmatch(r"\S.* .*\n1\nbackup .*\n1\n", said) is not None
+    page.holds("what a change opened", is_right, said)
+    said = page.out(other)
+    page.says("The reports differ by ann's line under LIVE")
+    page.holds("ann's line", re.search("^< ann +7 ", said, re.M) is not None, said)
+    page.holds("bob's", re.search("^> ann +7 +bob +duty$", said, re.M) is not None, said)
+    page.says("`ann db1 root 20260105091500Z /usr/bin/id` and status 1")
+    page.holds("beyond", said.endswith("\nann db1 root 20260105091500Z /usr/bin/id\n1\n"), said)
+    page.says("what such a person gives is refused (`A1`)")
+    gone = desk.approval(by="zoe")
+    words = "build/desk deliver examples/roster.toml examples/site.sudo - chat"
+    said = page.out(f"echo '{gone}' | {words}")
+    page.holds("who is gone", said == "A1 UnknownPerson\n", said)
+
+
+def operating(page: Page) -> None:
+    (block,) = page.blocks(heading="By hand")
+    said = page.out(block)
+    is_right = said.startswith("ack\nack\n") and "build/db1.sudo: parsed OK\nREVIEW " in said
+    page.holds("by hand", is_right, said)
+    found = re.search(r"`(build/desk decide build/db1.sudo [^`]*)`", page.text)
+    said = page.out(found[1] if found else "false")
+    page.holds("what a file decides", said == "allow\n", said)
+    page.says("copy the log away before any command")
+
+
+def pages() -> Iterator[Page]:
+    for name, follow in (
+        ("STORE.md", store),
+        ("HTTP.md", http),
+        ("AUDITING.md", auditing),
+        ("OPERATING.md", operating),
+    ):
+        with tempfile.TemporaryDirectory() as folder:
+            page = Page(name, folder)
+            follow(page)
+            yield page
+
+
+def main() -> None:
+    for name in ("sqlite3", "curl", "jq", "visudo"):
+        desk.tool(name)
+    followed = [(page.tried, page.wrong) for page in pages()]
+    tried, wrong = (sum(each) for each in zip(*followed, strict=True))
+    print(f"the commands of the documents: {tried} checks, {wrong} wrong")
+    sys.exit(1 if wrong else 0)
+
+
+if __name__ == "__main__":
+    main()
