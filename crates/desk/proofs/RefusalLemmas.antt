@@ -1,11 +1,13 @@
 -- A keeper's error that a `?` hands on as a refusal.
 use Rattle.std.proofs.Common.{◌≡◌, ◌≢◌, ◌⊎◌, ℕ, inl, inr, Result, Ok, Err}
 use Rattle.std.specs.Prelude.{IfErr, IsErr, IsErrAnd}
+use Rattle.messages.specs.declared.fault.MessageFault.{MessageFault}
+use Rattle.messages.specs.declared.fault.MessageFault.TheVariants as faults
 use Rattle.desk_store.specs.declared.error.KeeperError.{KeeperError}
 use Rattle.desk_store.specs.declared.error.KeeperError.TheVariants as errors
 use Rattle.desk_store.specs.Serving.{IsServed}
 use Rattle.desk_store.proofs.ServingLemmas.{served_as}
-use Rattle.desk.specs.Refusals.{IsWant, refusal_of_error}
+use Rattle.desk.specs.Refusals.{IsWant, refusal_of_error, refusal_of_fault}
 use Rattle.desk.specs.declared.refusal.Refusal.{Refusal}
 use Rattle.desk.specs.declared.refusal.Refusal.TheVariants.{Storage, BaseTooLarge}
 
@@ -43,3 +45,19 @@ pub handed_on : {A B K : Type 0} {is_up is_clean : K → Type 0} {failures : K �
     → s ≡ Err error → IsErrAnd r (λ e. e ≡ refusal_of_error error) → IsServed is_up is_clean failures a b (s ≡ Err errors.Storage) (IsErr s)
     → IsServed is_up is_clean failures a b (r ≡ Err Storage) (IsErrAnd r IsWant)
 handed_on error s r was is served = served_as (r ≡ Err Storage) (IsErrAnd r IsWant) (told_storage error s r was is) (λ _. told_lack error r is) served
+
+-- a refusal that can only be one of want is one
+pub wants : {A : Type 0} (r : Result A Refusal) → IfErr r IsWant → IsErr r → IsErrAnd r IsWant
+wants (Ok x) want is = absurd cc
+wants (Err e) want is = want
+
+-- what a reader refuses is no failure of the storage
+pub no_storage : {A : Type 0} (fault : MessageFault) (r : Result A Refusal) → IsErrAnd r (λ e. e ≡ refusal_of_fault fault) → IfErr r (λ e. e ≢ Storage)
+no_storage faults.TooLong (Ok x) is = tt
+no_storage faults.NotCanonical (Ok x) is = tt
+no_storage faults.BadField (Ok x) is = tt
+no_storage faults.NoMemory (Ok x) is = tt
+no_storage faults.TooLong (Err e) is = λ storage. absurd cc
+no_storage faults.NotCanonical (Err e) is = λ storage. absurd cc
+no_storage faults.BadField (Err e) is = λ storage. absurd cc
+no_storage faults.NoMemory (Err e) is = λ storage. absurd cc

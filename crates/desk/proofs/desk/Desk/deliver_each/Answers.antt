@@ -21,7 +21,6 @@ loop-relay-init g c =
     let P : List (Result Ack Refusal) → Type 0 = λ answers. AreAnswers c.args.self.now.roster.says [] answers in
     let Q : List (Result Ack Refusal) → Type 0 = λ answers. HeldAfterAll (K.holds keeper) [] answers (K.holds keeper) in
     let R : List (Result Ack Refusal) → Type 0 = λ answers. Contains answers (Err Storage) in
-    let R : List (Result Ack Refusal) → Type 0 = λ answers. Contains answers (Err Storage) in
     let F : List (Result Ack Refusal) → Type 0 = λ answers. HaveFailed (storage_failures answers) (K.failures keeper) (K.failures keeper) in
     let none = c.requires.none in
     record {
