@@ -86,8 +86,8 @@ of_both (Ok a) P Q R each p q = each a p q
 of_both (Err e) P Q R each p q = tt
 
 -- what was given was up, where what came of it is
-pub was_up_of : {K : Type 0} {is_up is_clean : K → Type 0} {failures : K → ℕ} {k : K} (r : Result (DeskState K) (Refusal × K))
+pub was_up_of : {K : Type 0} (is_up is_clean : K → Type 0) (failures : K → ℕ) (k : K) (r : Result (DeskState K) (Refusal × K))
     → MatchResult r (λ d. IsServed is_up is_clean failures k d.keeper ⊥ ⊥) (λ x. IsServed is_up is_clean failures k x.1 (x.0 ≡ Storage) (IsWant x.0))
     → MatchResult r (λ d. is_up d.keeper → is_up k) (λ x. is_up x.1 → is_up k)
-was_up_of (Ok d) served = served.was_up
-was_up_of (Err x) served = served.was_up
+was_up_of is_up is_clean failures k (Ok d) served = served.was_up
+was_up_of is_up is_clean failures k (Err x) served = served.was_up

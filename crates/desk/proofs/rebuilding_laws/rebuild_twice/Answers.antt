@@ -22,4 +22,4 @@ returns-in-Ok-clause-keeps g c =
     rebuilt_twice (K.is_empty before) (K.is_desk before) (K.is_old before) (K.is_empty k) (K.is_desk k) (K.is_old k) (K.holds before) (K.holds between) (K.holds k) (K.holds d.keeper)
     (c.into_keeper.ensures.desk (was up)) (c.in-Ok.ensures.keeps there) same (keeps up))
     c.rebuild-in-Ok.ensures.keeps
-    (was_up_of c.rebuild-in-Ok.result c.rebuild-in-Ok.ensures.served)
+    (was_up_of _ _ _ _ c.rebuild-in-Ok.result c.rebuild-in-Ok.ensures.served)
