@@ -2,7 +2,7 @@ use Rattle.std.proofs.Common.{subst}
 use Rattle.desk_tables.specs.Sets.{SameSet}
 use Rattle.desk.specs.Rebuilding.{Rebuilds}
 use Rattle.desk.proofs.RebuildingLemmas.{rebuilt_twice}
-use Rattle.desk.proofs.RestartLemmas.{of_opened, set_of_same}
+use Rattle.desk.proofs.RestartLemmas.{of_opened, set_of_same, was_up_of}
 use Rattle.desk.proofs.rebuilding_laws.rebuild_twice.Goals as goal
 
 pub returns-in-Ok-clause-keeps : goal.returns-in-Ok-clause-keeps
@@ -22,4 +22,4 @@ returns-in-Ok-clause-keeps g c =
     rebuilt_twice (K.is_empty before) (K.is_desk before) (K.is_old before) (K.is_empty k) (K.is_desk k) (K.is_old k) (K.holds before) (K.holds between) (K.holds k) (K.holds d.keeper)
     (c.into_keeper.ensures.desk (was up)) (c.in-Ok.ensures.keeps there) same (keeps up))
     c.rebuild-in-Ok.ensures.keeps
-    c.rebuild-in-Ok.ensures.was_up
+    (was_up_of _ _ _ _ c.rebuild-in-Ok.result c.rebuild-in-Ok.ensures.served)

@@ -3,7 +3,7 @@ use Rattle.sudo_policy.specs.declared.entry.Entry.{Entry}
 use Rattle.roster.specs.Fields.{Reading}
 use Rattle.desk_store.specs.Keeping.{HasFailed}
 use Rattle.desk_store.specs.Sets.{SameSet}
-use Rattle.desk.proofs.ServingLemmas.{failed_later}
+use Rattle.desk_store.proofs.ServingLemmas.{failed_later}
 use Rattle.desk_commands.specs.Reviewing.{ReviewsDesk}
 use Rattle.desk_commands.specs.Taking.{HeldWith, Takes}
 use Rattle.desk_commands.proofs.PrintLemmas.{reviews, wants_end_report}
@@ -27,7 +27,7 @@ returns-in-Ok-clause-found g c =
     subst (λ (r : Reading). K.is_up mid.keeper → SameSet (HeldWith r.says taking.0 (K.holds old.keeper)) (K.holds mid.keeper)) (sym same_roster) taking.4 in
     let of_mid = reviews mid.roster.says mid.base c.args.store.now input (K.holds old.keeper) (K.holds mid.keeper) (K.holds new.keeper)
     (K.is_up new.keeper × K.is_desk new.keeper) (K.is_up new.keeper) (K.is_up mid.keeper) taking.0 taking.1 taken held c.args.at
-    (string_bytes c.in-Ok.text) (λ known. known.0) c.report.ensures.was_up
+    (string_bytes c.in-Ok.text) (λ known. known.0) c.report.ensures.served.was_up
     (λ set up lists. c.in-Ok.ensures.report set up lists)
     (λ known. let same = c.report.ensures.unchanged known.0 in
     laws.stays_set mid.keeper new.keeper same (laws.stays_desk new.keeper mid.keeper (laws.same_back mid.keeper new.keeper same) known.1)) in (
@@ -42,4 +42,4 @@ returns-in-Ok-clause-found g c =
 pub returns-in-Err-clause-cause : goal.returns-in-Err-clause-cause
 returns-in-Err-clause-cause g c =
     wants_end_report c.args.store.now (HasFailed (g.K.Keeper.failures c.args.desk.now.keeper) (g.K.Keeper.failures c.report.new.desk.keeper)) c.in-Err.refusal c.in-Err.ensures.err
-    (λ storage. failed_later _ _ _ c.take_input.ensures.served.counts (c.report.ensures.cause (c.in-Err.is ∙ ap Err storage)))
+    (λ storage. failed_later _ _ _ c.take_input.ensures.served.counts (c.report.ensures.served.cause (c.in-Err.is ∙ ap Err storage)))
