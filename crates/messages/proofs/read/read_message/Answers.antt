@@ -22,11 +22,11 @@ returns-in-Some-clause-only c = λ m h same short.
 pub returns-in_err-canonical-clause-only : goal.returns-in_err-canonical-clause-only
 returns-in_err-canonical-clause-only c = λ m h same short.
     let value = value_read m c.args.body.now (view c.in_ok-value.value) h same c.in_ok-value.ensures.ok.1 in
-    let none : None ≡ Some m = sym c.in-None.is ∙ c.in_ok-message.ensures.only m h value same in
+    let none : None ≡ Some m = sym c.in_default.is ∙ c.in_ok-message.ensures.only m h value same in
     absurd cc
 
 pub returns-clause-only : goal.returns-clause-only
 returns-clause-only c = λ m h same short.
     let value = value_read m c.args.body.now (view c.in_ok-value.value) h same c.in_ok-value.ensures.ok.1 in
-    let none : None ≡ Some m = sym c.in-None.is ∙ c.in_ok-message.ensures.only m h value same in
+    let none : None ≡ Some m = sym c.in_default.is ∙ c.in_ok-message.ensures.only m h value same in
     absurd cc
