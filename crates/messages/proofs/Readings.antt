@@ -243,7 +243,7 @@ text_of_message (Request r) h = canonical_from_said (request_value r) (request_t
 text_of_message (Verdict v) h = canonical_from_said (verdict_value v) (verdict_text v) (said_answered v h)
 
 -- what a message's text reads as is the message's value
-pub value_read : (m : Message) (body : List ℕ) (value : Data) → IsMessage m → body ≡ wire m → IsTextOf body value → value ≡ value_of m
-value_read m body value h same text =
-    let both : Some value ≡ Some (value_of m) = sym text.reads ∙ ap read same ∙ (text_of_message m h).reads in
+pub value_read : (m : Message) (body : List ℕ) (value : Data) → IsMessage m → body ≡ wire m → read body ≡ Some value → value ≡ value_of m
+value_read m body value h same reads =
+    let both : Some value ≡ Some (value_of m) = sym reads ∙ ap read same ∙ (text_of_message m h).reads in
     cc
