@@ -146,6 +146,11 @@ def roster(people, needs=1, commands='["/opt/x"]', conflicts='[["approve", "audi
     )
 
 
+def entry(first, last):
+    return f'{{ duty = "ask", from = "{first}", until = "{last}" }}'
+
+
+OWN = ", and the asker's own approval does not count"
 ROTATION = (
     'bob = [{ duty = "approve", from = "20260201", until = "20260207" }]\nkim = [{ duty = "approve", from = "20260208", until = "20260214" }]\n'
 )
@@ -156,20 +161,20 @@ SOUND = 'ann = ["ask"]\nbob = ["approve"]\ndave = ["audit"]'
     ("text", "said"),
     [
         (roster(SOUND), []),
-        (roster(SOUND, needs=2), ["approvers: nobody can get 2 approvals: only bob may approve, and the asker's own approval does not count"]),
-        (roster('ann = ["ask", "approve"]\ndave = ["audit"]'), ["approvers: nobody can get 1 approval: only ann may approve, and the asker's own approval does not count"]),
+        (roster(SOUND, needs=2), ["approvers: nobody can get 2 approvals: only bob may approve" + OWN]),
+        (roster('ann = ["ask", "approve"]\ndave = ["audit"]'), ["approvers: nobody can get 1 approval: only ann may approve" + OWN]),
         (
             roster('ann = ["ask", "approve"]\nbob = ["ask"]\ndave = ["audit"]'),
-            ["approvers: ann cannot get 1 approval: only ann may approve, and the asker's own approval does not count"],
+            ["approvers: ann cannot get 1 approval: only ann may approve" + OWN],
         ),
         (roster('bob = ["approve"]\ndave = ["audit"]'), ["duty: nobody holds ask", "approvers: nobody holds ask, so nobody may ask under it"]),
         (
             roster('ann = ["ask"]\nbob = [{ duty = "approve", from = "20260101", until = "20260630" }]\ndave = ["audit"]'),
-            ["approvers: from 20260701 on: nobody can get 1 approval: nobody may approve, and the asker's own approval does not count"],
+            ["approvers: from 20260701 on: nobody can get 1 approval: nobody may approve" + OWN],
         ),
         (
             roster('ann = ["ask"]\nbob = ["approve", { duty = "audit", from = "20260801", until = "20260810" }]\ndave = ["audit"]'),
-            ["approvers: from 20260801 to 20260810: nobody can get 1 approval: nobody may approve, and the asker's own approval does not count"],
+            ["approvers: from 20260801 to 20260810: nobody can get 1 approval: nobody may approve" + OWN],
         ),
         (roster(f'{SOUND}\neve = ["approve", "audit"]'), ["conflict: an approval as approve never counts: audit conflicts with it on each of its days"]),
         (roster(f'{SOUND}\neve = ["approve", {{ duty = "audit", from = "20270101", until = "20270102" }}]'), []),
@@ -184,23 +189,23 @@ SOUND = 'ann = ["ask"]\nbob = ["approve"]\ndave = ["audit"]'
         # a rotation that runs out: all its days, in one line
         (
             roster('ann = ["ask"]\n' + ROTATION + 'dave = ["audit"]'),
-            ["approvers: up to 20260131 and from 20260215 on: nobody can get 1 approval: nobody may approve, and the asker's own approval does not count"],
+            ["approvers: up to 20260131 and from 20260215 on: nobody can get 1 approval: nobody may approve" + OWN],
         ),
         (
             roster('ann = ["ask"]\n' + ROTATION + 'dave = ["audit", "approve"]', needs=3, conflicts="[]"),
-            ["approvers: nobody can get 3 approvals: only dave may approve on the first of these days, and the asker's own approval does not count"],
+            ["approvers: nobody can get 3 approvals: only dave may approve on the first of these days" + OWN],
         ),
         # an entry that does not end the duty, or adds nothing to it
         (
-            roster(f'{SOUND}\neve = ["ask", {{ duty = "ask", from = "20260101", until = "20261231" }}]'),
+            roster(f'{SOUND}\neve = ["ask", {entry("20260101", "20261231")}]'),
             ["days: these days change nothing: item 1 gives ask without days, so it is always held"],
         ),
         (
-            roster(f'{SOUND}\neve = [{{ duty = "ask", from = "20260201", until = "20260301" }}, {{ duty = "ask", from = "20260101", until = "20261231" }}]'),
+            roster(f'{SOUND}\neve = [{entry("20260201", "20260301")}, {entry("20260101", "20261231")}]'),
             ["days: these days change nothing: item 2 gives ask from 20260101 to 20261231"],
         ),
         (
-            roster(f'{SOUND}\neve = [{{ duty = "ask", from = "20260101", until = "20260301" }}, {{ duty = "ask", from = "20260201", until = "20261231" }}]'),
+            roster(f'{SOUND}\neve = [{entry("20260101", "20260301")}, {entry("20260201", "20261231")}]'),
             [],
         ),
         # a directory without its slash
