@@ -3,6 +3,7 @@
 import json
 import os
 import re
+import subprocess
 
 import pytest
 
@@ -137,6 +138,17 @@ def test_the_example_has_warnings_alone(lint):
     assert lint("--strict", ROSTER).returncode == 1
     assert re.search(r"roster.toml:7: warning: .*no ceiling has web1", ran.stdout)
     assert re.search(r"roster.toml:21: warning: people.eve: .*audit conflicts", ran.stdout)
+
+
+def test_the_team_takes_turns_that_run_out(lint, desk):
+    """The desk reads the roster of a team, and all that is said of it is when the on-call weeks end."""
+    team = os.path.join(EXAMPLES, "team.toml")
+    said = "warning: ceilings.emergency: from 20260216 on: nobody holds on-call, so nobody may ask under it"
+    ran = lint("--on", "20260105", team)
+    assert (ran.returncode, ran.stdout) == (0, f"{team}:48: {said}\n")
+    words = [desk, "print", team, os.path.join(EXAMPLES, "site.sudo"), "-", "web1"]
+    ran = subprocess.run(words, stdin=subprocess.DEVNULL, capture_output=True, text=True, check=False)
+    assert (ran.returncode, ran.stdout, ran.stderr) == (0, "dba ALL = (postgres) ALL\n", "")
 
 
 def roster(people, needs=1, commands='["/opt/x"]', conflicts='[["approve", "audit"]]', hosts='["db1"]', duties='["approve", "audit", "ask"]'):
