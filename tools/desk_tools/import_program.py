@@ -37,7 +37,7 @@ def program(said: str | None) -> str:
     for path in (said,) if said else (shutil.which("desk"), os.path.join(HERE, "..", "..", "build", "desk")):
         if path and os.path.exists(path):
             return path
-    raise Failed("it needs the program desk: --desk PROGRAM")
+    raise Failed(f"there is no program {said}" if said else "it needs the program desk: --desk PROGRAM")
 
 
 def checked(desk: str, text: str) -> str:
@@ -87,8 +87,10 @@ def main(words: list[str]) -> int:
     said = parser().parse_args(words)
     try:
         return imported(said)
-    except (BadSudoers, Failed, OSError) as fault:
+    except (BadSudoers, Failed) as fault:
         print(f"desk-import: {fault}", file=sys.stderr)
+    except OSError as fault:
+        print(f"desk-import: {fault.filename}: {fault.strerror}", file=sys.stderr)
     except NoJsonschema:
         print("desk-import: it needs Debian's package python3-jsonschema", file=sys.stderr)
     return FAILED

@@ -42,6 +42,7 @@ HARMLESS = {
     "log_output": "LOG_OUTPUT is left out: keep `Defaults log_output` in the host's own sudoers",
 }
 HOLDS_BACK = {"noexec", "intercept", "targetpw", "rootpw", "runaspw", "requiretty", "use_pty", "env_reset", "secure_path", "env_check", "env_delete"}
+MARK = "\ufeff"
 KEEP = "a Defaults line gives no right: keep it in the host's own /etc/sudoers"
 HOLD = "it holds back what commands may do: keep it in the host's own /etc/sudoers, else the rules below give more than they did"
 
@@ -75,6 +76,15 @@ def members(group: str) -> tuple[str, ...] | None:
 def fits(form: str, text: str) -> bool:
     """Whether the text has a form of the published schema."""
     return schema.whole(schema.validator("message").schema["$defs"][form]["pattern"]).search(text) is not None
+
+
+def why_no_name(name: str) -> str:
+    """Why no user of the desk has a name."""
+    if not name:
+        return "an empty target cannot be said: name the target"
+    if name.startswith(MARK):
+        return "a byte order mark stands before it, which sudo takes for a part of the name: save the file without one"
+    return "no user of the desk has such a name: it has lower-case letters, digits and . _ - alone, up to 32 bytes"
 
 
 def hosts_of(text: str) -> list[tuple[str, list[str]]]:
@@ -165,7 +175,7 @@ class Import:
             name = item["username"]
             if name == "ALL" or fits("name", name):
                 return [name]
-            self.note(place, name or "()", "no user of the desk has such a name" if name else "an empty target cannot be said: name the target")
+            self.note(place, name.removeprefix(MARK) or "()", why_no_name(name))
             return None
         if "usergroup" in item or "usergid" in item:
             group = str(item.get("usergroup", item.get("usergid")))
@@ -370,7 +380,8 @@ class Import:
             if words.is_cut:
                 self.note(place, what, "a denial of them cannot be said: those named before it are left out", is_left_out=False)
             if words.is_exact and words.items and not words.says_yes():
-                self.note(place, what, f"a list of denials alone ({words}) means nobody, to sudo as well: begin it with ALL if that is meant", is_left_out=False)
+                said = f"a list of denials alone ({words}) means nobody, to sudo as well: begin it with ALL if that is meant"
+                self.note(place, what, said, is_left_out=False)
 
     def written_out(self, alias: str, sign: bool, above: tuple[str, ...] = ()) -> Iterator[tuple[bool, dict[str, Any]]]:
         """The commands of an alias and of those that it names, each with its sign."""

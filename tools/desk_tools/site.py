@@ -5,7 +5,7 @@ from typing import Any, NamedTuple
 
 FIRST, LAST = "19700101", "20991231"
 # last components that are directories everywhere (hier(7))
-FOLDERS = {"bin", "boot", "etc", "games", "home", "include", "lib", "lib32", "lib64", "libexec", "local", "opt", "sbin", "share", "src", "srv", "tmp", "usr", "var"}
+FOLDERS = set("bin boot etc games home include lib lib32 lib64 libexec local opt sbin share src srv tmp usr var".split())
 
 
 class Command(NamedTuple):

@@ -120,15 +120,26 @@ ann ALL = \\
 
 
 NOTES = [
+    ("Ann ALL = /bin/ls\n", "sudoers:1: left out: Ann: no user of the desk has such a name: it has lower-case letters, digits and . _ - alone, up to 32 bytes"),
+    (
+        "\ufeffann ALL = /bin/ls\n",
+        "sudoers:1: left out: ann: a byte order mark stands before it, which sudo takes for a part of the name: save the file without one",
+    ),
     # whoever a denial cannot name, it denies to all; whoever an exception cannot name, those before it lose the right
     ("ann ALL = ALL\n+net ALL = !/bin/ls\n", "sudoers:2: note: users: what cannot be said of them became ALL: the rule denies more than it did"),
     ("ann ALL = ALL\nann 10.0.0.1 = !/bin/ls\n", "sudoers:2: note: hosts: what cannot be said of them became ALL: the rule denies more than it did"),
     ("ALL, !+net, bob ALL = /bin/ls\n", "sudoers:1: note: users: a denial of them cannot be said: those named before it are left out"),
     # a rule that gives nothing in sudo either, and what was surely meant
     ("ann !db1 = /bin/ls\n", "sudoers:1: note: hosts: a list of denials alone (!db1) means nobody, to sudo as well: begin it with ALL if that is meant"),
-    ("ann ALL = /usr/local/sbin\n", "sudoers:1: note: /usr/local/sbin: a file by its form, and a directory by its name: with no / at its end it allows nothing in /usr/local/sbin/"),
-    ("Cmnd_Alias C = /opt, /bin/ls\n", "sudoers:1: note: /opt: a file by its form, and a directory by its name: with no / at its end it allows nothing in /opt/"),
-    ("User_Alias A = ann, +net\nA ALL = /bin/ls\n", "sudoers:1: note: A: a part of its list cannot be said, so the alias is not kept: the rest stands where it is used"),
+    (
+        "ann ALL = /usr/sbin\n",
+        "sudoers:1: note: /usr/sbin: a file by its form, and a directory by its name: with no / at its end it allows nothing in /usr/sbin/",
+    ),
+    ("Cmnd_Alias C = /opt\n", "sudoers:1: note: /opt: a file by its form, and a directory by its name: with no / at its end it allows nothing in /opt/"),
+    (
+        "User_Alias A = ann, +net\nA ALL = /bin/ls\n",
+        "sudoers:1: note: A: a part of its list cannot be said, so the alias is not kept: the rest stands where it is used",
+    ),
 ]
 
 
@@ -182,6 +193,8 @@ def test_included_files(made, tmp_path):
 def test_failures(made, imports, desk, tmp_path):
     assert made("ann ALL = \n", status=2)[1][0].startswith("desk-import: sudo cannot read it: ")
     assert imports("--desk", desk, str(tmp_path / "none")).returncode == 2
+    assert made("ann ALL = /bin/ls\n", "--host-list", "none", status=2)[1] == ["desk-import: none: No such file or directory"]
+    assert made("ann ALL = /bin/ls\n", "--desk", "/none", status=2)[1] == ["desk-import: there is no program /none"]
     assert made("ann ALL = /bin/ls\n", status=0)[1] == ["1 entry; 0 things are left out"]
 
 

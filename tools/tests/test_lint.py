@@ -3,6 +3,7 @@
 import json
 import os
 import re
+import subprocess
 
 import pytest
 
@@ -139,6 +140,17 @@ def test_the_example_has_warnings_alone(lint):
     assert re.search(r"roster.toml:21: warning: people.eve: .*audit conflicts", ran.stdout)
 
 
+def test_the_team_takes_turns_that_run_out(lint, desk):
+    """The desk reads the roster of a team, and all that is said of it is when the on-call weeks end."""
+    team = os.path.join(EXAMPLES, "team.toml")
+    said = "warning: ceilings.emergency: from 20260216 on: nobody holds on-call, so nobody may ask under it"
+    ran = lint("--on", "20260105", team)
+    assert (ran.returncode, ran.stdout) == (0, f"{team}:48: {said}\n")
+    words = [desk, "print", team, os.path.join(EXAMPLES, "site.sudo"), "-", "web1"]
+    ran = subprocess.run(words, stdin=subprocess.DEVNULL, capture_output=True, text=True, check=False)
+    assert (ran.returncode, ran.stdout, ran.stderr) == (0, "dba ALL = (postgres) ALL\n", "")
+
+
 def roster(people, needs=1, commands='["/opt/x"]', conflicts='[["approve", "audit"]]', hosts='["db1"]', duties='["approve", "audit", "ask"]'):
     return (
         f'relays = ["chat"]\nhosts = {hosts}\nduties = {duties}\nconflicts = {conflicts}\n[people]\n{people}\n'
@@ -146,6 +158,11 @@ def roster(people, needs=1, commands='["/opt/x"]', conflicts='[["approve", "audi
     )
 
 
+def entry(first, last):
+    return f'{{ duty = "ask", from = "{first}", until = "{last}" }}'
+
+
+OWN = ", and the asker's own approval does not count"
 ROTATION = (
     'bob = [{ duty = "approve", from = "20260201", until = "20260207" }]\nkim = [{ duty = "approve", from = "20260208", until = "20260214" }]\n'
 )
@@ -156,20 +173,20 @@ SOUND = 'ann = ["ask"]\nbob = ["approve"]\ndave = ["audit"]'
     ("text", "said"),
     [
         (roster(SOUND), []),
-        (roster(SOUND, needs=2), ["approvers: nobody can get 2 approvals: only bob may approve, and the asker's own approval does not count"]),
-        (roster('ann = ["ask", "approve"]\ndave = ["audit"]'), ["approvers: nobody can get 1 approval: only ann may approve, and the asker's own approval does not count"]),
+        (roster(SOUND, needs=2), ["approvers: nobody can get 2 approvals: only bob may approve" + OWN]),
+        (roster('ann = ["ask", "approve"]\ndave = ["audit"]'), ["approvers: nobody can get 1 approval: only ann may approve" + OWN]),
         (
             roster('ann = ["ask", "approve"]\nbob = ["ask"]\ndave = ["audit"]'),
-            ["approvers: ann cannot get 1 approval: only ann may approve, and the asker's own approval does not count"],
+            ["approvers: ann cannot get 1 approval: only ann may approve" + OWN],
         ),
         (roster('bob = ["approve"]\ndave = ["audit"]'), ["duty: nobody holds ask", "approvers: nobody holds ask, so nobody may ask under it"]),
         (
             roster('ann = ["ask"]\nbob = [{ duty = "approve", from = "20260101", until = "20260630" }]\ndave = ["audit"]'),
-            ["approvers: from 20260701 on: nobody can get 1 approval: nobody may approve, and the asker's own approval does not count"],
+            ["approvers: from 20260701 on: nobody can get 1 approval: nobody may approve" + OWN],
         ),
         (
             roster('ann = ["ask"]\nbob = ["approve", { duty = "audit", from = "20260801", until = "20260810" }]\ndave = ["audit"]'),
-            ["approvers: from 20260801 to 20260810: nobody can get 1 approval: nobody may approve, and the asker's own approval does not count"],
+            ["approvers: from 20260801 to 20260810: nobody can get 1 approval: nobody may approve" + OWN],
         ),
         (roster(f'{SOUND}\neve = ["approve", "audit"]'), ["conflict: an approval as approve never counts: audit conflicts with it on each of its days"]),
         (roster(f'{SOUND}\neve = ["approve", {{ duty = "audit", from = "20270101", until = "20270102" }}]'), []),
@@ -184,23 +201,23 @@ SOUND = 'ann = ["ask"]\nbob = ["approve"]\ndave = ["audit"]'
         # a rotation that runs out: all its days, in one line
         (
             roster('ann = ["ask"]\n' + ROTATION + 'dave = ["audit"]'),
-            ["approvers: up to 20260131 and from 20260215 on: nobody can get 1 approval: nobody may approve, and the asker's own approval does not count"],
+            ["approvers: up to 20260131 and from 20260215 on: nobody can get 1 approval: nobody may approve" + OWN],
         ),
         (
             roster('ann = ["ask"]\n' + ROTATION + 'dave = ["audit", "approve"]', needs=3, conflicts="[]"),
-            ["approvers: nobody can get 3 approvals: only dave may approve on the first of these days, and the asker's own approval does not count"],
+            ["approvers: nobody can get 3 approvals: only dave may approve on the first of these days" + OWN],
         ),
         # an entry that does not end the duty, or adds nothing to it
         (
-            roster(f'{SOUND}\neve = ["ask", {{ duty = "ask", from = "20260101", until = "20261231" }}]'),
+            roster(f'{SOUND}\neve = ["ask", {entry("20260101", "20261231")}]'),
             ["days: these days change nothing: item 1 gives ask without days, so it is always held"],
         ),
         (
-            roster(f'{SOUND}\neve = [{{ duty = "ask", from = "20260201", until = "20260301" }}, {{ duty = "ask", from = "20260101", until = "20261231" }}]'),
+            roster(f'{SOUND}\neve = [{entry("20260201", "20260301")}, {entry("20260101", "20261231")}]'),
             ["days: these days change nothing: item 2 gives ask from 20260101 to 20261231"],
         ),
         (
-            roster(f'{SOUND}\neve = [{{ duty = "ask", from = "20260101", until = "20260301" }}, {{ duty = "ask", from = "20260201", until = "20261231" }}]'),
+            roster(f'{SOUND}\neve = [{entry("20260101", "20260301")}, {entry("20260201", "20261231")}]'),
             [],
         ),
         # a directory without its slash
