@@ -85,6 +85,7 @@ def store(page: Page) -> None:
     page.holds("and why", re.search("^> ann +7 +bob +duty$", said, re.M) is not None, said)
     old_store(page, older)
     log_alone(page)
+    page.says("**`K4` does not**: the commit failed, and the message may be there")
 
 
 def look_inside(page: Page, block: str) -> None:
@@ -142,7 +143,11 @@ def log_alone(page: Page) -> None:
 
 
 def http(page: Page) -> None:
-    page.says("SIGHUP ends it as SIGTERM does")
+    page.says(
+        "SIGHUP ends it as SIGTERM does",
+        "**`K4` to a POST says only that the message is not acknowledged**",
+        "haproxy with `option http-buffer-request`, caddy with `request_buffers",
+    )
     with desk.Server(program=[PROGRAM]) as server:
         address = f"http://{server.address}"
         place, *asked = [it.replace("http://127.0.0.1:8080", address) for it in page.blocks()[1:]]
@@ -212,7 +217,10 @@ def auditing(page: Page) -> None:
     page.holds("bob's", re.search("^> ann +7 +bob +duty$", said, re.M) is not None, said)
     page.says("`ann db1 root 20260105091500Z /usr/bin/id` and status 1")
     page.holds("beyond", said.endswith("\nann db1 root 20260105091500Z /usr/bin/id\n1\n"), said)
-    page.says("what such a person gives is refused (`A1`)")
+    page.says(
+        "what such a person gives is refused (`A1`)",
+        "On which hosts and with which commands stands in the request",
+    )
     gone = desk.approval(by="zoe")
     words = "build/desk deliver examples/roster.toml examples/site.sudo - chat"
     said = page.out(f"echo '{gone}' | {words}")
