@@ -37,7 +37,8 @@ class Page:
     def blocks(self, kind: str = "sh", heading: str | None = None) -> list[str]:
         text = self.text if heading is None else self.text.split(f"\n## {heading}\n")[1]
         text = text if heading is None else text.split("\n## ")[0]
-        return re.findall(rf"^```{kind}\n(.*?)^```$", text, re.MULTILINE | re.DOTALL)
+        found = re.findall(r"^```(\w*)\n(.*?)^```$", text, re.MULTILINE | re.DOTALL)
+        return [block for its_kind, block in found if its_kind == kind]
 
     def holds(self, what: str, is_right: bool, found: object = "") -> None:
         self.tried += 1
@@ -173,8 +174,8 @@ def http(page: Page) -> None:
         ran = page.run(place + fetched.replace("/etc/sudoers.d/desk", "fetched"))
         page.holds("a fetch", "dba ALL" in page.file("fetched"), ran)
         page.holds("a report", whole(page, place + review) == shown[3].strip(), shown[3])
-        refused = shown[-1].splitlines()
-        said = whole(page, place + refused[0].removeprefix("$ "))
+        refused = next(it for it in asked if it.startswith("$ ")).splitlines()
+        said = whole(page, place + refused[0].removeprefix("$ ").replace(" -i ", " "))
         page.holds("a refusal", said == "\n".join(refused[1:]).strip(), said)
         page.holds("SIGHUP", server.end(signal.SIGHUP) == -signal.SIGHUP)
 
