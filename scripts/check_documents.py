@@ -18,6 +18,7 @@ import store_files
 
 PROGRAM = os.path.abspath(os.environ.get("DESK", desk.PROGRAM[0]))
 STORE = "build/desk.d/desk.db"
+PATIENCE = 600  # the seconds after which something hangs: the machine may be busy
 OURS = f"build/desk %s examples/roster.toml examples/site.sudo {STORE} %s"
 APPROVED = desk.read("examples", "approved.messages")
 GRANT = "ann 7 db-care 20260105091500Z 20260105110000Z\n"
@@ -53,7 +54,7 @@ class Page:
 
     def run(self, script: str) -> desk.Run:
         env = ["env", "LC_ALL=C", f"PATH={desk.PATH}"]
-        return desk.run([*env, "bash", "-c", f"cd {self.folder}\n{script}"], "", 120)
+        return desk.run([*env, "bash", "-c", f"cd {self.folder}\n{script}"], "", PATIENCE)
 
     def out(self, script: str) -> str:
         return self.run(script).stdout

@@ -452,7 +452,9 @@ def prepare(room: Room) -> None:
     os.makedirs(room.path("/etc/nginx/conf.d"), exist_ok=True)
     room.write("/etc/nginx/conf.d/desk.conf", conf)
     room.write("/etc/hosts", f"127.0.0.1 localhost desk.example {socket.gethostname()}\n")
-    room.run("useradd --system desk; useradd ann; id desk")
+    for name, source in zip(FILES, (desk.ROSTER, desk.BASE), strict=True):
+        shutil.copy(source, room.path(name))
+    room.run("useradd --system desk; useradd ann")
 
 
 def inside() -> None:
