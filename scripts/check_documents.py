@@ -18,6 +18,7 @@ import store_files
 
 PROGRAM = os.path.abspath(os.environ.get("DESK", desk.PROGRAM[0]))
 STORE = "build/desk.d/desk.db"
+PATIENCE = 600  # the seconds after which something hangs: the machine may be busy
 OURS = f"build/desk %s examples/roster.toml examples/site.sudo {STORE} %s"
 APPROVED = desk.read("examples", "approved.messages")
 GRANT = "ann 7 db-care 20260105091500Z 20260105110000Z\n"
@@ -37,7 +38,8 @@ class Page:
     def blocks(self, kind: str = "sh", heading: str | None = None) -> list[str]:
         text = self.text if heading is None else self.text.split(f"\n## {heading}\n")[1]
         text = text if heading is None else text.split("\n## ")[0]
-        return re.findall(rf"^```{kind}\n(.*?)^```$", text, re.MULTILINE | re.DOTALL)
+        found = re.findall(r"^```(\w*)\n(.*?)^```$", text, re.MULTILINE | re.DOTALL)
+        return [block for its_kind, block in found if its_kind == kind]
 
     def holds(self, what: str, is_right: bool, found: object = "") -> None:
         self.tried += 1
@@ -52,7 +54,7 @@ class Page:
 
     def run(self, script: str) -> desk.Run:
         env = ["env", "LC_ALL=C", f"PATH={desk.PATH}"]
-        return desk.run([*env, "bash", "-c", f"cd {self.folder}\n{script}"], "", 120)
+        return desk.run([*env, "bash", "-c", f"cd {self.folder}\n{script}"], "", PATIENCE)
 
     def out(self, script: str) -> str:
         return self.run(script).stdout
@@ -85,6 +87,7 @@ def store(page: Page) -> None:
     page.holds("and why", re.search("^> ann +7 +bob +duty$", said, re.M) is not None, said)
     old_store(page, older)
     log_alone(page)
+    page.says("**`K4` does not**: the commit failed, and the message may be there")
 
 
 def look_inside(page: Page, block: str) -> None:
@@ -142,7 +145,11 @@ def log_alone(page: Page) -> None:
 
 
 def http(page: Page) -> None:
-    page.says("SIGHUP ends it as SIGTERM does")
+    page.says(
+        "SIGHUP ends it as SIGTERM does",
+        "**`K4` to a POST says only that the message is not acknowledged**",
+        "haproxy with `option http-buffer-request`, caddy with `request_buffers",
+    )
     with desk.Server(program=[PROGRAM]) as server:
         address = f"http://{server.address}"
         place, *asked = [it.replace("http://127.0.0.1:8080", address) for it in page.blocks()[1:]]
@@ -168,8 +175,8 @@ def http(page: Page) -> None:
         ran = page.run(place + fetched.replace("/etc/sudoers.d/desk", "fetched"))
         page.holds("a fetch", "dba ALL" in page.file("fetched"), ran)
         page.holds("a report", whole(page, place + review) == shown[3].strip(), shown[3])
-        refused = shown[-1].splitlines()
-        said = whole(page, place + refused[0].removeprefix("$ "))
+        refused = next(it for it in asked if it.startswith("$ ")).splitlines()
+        said = whole(page, place + refused[0].removeprefix("$ ").replace(" -i ", " "))
         page.holds("a refusal", said == "\n".join(refused[1:]).strip(), said)
         page.holds("SIGHUP", server.end(signal.SIGHUP) == -signal.SIGHUP)
 
@@ -212,7 +219,10 @@ def auditing(page: Page) -> None:
     page.holds("bob's", re.search("^> ann +7 +bob +duty$", said, re.M) is not None, said)
     page.says("`ann db1 root 20260105091500Z /usr/bin/id` and status 1")
     page.holds("beyond", said.endswith("\nann db1 root 20260105091500Z /usr/bin/id\n1\n"), said)
-    page.says("what such a person gives is refused (`A1`)")
+    page.says(
+        "what such a person gives is refused (`A1`)",
+        "On which hosts and with which commands stands in the request",
+    )
     gone = desk.approval(by="zoe")
     words = "build/desk deliver examples/roster.toml examples/site.sudo - chat"
     said = page.out(f"echo '{gone}' | {words}")

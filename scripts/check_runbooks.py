@@ -29,6 +29,7 @@ BOOK = "/runbooks"  # the folder of the stand-ins
 HERE = "/var/lib/desk"
 PATH = f"{BOOK}:/usr/local/bin:/usr/sbin:/usr/bin:/sbin:/bin"
 HOUR = 3_600
+PATIENCE = 600  # the seconds after which something hangs: the machine may be busy
 FILES = ("/etc/desk/roster.toml", "/etc/desk/base.sudo")
 URL = "http://127.0.0.1:8080"
 STAND_INS = {
@@ -40,7 +41,7 @@ runs() { case $(state "$1") in '' | Z) return 1 ;; esac; }
 stop() {
     [ -e "$pid" ] || return 0
     kill -TERM "$(cat "$pid")"
-    for _ in $(seq 200); do runs "$(cat "$pid")" || break; sleep 0.05; done
+    for _ in $(seq 1200); do runs "$(cat "$pid")" || break; sleep 0.1; done
     rm "$pid"
 }
 start() {
@@ -48,10 +49,10 @@ start() {
     setsid setpriv --reuid desk --regid desk --clear-groups env "PATH=$PATH" \\
         "STORE=$STORE" "ADDR=$ADDR" /usr/local/bin/desk-serve > "$log" 2>&1 < /dev/null &
     echo $! > "$pid"
-    for _ in $(seq 200); do
+    for _ in $(seq 1200); do
         grep -q 'listening at' "$log" && return 0
         runs "$(cat "$pid")" || break
-        sleep 0.05
+        sleep 0.1
     done
     cat "$log" >&2
     return 1
@@ -128,7 +129,7 @@ class Room:
         held = {"PATH": PATH, "LC_ALL": "C", "TZ": "UTC", "HOME": "/root", **more}
         given = [f"{name}={value}" for name, value in held.items()]
         words = ["chroot", self.root, "env", "-i", *given, "bash", "-c", script]
-        return desk.run(words, "", 120)
+        return desk.run(words, "", PATIENCE)
 
     def follow(self, heading: str, at: int, before: str = "", **more: str) -> desk.Run:
         """Runs a block of the page behind its first lines."""
@@ -451,7 +452,9 @@ def prepare(room: Room) -> None:
     os.makedirs(room.path("/etc/nginx/conf.d"), exist_ok=True)
     room.write("/etc/nginx/conf.d/desk.conf", conf)
     room.write("/etc/hosts", f"127.0.0.1 localhost desk.example {socket.gethostname()}\n")
-    room.run("useradd --system desk; useradd ann; id desk")
+    for name, source in zip(FILES, (desk.ROSTER, desk.BASE), strict=True):
+        shutil.copy(source, room.path(name))
+    room.run("useradd --system desk; useradd ann")
 
 
 def inside() -> None:

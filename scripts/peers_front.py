@@ -12,6 +12,7 @@ import collections
 import concurrent.futures
 import os
 import re
+import socket
 import subprocess
 import sys
 import tempfile
@@ -25,6 +26,7 @@ from ports import free_port
 OTHERS = 200
 FETCHERS = 20
 CROWD = 120
+BESIDE = 5  # the seconds in which a file comes beside a client that stops
 
 
 def message(number: int) -> bytes:
@@ -245,6 +247,27 @@ def stand_beside(folder: str, port: int) -> tuple[int, int]:
             f"beside a slow client: {counts}; it is {slow[0][0] - done:.1f} s later: {slow[0][1]!r}"
         )
     return OTHERS + 1, 0 if is_right else 1
+
+
+def slow_body(folder: str, port: int) -> tuple[int, int]:
+    """A relay that stops within its body: the desk does not hear of it, and a host's file comes at
+    once; the message is taken when the rest has come."""
+    given, asked = request("POST", "/v1/relays/chat/messages", message(1)), ROUTES[2]
+    client = front.context(folder, "relay-chat")
+    with socket.create_connection(("127.0.0.1", port), timeout=20) as plain:
+        with client.wrap_socket(plain, server_hostname="127.0.0.1") as peer:
+            peer.sendall(given[:-9])
+            time.sleep(0.5)
+            begun = time.monotonic()
+            host = front.context(folder, "host-db1")
+            other = status(front.exchange(host, port, request(asked[0], asked[1]), patience=8))
+            took = time.monotonic() - begun
+            peer.sendall(given[-9:])
+            reply = peer.recv(65536)
+    if (other, status(reply)) != ("200", "200") or took > BESIDE:
+        print(f"beside a body that stops: {other} after {took:.1f} s; then {reply!r}")
+        return 2, 1
+    return 2, 0
 
 
 def crowd(folder: str, port: int) -> tuple[int, int]:
@@ -493,7 +516,7 @@ def under_haproxy(folder: str) -> list[tuple[int, int]]:
     with desk.Server(program=desk.named()) as server, front.front(
         front.haproxy_words(folder, port, server.address), port
     ):
-        return [ask_routes(folder, port), stand_beside(folder, port)]
+        return [ask_routes(folder, port), slow_body(folder, port)]
 
 
 def ended_list(folder: str) -> tuple[int, int]:

@@ -234,20 +234,27 @@ def late_sender(count: Count, words: list[str]) -> None:
         sender.join()
 
 
+def leave_rudely(server: Server) -> None:
+    """Sends a part of a request, and drops the connection: `H1` each time."""
+    with contextlib.suppress(ConnectionError), server.connect(seconds=20) as peer:
+        peer.setsockopt(socket.SOL_SOCKET, socket.SO_LINGER, struct.pack("ii", 1, 0))
+        peer.sendall(b"GET /")
+
+
 def unread_error(count: Count, words: list[str]) -> None:
     """Nobody reads the standard error: the lines that find no room are dropped, and said to be."""
     with Server(program=words, stderr=subprocess.PIPE) as server:
-        for _ in range(RUDE):
-            with contextlib.suppress(OSError), server.connect() as peer:
-                peer.setsockopt(socket.SOL_SOCKET, socket.SO_LINGER, struct.pack("ii", 1, 0))
-                peer.sendall(b"GET /")
+        for number in range(RUDE):
+            try:
+                leave_rudely(server)
+            except TimeoutError:
+                count.holds("a desk whose standard error is full", False, f"stops at {number}")
+                return
         server.is_honest(count, "a standard error that nobody reads", AT_ONCE)
         os.set_blocking(server.error.fileno(), False)
         said = server.error.read() or b""
         count.holds("what nobody read is full", len(said) > 60_000, len(said))
-        with contextlib.suppress(OSError), server.connect() as peer:
-            peer.setsockopt(socket.SOL_SOCKET, socket.SO_LINGER, struct.pack("ii", 1, 0))
-            peer.sendall(b"GET /")
+        leave_rudely(server)
         server.reply(PARKED)
         more = server.error.read() or b""
         count.holds(
