@@ -347,16 +347,17 @@ def bad_stores(trial: Trial) -> None:
 
 def log_alone(trial: Trial, other: dict[str, str]) -> None:
     """A log whose file is gone, or empty: it stays as it is."""
-    store = trial.path(other["STORE"])
-    text = "a log of some messages" * 100
-    trial.write(f"{other['STORE']}-wal", text)
+    store, text = trial.path(other["STORE"]), b"a log of some messages" * 100
     for what in ("gone", "empty"):
-        os.unlink(store)
+        with contextlib.suppress(FileNotFoundError):
+            os.unlink(store)
         if what == "empty":
             trial.write(other["STORE"], "")
+        with open(f"{store}-wal", "wb") as file:
+            file.write(text)
         refused(trial, f"a file that is {what}", "its log .*-wal is there, .*copy the log", other)
-        trial.check(f"its log, {what}", trial.read(f"{other['STORE']}-wal") == text)
-        trial.write(other["STORE"], "")
+        with open(f"{store}-wal", "rb") as file:
+            trial.check(f"its log, {what}", file.read() == text)
 
 
 def full_disk(trial: Trial) -> None:

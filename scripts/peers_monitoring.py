@@ -155,7 +155,9 @@ def desks(folder: str) -> Iterator[tuple[str, bool, str]]:
         )
         hidden, before = closed(folder)
         yield "a store that this account may not see", *is_said(
-            check("--desk", address, "--store", hidden, before=before), 2, f"cannot look at {hidden}"
+            check("--desk", address, "--store", hidden, before=before),
+            2,
+            f"cannot look at {hidden}",
         )
 
 
