@@ -3,7 +3,8 @@
 # that has none. It keeps all that it makes in the folder DIR; whoever has DIR/ca.key has it all.
 #
 #   front-ca.sh DIR init                    the authority: ca.pem, ca.key, crl.pem
-#   front-ca.sh DIR server NAME [ADDRESS]   server.pem, server.key: for the front of that host name
+#   front-ca.sh DIR server NAME [ADDRESS]   server.pem, server.key: for the front of that host name;
+#                                           where these are of another, server-NAME.pem and .key
 #   front-ca.sh DIR relay NAME              relay-NAME.pem, relay-NAME.key: for a client; and so
 #                                           with `host` or `auditor` in the place of `relay`
 #   front-ca.sh DIR revoke KIND-NAME        takes a client's certificate back, by a new crl.pem:
@@ -17,7 +18,7 @@ set -eu
 umask 077
 
 usage() {
-    sed -n '2,13s/^# \{0,1\}//p' "$0" >&2
+    sed -n '2,14s/^# \{0,1\}//p' "$0" >&2
     exit 2
 }
 [ $# -ge 2 ] || usage
@@ -94,7 +95,13 @@ case $what in
     init) init ;;
     server)
         [ $# -ge 1 ] || usage
-        issue server "/CN=$1" "extendedKeyUsage=serverAuth
+        files=server
+        if [ -e server.pem ] && ! openssl x509 -in server.pem -noout -checkhost "$1" |
+            grep -q ' does match '; then
+            files=server-$1
+            echo "server.pem is another front's: made $files.pem and $files.key" >&2
+        fi
+        issue "$files" "/CN=$1" "extendedKeyUsage=serverAuth
 subjectAltName=DNS:$1${2:+,IP:$2}"
         ;;
     relay | host | auditor)

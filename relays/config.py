@@ -11,7 +11,7 @@ from relays.roster import Roster
 
 KEYS = {"desk", "relay", "roster", "outbox", "zone", "numbers", "auditors", "tls", "page"}
 PAGE_KEYS = {"listen", "secret"}
-TLS_KEYS = {"certificate", "key", "ca"}
+TLS_KEYS = {"certificate", "key", "ca", "reader_certificate", "reader_key"}
 
 
 class BadConfig(ValueError):
@@ -34,9 +34,17 @@ class Config:
         return Outbox(self.outbox, self.numbers)
 
     def open_desk(self) -> Desk:
-        tls = self.tls
-        pair = (tls["certificate"], tls["key"]) if "certificate" in tls else None
-        return Desk(self.desk, self.relay, pair, tls.get("ca"))
+        own, reader = self.pair("certificate", "key"), self.pair("reader_certificate", "reader_key")
+        return Desk(self.desk, self.relay, own, self.tls.get("ca"), reader)
+
+    def pair(self, certificate: str, key: str) -> tuple[str, str] | None:
+        """A certificate and its key; neither has a meaning without the other."""
+        named = [name for name in (certificate, key) if name in self.tls]
+        if not named:
+            return None
+        if len(named) == 1:
+            raise BadConfig(f"[tls] has {named[0]}, and so needs {certificate} and {key}")
+        return self.tls[certificate], self.tls[key]
 
     def read_roster(self) -> Roster:
         return Roster.read(self.roster)

@@ -60,18 +60,33 @@ class Review:
         return {(who, int(no), person): why for who, no, person, why in self.rows("BARRED")}
 
 
+Pair = tuple[str, str] | None
+
+
+def session(certificate: Pair, ca: str | None) -> requests.Session:
+    made = requests.Session()
+    # (a proxy or a .netrc of the environment has no say in where messages go)
+    made.trust_env = False
+    made.cert = certificate
+    made.verify = ca or True
+    return made
+
+
 class Desk:
-    def __init__(self, url: str, relay: str, certificate: tuple[str, str] | None, ca: str | None):
+    """The desk: it is posted to with the relay's certificate, and read with the reader's, where
+    there is one. (Each has connections of its own: a connection is the certificate's.)"""
+
+    def __init__(
+        self, url: str, relay: str, certificate: Pair, ca: str | None, reader: Pair = None
+    ) -> None:
         self.url, self.relay = url.rstrip("/"), relay
-        self.session = requests.Session()
-        # (a proxy or a .netrc of the environment has no say in where messages go)
-        self.session.trust_env = False
-        self.session.cert = certificate
-        self.session.verify = ca or True
+        self.posting = session(certificate, ca)
+        self.reading = session(reader or certificate, ca)
 
     def exchange(self, method: str, path: str, body: bytes | None = None) -> requests.Response:
+        by = self.posting if method == "POST" else self.reading
         try:
-            return self.session.request(
+            return by.request(
                 method, self.url + path, data=body, timeout=LIMITS, allow_redirects=False
             )
         except requests.RequestException as fault:

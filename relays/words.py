@@ -24,6 +24,7 @@ USAGE = """\
   review    the desk's findings, for auditors
 
 With each: --json for scripts, --yes to send without being asked, --zone Europe/Berlin for times.
+They stand before a COMMAND: all that is behind it is its arguments.
 A time is 'now', '17:00', 'tomorrow 09:00', '2026-01-05 09:00', '+2h', or UTC as 20260105090000Z.
 A command is a whole path; '""' after it means without arguments. Your key says who you are."""
 

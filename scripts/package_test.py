@@ -21,6 +21,7 @@ import time
 
 import desk
 import service
+import store_files
 import syscalls
 
 DEBS = os.path.join(desk.BUILD, "deb")
@@ -323,9 +324,12 @@ def bad_stores(trial: Trial) -> None:
     refused(
         trial,
         "the store of another roster",
-        "K1 .*another roster than /etc/desk/other.toml",
+        "K1 .*another roster than /etc/desk/other.toml: .*desk rebuild",
         other | {"ROSTER": "/etc/desk/other.toml"},
     )
+    older = "UPDATE desk SET schema = 1; ALTER TABLE verdicts RENAME TO kept; "
+    trial.run("sqlite3", other["STORE"], older + store_files.definition("marks"))
+    refused(trial, "a store of an older form", f"K3 .*desk rebuild .*{other['STORE']}", other)
     trial.run("sqlite3", other["STORE"], "UPDATE desk SET schema = 9")
     refused(trial, "a store of another schema", "K2 .*another schema", other)
     trial.write("/var/lib/desk/second.db", "no database at all" * 300)
@@ -333,11 +337,27 @@ def bad_stores(trial: Trial) -> None:
     os.chown(trial.path("/var/lib/desk/second.db"), 0, 0)
     os.chmod(trial.path("/var/lib/desk/second.db"), 0o600)
     refused(trial, "a store of root's", "F1 .*cannot read and write", other)
+    log_alone(trial, other)
     for name in os.listdir(trial.path("/var/lib/desk")):
         if name.startswith("second"):
             os.unlink(trial.path(f"/var/lib/desk/{name}"))
     full_disk(trial)
     failed_answer(trial)
+
+
+def log_alone(trial: Trial, other: dict[str, str]) -> None:
+    """A log whose file is gone, or empty: it stays as it is."""
+    store, text = trial.path(other["STORE"]), b"a log of some messages" * 100
+    for what in ("gone", "empty"):
+        with contextlib.suppress(FileNotFoundError):
+            os.unlink(store)
+        if what == "empty":
+            trial.write(other["STORE"], "")
+        with open(f"{store}-wal", "wb") as file:
+            file.write(text)
+        refused(trial, f"a file that is {what}", "its log .*-wal is there, .*copy the log", other)
+        with open(f"{store}-wal", "rb") as file:
+            trial.check(f"its log, {what}", file.read() == text)
 
 
 def full_disk(trial: Trial) -> None:

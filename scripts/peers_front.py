@@ -129,6 +129,22 @@ def make_certificates(folder: str) -> None:
     make_bare(ca)
 
 
+def second_server(folder: str) -> tuple[int, int]:
+    """A certificate for a second desk's front leaves that of the first as it is."""
+    ca = os.path.join(folder, "ca")
+    with open(os.path.join(ca, "server.pem"), "rb") as file:
+        before = file.read()
+    front.certify(ca, "server", "desk2.example")
+    with open(os.path.join(ca, "server.pem"), "rb") as file:
+        stays = file.read() == before
+    made = os.path.join(ca, "server-desk2.example.pem")
+    words = ["openssl", "x509", "-in", made, "-noout", "-checkhost", "desk2.example"]
+    is_right = stays and " does match " in desk.run(words).stdout
+    if not is_right:
+        print(f"a second desk's certificate: server.pem stays {stays}, {os.listdir(ca)}")
+    return 1, int(not is_right)
+
+
 def keep(
     ca: str, folder: str, kept: str, kind: str, held: str, dates: tuple[str, str] | None, name: str
 ) -> None:
@@ -543,7 +559,7 @@ def main() -> None:
     with tempfile.TemporaryDirectory() as folder:
         os.chmod(folder, 0o755)
         make_certificates(folder)
-        counts = under_nginx(folder)
+        counts = [second_server(folder), *under_nginx(folder)]
         if os.path.exists(front.HAPROXY):
             counts += under_haproxy(folder)
         counts.append(ended_list(folder))

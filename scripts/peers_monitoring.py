@@ -47,9 +47,9 @@ def serving(folder: str, roster: str, base: str, messages: list[str]) -> Iterato
         yield f"http://{server.address}"
 
 
-def check(*words: str) -> tuple[int, str]:
+def check(*words: str, before: tuple[str, ...] = ()) -> tuple[int, str]:
     ran = subprocess.run(
-        [sys.executable, CHECK, *words],
+        [*before, sys.executable, CHECK, *words],
         stdout=subprocess.PIPE,
         stderr=subprocess.STDOUT,
         text=True,
@@ -153,6 +153,26 @@ def desks(folder: str) -> Iterator[tuple[str, bool, str]]:
         yield "no store", *is_said(
             check("--desk", address, "--store", "/nowhere.db"), 2, "there is no store /nowhere.db"
         )
+        hidden, before = closed(folder)
+        yield "a store that this account may not see", *is_said(
+            check("--desk", address, "--store", hidden, before=before),
+            2,
+            f"cannot look at {hidden}",
+        )
+
+
+def closed(folder: str) -> tuple[str, tuple[str, ...]]:
+    """A store in somebody else's folder, and what goes before a command that may not look there."""
+    inside = os.path.join(folder, "closed")
+    os.mkdir(inside)
+    if os.geteuid():
+        os.chmod(inside, 0)
+        return os.path.join(inside, "desk.db"), ()
+    nobody = 65534
+    os.chown(inside, nobody, nobody)
+    os.chmod(inside, 0o700)
+    bare = ("setpriv", "--bounding-set=-all", "--inh-caps=-all")
+    return os.path.join(inside, "desk.db"), bare
 
 
 def size(store: str) -> int:

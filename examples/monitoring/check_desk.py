@@ -121,10 +121,13 @@ def gather(given: argparse.Namespace, now: float) -> tuple[dict[str, int], list[
             figures["desk_up"] = 0
             faults.append(f"{given.desk} does not answer: {fault}")
     if given.store:
-        if os.path.exists(given.store):
+        try:
+            os.stat(given.store)
             figures["desk_store_bytes"] = size(given.store)
-        else:
+        except FileNotFoundError:
             faults.append(f"there is no store {given.store}")
+        except OSError as fault:
+            faults.append(f"cannot look at {given.store} ({fault.strerror}): run as root or desk")
     if given.file:
         try:
             figures["desk_host_file_age_seconds"] = max(0, int(now - os.path.getmtime(given.file)))

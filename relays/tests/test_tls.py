@@ -1,0 +1,72 @@
+"""A relay whose desk stands behind the front of examples/: it posts with its own certificate, and
+reads with an auditor's."""
+
+import subprocess
+from collections.abc import Iterator
+from contextlib import contextmanager
+from pathlib import Path
+
+import pytest
+
+from relays.config import BadConfig, read_config
+from relays.tests.site import ROOT, Site, wait_for_port
+from scripts.ports import free_port
+
+FRONT = ROOT / "examples" / "nginx" / "desk.conf"
+AUTHORITY = str(ROOT / "examples" / "front-ca.sh")
+READER = 'reader_certificate = "{ca}/auditor-web.pem"\nreader_key = "{ca}/auditor-web.key"\n'
+TLS = '[tls]\ncertificate = "{ca}/relay-chat.pem"\nkey = "{ca}/relay-chat.key"\nca = "{ca}/ca.pem"\n'
+
+
+@contextmanager
+def fronted(site: Site, more: str) -> Iterator[None]:
+    """The site's desk behind nginx, and the relay's settings for that, with more of them."""
+    folder, port = site.folder, free_port()
+    ca = folder / "ca"
+    for words in (
+        ["init"],
+        ["server", "127.0.0.1", "127.0.0.1"],
+        ["relay", "chat"],
+        ["auditor", "web"],
+    ):
+        subprocess.run(["sh", AUTHORITY, str(ca), *words], check=True)
+    text = FRONT.read_text(encoding="utf-8").replace("/etc/desk/front", str(ca))
+    text = text.replace("/var/log/nginx", str(folder)).replace("listen 443", f"listen {port}")
+    text = text.replace("127.0.0.1:8080", f"127.0.0.1:{site.port}")
+    conf = folder / "nginx.conf"
+    conf.write_text(
+        f"daemon off; pid {folder}/pid; error_log {folder}/error.log;\nevents {{}}\n"
+        f"http {{ client_body_temp_path {folder}/b; proxy_temp_path {folder}/p;\n{text}}}\n"
+    )
+    settings = site.config.read_text().replace(site.url, f"https://127.0.0.1:{port}")
+    site.config.write_text(settings + (TLS + more).format(ca=ca))
+    with subprocess.Popen(["nginx", "-c", str(conf), "-e", f"{folder}/error.log"]) as nginx:
+        try:
+            wait_for_port(port)
+            yield
+        finally:
+            nginx.terminate()
+
+
+def asked(site: Site) -> str:
+    """A person asks, and looks at what became of it."""
+    words = "ask db-care --yes --on db1 --as root --for 1h /usr/bin/id"
+    ran = site.run("ann", words)
+    assert ran.returncode == 0, ran
+    return site.run("ann", "mine").stdout
+
+
+def test_it_reads_as_an_auditor(site: Site) -> None:
+    with fronted(site, READER):
+        assert "waiting" in asked(site)
+
+
+def test_without_it_the_front_says_nothing(site: Site) -> None:
+    with fronted(site, ""):
+        assert "not known" in asked(site)
+
+
+def test_a_certificate_without_its_key(site: Site, tmp_path: Path) -> None:
+    site.config.write_text(site.config.read_text() + TLS + 'reader_certificate = "a.pem"\n')
+    with pytest.raises(BadConfig, match="reader_key"):
+        read_config(str(site.config)).open_desk()
