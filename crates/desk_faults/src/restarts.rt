@@ -1,0 +1,206 @@
+//! What a desk answers once it was given up and opened again.
+
+use crate::asking::{ask_summaries, ask_texts, say_all};
+use crate::files::{Stopping, empty, opened_whole};
+use crate::texts::{APPROVAL, REQUEST, Rules, parts};
+use crate::trouble::Trouble;
+use desk::{Ack, Desk, Keeper, MemoryKeeper, Refusal, restart, restart_over};
+use roster::Roster;
+use std::alloc::Global;
+use std::fmt::Write as _;
+use sudo_syntax::Policy;
+
+/// A verdict on a request that nobody makes.
+const PARKED: &str =
+    "{\"at\":\"20260105083000Z\",\"by\":\"dave\",\"kind\":\"refuse\",\"no\":9,\"of\":\"ann\"}";
+
+/// A delivery.
+fn delivery(alloc: Global, relay: &str, body: &str) -> Result<(String, Vec<u8>), Trouble> {
+    let relay = String::from_str(alloc, relay)?;
+    let body = Vec::from_slice(alloc, body.as_bytes())?;
+    Ok((relay, body))
+}
+
+/// An approval before its request, a verdict that nobody asks for, the request, no message, a repeat, and an unknown relay.
+fn deliveries(alloc: Global) -> Result<Vec<(String, Vec<u8>)>, Trouble> {
+    let mut list = Vec::new(alloc);
+    for (relay, body) in [
+        ("web", APPROVAL),
+        ("web", PARKED),
+        ("web", REQUEST),
+        ("web", "{}"),
+        ("web", REQUEST),
+        ("mail", REQUEST),
+    ] {
+        list.push(delivery(alloc, relay, body)?)?;
+    }
+    Ok(list)
+}
+
+/// Adds the answers.
+fn say_answers(said: &mut String, answers: &[Result<Ack, Refusal>]) -> Result<(), Trouble> {
+    said.push_str("  answers:")?;
+    for answer in answers {
+        match answer {
+            Ok(_) => said.push_str(" ack,")?,
+            Err(refusal) => write!(said, " {refusal},")?,
+        }
+    }
+    said.push_str("\n")?;
+    Ok(())
+}
+
+/// Delivers many at once, and adds the answers.
+fn deliver_many<K: Keeper>(
+    alloc: Global,
+    said: &mut String,
+    desk: &mut Desk<K>,
+) -> Result<(), Trouble> {
+    let list = deliveries(alloc)?;
+    let answers = desk.deliver_all(list.as_slice());
+    drop(list);
+    match answers {
+        Ok(answers) => {
+            let done = say_answers(said, answers.as_slice());
+            drop(answers);
+            done
+        }
+        Err(_) => Err(Trouble::NoMemory),
+    }
+}
+
+/// Adds what the desk answers to each question, and how much it holds.
+fn say_more<K: Keeper>(
+    alloc: Global,
+    said: &mut String,
+    desk: &mut Desk<K>,
+) -> Result<(), Trouble> {
+    said.push_str("  ")?;
+    say_all(alloc, said, desk)?;
+    ask_summaries(said, desk)?;
+    ask_texts(said, desk)?;
+    said.push_str("\n")?;
+    Ok(())
+}
+
+/// Delivers many at once over a desk that is new, and adds what it answers.
+fn deliver_first<K: Keeper>(
+    alloc: Global,
+    said: &mut String,
+    desk: &mut Desk<K>,
+) -> Result<(), Trouble> {
+    deliver_many(alloc, said, desk)?;
+    say_more(alloc, said, desk)
+}
+
+/// Adds what a desk answers that was opened again, or why it was not; and gives the keeper up.
+fn say_again<K: Keeper>(
+    alloc: Global,
+    said: &mut String,
+    opened: Result<Desk<K>, (Refusal, K)>,
+) -> (Result<(), Trouble>, K) {
+    match opened {
+        Ok(mut desk) => {
+            let done = say_more(alloc, said, &mut desk);
+            (done, desk.into_keeper())
+        }
+        Err((refusal, keeper)) => (say_refusal(said, refusal), keeper),
+    }
+}
+
+/// Adds a refusal.
+fn say_refusal(said: &mut String, refusal: Refusal) -> Result<(), Trouble> {
+    write!(said, "  {refusal}\n")?;
+    Ok(())
+}
+
+/// A desk over the keeper, with the deliveries, if it was opened.
+fn filled<K: Keeper + Drop>(
+    alloc: Global,
+    said: &mut String,
+    parts: (Roster, Policy),
+    keeper: K,
+) -> Result<Desk<K>, Trouble> {
+    match Desk::open(alloc, parts.0, parts.1, keeper) {
+        Ok(mut desk) => match deliver_first(alloc, said, &mut desk) {
+            Ok(()) => Ok(desk),
+            Err(trouble) => {
+                drop(desk.into_keeper());
+                Err(trouble)
+            }
+        },
+        Err((_, keeper)) => {
+            drop(keeper);
+            Err(Trouble::Refused)
+        }
+    }
+}
+
+/// Gives a desk in memory up, opens one of this roster over its keeper, and adds what that answers.
+fn again_in_memory(
+    alloc: Global,
+    said: &mut String,
+    desk: Desk<MemoryKeeper>,
+    parts: (Roster, Policy),
+) -> Result<(), Trouble> {
+    let (done, keeper) = say_again(alloc, said, restart(alloc, desk, parts.0, parts.1));
+    drop(keeper);
+    done
+}
+
+/// Gives a desk over a database up, opens one of this roster over the same connection, and adds what that answers.
+fn again_in_database(
+    alloc: Global,
+    said: &mut String,
+    desk: Desk<Stopping>,
+    parts: (Roster, Policy),
+) -> Result<(), Trouble> {
+    let (done, keeper) = say_again(alloc, said, restart_over(alloc, desk, parts.0, parts.1));
+    drop(keeper);
+    done
+}
+
+/// Adds what a desk in memory answers, and one of this roster over its keeper.
+fn say_in_memory(alloc: Global, said: &mut String, rules: Rules) -> Result<(), Trouble> {
+    let before = parts(alloc, Rules::Full)?;
+    let desk = filled(alloc, said, before, MemoryKeeper::new(alloc))?;
+    match parts(alloc, rules) {
+        Ok(after) => again_in_memory(alloc, said, desk, after),
+        Err(trouble) => {
+            drop(desk.into_keeper());
+            Err(trouble)
+        }
+    }
+}
+
+/// Adds what a desk over a database answers, and one of this roster over the same connection.
+fn say_in_database(alloc: Global, said: &mut String, rules: Rules) -> Result<(), Trouble> {
+    let keeper = opened_whole(alloc, &empty(alloc))?;
+    let before = match parts(alloc, Rules::Full) {
+        Ok(before) => before,
+        Err(trouble) => {
+            drop(keeper);
+            return Err(trouble);
+        }
+    };
+    let desk = filled(alloc, said, before, keeper)?;
+    match parts(alloc, rules) {
+        Ok(after) => again_in_database(alloc, said, desk, after),
+        Err(trouble) => {
+            drop(desk.into_keeper());
+            Err(trouble)
+        }
+    }
+}
+
+/// Adds what a desk answers before and after a restart, with the same roster and with another.
+pub(crate) fn say_restarts(alloc: Global, said: &mut String) -> Result<(), Trouble> {
+    said.push_str("A desk in memory is opened again\n")?;
+    say_in_memory(alloc, said, Rules::Full)?;
+    said.push_str("A desk in memory is opened again with another roster\n")?;
+    say_in_memory(alloc, said, Rules::Short)?;
+    said.push_str("A desk over a database is opened again\n")?;
+    say_in_database(alloc, said, Rules::Full)?;
+    said.push_str("A desk over a database is opened again with another roster\n")?;
+    say_in_database(alloc, said, Rules::Short)
+}
