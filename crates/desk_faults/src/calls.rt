@@ -115,7 +115,7 @@ pub(crate) fn make_call<K: Keeper>(
 
 /// What a keeper tells that it keeps.
 #[derive(Clone, Copy)]
-enum There {
+enum Thing {
     /// A desk of one of the rosters.
     Desk(Rules),
     /// Something else.
@@ -123,19 +123,19 @@ enum There {
 }
 
 /// What a keeper tells.
-fn there(found: Result<Found, KeeperError>) -> There {
+fn thing_of(found: Result<Found, KeeperError>) -> Thing {
     match found {
         Ok(Found::Desk(text)) => {
             let rules = rules_of(text.as_str());
             drop(text);
             match rules {
-                Some(rules) => There::Desk(rules),
-                None => There::State(State::Other),
+                Some(rules) => Thing::Desk(rules),
+                None => Thing::State(State::Other),
             }
         }
-        Ok(Found::Empty) => There::State(State::Nothing),
-        Ok(Found::OldDesk) => There::State(State::Older),
-        Ok(Found::NotADesk) | Err(_) => There::State(State::Other),
+        Ok(Found::Empty) => Thing::State(State::Nothing),
+        Ok(Found::OldDesk) => Thing::State(State::Older),
+        Ok(Found::NotADesk) | Err(_) => Thing::State(State::Other),
     }
 }
 
@@ -164,8 +164,8 @@ fn desk_at<K: Keeper>(alloc: Global, rules: Rules, keeper: K) -> (Result<State, 
 
 /// The state of what the keeper keeps. The keeper is one without faults.
 pub(crate) fn kept_at<K: Keeper>(alloc: Global, mut keeper: K) -> (Result<State, Trouble>, K) {
-    match there(keeper.look()) {
-        There::Desk(rules) => desk_at(alloc, rules, keeper),
-        There::State(state) => (Ok(state), keeper),
+    match thing_of(keeper.look()) {
+        Thing::Desk(rules) => desk_at(alloc, rules, keeper),
+        Thing::State(state) => (Ok(state), keeper),
     }
 }

@@ -114,80 +114,87 @@ fn say_refusal(said: &mut String, refusal: Refusal) -> Result<(), Trouble> {
     Ok(())
 }
 
-/// A desk over the keeper, with the deliveries, if it was opened.
-fn filled<K: Keeper + Drop>(
+/// The roster and the base of a desk, and those with which it is opened again.
+fn both_parts(
     alloc: Global,
-    said: &mut String,
-    parts: (Roster, Policy),
-    keeper: K,
-) -> Result<Desk<K>, Trouble> {
-    match Desk::open(alloc, parts.0, parts.1, keeper) {
-        Ok(mut desk) => match deliver_first(alloc, said, &mut desk) {
-            Ok(()) => Ok(desk),
-            Err(trouble) => {
-                drop(desk.into_keeper());
-                Err(trouble)
-            }
-        },
-        Err((_, keeper)) => {
-            drop(keeper);
-            Err(Trouble::Refused)
+    rules: Rules,
+) -> Result<((Roster, Policy), (Roster, Policy)), Trouble> {
+    let before = parts(alloc, Rules::Full)?;
+    match parts(alloc, rules) {
+        Ok(after) => Ok((before, after)),
+        Err(trouble) => {
+            drop(before);
+            Err(trouble)
         }
     }
 }
 
-/// Gives a desk in memory up, opens one of this roster over its keeper, and adds what that answers.
+/// Adds what a desk in memory answers after the deliveries, and what one of these parts over its keeper does.
 fn again_in_memory(
     alloc: Global,
     said: &mut String,
-    desk: Desk<MemoryKeeper>,
+    mut desk: Desk<MemoryKeeper>,
     parts: (Roster, Policy),
 ) -> Result<(), Trouble> {
+    let first = deliver_first(alloc, said, &mut desk);
     let (done, keeper) = say_again(alloc, said, restart(alloc, desk, parts.0, parts.1));
     drop(keeper);
+    first?;
     done
 }
 
-/// Gives a desk over a database up, opens one of this roster over the same connection, and adds what that answers.
+/// Adds what a desk over a database answers after the deliveries, and what one of these parts over the same connection does.
 fn again_in_database(
     alloc: Global,
     said: &mut String,
-    desk: Desk<Stopping>,
+    mut desk: Desk<Stopping>,
     parts: (Roster, Policy),
 ) -> Result<(), Trouble> {
+    let first = deliver_first(alloc, said, &mut desk);
     let (done, keeper) = say_again(alloc, said, restart_over(alloc, desk, parts.0, parts.1));
     drop(keeper);
+    first?;
     done
 }
 
 /// Adds what a desk in memory answers, and one of this roster over its keeper.
 fn say_in_memory(alloc: Global, said: &mut String, rules: Rules) -> Result<(), Trouble> {
-    let before = parts(alloc, Rules::Full)?;
-    let desk = filled(alloc, said, before, MemoryKeeper::new(alloc))?;
-    match parts(alloc, rules) {
-        Ok(after) => again_in_memory(alloc, said, desk, after),
-        Err(trouble) => {
-            drop(desk.into_keeper());
-            Err(trouble)
+    let (before, after) = both_parts(alloc, rules)?;
+    match Desk::open(alloc, before.0, before.1, MemoryKeeper::new(alloc)) {
+        Ok(desk) => again_in_memory(alloc, said, desk, after),
+        Err((_, keeper)) => {
+            drop(keeper);
+            drop(after);
+            Err(Trouble::Refused)
+        }
+    }
+}
+
+/// Adds what a desk over the keeper answers, and one of these parts over the same connection.
+fn say_over(
+    alloc: Global,
+    said: &mut String,
+    both: ((Roster, Policy), (Roster, Policy)),
+    keeper: Stopping,
+) -> Result<(), Trouble> {
+    let (before, after) = both;
+    match Desk::open(alloc, before.0, before.1, keeper) {
+        Ok(desk) => again_in_database(alloc, said, desk, after),
+        Err((_, keeper)) => {
+            drop(keeper);
+            drop(after);
+            Err(Trouble::Refused)
         }
     }
 }
 
 /// Adds what a desk over a database answers, and one of this roster over the same connection.
 fn say_in_database(alloc: Global, said: &mut String, rules: Rules) -> Result<(), Trouble> {
-    let keeper = opened_whole(alloc, &empty(alloc))?;
-    let before = match parts(alloc, Rules::Full) {
-        Ok(before) => before,
+    let both = both_parts(alloc, rules)?;
+    match opened_whole(alloc, &empty(alloc)) {
+        Ok(keeper) => say_over(alloc, said, both, keeper),
         Err(trouble) => {
-            drop(keeper);
-            return Err(trouble);
-        }
-    };
-    let desk = filled(alloc, said, before, keeper)?;
-    match parts(alloc, rules) {
-        Ok(after) => again_in_database(alloc, said, desk, after),
-        Err(trouble) => {
-            drop(desk.into_keeper());
+            drop(both);
             Err(trouble)
         }
     }
