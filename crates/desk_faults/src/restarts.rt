@@ -1,6 +1,6 @@
 //! What a desk answers once it was given up and opened again.
 
-use crate::asking::{ask_summaries, ask_texts, say_all};
+use crate::asking::{ask_live, ask_status, ask_summaries, ask_texts, say_all};
 use crate::files::{Stopping, empty, opened_whole};
 use crate::texts::{APPROVAL, REQUEST, Rules, parts};
 use crate::trouble::Trouble;
@@ -69,6 +69,21 @@ fn deliver_many<K: Keeper>(
     }
 }
 
+/// Adds what the desk answers of a number under which nobody asks, and which grants are in force as the window ends and a second later.
+fn say_edges<K: Keeper>(
+    alloc: Global,
+    said: &mut String,
+    desk: &mut Desk<K>,
+) -> Result<(), Trouble> {
+    said.push_str("; 9: ")?;
+    ask_status(alloc, said, desk, 9)?;
+    for at in ["20260105110000Z", "20260105110001Z"] {
+        write!(said, "; at {at}")?;
+        ask_live(said, desk, at)?;
+    }
+    Ok(())
+}
+
 /// Adds what the desk answers to each question, and how much it holds.
 fn say_more<K: Keeper>(
     alloc: Global,
@@ -79,6 +94,7 @@ fn say_more<K: Keeper>(
     say_all(alloc, said, desk)?;
     ask_summaries(said, desk)?;
     ask_texts(said, desk)?;
+    say_edges(alloc, said, desk)?;
     said.push_str("\n")?;
     Ok(())
 }
@@ -105,6 +121,18 @@ fn say_again<K: Keeper>(
             (done, desk.into_keeper())
         }
         Err((refusal, keeper)) => (say_refusal(said, refusal), keeper),
+    }
+}
+
+/// Opens a desk of the roster of before over the keeper that was given back, and adds what it answers.
+fn say_given_back<K: Keeper>(
+    alloc: Global,
+    said: &mut String,
+    keeper: K,
+) -> (Result<(), Trouble>, K) {
+    match parts(alloc, Rules::Full) {
+        Ok((roster, base)) => say_again(alloc, said, Desk::open(alloc, roster, base, keeper)),
+        Err(trouble) => (Err(trouble), keeper),
     }
 }
 
@@ -137,10 +165,12 @@ fn again_in_memory(
     parts: (Roster, Policy),
 ) -> Result<(), Trouble> {
     let first = deliver_first(alloc, said, &mut desk);
-    let (done, keeper) = say_again(alloc, said, restart(alloc, desk, parts.0, parts.1));
+    let (second, keeper) = say_again(alloc, said, restart(alloc, desk, parts.0, parts.1));
+    let (third, keeper) = say_given_back(alloc, said, keeper);
     drop(keeper);
     first?;
-    done
+    second?;
+    third
 }
 
 /// Adds what a desk over a database answers after the deliveries, and what one of these parts over the same connection does.
@@ -151,10 +181,12 @@ fn again_in_database(
     parts: (Roster, Policy),
 ) -> Result<(), Trouble> {
     let first = deliver_first(alloc, said, &mut desk);
-    let (done, keeper) = say_again(alloc, said, restart_over(alloc, desk, parts.0, parts.1));
+    let (second, keeper) = say_again(alloc, said, restart_over(alloc, desk, parts.0, parts.1));
+    let (third, keeper) = say_given_back(alloc, said, keeper);
     drop(keeper);
     first?;
-    done
+    second?;
+    third
 }
 
 /// Adds what a desk in memory answers, and one of this roster over its keeper.
