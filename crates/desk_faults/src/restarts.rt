@@ -14,25 +14,59 @@ use sudo_syntax::Policy;
 const PARKED: &str =
     "{\"at\":\"20260105083000Z\",\"by\":\"dave\",\"kind\":\"refuse\",\"no\":9,\"of\":\"ann\"}";
 
+/// What is delivered, in this order.
+#[derive(Clone, Copy)]
+enum Given {
+    ApprovalFirst,
+    NobodyAsks,
+    Request,
+    NoMessage,
+    Repeat,
+    UnknownRelay,
+}
+
+/// The relay that brings it.
+fn relay_of(given: Given) -> &'static str {
+    match given {
+        Given::UnknownRelay => "mail",
+        _ => "web",
+    }
+}
+
+/// The body that is brought.
+fn body_of(given: Given) -> &'static str {
+    match given {
+        Given::ApprovalFirst => APPROVAL,
+        Given::NobodyAsks => PARKED,
+        Given::Request | Given::Repeat | Given::UnknownRelay => REQUEST,
+        Given::NoMessage => "{}",
+    }
+}
+
 /// A delivery.
-fn delivery(alloc: Global, relay: &str, body: &str) -> Result<(String, Vec<u8>), Trouble> {
-    let relay = String::from_str(alloc, relay)?;
-    let body = Vec::from_slice(alloc, body.as_bytes())?;
-    Ok((relay, body))
+fn delivery(alloc: Global, given: Given) -> Result<(String, Vec<u8>), Trouble> {
+    let relay = String::from_str(alloc, relay_of(given))?;
+    match Vec::from_slice(alloc, body_of(given).as_bytes()) {
+        Ok(body) => Ok((relay, body)),
+        Err(_) => {
+            drop(relay);
+            Err(Trouble::NoMemory)
+        }
+    }
 }
 
 /// An approval before its request, a verdict that nobody asks for, the request, no message, a repeat, and an unknown relay.
 fn deliveries(alloc: Global) -> Result<Vec<(String, Vec<u8>)>, Trouble> {
     let mut list = Vec::new(alloc);
-    for (relay, body) in [
-        ("web", APPROVAL),
-        ("web", PARKED),
-        ("web", REQUEST),
-        ("web", "{}"),
-        ("web", REQUEST),
-        ("mail", REQUEST),
+    for given in [
+        Given::ApprovalFirst,
+        Given::NobodyAsks,
+        Given::Request,
+        Given::NoMessage,
+        Given::Repeat,
+        Given::UnknownRelay,
     ] {
-        list.push(delivery(alloc, relay, body)?)?;
+        list.push(delivery(alloc, given)?)?;
     }
     Ok(list)
 }
@@ -77,11 +111,10 @@ fn say_edges<K: Keeper>(
 ) -> Result<(), Trouble> {
     said.push_str("; 9: ")?;
     ask_status(alloc, said, desk, 9)?;
-    for at in ["20260105110000Z", "20260105110001Z"] {
-        write!(said, "; at {at}")?;
-        ask_live(said, desk, at)?;
-    }
-    Ok(())
+    said.push_str("; as the window ends")?;
+    ask_live(said, desk, "20260105110000Z")?;
+    said.push_str("; a second later")?;
+    ask_live(said, desk, "20260105110001Z")
 }
 
 /// Adds what the desk answers to each question, and how much it holds.
