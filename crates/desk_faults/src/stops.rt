@@ -262,8 +262,8 @@ fn say_row(said: &mut String, row: Row, case: Case) -> Result<(), Trouble> {
     } = row.outcome;
     write!(
         said,
-        "    {} to {}: {answer}; killed: {}; power cut: {}",
-        row.from, row.to, killed.found, cut.found
+        "    {} to {}: {answer}; killed: {}; power cut: {}; once more: {}, {}",
+        row.from, row.to, killed.found, cut.found, killed.again, killed.then
     )?;
     if is_whole {
         said.push_str("; untouched")?;
