@@ -1,0 +1,171 @@
+//! The calls that are made while storage fails, and what is found after them.
+
+use crate::asking::state_at;
+use crate::states::State;
+use crate::texts::{APPROVAL, REQUEST, Rules, parts, rules_of};
+use crate::trouble::Trouble;
+use desk::{Desk, Keeper, Refusal};
+use desk_store::{Found, KeeperError};
+use roster::Roster;
+use std::alloc::Global;
+use std::fmt;
+use sudo_syntax::Policy;
+
+/// A call of a desk.
+#[derive(Clone, Copy)]
+pub(crate) enum Call {
+    /// The desk is opened.
+    Open,
+    /// It is opened, and the request is delivered.
+    Request,
+    /// It is opened, and the approval is delivered.
+    Approval,
+    /// It is rebuilt with this roster.
+    Rebuild(Rules),
+}
+
+/// How a call ended.
+#[derive(Clone, Copy, PartialEq, Eq)]
+pub(crate) enum Answer {
+    Done,
+    Refused(Refusal),
+    /// The database was not opened.
+    NotOpened,
+}
+
+impl fmt::Display for Answer {
+    fn fmt<W: fmt::Write>(&self, f: &mut fmt::Formatter<W>) -> fmt::Result {
+        match self {
+            Answer::Done => f.write_str("ack"),
+            Answer::Refused(refusal) => refusal.fmt(f),
+            Answer::NotOpened => f.write_str("not opened"),
+        }
+    }
+}
+
+/// Delivers the body through the relay of the roster.
+pub(crate) fn deliver<K: Keeper>(desk: &mut Desk<K>, body: &str) -> Answer {
+    match desk.deliver("web", body.as_bytes()) {
+        Ok(_) => Answer::Done,
+        Err(refusal) => Answer::Refused(refusal),
+    }
+}
+
+/// Delivers the body, if there is one, and gives the keeper up.
+fn delivered<K: Keeper>(mut desk: Desk<K>, body: Option<&str>) -> (Answer, K) {
+    let answer = match body {
+        Some(body) => deliver(&mut desk, body),
+        None => Answer::Done,
+    };
+    (answer, desk.into_keeper())
+}
+
+/// Opens a desk over the keeper, and delivers the body, if there is one.
+fn opened<K: Keeper>(
+    alloc: Global,
+    parts: (Roster, Policy),
+    body: Option<&str>,
+    keeper: K,
+) -> (Answer, K) {
+    match Desk::open(alloc, parts.0, parts.1, keeper) {
+        Ok(desk) => delivered(desk, body),
+        Err((refusal, keeper)) => (Answer::Refused(refusal), keeper),
+    }
+}
+
+/// Rebuilds the desk that the keeper keeps.
+fn rebuilt<K: Keeper>(alloc: Global, parts: (Roster, Policy), keeper: K) -> (Answer, K) {
+    match Desk::rebuild(alloc, parts.0, parts.1, keeper) {
+        Ok(desk) => (Answer::Done, desk.into_keeper()),
+        Err((refusal, keeper)) => (Answer::Refused(refusal), keeper),
+    }
+}
+
+/// Makes the call with this roster and base.
+fn made<K: Keeper>(
+    alloc: Global,
+    call: Call,
+    parts: (Roster, Policy),
+    keeper: K,
+) -> (Result<Answer, Trouble>, K) {
+    let (answer, keeper) = match call {
+        Call::Open => opened(alloc, parts, None, keeper),
+        Call::Request => opened(alloc, parts, Some(REQUEST), keeper),
+        Call::Approval => opened(alloc, parts, Some(APPROVAL), keeper),
+        Call::Rebuild(_) => rebuilt(alloc, parts, keeper),
+    };
+    (Ok(answer), keeper)
+}
+
+/// Makes the call over what the keeper keeps, and hands the keeper on.
+pub(crate) fn make_call<K: Keeper>(
+    alloc: Global,
+    call: Call,
+    keeper: K,
+) -> (Result<Answer, Trouble>, K) {
+    let rules = match call {
+        Call::Open | Call::Request | Call::Approval => Rules::Full,
+        Call::Rebuild(rules) => rules,
+    };
+    match parts(alloc, rules) {
+        Ok(parts) => made(alloc, call, parts, keeper),
+        Err(trouble) => (Err(trouble), keeper),
+    }
+}
+
+/// What a keeper tells that it keeps.
+#[derive(Clone, Copy)]
+enum Thing {
+    /// A desk of one of the rosters.
+    Desk(Rules),
+    /// Something else.
+    State(State),
+}
+
+/// What a keeper tells.
+fn thing_of(found: Result<Found, KeeperError>) -> Thing {
+    match found {
+        Ok(Found::Desk(text)) => {
+            let rules = rules_of(text.as_str());
+            drop(text);
+            match rules {
+                Some(rules) => Thing::Desk(rules),
+                None => Thing::State(State::Other),
+            }
+        }
+        Ok(Found::Empty) => Thing::State(State::Nothing),
+        Ok(Found::OldDesk) => Thing::State(State::Older),
+        Ok(Found::NotADesk) | Err(_) => Thing::State(State::Other),
+    }
+}
+
+/// The state of the desk of this roster and base that the keeper keeps.
+fn asked<K: Keeper>(
+    alloc: Global,
+    parts: (Roster, Policy),
+    keeper: K,
+) -> (Result<State, Trouble>, K) {
+    match Desk::open(alloc, parts.0, parts.1, keeper) {
+        Ok(mut desk) => {
+            let state = state_at(alloc, &mut desk);
+            (state, desk.into_keeper())
+        }
+        Err((_, keeper)) => (Ok(State::Other), keeper),
+    }
+}
+
+/// The state of the desk of this roster that the keeper keeps.
+fn desk_at<K: Keeper>(alloc: Global, rules: Rules, keeper: K) -> (Result<State, Trouble>, K) {
+    match parts(alloc, rules) {
+        Ok(parts) => asked(alloc, parts, keeper),
+        Err(trouble) => (Err(trouble), keeper),
+    }
+}
+
+/// The state of what the keeper keeps. The keeper is one without faults.
+pub(crate) fn kept_at<K: Keeper>(alloc: Global, mut keeper: K) -> (Result<State, Trouble>, K) {
+    match thing_of(keeper.look()) {
+        Thing::Desk(rules) => desk_at(alloc, rules, keeper),
+        Thing::State(state) => (Ok(state), keeper),
+    }
+}

@@ -1,0 +1,193 @@
+//! A store whose two files are in memory.
+
+use crate::trouble::Trouble;
+use desk_store::SqliteKeeper;
+use sqlite::Connection;
+use sqlite_disk::{Crash, Disk, Files, Fuse, Memory};
+use sqlite_pager::Options;
+use sqlite_store::FileStore;
+use std::alloc::Global;
+
+/// A file in memory that passes so many calls on.
+pub(crate) type Fused = Fuse<Memory>;
+
+/// A keeper over two such files.
+pub(crate) type Stopping = SqliteKeeper<FileStore<Fused>>;
+
+/// The bytes of a store's two files.
+#[derive(Drop)]
+pub(crate) struct Pair {
+    pub(crate) log: Vec<u8>,
+    pub(crate) db: Vec<u8>,
+}
+
+impl Pair {
+    /// The same bytes.
+    pub(crate) fn copy(&self, alloc: Global) -> Result<Pair, Trouble> {
+        pair_of(alloc, self.log.as_slice(), self.db.as_slice())
+    }
+}
+
+/// Whether both have the same bytes.
+pub(crate) fn are_same(one: &Pair, other: &Pair) -> bool {
+    one.log.as_slice() == other.log.as_slice() && one.db.as_slice() == other.db.as_slice()
+}
+
+/// The bytes of two files.
+fn pair_of(alloc: Global, log: &[u8], db: &[u8]) -> Result<Pair, Trouble> {
+    let log = Vec::from_slice(alloc, log)?;
+    match Vec::from_slice(alloc, db) {
+        Ok(db) => Ok(Pair { log, db }),
+        Err(_) => {
+            drop(log);
+            Err(Trouble::NoMemory)
+        }
+    }
+}
+
+/// How many calls each file passes on.
+#[derive(Clone, Copy)]
+pub(crate) struct Fuses {
+    pub(crate) log: u64,
+    pub(crate) db: u64,
+}
+
+/// No call fails.
+pub(crate) const WHOLE: Fuses = Fuses {
+    log: u64::MAX,
+    db: u64::MAX,
+};
+
+/// Two files that are empty.
+pub(crate) fn empty(alloc: Global) -> Pair {
+    Pair {
+        log: Vec::new(alloc),
+        db: Vec::new(alloc),
+    }
+}
+
+/// A file of these bytes, which passes so many calls on.
+fn file_of(alloc: Global, bytes: &[u8], calls: u64) -> Result<Fused, Trouble> {
+    let mut memory = Memory::new(alloc);
+    if memory.write_at(0, bytes).is_err() {
+        return Err(Trouble::NoMemory);
+    }
+    if memory.sync().is_err() {
+        return Err(Trouble::NoMemory);
+    }
+    Ok(Fuse::new(memory, calls))
+}
+
+/// The files of these bytes.
+fn files_of(alloc: Global, pair: &Pair, fuses: Fuses) -> Result<Files<Fused>, Trouble> {
+    let log = file_of(alloc, pair.log.as_slice(), fuses.log)?;
+    match file_of(alloc, pair.db.as_slice(), fuses.db) {
+        Ok(db) => Ok(Files { log, db }),
+        Err(trouble) => {
+            drop(log);
+            Err(trouble)
+        }
+    }
+}
+
+/// How the database is opened. Few pages are kept in memory, since each opening fills the room for all of them.
+const OPTIONS: Options = Options {
+    cache_pages: 32,
+    spill_pages: 2_000,
+    checkpoint_frames: 1_000,
+    seed: 0,
+};
+
+/// A keeper over the files, or the files, where the database does not open.
+fn keeper_of(alloc: Global, files: Files<Fused>) -> Result<Stopping, Files<Fused>> {
+    if !files.may_be_used() {
+        return Err(files);
+    }
+    match Connection::open_files(alloc, files, OPTIONS) {
+        Ok(conn) => Ok(SqliteKeeper::new(alloc, conn)),
+        Err((_, left)) => Err(left.into_files()),
+    }
+}
+
+/// A keeper over files of these bytes, or the files, where the database does not open.
+pub(crate) fn opened(
+    alloc: Global,
+    pair: &Pair,
+    fuses: Fuses,
+) -> Result<Result<Stopping, Files<Fused>>, Trouble> {
+    let files = files_of(alloc, pair, fuses)?;
+    Ok(keeper_of(alloc, files))
+}
+
+/// A keeper over files of these bytes, whose calls do not fail.
+pub(crate) fn opened_whole(alloc: Global, pair: &Pair) -> Result<Stopping, Trouble> {
+    match opened(alloc, pair, WHOLE)? {
+        Ok(keeper) => Ok(keeper),
+        Err(files) => {
+            drop(files);
+            Err(Trouble::NoStore)
+        }
+    }
+}
+
+/// The files of the keeper's store, without a call of them.
+pub(crate) fn files_at(keeper: Stopping) -> Files<Fused> {
+    keeper.into_connection().into_store().close()
+}
+
+/// Whether the file would pass one call more on. Once it refused to sync, it may not be asked.
+fn is_whole(file: &mut Fused) -> bool {
+    file.may_be_used() && file.len().is_ok()
+}
+
+/// Whether each file would pass one call more on.
+pub(crate) fn are_whole(files: &mut Files<Fused>) -> bool {
+    is_whole(&mut files.log) && is_whole(&mut files.db)
+}
+
+/// The bytes that are left in the files where a process ended: all that was written.
+pub(crate) fn written_in(alloc: Global, files: &Files<Fused>) -> Result<Pair, Trouble> {
+    pair_of(alloc, files.log.inner().bytes(), files.db.inner().bytes())
+}
+
+/// The bytes that are left in the files where the machine stopped: what was not synced is gone.
+pub(crate) fn synced_in(alloc: Global, mut files: Files<Fused>) -> Result<Pair, Trouble> {
+    files.log.crash();
+    files.db.crash();
+    let pair = written_in(alloc, &files);
+    drop(files);
+    pair
+}
+
+/// The bytes of the store of this connection, once its log is copied into the database.
+fn closed(alloc: Global, conn: Connection<FileStore<Fused>>) -> Result<Pair, Trouble> {
+    match conn.close_files() {
+        Ok(files) => {
+            let pair = written_in(alloc, &files);
+            drop(files);
+            pair
+        }
+        Err((_, store)) => {
+            drop(store.close());
+            Err(Trouble::NoStore)
+        }
+    }
+}
+
+/// The bytes of the keeper's store, once its log is copied into the database.
+pub(crate) fn closed_at(alloc: Global, keeper: Stopping) -> Result<Pair, Trouble> {
+    closed(alloc, keeper.into_connection())
+}
+
+/// The bytes of a store after these statements.
+pub(crate) fn filled(alloc: Global, start: &Pair, sql: &str) -> Result<Pair, Trouble> {
+    let mut conn = opened_whole(alloc, start)?.into_connection();
+    let done = conn.execute_batch(sql).is_ok();
+    let pair = closed(alloc, conn)?;
+    if done {
+        Ok(pair)
+    } else {
+        drop(pair);
+        Err(Trouble::BadText)
+    }
+}
