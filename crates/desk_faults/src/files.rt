@@ -99,7 +99,10 @@ const OPTIONS: Options = Options {
 };
 
 /// A keeper over the files, or the files, where the database does not open.
-fn keeper_of(alloc: Global, files: Files<Fused>) -> Result<Stopping, Files<Fused>> {
+fn keeper_of<D: Disk + Drop>(
+    alloc: Global,
+    files: Files<D>,
+) -> Result<SqliteKeeper<FileStore<D>>, Files<D>> {
     if !files.may_be_used() {
         return Err(files);
     }
@@ -131,7 +134,7 @@ pub(crate) fn opened_whole(alloc: Global, pair: &Pair) -> Result<Stopping, Troub
 }
 
 /// The files of the keeper's store, without a call of them.
-pub(crate) fn files_at(keeper: Stopping) -> Files<Fused> {
+pub(crate) fn files_at<D: Disk + Drop>(keeper: SqliteKeeper<FileStore<D>>) -> Files<D> {
     keeper.into_connection().into_store().close()
 }
 
@@ -159,14 +162,10 @@ pub(crate) fn synced_in(alloc: Global, mut files: Files<Fused>) -> Result<Pair, 
     pair
 }
 
-/// The bytes of the store of this connection, once its log is copied into the database.
-fn closed(alloc: Global, conn: Connection<FileStore<Fused>>) -> Result<Pair, Trouble> {
+/// The files of the keeper's store, once its log is copied into the database.
+fn closed<D: Disk + Drop>(conn: Connection<FileStore<D>>) -> Result<Files<D>, Trouble> {
     match conn.close_files() {
-        Ok(files) => {
-            let pair = written_in(alloc, &files);
-            drop(files);
-            pair
-        }
+        Ok(files) => Ok(files),
         Err((_, store)) => {
             drop(store.close());
             Err(Trouble::NoStore)
@@ -174,20 +173,40 @@ fn closed(alloc: Global, conn: Connection<FileStore<Fused>>) -> Result<Pair, Tro
     }
 }
 
+/// The same, of the keeper.
+fn closed_by<D: Disk + Drop>(keeper: SqliteKeeper<FileStore<D>>) -> Result<Files<D>, Trouble> {
+    closed(keeper.into_connection())
+}
+
+/// The same, after these statements.
+fn run_over<D: Disk + Drop>(
+    keeper: SqliteKeeper<FileStore<D>>,
+    sql: &str,
+) -> Result<Files<D>, Trouble> {
+    let mut conn = keeper.into_connection();
+    let is_done = conn.execute_batch(sql).is_ok();
+    let files = closed(conn);
+    if is_done {
+        files
+    } else {
+        drop(files);
+        Err(Trouble::BadText)
+    }
+}
+
+/// The bytes that are left in the files.
+fn bytes_in(alloc: Global, files: Files<Fused>) -> Result<Pair, Trouble> {
+    let pair = written_in(alloc, &files);
+    drop(files);
+    pair
+}
+
 /// The bytes of the keeper's store, once its log is copied into the database.
 pub(crate) fn closed_at(alloc: Global, keeper: Stopping) -> Result<Pair, Trouble> {
-    closed(alloc, keeper.into_connection())
+    bytes_in(alloc, closed_by(keeper)?)
 }
 
 /// The bytes of a store after these statements.
 pub(crate) fn filled(alloc: Global, start: &Pair, sql: &str) -> Result<Pair, Trouble> {
-    let mut conn = opened_whole(alloc, start)?.into_connection();
-    let done = conn.execute_batch(sql).is_ok();
-    let pair = closed(alloc, conn)?;
-    if done {
-        Ok(pair)
-    } else {
-        drop(pair);
-        Err(Trouble::BadText)
-    }
+    bytes_in(alloc, run_over(opened_whole(alloc, start)?, sql)?)
 }

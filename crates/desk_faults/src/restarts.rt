@@ -1,11 +1,13 @@
 //! What a desk answers once it was given up and opened again.
 
 use crate::asking::{ask_live, ask_status, ask_summaries, ask_texts, say_all};
-use crate::files::{Stopping, empty, opened_whole};
+use crate::files::{empty, opened_whole};
 use crate::texts::{APPROVAL, REQUEST, Rules, parts};
 use crate::trouble::Trouble;
 use desk::{Ack, Desk, Keeper, MemoryKeeper, Refusal, restart, restart_over};
+use desk_store::SqliteKeeper;
 use roster::Roster;
+use sqlite::Alter;
 use std::alloc::Global;
 use std::fmt::Write as _;
 use sudo_syntax::Policy;
@@ -207,10 +209,10 @@ fn again_in_memory(
 }
 
 /// Adds what a desk over a database answers after the deliveries, and what one of these parts over the same connection does.
-fn again_in_database(
+fn again_in_database<S: Alter + Drop>(
     alloc: Global,
     said: &mut String,
-    mut desk: Desk<Stopping>,
+    mut desk: Desk<SqliteKeeper<S>>,
     parts: (Roster, Policy),
 ) -> Result<(), Trouble> {
     let first = deliver_first(alloc, said, &mut desk);
@@ -236,11 +238,11 @@ fn say_in_memory(alloc: Global, said: &mut String, rules: Rules) -> Result<(), T
 }
 
 /// Adds what a desk over the keeper answers, and one of these parts over the same connection.
-fn say_over(
+fn say_over<S: Alter + Drop>(
     alloc: Global,
     said: &mut String,
     both: ((Roster, Policy), (Roster, Policy)),
-    keeper: Stopping,
+    keeper: SqliteKeeper<S>,
 ) -> Result<(), Trouble> {
     let (before, after) = both;
     match Desk::open(alloc, before.0, before.1, keeper) {

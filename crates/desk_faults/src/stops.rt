@@ -7,8 +7,10 @@ use crate::files::{
 };
 use crate::states::State;
 use crate::trouble::Trouble;
-use desk::Refusal;
-use sqlite_disk::Files;
+use desk::{Keeper, Refusal};
+use desk_store::SqliteKeeper;
+use sqlite_disk::{Disk, Files};
+use sqlite_store::FileStore;
 use std::alloc::Global;
 use std::fmt::Write as _;
 
@@ -114,10 +116,19 @@ fn stop_of(alloc: Global, answer: Answer, mut files: Files<Fused>) -> Result<Sto
     }
 }
 
+/// Makes the call over the keeper, and gives its files up.
+fn called<D: Disk + Drop>(
+    alloc: Global,
+    keeper: SqliteKeeper<FileStore<D>>,
+    call: Call,
+) -> (Result<Answer, Trouble>, Files<D>) {
+    let (answer, keeper) = make_call(alloc, call, keeper);
+    (answer, files_at(keeper))
+}
+
 /// Makes the call over the keeper, and ends there.
 fn call_over(alloc: Global, keeper: Stopping, call: Call) -> Result<Stop, Trouble> {
-    let (answer, keeper) = make_call(alloc, call, keeper);
-    let files = files_at(keeper);
+    let (answer, files) = called(alloc, keeper, call);
     match answer {
         Ok(answer) => stop_of(alloc, answer, files),
         Err(trouble) => {
@@ -136,7 +147,7 @@ fn stopped(alloc: Global, start: &Pair, call: Call, fuses: Fuses) -> Result<Stop
 }
 
 /// What the keeper keeps, before and after the call is made without a stop.
-fn seen_over(alloc: Global, keeper: Stopping, call: Call) -> Result<Seen, Trouble> {
+fn seen_over<K: Keeper + Drop>(alloc: Global, keeper: K, call: Call) -> Result<Seen, Trouble> {
     let (found, keeper) = kept_at(alloc, keeper);
     let (again, keeper) = make_call(alloc, call, keeper);
     let (then, keeper) = kept_at(alloc, keeper);
