@@ -5,6 +5,8 @@ use crate::serving::serve;
 use crate::stores::{kept, merge_log};
 use desk::{Keeper, MemoryKeeper};
 use desk_commands::{Job, Refusal, Status, finish, run};
+use desk_store::SqliteKeeper;
+use sqlite::Alter;
 use std::io::{BufReader, BufWriter};
 
 /// Does a job that is no `serve` over the process's streams and what the keeper keeps, and hands the keeper on.
@@ -39,6 +41,16 @@ fn work_over<K: Keeper + Drop>(
     }
 }
 
+/// Does the job over what the database keeps, and hands its keeper on.
+fn work_stored<S: Alter + Drop>(
+    rt: &HostRuntime,
+    job: &Job,
+    files: &mut [Vec<u8>],
+    stored: SqliteKeeper<S>,
+) -> (Result<Status, Refusal>, SqliteKeeper<S>) {
+    work_over(rt, job, files, stored)
+}
+
 /// Does the job. Its files are read before its database is opened; without one it has a keeper in memory, which is empty.
 ///
 /// `F1` comes where a file cannot be read, a database not opened, or an address not listened at, and before anything is printed; the other
@@ -49,7 +61,7 @@ pub fn work(rt: &HostRuntime, job: &Job) -> Result<Status, Refusal> {
         let memory = MemoryKeeper::new(rt.alloc());
         return work_over(rt, job, files.as_mut_slice(), memory).0;
     };
-    let (status, stored) = work_over(rt, job, files.as_mut_slice(), stored);
+    let (status, stored) = work_stored(rt, job, files.as_mut_slice(), stored);
     if matches!(status, Ok(Status::Done | Status::LinesRefused)) {
         merge_log(stored);
     }
