@@ -9,3 +9,4 @@ pub mod AnswerLemmas
 pub mod FileLemmas
 pub mod CompareLemmas
 pub mod CaseLines
+pub mod TellingLemmas

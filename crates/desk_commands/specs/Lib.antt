@@ -1,4 +1,5 @@
 pub mod Refusals
+pub mod Telling
 pub mod Kept
 pub mod Files
 pub mod Lines

@@ -1,6 +1,6 @@
 //! Doing a job. Its answer is made whole before any of it is written.
 
-ghost use Rattle.std.specs.Prelude.{◌≡◌, ◌≢◌, ◌⊎◌, ◌≤◌, ℕ, List, [], Option, IfErr, IfOk, map, string_bytes};
+ghost use Rattle.std.specs.Prelude.{◌≡◌, ◌≢◌, ◌⊎◌, ◌≤◌, ℕ, List, [], Option, IfErr, IfOk, MatchResult, map, string_bytes};
 ghost use Rattle.std.specs.Io.Buffered.{writer_buffer, writer_contents};
 ghost use Rattle.std.specs.Io.KnownBytes.{Appends, Keeps};
 ghost use Rattle.sudo_policy.specs.Spelling.{Spells};
@@ -10,6 +10,8 @@ ghost use Rattle.desk.specs.private.Serving.{IsServed};
 ghost use Rattle.desk_commands.specs.Answers.{CauseOfFile, CauseOfFiles, ChecksFile, DecidesByFile, EndsReading, HasAnswer, HasCause, IsAnswer, IsDecided, IsOnDesk, OfFile, OfFiles, ReadsInput, status_of};
 ghost use Rattle.desk_commands.specs.Comparing.{ComparesFiles, EndsComparing};
 ghost use Rattle.desk_commands.specs.Kept.{kept};
+ghost use Rattle.desk_commands.specs.Telling.{AppendsFront, refusal_line};
+ghost use Rattle.desk_commands.specs.declared.refusal.Refusal.TheVariants.{FileFailed};
 ghost use Rattle.desk_commands.specs.private.Outcomes.{IsOutcome};
 
 use crate::answer::Answer;
@@ -19,6 +21,7 @@ use crate::printing::print_host;
 use crate::rebuilding::rebuild_desk;
 use crate::refusal::Refusal;
 use crate::reviewing::review_desk;
+use crate::telling::refuse;
 use desk::Keeper;
 use desk_jobs::{Job, Status};
 use review::Scope;
@@ -151,22 +154,14 @@ fn answered<K: Keeper, R: Read, E: Write>(
     }
 }
 
-/// Says on `err` why the program refuses. Where that cannot be written either, nothing else can be done.
-pub fn refuse<E: Write>(refusal: Refusal, err: &mut E) -> Status
-    ensures { result ≡ Status.Refused }
-{
-    let _ = writeln!(err, "{refusal}");
-    let _ = err.flush();
-    Status::Refused
-}
-
 fn write_answer<W: Write, E: Write>(answer: &Answer, out: &mut W, err: &mut E) -> Status
     ensures status { result ≢ Status.Refused → result ≡ answer.now.status }
     ensures written { result ≢ Status.Refused → Appends (W.contents out.old) (W.contents out.new) (string_bytes answer.now.text) }
     ensures quiet { result ≢ Status.Refused → E.contents err.new ≡ E.contents err.old }
+    ensures told { AppendsFront (E.contents err.old) (E.contents err.new) (refusal_line FileFailed) }
 {
     if out.write_all(answer.text.as_bytes()).is_err() {
-        return refuse(Refusal::FileFailed, err);
+        return refuse(Refusal::FileFailed, err).0;
     }
     answer.status
 }
@@ -176,10 +171,12 @@ fn conclude<W: Write, E: Write>(answer: Result<Answer, Refusal>, out: &mut W, er
     ensures answered { IfOk answer (λ a. result ≢ Status.Refused → (result ≡ a.status)
         × Appends (W.contents out.old) (W.contents out.new) (string_bytes a.text) × (E.contents err.new ≡ E.contents err.old)) }
     ensures unanswered { IfErr answer (λ _. (result ≡ Status.Refused) × (W.contents out.new ≡ W.contents out.old)) }
+    ensures told { MatchResult answer (λ _. AppendsFront (E.contents err.old) (E.contents err.new) (refusal_line FileFailed))
+        (λ e. AppendsFront (E.contents err.old) (E.contents err.new) (refusal_line e)) }
 {
     match answer {
         Ok(answer) => write_answer(&answer, out, err),
-        Err(refusal) => refuse(refusal, err),
+        Err(refusal) => refuse(refusal, err).0,
     }
 }
 
@@ -231,12 +228,13 @@ pub fn finish<W: Write + Drop, E: Write>(
     ensures written_out { result ≢ Status.Refused → writer_buffer out.new ≡ [] }
     ensures kept { Keeps (writer_contents W.contents out.old) (writer_contents W.contents out.new) }
     ensures quiet { result ≢ Status.Refused → E.contents err.new ≡ E.contents err.old }
+    ensures told { AppendsFront (E.contents err.old) (E.contents err.new) (refusal_line FileFailed) }
 {
     if status == Status::Refused {
         return status;
     }
     if out.flush().is_err() {
-        return refuse(Refusal::FileFailed, err);
+        return refuse(Refusal::FileFailed, err).0;
     }
     status
 }
