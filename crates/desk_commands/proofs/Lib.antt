@@ -10,3 +10,4 @@ pub mod FileLemmas
 pub mod CompareLemmas
 pub mod CaseLines
 pub mod TellingLemmas
+pub mod LeavingLemmas

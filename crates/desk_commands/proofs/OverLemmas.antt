@@ -43,14 +43,14 @@ pub listed : (S T : Message → Type 0) (messages : List Message) → SameSet S 
 listed S T messages same lists = set_on T S _ (set_back S T same) lists
 
 -- the same sets with more are the same
-both_more : (S T More : Message → Type 0) → SameSet S T → SameSet (λ m. S m ⊎ More m) (λ m. T m ⊎ More m)
+pub both_more : (S T More : Message → Type 0) → SameSet S T → SameSet (λ m. S m ⊎ More m) (λ m. T m ⊎ More m)
 both_more S T More same = λ m. (
   λ s. elim s [ inl old ↦ inl ((same m).0 old) | inr more ↦ inr more ],
   λ t. elim t [ inl old ↦ inl ((same m).1 old) | inr more ↦ inr more ],
 )
 
 -- the same set with more is the same with more
-with_more : (S T More new : Message → Type 0) → SameSet S T → SameSet (λ m. T m ⊎ More m) new → SameSet (λ m. S m ⊎ More m) new
+pub with_more : (S T More new : Message → Type 0) → SameSet S T → SameSet (λ m. T m ⊎ More m) new → SameSet (λ m. S m ⊎ More m) new
 with_more S T More new same held = set_on (λ m. S m ⊎ More m) (λ m. T m ⊎ More m) new (both_more S T More same) held
 
 -- ---- what is answered of one set is answered of the same, and of what is known to be up

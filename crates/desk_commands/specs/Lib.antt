@@ -10,4 +10,5 @@ pub mod Reviewing
 pub mod Rebuilding
 pub mod Comparing
 pub mod Answers
+pub mod Leaving
 pub mod private

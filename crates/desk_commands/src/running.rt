@@ -10,9 +10,10 @@ ghost use Rattle.desk.specs.private.Serving.{IsServed};
 ghost use Rattle.desk_commands.specs.Answers.{CauseOfFile, CauseOfFiles, ChecksFile, DecidesByFile, EndsReading, HasAnswer, HasCause, IsAnswer, IsDecided, IsOnDesk, OfFile, OfFiles, ReadsInput, status_of};
 ghost use Rattle.desk_commands.specs.Comparing.{ComparesFiles, EndsComparing};
 ghost use Rattle.desk_commands.specs.Kept.{kept};
+ghost use Rattle.desk_commands.specs.Leaving.{KeepsAfterRefusal, TellsRefusal};
 ghost use Rattle.desk_commands.specs.Telling.{AppendsFront, refusal_line};
 ghost use Rattle.desk_commands.specs.declared.refusal.Refusal.TheVariants.{FileFailed};
-ghost use Rattle.desk_commands.specs.private.Outcomes.{IsOutcome};
+ghost use Rattle.desk_commands.specs.private.Outcomes.{IsLeft, IsOutcome};
 
 use crate::answer::Answer;
 use crate::comparing::compare_files;
@@ -134,6 +135,9 @@ fn answered<K: Keeper, R: Read, E: Write>(
 ) -> (Result<Answer, Refusal>, K)
     ensures outcome { IsOutcome job.now (map (λ f. f.items) files.old)
         (kept K.is_up K.is_empty K.is_desk K.is_old K.roster K.holds K.failures keeper result.1) (R.remaining input.old) result.0 (E.contents err.old) (E.contents err.new) }
+    ensures left { IfErr result.0 (λ _. IsLeft job.now (map (λ f. f.items) files.old)
+        (kept K.is_up K.is_empty K.is_desk K.is_old K.roster K.holds K.failures keeper result.1)
+        (K.is_same keeper result.1) (R.remaining input.old) (E.contents err.old) (E.contents err.new)) }
     ensures unasked { (IsOnDesk job.now → ⊥) → result.1 ≡ keeper }
     ensures unread { (ReadsInput job.now → ⊥) → input.new ≡ input.old }
     ensures served { IsServed (K.is_up keeper) (K.is_clean keeper) (K.is_up result.1) (K.is_clean result.1) (K.failures keeper) (K.failures result.1) }
@@ -203,6 +207,12 @@ pub fn run<K: Keeper, R: Read, W: Write, E: Write>(
     ensures refused { result.0 ≡ Status.Refused → ((W.contents out.new ≡ W.contents out.old)
         × HasCause job.now (map (λ f. f.items) files.old) (kept K.is_up K.is_empty K.is_desk K.is_old K.roster K.holds K.failures keeper result.1) (R.remaining input.old))
         ⊎ HasAnswer job.now (map (λ f. f.items) files.old) (kept K.is_up K.is_empty K.is_desk K.is_old K.roster K.holds K.failures keeper result.1) (R.remaining input.old) }
+    // What a refused job leaves at the keeper, and what it says on `err`.
+    ensures kept { result.0 ≡ Status.Refused → K.is_up result.1
+        → KeepsAfterRefusal job.now (map (λ f. f.items) files.old) (kept K.is_up K.is_empty K.is_desk K.is_old K.roster K.holds K.failures keeper result.1) (K.is_same keeper result.1) (R.remaining input.old)
+        ⊎ HasAnswer job.now (map (λ f. f.items) files.old) (kept K.is_up K.is_empty K.is_desk K.is_old K.roster K.holds K.failures keeper result.1) (R.remaining input.old) }
+    ensures told { result.0 ≡ Status.Refused → TellsRefusal job.now (map (λ f. f.items) files.old) (kept K.is_up K.is_empty K.is_desk K.is_old K.roster K.holds K.failures keeper result.1)
+        (R.remaining input.old) (E.contents err.old) (E.contents err.new) }
     // Only a job on a desk asks the keeper, and only one that takes lines reads the input.
     ensures unasked { (IsOnDesk job.now → ⊥) → result.1 ≡ keeper }
     ensures unread { (ReadsInput job.now → ⊥) → input.new ≡ input.old }
