@@ -7,10 +7,9 @@ ghost use Rattle.desk_commands.specs.Telling.{AppendsFront, refusal_line};
 
 use crate::refusal::Refusal;
 use desk_jobs::Status;
-use std::fmt;
 use std::fmt::{InlineText, Write as _};
-use std::io;
 use std::io::{ErrorKind, Write};
+use std::{fmt, io};
 
 /// The line of a refusal. It takes no memory: a refusal may tell of want of it.
 fn line_of(refusal: Refusal) -> Result<InlineText<64>, fmt::Error>
