@@ -1,6 +1,6 @@
 -- What many answers tell of the storage, once one more delivery is answered.
 use Rattle.std.proofs.Common.{◌≡◌, ◌⊎◌, ℕ, ◌+◌, ◌≤◌, List, [], ◌∷◌, ◌++◌, Result, Ok, Err, refl, inl, inr, arith}
-use Rattle.std.specs.Prelude.{MatchResult}
+use Rattle.std.specs.Prelude.{IsErrAnd}
 use Rattle.std.proofs.lemmas.List.Elements.{Contains-append_left, Contains-push}
 use Rattle.desk_store.specs.Keeping.{HasFailed}
 use Rattle.desk.specs.Delivery.{HaveFailed, WasWantingAmong, storage_failure, storage_failures}
@@ -12,15 +12,14 @@ use Rattle.desk.specs.declared.refusal.Refusal.TheVariants.{UnknownRelay, Unknow
 abbrev Answer : Type 0
 Answer = Result Ack Refusal
 
--- ---- whether the keeper is up
+-- ---- whether memory or the storage was wanting
 
 pub wanting_before : (answers : List Answer) (a : Answer) → WasWantingAmong answers → WasWantingAmong (answers ++ a ∷ [])
 wanting_before answers a among = (among.0, Contains-append_left answers (a ∷ []) among.0 among.1, among.2)
 
-pub wanting_or_up : (Up : Type 0) (answers : List Answer) (a : Answer) → MatchResult a (λ _. Up) (λ e. IsWant e ⊎ Up) → WasWantingAmong (answers ++ a ∷ []) ⊎ Up
-wanting_or_up Up answers (Ok ack) is = inr is
-wanting_or_up Up answers (Err e) (inl want) = inl (Err e, Contains-push answers (Err e), want)
-wanting_or_up Up answers (Err e) (inr up) = inr up
+pub wanting_now : (answers : List Answer) (a : Answer) → IsErrAnd a IsWant → WasWantingAmong (answers ++ a ∷ [])
+wanting_now answers (Ok ack) none = absurd none
+wanting_now answers (Err e) want = (Err e, Contains-push answers (Err e), want)
 
 -- ---- how many failures were counted
 

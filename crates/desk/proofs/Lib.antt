@@ -1,6 +1,5 @@
 pub mod DeliveryLemmas
 pub mod OpeningLemmas
-pub mod ServingLemmas
 pub mod FailureLemmas
 pub mod RunLemmas
 pub mod QueryLemmas

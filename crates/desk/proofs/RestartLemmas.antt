@@ -6,9 +6,11 @@ use Rattle.messages.specs.Names.{SameMessages}
 use Rattle.messages.specs.declared.message.Message.{Message}
 use Rattle.roster.specs.Fields.{RosterFields}
 use Rattle.desk_tables.specs.Sets.{Lists, SameSet}
+use Rattle.desk_store.specs.Serving.{IsServed}
 use Rattle.desk.specs.Opening.{Opens, Refuses}
 use Rattle.desk.specs.Refusals.{IsWant}
 use Rattle.desk.specs.Same.{AnswerAlike}
+use Rattle.desk.specs.State.{DeskState}
 use Rattle.desk.specs.declared.refusal.Refusal.{Refusal}
 use Rattle.desk.specs.declared.refusal.Refusal.TheVariants.{UnknownRelay, UnknownHost, TooLong, NotCanonical, BadField, Denied, TooManyRules, RosterChanged, NotADesk, OldSchema, Storage, NoMemory, BaseTooLarge}
 use Rattle.desk_outcomes.proofs.LawLemmas.{order_free}
@@ -82,3 +84,10 @@ of_err (Err e) P R each p = each e p
 pub of_both : {A E : Type 0} (r : Result A E) (P Q R : A → Type 0) → ((a : A) → P a → Q a → R a) → IfOk r P → IfOk r Q → IfOk r R
 of_both (Ok a) P Q R each p q = each a p q
 of_both (Err e) P Q R each p q = tt
+
+-- what was given was up, where what came of it is
+pub was_up_of : {K : Type 0} (is_up is_clean : K → Type 0) (failures : K → ℕ) (k : K) (r : Result (DeskState K) (Refusal × K))
+    → MatchResult r (λ d. IsServed is_up is_clean failures k d.keeper ⊥ ⊥) (λ x. IsServed is_up is_clean failures k x.1 (x.0 ≡ Storage) (IsWant x.0))
+    → MatchResult r (λ d. is_up d.keeper → is_up k) (λ x. is_up x.1 → is_up k)
+was_up_of is_up is_clean failures k (Ok d) served = served.was_up
+was_up_of is_up is_clean failures k (Err x) served = served.was_up

@@ -1,10 +1,10 @@
 //! A desk.
 
-ghost use Rattle.std.specs.Prelude.{◌≡◌, ◌≢◌, ◌⊎◌, ◌↔◌, ◌≤◌, [], length, map, vec_capacity, Contains, IfOk, IfErr, OnOk, OnErr, MatchResult, Err};
+ghost use Rattle.std.specs.Prelude.{◌≡◌, ◌≢◌, ◌⊎◌, ◌↔◌, ◌≤◌, [], length, map, vec_capacity, Contains, IfOk, IsOkAnd, IsErrAnd, IfErr, OnOk, OnErr, MatchResult, Err};
 ghost use Rattle.messages.specs.declared.message.Message.{Message as AnyMessage};
 ghost use Rattle.grants.specs.Bases.{FitsBase};
-ghost use Rattle.desk_store.specs.Keeping.{HasFailed};
 ghost use Rattle.desk_store.specs.Left.{IsDeskOf, LeavesOnly};
+ghost use Rattle.desk_store.specs.Serving.{IsServed};
 ghost use Rattle.desk.specs.Crash.{IsLeftByDelivery, IsLeftByOpening};
 ghost use Rattle.desk.specs.Delivery.{Acknowledges, AreAnswers, HaveFailed, HeldAfter, HeldAfterAll, IsBodyOf, IsDeliveryAnswer, WasWantingAmong, delivery_of, storage_failures};
 ghost use Rattle.desk.specs.Opening.{Opens, Refuses};
@@ -76,16 +76,8 @@ impl<K: Keeper> Desk<K> {
         ensures refused { IfErr result (λ r. K.is_up r.1
             → IsWant r.0 ⊎ Refuses (FitsBase base) (K.is_empty keeper) (K.is_desk keeper) (K.is_old keeper) (K.roster keeper) roster.text r.0) }
         ensures unchanged { IfErr result (λ r. K.is_up r.1 → K.is_same keeper r.1) }
-        ensures was_up { MatchResult result (λ d. K.is_up d.keeper → K.is_up keeper) (λ r. K.is_up r.1 → K.is_up keeper) }
-        ensures was_clean { MatchResult result (λ d. K.is_clean d.keeper → K.is_clean keeper) (λ r. K.is_clean r.1 → K.is_clean keeper) }
-        ensures shuts { K.is_up keeper → MatchResult result
-            (λ d. K.is_clean d.keeper → K.is_up d.keeper ⊎ HasFailed (K.failures keeper) (K.failures d.keeper))
-            (λ r. K.is_clean r.1 → K.is_up r.1 ⊎ HasFailed (K.failures keeper) (K.failures r.1)) }
-        ensures counts { MatchResult result (λ d. K.failures keeper ≤ K.failures d.keeper) (λ r. K.failures keeper ≤ K.failures r.1) }
-        ensures up { K.is_up keeper → MatchResult result
-            (λ d. K.is_clean d.keeper → K.is_up d.keeper)
-            (λ r. K.is_clean r.1 → IsWant r.0 ⊎ K.is_up r.1) }
-        ensures cause { IfErr result (λ r. r.0 ≡ refusal.Storage → HasFailed (K.failures keeper) (K.failures r.1)) }
+        ensures served { MatchResult result (λ d. IsServed K.is_up K.is_clean K.failures keeper d.keeper ⊥ ⊥)
+            (λ r. IsServed K.is_up K.is_clean K.failures keeper r.1 (r.0 ≡ refusal.Storage) (IsWant r.0)) }
         // A base past the limits is refused before the keeper is asked.
         ensures unasked { IfErr result (λ r. r.0 ≡ refusal.BaseTooLarge → r.1 ≡ keeper) }
         ensures crash { K.is_up keeper → MatchResult result
@@ -140,14 +132,7 @@ impl<K: Keeper> Desk<K> {
         ensures unchanged { K.is_up self.new.keeper → OnErr result (K.is_same self.old.keeper self.new.keeper) }
         ensures roster { self.new.roster ≡ self.old.roster }
         ensures base { self.new.base ≡ self.old.base }
-        ensures was_up { K.is_up self.new.keeper → K.is_up self.old.keeper }
-        ensures was_clean { K.is_clean self.new.keeper → K.is_clean self.old.keeper }
-        ensures shuts { K.is_up self.old.keeper → K.is_clean self.new.keeper
-            → K.is_up self.new.keeper ⊎ HasFailed (K.failures self.old.keeper) (K.failures self.new.keeper) }
-        ensures up { K.is_up self.old.keeper → K.is_clean self.new.keeper
-            → MatchResult result (λ _. K.is_up self.new.keeper) (λ e. IsWant e ⊎ K.is_up self.new.keeper) }
-        ensures counts { K.failures self.old.keeper ≤ K.failures self.new.keeper }
-        ensures cause { result ≡ Err refusal.Storage → HasFailed (K.failures self.old.keeper) (K.failures self.new.keeper) }
+        ensures served { IsServed K.is_up K.is_clean K.failures self.old.keeper self.new.keeper (result ≡ Err refusal.Storage) (IsErrAnd result IsWant) }
         ensures crash { K.is_up self.old.keeper → K.is_clean self.new.keeper → LeavesOnly (K.may_leave self.new.keeper)
             (IsLeftByDelivery self.old.roster.says self.old.roster.text (K.holds self.old.keeper) (record { relay = relay.now; body = body.now })) }
         ensures lasting { K.is_up self.old.keeper → K.is_clean self.new.keeper → OnOk result (LeavesOnly (K.may_leave self.new.keeper)
@@ -183,15 +168,8 @@ impl<K: Keeper> Desk<K> {
         ensures err { IfErr result (λ e. e ≡ refusal.NoMemory) }
         ensures roster { self.new.roster ≡ self.old.roster }
         ensures base { self.new.base ≡ self.old.base }
-        ensures was_up { K.is_up self.new.keeper → K.is_up self.old.keeper }
-        ensures was_clean { K.is_clean self.new.keeper → K.is_clean self.old.keeper }
-        ensures shuts { K.is_up self.old.keeper → K.is_clean self.new.keeper
-            → K.is_up self.new.keeper ⊎ HasFailed (K.failures self.old.keeper) (K.failures self.new.keeper) }
-        ensures up { K.is_up self.old.keeper → K.is_clean self.new.keeper
-            → MatchResult result (λ answers. WasWantingAmong answers.items ⊎ K.is_up self.new.keeper) (λ _. K.is_up self.new.keeper) }
-        ensures counts { K.failures self.old.keeper ≤ K.failures self.new.keeper }
-        ensures cause { IfOk result (λ answers. Contains answers.items (Err refusal.Storage)
-            → HasFailed (K.failures self.old.keeper) (K.failures self.new.keeper)) }
+        ensures served { IsServed K.is_up K.is_clean K.failures self.old.keeper self.new.keeper
+            (IsOkAnd result (λ answers. Contains answers.items (Err refusal.Storage))) (IsOkAnd result (λ answers. WasWantingAmong answers.items)) }
         ensures causes { IfOk result (λ answers.
             HaveFailed (storage_failures answers.items) (K.failures self.old.keeper) (K.failures self.new.keeper)) }
         ensures durable { K.is_up self.new.keeper → LeavesOnly (K.may_leave self.new.keeper) (IsDeskOf self.new.roster.text (K.holds self.new.keeper)) }
@@ -218,13 +196,7 @@ impl<K: Keeper> Desk<K> {
             → HeldAfterAll (K.holds self.old.keeper) (map delivery_of list.now) answers.new.items (K.holds self.new.keeper) }
         ensures roster { self.new.roster ≡ self.old.roster }
         ensures base { self.new.base ≡ self.old.base }
-        ensures was_up { K.is_up self.new.keeper → K.is_up self.old.keeper }
-        ensures was_clean { K.is_clean self.new.keeper → K.is_clean self.old.keeper }
-        ensures shuts { K.is_up self.old.keeper → K.is_clean self.new.keeper
-            → K.is_up self.new.keeper ⊎ HasFailed (K.failures self.old.keeper) (K.failures self.new.keeper) }
-        ensures up { K.is_up self.old.keeper → K.is_clean self.new.keeper → WasWantingAmong answers.new.items ⊎ K.is_up self.new.keeper }
-        ensures counts { K.failures self.old.keeper ≤ K.failures self.new.keeper }
-        ensures cause { Contains answers.new.items (Err refusal.Storage) → HasFailed (K.failures self.old.keeper) (K.failures self.new.keeper) }
+        ensures served { IsServed K.is_up K.is_clean K.failures self.old.keeper self.new.keeper (Contains answers.new.items (Err refusal.Storage)) (WasWantingAmong answers.new.items) }
         ensures causes { HaveFailed (storage_failures answers.new.items) (K.failures self.old.keeper) (K.failures self.new.keeper) }
     {
         for (relay, body) in list {

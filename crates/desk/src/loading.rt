@@ -1,13 +1,13 @@
 //! What is known of a desk's messages, kept from one call to the next.
 
-ghost use Rattle.std.specs.Prelude.{◌≡◌, ◌⊎◌, ◌≤◌, List, [], ◌∷◌, ◌++◌, IfErr, IfOk, IfSome, OnOk, Err, None, Some};
+ghost use Rattle.std.specs.Prelude.{◌≡◌, List, [], ◌∷◌, ◌++◌, IfErr, IfOk, IsErr, IfSome, Err, None, Some};
 ghost use Rattle.messages.specs.declared.message.Message.{Message as AnyMessage};
 ghost use Rattle.desk_outcomes.specs.Gathered.{AreGathered};
 ghost use Rattle.desk.specs.private.Known.{IsKnown};
 ghost use Rattle.desk.specs.Refusals.{IsWant};
 ghost use Rattle.desk.specs.declared.refusal.Refusal.TheVariants as refusal;
-ghost use Rattle.desk_store.specs.Keeping.{HasFailed};
 ghost use Rattle.desk_store.specs.Left.{IsDeskOf, LeavesOnly};
+ghost use Rattle.desk_store.specs.Serving.{IsServed};
 ghost use Rattle.desk_tables.specs.Sets.{Lists, SameSet};
 
 use crate::refusal::Refusal;
@@ -28,12 +28,7 @@ pub(crate) fn listed<K: Keeper>(
     ensures same { K.is_up keeper.new → K.is_same keeper.old keeper.new }
     ensures desk { K.is_up keeper.new → K.is_desk keeper.new }
     ensures roster { K.is_up keeper.new → K.roster keeper.new ≡ K.roster keeper.old }
-    ensures was_up { K.is_up keeper.new → K.is_up keeper.old }
-    ensures was_clean { K.is_clean keeper.new → K.is_clean keeper.old }
-    ensures shuts { K.is_up keeper.old → K.is_clean keeper.new → K.is_up keeper.new ⊎ HasFailed (K.failures keeper.old) (K.failures keeper.new) }
-    ensures up { K.is_up keeper.old → K.is_clean keeper.new → OnOk result (K.is_up keeper.new) }
-    ensures counts { K.failures keeper.old ≤ K.failures keeper.new }
-    ensures cause { result ≡ Err KeeperError.Storage → HasFailed (K.failures keeper.old) (K.failures keeper.new) }
+    ensures served { IsServed K.is_up K.is_clean K.failures keeper.old keeper.new (result ≡ Err KeeperError.Storage) (IsErr result) }
     ensures durable { K.is_up keeper.new → LeavesOnly (K.may_leave keeper.new) (IsDeskOf (K.roster keeper.new) (K.holds keeper.new)) }
 {
     keeper.messages()
@@ -55,12 +50,7 @@ pub(crate) fn known_of<K: Keeper>(
     ensures set { K.is_up keeper.new → SameSet (K.holds keeper.old) (K.holds keeper.new) }
     ensures desk { K.is_up keeper.new → K.is_desk keeper.new }
     ensures roster { K.is_up keeper.new → K.roster keeper.new ≡ K.roster keeper.old }
-    ensures was_up { K.is_up keeper.new → K.is_up keeper.old }
-    ensures was_clean { K.is_clean keeper.new → K.is_clean keeper.old }
-    ensures shuts { K.is_up keeper.old → K.is_clean keeper.new → K.is_up keeper.new ⊎ HasFailed (K.failures keeper.old) (K.failures keeper.new) }
-    ensures up { K.is_up keeper.old → K.is_clean keeper.new → OnOk result (K.is_up keeper.new) }
-    ensures counts { K.failures keeper.old ≤ K.failures keeper.new }
-    ensures cause { result ≡ Err refusal.Storage → HasFailed (K.failures keeper.old) (K.failures keeper.new) }
+    ensures served { IsServed K.is_up K.is_clean K.failures keeper.old keeper.new (result ≡ Err refusal.Storage) (IsErr result) }
     ensures durable { K.is_up keeper.new → LeavesOnly (K.may_leave keeper.new) (IsDeskOf (K.roster keeper.new) (K.holds keeper.new)) }
 {
     match known {

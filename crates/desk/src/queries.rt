@@ -1,9 +1,9 @@
 //! What is asked of a desk. An answer is that of the set of messages that it holds, and nothing of the desk changes.
 
-ghost use Rattle.std.specs.Prelude.{◌≡◌, ◌⊎◌, ◌↔◌, ◌<◌, ◌≤◌, ℕ, List, true, false, map, length, IfOk, IfErr, MatchResult, Err, string_bytes};
+ghost use Rattle.std.specs.Prelude.{◌≡◌, ◌⊎◌, ◌↔◌, ◌<◌, ◌≤◌, List, false, map, length, IfOk, IsErrAnd, IfErr, MatchResult, Err, string_bytes};
 ghost use Rattle.messages.specs.declared.message.Message.{Message as AnyMessage};
 ghost use Rattle.roster.specs.Rules.{is_among};
-ghost use Rattle.desk_store.specs.Keeping.{HasFailed};
+ghost use Rattle.desk_store.specs.Serving.{IsServed};
 ghost use Rattle.desk_tables.specs.Sets.{Lists, SameSet};
 ghost use Rattle.desk_outcomes.specs.HostFile.{Line, AreLines, IsHostFile, IsHostFileAfter, lines_after};
 ghost use Rattle.desk_outcomes.specs.LinesLeft as left;
@@ -32,14 +32,7 @@ impl<K: Keeper> Desk<K> {
         ensures unchanged { K.is_up self.new.keeper → K.is_same self.old.keeper self.new.keeper }
         ensures roster { self.new.roster ≡ self.old.roster }
         ensures base { self.new.base ≡ self.old.base }
-        ensures was_up { K.is_up self.new.keeper → K.is_up self.old.keeper }
-        ensures was_clean { K.is_clean self.new.keeper → K.is_clean self.old.keeper }
-        ensures shuts { K.is_up self.old.keeper → K.is_clean self.new.keeper
-            → K.is_up self.new.keeper ⊎ HasFailed (K.failures self.old.keeper) (K.failures self.new.keeper) }
-        ensures up { K.is_up self.old.keeper → K.is_clean self.new.keeper
-            → MatchResult result (λ _. K.is_up self.new.keeper) (λ e. IsWant e ⊎ K.is_up self.new.keeper) }
-        ensures counts { K.failures self.old.keeper ≤ K.failures self.new.keeper }
-        ensures cause { result ≡ Err refusal.Storage → HasFailed (K.failures self.old.keeper) (K.failures self.new.keeper) }
+        ensures served { IsServed K.is_up K.is_clean K.failures self.old.keeper self.new.keeper (result ≡ Err refusal.Storage) (IsErrAnd result IsWant) }
     {
         let known = known_of(self.known.take(), &mut self.keeper)?;
         let status = status_in(&self.roster, &known, name);
@@ -55,14 +48,7 @@ impl<K: Keeper> Desk<K> {
         ensures unchanged { K.is_up self.new.keeper → K.is_same self.old.keeper self.new.keeper }
         ensures roster { self.new.roster ≡ self.old.roster }
         ensures base { self.new.base ≡ self.old.base }
-        ensures was_up { K.is_up self.new.keeper → K.is_up self.old.keeper }
-        ensures was_clean { K.is_clean self.new.keeper → K.is_clean self.old.keeper }
-        ensures shuts { K.is_up self.old.keeper → K.is_clean self.new.keeper
-            → K.is_up self.new.keeper ⊎ HasFailed (K.failures self.old.keeper) (K.failures self.new.keeper) }
-        ensures up { K.is_up self.old.keeper → K.is_clean self.new.keeper
-            → MatchResult result (λ _. K.is_up self.new.keeper) (λ e. IsWant e ⊎ K.is_up self.new.keeper) }
-        ensures counts { K.failures self.old.keeper ≤ K.failures self.new.keeper }
-        ensures cause { result ≡ Err refusal.Storage → HasFailed (K.failures self.old.keeper) (K.failures self.new.keeper) }
+        ensures served { IsServed K.is_up K.is_clean K.failures self.old.keeper self.new.keeper (result ≡ Err refusal.Storage) (IsErrAnd result IsWant) }
     {
         let known = known_of(self.known.take(), &mut self.keeper)?;
         let list = live_in(self.alloc, &self.roster, &known, at);
@@ -78,14 +64,7 @@ impl<K: Keeper> Desk<K> {
         ensures unchanged { K.is_up self.new.keeper → K.is_same self.old.keeper self.new.keeper }
         ensures roster { self.new.roster ≡ self.old.roster }
         ensures base { self.new.base ≡ self.old.base }
-        ensures was_up { K.is_up self.new.keeper → K.is_up self.old.keeper }
-        ensures was_clean { K.is_clean self.new.keeper → K.is_clean self.old.keeper }
-        ensures shuts { K.is_up self.old.keeper → K.is_clean self.new.keeper
-            → K.is_up self.new.keeper ⊎ HasFailed (K.failures self.old.keeper) (K.failures self.new.keeper) }
-        ensures up { K.is_up self.old.keeper → K.is_clean self.new.keeper
-            → MatchResult result (λ _. K.is_up self.new.keeper) (λ e. IsWant e ⊎ K.is_up self.new.keeper) }
-        ensures counts { K.failures self.old.keeper ≤ K.failures self.new.keeper }
-        ensures cause { result ≡ Err refusal.Storage → HasFailed (K.failures self.old.keeper) (K.failures self.new.keeper) }
+        ensures served { IsServed K.is_up K.is_clean K.failures self.old.keeper self.new.keeper (result ≡ Err refusal.Storage) (IsErrAnd result IsWant) }
     {
         let known = known_of(self.known.take(), &mut self.keeper)?;
         let texts = parked_in(self.alloc, &known);
@@ -102,14 +81,7 @@ impl<K: Keeper> Desk<K> {
         ensures unchanged { K.is_up self.new.keeper → K.is_same self.old.keeper self.new.keeper }
         ensures roster { self.new.roster ≡ self.old.roster }
         ensures base { self.new.base ≡ self.old.base }
-        ensures was_up { K.is_up self.new.keeper → K.is_up self.old.keeper }
-        ensures was_clean { K.is_clean self.new.keeper → K.is_clean self.old.keeper }
-        ensures shuts { K.is_up self.old.keeper → K.is_clean self.new.keeper
-            → K.is_up self.new.keeper ⊎ HasFailed (K.failures self.old.keeper) (K.failures self.new.keeper) }
-        ensures up { K.is_up self.old.keeper → K.is_clean self.new.keeper
-            → MatchResult result (λ _. K.is_up self.new.keeper) (λ e. IsWant e ⊎ K.is_up self.new.keeper) }
-        ensures counts { K.failures self.old.keeper ≤ K.failures self.new.keeper }
-        ensures cause { result ≡ Err refusal.Storage → HasFailed (K.failures self.old.keeper) (K.failures self.new.keeper) }
+        ensures served { IsServed K.is_up K.is_clean K.failures self.old.keeper self.new.keeper (result ≡ Err refusal.Storage) (IsErrAnd result IsWant) }
     {
         let known = known_of(self.known.take(), &mut self.keeper)?;
         let list = summaries_in(self.alloc, &known);
@@ -127,14 +99,7 @@ impl<K: Keeper> Desk<K> {
         ensures unchanged { K.is_up self.new.keeper → K.is_same self.old.keeper self.new.keeper }
         ensures roster { self.new.roster ≡ self.old.roster }
         ensures base { self.new.base ≡ self.old.base }
-        ensures was_up { K.is_up self.new.keeper → K.is_up self.old.keeper }
-        ensures was_clean { K.is_clean self.new.keeper → K.is_clean self.old.keeper }
-        ensures shuts { K.is_up self.old.keeper → K.is_clean self.new.keeper
-            → K.is_up self.new.keeper ⊎ HasFailed (K.failures self.old.keeper) (K.failures self.new.keeper) }
-        ensures up { K.is_up self.old.keeper → K.is_clean self.new.keeper
-            → MatchResult result (λ _. K.is_up self.new.keeper) (λ e. IsWant e ⊎ K.is_up self.new.keeper) }
-        ensures counts { K.failures self.old.keeper ≤ K.failures self.new.keeper }
-        ensures cause { result ≡ Err refusal.Storage → HasFailed (K.failures self.old.keeper) (K.failures self.new.keeper) }
+        ensures served { IsServed K.is_up K.is_clean K.failures self.old.keeper self.new.keeper (result ≡ Err refusal.Storage) (IsErrAnd result IsWant) }
     {
         let known = known_of(self.known.take(), &mut self.keeper)?;
         let held = holdings_in(self.alloc, &known);
@@ -165,14 +130,7 @@ impl<K: Keeper> Desk<K> {
         ensures unchanged { K.is_up self.new.keeper → K.is_same self.old.keeper self.new.keeper }
         ensures roster { self.new.roster ≡ self.old.roster }
         ensures base { self.new.base ≡ self.old.base }
-        ensures was_up { K.is_up self.new.keeper → K.is_up self.old.keeper }
-        ensures was_clean { K.is_clean self.new.keeper → K.is_clean self.old.keeper }
-        ensures shuts { K.is_up self.old.keeper → K.is_clean self.new.keeper
-            → K.is_up self.new.keeper ⊎ HasFailed (K.failures self.old.keeper) (K.failures self.new.keeper) }
-        ensures up { K.is_up self.old.keeper → K.is_clean self.new.keeper
-            → MatchResult result (λ _. K.is_up self.new.keeper) (λ e. IsWant e ⊎ K.is_up self.new.keeper) }
-        ensures counts { K.failures self.old.keeper ≤ K.failures self.new.keeper }
-        ensures cause { result ≡ Err refusal.Storage → HasFailed (K.failures self.old.keeper) (K.failures self.new.keeper) }
+        ensures served { IsServed K.is_up K.is_clean K.failures self.old.keeper self.new.keeper (result ≡ Err refusal.Storage) (IsErrAnd result IsWant) }
     {
         self.file_of(host, None)
     }
@@ -199,14 +157,7 @@ impl<K: Keeper> Desk<K> {
         ensures unchanged { K.is_up self.new.keeper → K.is_same self.old.keeper self.new.keeper }
         ensures roster { self.new.roster ≡ self.old.roster }
         ensures base { self.new.base ≡ self.old.base }
-        ensures was_up { K.is_up self.new.keeper → K.is_up self.old.keeper }
-        ensures was_clean { K.is_clean self.new.keeper → K.is_clean self.old.keeper }
-        ensures shuts { K.is_up self.old.keeper → K.is_clean self.new.keeper
-            → K.is_up self.new.keeper ⊎ HasFailed (K.failures self.old.keeper) (K.failures self.new.keeper) }
-        ensures up { K.is_up self.old.keeper → K.is_clean self.new.keeper
-            → MatchResult result (λ _. K.is_up self.new.keeper) (λ e. IsWant e ⊎ K.is_up self.new.keeper) }
-        ensures counts { K.failures self.old.keeper ≤ K.failures self.new.keeper }
-        ensures cause { result ≡ Err refusal.Storage → HasFailed (K.failures self.old.keeper) (K.failures self.new.keeper) }
+        ensures served { IsServed K.is_up K.is_clean K.failures self.old.keeper self.new.keeper (result ≡ Err refusal.Storage) (IsErrAnd result IsWant) }
     {
         self.file_of(host, Some(moment))
     }
@@ -226,14 +177,7 @@ impl<K: Keeper> Desk<K> {
         ensures unchanged { K.is_up self.new.keeper → K.is_same self.old.keeper self.new.keeper }
         ensures roster { self.new.roster ≡ self.old.roster }
         ensures base { self.new.base ≡ self.old.base }
-        ensures was_up { K.is_up self.new.keeper → K.is_up self.old.keeper }
-        ensures was_clean { K.is_clean self.new.keeper → K.is_clean self.old.keeper }
-        ensures shuts { K.is_up self.old.keeper → K.is_clean self.new.keeper
-            → K.is_up self.new.keeper ⊎ HasFailed (K.failures self.old.keeper) (K.failures self.new.keeper) }
-        ensures up { K.is_up self.old.keeper → K.is_clean self.new.keeper
-            → MatchResult result (λ _. K.is_up self.new.keeper) (λ e. IsWant e ⊎ K.is_up self.new.keeper) }
-        ensures counts { K.failures self.old.keeper ≤ K.failures self.new.keeper }
-        ensures cause { result ≡ Err refusal.Storage → HasFailed (K.failures self.old.keeper) (K.failures self.new.keeper) }
+        ensures served { IsServed K.is_up K.is_clean K.failures self.old.keeper self.new.keeper (result ≡ Err refusal.Storage) (IsErrAnd result IsWant) }
     {
         if !self.roster.has_host(host) {
             return Err(Refusal::UnknownHost);

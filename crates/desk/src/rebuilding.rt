@@ -1,9 +1,9 @@
 //! A desk that is given another roster.
 
-ghost use Rattle.std.specs.Prelude.{◌≡◌, ◌≢◌, ◌⊎◌, ◌↔◌, ◌≤◌, ⊤, IfOk, IfErr, OnOk, OnErr, MatchResult, Err};
+ghost use Rattle.std.specs.Prelude.{◌≡◌, ◌≢◌, ◌⊎◌, ◌↔◌, ⊤, IfOk, IsErrAnd, IfErr, OnOk, OnErr, MatchResult, Err};
 ghost use Rattle.grants.specs.Bases.{FitsBase};
-ghost use Rattle.desk_store.specs.Keeping.{HasFailed};
 ghost use Rattle.desk_store.specs.Left.{IsDeskOf, LeavesOnly};
+ghost use Rattle.desk_store.specs.Serving.{IsServed};
 ghost use Rattle.desk.specs.Crash.{IsLeftByRebuilding};
 ghost use Rattle.desk.specs.Rebuilding.{Rebuilds, RefusesToRebuild};
 ghost use Rattle.desk.specs.Refusals.{IsWant};
@@ -28,12 +28,7 @@ pub(crate) fn make_or_replace<K: Keeper>(keeper: &mut K, text: &str) -> Result<(
     ensures err { IfErr result (λ e. IsWant e ⊎ (e ≡ refusal.NotADesk)) }
     ensures fits { IfErr result (λ e. e ≢ refusal.BaseTooLarge) }
     ensures unchanged { K.is_up keeper.new → OnErr result (K.is_same keeper.old keeper.new) }
-    ensures was_up { K.is_up keeper.new → K.is_up keeper.old }
-    ensures was_clean { K.is_clean keeper.new → K.is_clean keeper.old }
-    ensures shuts { K.is_up keeper.old → K.is_clean keeper.new → K.is_up keeper.new ⊎ HasFailed (K.failures keeper.old) (K.failures keeper.new) }
-    ensures up { K.is_up keeper.old → K.is_clean keeper.new → MatchResult result (λ _. K.is_up keeper.new) (λ e. IsWant e ⊎ K.is_up keeper.new) }
-    ensures counts { K.failures keeper.old ≤ K.failures keeper.new }
-    ensures cause { result ≡ Err refusal.Storage → HasFailed (K.failures keeper.old) (K.failures keeper.new) }
+    ensures served { IsServed K.is_up K.is_clean K.failures keeper.old keeper.new (result ≡ Err refusal.Storage) (IsErrAnd result IsWant) }
     ensures crash { K.is_up keeper.old → K.is_clean keeper.new → LeavesOnly (K.may_leave keeper.new)
         (IsLeftByRebuilding (K.is_empty keeper.old) (K.is_desk keeper.old) (K.is_old keeper.old) (K.roster keeper.old) text.now (K.holds keeper.old)) }
     ensures durable { K.is_up keeper.new → OnOk result (LeavesOnly (K.may_leave keeper.new) (IsDeskOf (K.roster keeper.new) (K.holds keeper.new))) }
@@ -84,16 +79,8 @@ impl<K: Keeper> Desk<K> {
         // So no other roster's text is refused, and no older form.
         ensures err { IfErr result (λ r. IsWant r.0 ⊎ (r.0 ≡ refusal.NotADesk) ⊎ (r.0 ≡ refusal.BaseTooLarge)) }
         ensures unchanged { IfErr result (λ r. K.is_up r.1 → K.is_same keeper r.1) }
-        ensures was_up { MatchResult result (λ d. K.is_up d.keeper → K.is_up keeper) (λ r. K.is_up r.1 → K.is_up keeper) }
-        ensures was_clean { MatchResult result (λ d. K.is_clean d.keeper → K.is_clean keeper) (λ r. K.is_clean r.1 → K.is_clean keeper) }
-        ensures shuts { K.is_up keeper → MatchResult result
-            (λ d. K.is_clean d.keeper → K.is_up d.keeper ⊎ HasFailed (K.failures keeper) (K.failures d.keeper))
-            (λ r. K.is_clean r.1 → K.is_up r.1 ⊎ HasFailed (K.failures keeper) (K.failures r.1)) }
-        ensures counts { MatchResult result (λ d. K.failures keeper ≤ K.failures d.keeper) (λ r. K.failures keeper ≤ K.failures r.1) }
-        ensures up { K.is_up keeper → MatchResult result
-            (λ d. K.is_clean d.keeper → K.is_up d.keeper)
-            (λ r. K.is_clean r.1 → IsWant r.0 ⊎ K.is_up r.1) }
-        ensures cause { IfErr result (λ r. r.0 ≡ refusal.Storage → HasFailed (K.failures keeper) (K.failures r.1)) }
+        ensures served { MatchResult result (λ d. IsServed K.is_up K.is_clean K.failures keeper d.keeper ⊥ ⊥)
+            (λ r. IsServed K.is_up K.is_clean K.failures keeper r.1 (r.0 ≡ refusal.Storage) (IsWant r.0)) }
         // A base past the limits is refused before the keeper is asked.
         ensures unasked { IfErr result (λ r. r.0 ≡ refusal.BaseTooLarge → r.1 ≡ keeper) }
         ensures crash { K.is_up keeper → MatchResult result

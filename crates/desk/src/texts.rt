@@ -1,10 +1,10 @@
 //! All messages of a desk, as their texts.
 
-ghost use Rattle.std.specs.Prelude.{◌≡◌, ◌⊎◌, ◌≤◌, ℕ, List, map, Contains, IfOk, IfErr, MatchResult, Err, string_bytes};
+ghost use Rattle.std.specs.Prelude.{◌≡◌, ℕ, List, map, Contains, IfOk, IsErrAnd, IfErr, Err, string_bytes};
 ghost use Rattle.messages.specs.Names.{SameMessages};
 ghost use Rattle.messages.specs.Wire.{IsMessage, wire};
 ghost use Rattle.messages.specs.declared.message.Message.{Message as AnyMessage};
-ghost use Rattle.desk_store.specs.Keeping.{HasFailed};
+ghost use Rattle.desk_store.specs.Serving.{IsServed};
 ghost use Rattle.desk_tables.specs.Sets.{Lists};
 ghost use Rattle.desk.specs.Refusals.{IsWant};
 ghost use Rattle.desk.specs.Texts.{AreTexts};
@@ -27,14 +27,7 @@ impl<K: Keeper> Desk<K> {
         ensures unchanged { K.is_up self.new.keeper → K.is_same self.old.keeper self.new.keeper }
         ensures roster { self.new.roster ≡ self.old.roster }
         ensures base { self.new.base ≡ self.old.base }
-        ensures was_up { K.is_up self.new.keeper → K.is_up self.old.keeper }
-        ensures was_clean { K.is_clean self.new.keeper → K.is_clean self.old.keeper }
-        ensures shuts { K.is_up self.old.keeper → K.is_clean self.new.keeper
-            → K.is_up self.new.keeper ⊎ HasFailed (K.failures self.old.keeper) (K.failures self.new.keeper) }
-        ensures up { K.is_up self.old.keeper → K.is_clean self.new.keeper
-            → MatchResult result (λ _. K.is_up self.new.keeper) (λ e. IsWant e ⊎ K.is_up self.new.keeper) }
-        ensures counts { K.failures self.old.keeper ≤ K.failures self.new.keeper }
-        ensures cause { result ≡ Err refusal.Storage → HasFailed (K.failures self.old.keeper) (K.failures self.new.keeper) }
+        ensures served { IsServed K.is_up K.is_clean K.failures self.old.keeper self.new.keeper (result ≡ Err refusal.Storage) (IsErrAnd result IsWant) }
     {
         let set = listed(&mut self.keeper, &self.known)?;
         Ok(texts_in(self.alloc, set.as_slice())?)

@@ -1,11 +1,12 @@
 //! What is said of each name.
 
-ghost use Rattle.std.specs.Prelude.{◌≡◌, ◌⊎◌, ◌≤◌, List, IfOk, IfErr, OnOk, MatchResult};
+ghost use Rattle.std.specs.Prelude.{◌≡◌, ◌⊎◌, List, IfOk, IsErr, IsErrAnd, IfErr, Err};
 ghost use Rattle.messages.specs.declared.message.Message.{Message as AnyMessage};
-ghost use Rattle.desk_store.specs.Keeping.{HasFailed};
+ghost use Rattle.desk_store.specs.Serving.{IsServed};
 ghost use Rattle.desk_store.specs.Sets.{Lists};
 ghost use Rattle.desk_outcomes.specs.Outcomes.{ComesTo};
 ghost use Rattle.desk.specs.Refusals.{IsWant};
+ghost use Rattle.desk.specs.declared.refusal.Refusal.TheVariants as refusal;
 ghost use Rattle.desk_audit.specs.Audit.{IsAudit};
 ghost use Rattle.desk_audit.specs.Told.{IsTooLong};
 ghost use Rattle.desk_audit.specs.private.ByName.{Gathers};
@@ -43,12 +44,7 @@ fn entry_of<K: Keeper>(
     ensures unchanged { K.is_up desk.new.keeper → K.is_same desk.old.keeper desk.new.keeper }
     ensures roster { desk.new.roster ≡ desk.old.roster }
     ensures base { desk.new.base ≡ desk.old.base }
-    ensures was_up { K.is_up desk.new.keeper → K.is_up desk.old.keeper }
-    ensures was_clean { K.is_clean desk.new.keeper → K.is_clean desk.old.keeper }
-    ensures shuts { K.is_up desk.old.keeper → K.is_clean desk.new.keeper
-        → K.is_up desk.new.keeper ⊎ HasFailed (K.failures desk.old.keeper) (K.failures desk.new.keeper) }
-    ensures up { K.is_up desk.old.keeper → K.is_clean desk.new.keeper → OnOk result (K.is_up desk.new.keeper) }
-    ensures counts { K.failures desk.old.keeper ≤ K.failures desk.new.keeper }
+    ensures served { IsServed K.is_up K.is_clean K.failures desk.old.keeper desk.new.keeper (result ≡ Err refusal.Storage) (IsErr result) }
 {
     let status = desk.status_of(&name)?;
     Ok(Entry {
@@ -70,12 +66,7 @@ fn entries_of<K: Keeper>(
     ensures unchanged { K.is_up desk.new.keeper → K.is_same desk.old.keeper desk.new.keeper }
     ensures roster { desk.new.roster ≡ desk.old.roster }
     ensures base { desk.new.base ≡ desk.old.base }
-    ensures was_up { K.is_up desk.new.keeper → K.is_up desk.old.keeper }
-    ensures was_clean { K.is_clean desk.new.keeper → K.is_clean desk.old.keeper }
-    ensures shuts { K.is_up desk.old.keeper → K.is_clean desk.new.keeper
-        → K.is_up desk.new.keeper ⊎ HasFailed (K.failures desk.old.keeper) (K.failures desk.new.keeper) }
-    ensures up { K.is_up desk.old.keeper → K.is_clean desk.new.keeper → OnOk result (K.is_up desk.new.keeper) }
-    ensures counts { K.failures desk.old.keeper ≤ K.failures desk.new.keeper }
+    ensures served { IsServed K.is_up K.is_clean K.failures desk.old.keeper desk.new.keeper (result ≡ Err refusal.Storage) (IsErr result) }
 {
     let mut entries = Vec::new(alloc);
     for (name, about) in all {
@@ -97,13 +88,7 @@ pub fn audit<K: Keeper>(desk: &mut Desk<K>) -> Result<Vec<Entry>, Refusal>
     ensures unchanged { K.is_up desk.new.keeper → K.is_same desk.old.keeper desk.new.keeper }
     ensures roster { desk.new.roster ≡ desk.old.roster }
     ensures base { desk.new.base ≡ desk.old.base }
-    ensures was_up { K.is_up desk.new.keeper → K.is_up desk.old.keeper }
-    ensures was_clean { K.is_clean desk.new.keeper → K.is_clean desk.old.keeper }
-    ensures shuts { K.is_up desk.old.keeper → K.is_clean desk.new.keeper
-        → K.is_up desk.new.keeper ⊎ HasFailed (K.failures desk.old.keeper) (K.failures desk.new.keeper) }
-    ensures up { K.is_up desk.old.keeper → K.is_clean desk.new.keeper
-        → MatchResult result (λ _. K.is_up desk.new.keeper) (λ e. IsWant e ⊎ K.is_up desk.new.keeper) }
-    ensures counts { K.failures desk.old.keeper ≤ K.failures desk.new.keeper }
+    ensures served { IsServed K.is_up K.is_clean K.failures desk.old.keeper desk.new.keeper (result ≡ Err refusal.Storage) (IsErrAnd result IsWant) }
 {
     let texts = desk.texts()?;
     let alloc = *texts.allocator();

@@ -1,6 +1,6 @@
 //! What the texts of a desk's messages say, name by name.
 
-ghost use Rattle.std.specs.Prelude.{◌≡◌, ◌⊎◌, ◌<◌, ◌++◌, ◌∷◌, [], List, map, Contains, IfOk, IfErr, OnOk, length, string_bytes};
+ghost use Rattle.std.specs.Prelude.{◌≡◌, ◌≢◌, ◌⊎◌, ◌<◌, ◌++◌, ◌∷◌, [], List, map, Contains, IfOk, IfErr, OnOk, length, string_bytes};
 ghost use Rattle.messages.specs.Wire.{wire, IsMessage};
 ghost use Rattle.messages.specs.declared.message.Message.{Message as AnyMessage};
 ghost use Rattle.messages.specs.declared.request_name.RequestName.{RequestName as AnyName};
@@ -92,6 +92,7 @@ fn read(alloc: Global, text: &str) -> Result<Message, Refusal>
     ensures found { IfOk result (λ m. (text.now ≡ wire m) × IsMessage m) }
     ensures refused { (m : AnyMessage) → IsMessage m → text.now ≡ wire m
         → IfErr result (λ e. IsWant e ⊎ ((e ≡ refusal.TooLong) × (16_384 < length text.now))) }
+    ensures unasked { IfErr result (λ e. e ≢ refusal.Storage) }
 {
     Ok(read_message(alloc, text.as_bytes())?)
 }
@@ -102,6 +103,7 @@ pub(crate) fn gather(alloc: Global, texts: &[String]) -> Result<ByName, Refusal>
         → IfOk result (Gathers set) }
     ensures refused { (set : List AnyMessage) → ((m : AnyMessage) → Contains set m → IsMessage m) → AreTexts set (map string_bytes texts.now)
         → IfErr result (λ e. IsWant e ⊎ IsTooLong set e) }
+    ensures unasked { IfErr result (λ e. e ≢ refusal.Storage) }
 {
     let mut all = BTreeMap::new(alloc);
     for text in texts {

@@ -9,10 +9,9 @@ use Rattle.messages.specs.declared.message.Message.{Message}
 use Rattle.roster.specs.Fields.{RosterFields}
 use Rattle.desk_store.specs.Keeping.{HasFailed}
 use Rattle.desk_store.specs.Sets.{Lists, SameSet}
+use Rattle.desk_store.proofs.ServingLemmas.{failed_later}
 use Rattle.desk.specs.declared.refusal.Refusal.{Refusal}
 use Rattle.desk.specs.declared.refusal.Refusal.TheVariants as desk
-use Rattle.desk.proofs.ServingLemmas.{failed_later, served_once_more}
-use Rattle.desk.specs.private.Serving.{IsServed}
 use Rattle.desk_commands.specs.Answers.{IsAnswer, IsCause}
 use Rattle.desk_commands.specs.Delivering.{DeliversLines, EndsDelivering}
 use Rattle.desk_commands.specs.Files.{EndsMaking, EndsOpening, IsDeskOf, KeepsDesk}
@@ -116,11 +115,6 @@ of_two view (p ∷ []) a b first second P long at_a at_b of_a of_b holds = absur
 of_two view (p ∷ q ∷ rest) a b first second P long at_a at_b of_a of_b holds =
     subst (λ (x : List ℕ). P (x ∷ view q ∷ map view rest)) (of_a ∙ ap view at_a)
     (subst (λ (y : List ℕ). P (first ∷ y ∷ map view rest)) (of_b ∙ ap view at_b) (holds (map view rest)))
-
--- ---- one call of a keeper after another
-
-pub served_both : (u c v d w e : Type 0) (before mid after : ℕ) → IsServed u c v d before mid → IsServed v d w e mid after → IsServed u c w e before after
-served_both u c v d w e before mid after first second = served_once_more u c v d w e before mid after first second.up second.clean second.shuts second.counts
 
 -- ---- nothing is said
 

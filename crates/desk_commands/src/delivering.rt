@@ -1,9 +1,9 @@
 //! Delivering the lines of the input, with an answer to each.
 
-ghost use Rattle.std.specs.Prelude.{◌≡◌, ◌⊎◌, ◌++◌, ◌∷◌, ℕ, List, Option, [], IfErr, IfOk, OnOk, is_ok, map, string_bytes};
+ghost use Rattle.std.specs.Prelude.{◌≡◌, ◌⊎◌, ◌++◌, ◌∷◌, ℕ, List, Option, [], IfErr, IfOk, OnOk, is_ok, map, string_bytes, ⊤};
 ghost use Rattle.std.specs.List.{list_all};
-ghost use Rattle.desk.specs.private.Serving.{IsServed};
 ghost use Rattle.desk.specs.declared.refusal.Refusal.TheVariants as refusal;
+ghost use Rattle.desk_store.specs.Serving.{IsServed};
 ghost use Rattle.desk_commands.specs.Delivering.{DeliversLines, answer_line, answer_lines, status_after};
 ghost use Rattle.desk_commands.specs.Kept.{kept};
 ghost use Rattle.desk_commands.specs.Leaving.{LeavesDelivered};
@@ -78,8 +78,7 @@ pub fn deliver_to<K: Keeper, R: Read>(
     ensures left { K.is_up desk.new.keeper → IfErr result
         (λ _. LeavesDelivered desk.old.roster.says relay.now (R.remaining input.old) (K.holds desk.old.keeper) (K.holds desk.new.keeper)) }
     ensures roster { desk.new.roster ≡ desk.old.roster }
-    ensures served { IsServed (K.is_up desk.old.keeper) (K.is_clean desk.old.keeper) (K.is_up desk.new.keeper) (K.is_clean desk.new.keeper)
-        (K.failures desk.old.keeper) (K.failures desk.new.keeper) }
+    ensures served { IsServed K.is_up K.is_clean K.failures desk.old.keeper desk.new.keeper ⊥ ⊤ }
 {
     let lines = read_lines(alloc, relay, input)?;
     let answers = desk.deliver_all(lines.as_slice())?;
@@ -103,7 +102,7 @@ fn deliver_over<K: Keeper, R: Read>(
     ensures left { (places : Parts) (more : List (List ℕ)) (err : Option (List ℕ)) → IfErr result.0 (λ _. IsLeft (jobs.Deliver places relay.now) (roster.now ∷ base.now ∷ more)
         (kept K.is_up K.is_empty K.is_desk K.is_old K.roster K.holds K.failures keeper result.1)
         (K.is_same keeper result.1) (R.remaining input.old) err err) }
-    ensures served { IsServed (K.is_up keeper) (K.is_clean keeper) (K.is_up result.1) (K.is_clean result.1) (K.failures keeper) (K.failures result.1) }
+    ensures served { IsServed K.is_up K.is_clean K.failures keeper result.1 ⊥ ⊤ }
 {
     match open_over(alloc, roster, base, keeper) {
         Ok(mut desk) => {
@@ -127,7 +126,7 @@ pub fn deliver_lines<K: Keeper, R: Read>(
     ensures left { (places : Parts) (err : Option (List ℕ)) → IfErr result.0 (λ _. IsLeft (jobs.Deliver places relay.now) (map (λ f. f.items) files.now)
         (kept K.is_up K.is_empty K.is_desk K.is_old K.roster K.holds K.failures keeper result.1)
         (K.is_same keeper result.1) (R.remaining input.old) err err) }
-    ensures served { IsServed (K.is_up keeper) (K.is_clean keeper) (K.is_up result.1) (K.is_clean result.1) (K.failures keeper) (K.failures result.1) }
+    ensures served { IsServed K.is_up K.is_clean K.failures keeper result.1 ⊥ ⊤ }
 {
     match files {
         [roster, base, ..] => deliver_over(

@@ -1,9 +1,9 @@
 //! Opening a desk over the bytes of its files and what a keeper keeps.
 
-ghost use Rattle.std.specs.Prelude.{◌≡◌, ◌≤◌, IfErr, IfOk, MatchResult};
+ghost use Rattle.std.specs.Prelude.{◌≡◌, ◌≤◌, IfErr, IfOk, MatchResult, ⊤};
 ghost use Rattle.sudo_policy.specs.Spelling.{Spells};
+ghost use Rattle.desk_store.specs.Serving.{IsServed};
 ghost use Rattle.desk_store.specs.Sets.{SameSet};
-ghost use Rattle.desk.specs.private.Serving.{IsServed};
 ghost use Rattle.desk_commands.specs.Files.{EndsMaking, IsDeskOf, IsRosterFile, IsRosterFault};
 ghost use Rattle.desk_commands.specs.Kept.{held_in, keeps, kept};
 ghost use Rattle.desk_commands.specs.Leaving.{WasOpened};
@@ -57,8 +57,8 @@ pub fn open_over<K: Keeper>(
         (kept K.is_up K.is_empty K.is_desk K.is_old K.roster K.holds K.failures keeper r.1) r.0) }
     ensures unchanged { IfErr result (λ r. K.is_up r.1 → K.is_same keeper r.1) }
     ensures served { MatchResult result
-        (λ d. IsServed (K.is_up keeper) (K.is_clean keeper) (K.is_up d.keeper) (K.is_clean d.keeper) (K.failures keeper) (K.failures d.keeper))
-        (λ r. IsServed (K.is_up keeper) (K.is_clean keeper) (K.is_up r.1) (K.is_clean r.1) (K.failures keeper) (K.failures r.1)) }
+        (λ d. IsServed K.is_up K.is_clean K.failures keeper d.keeper ⊥ ⊤)
+        (λ r. IsServed K.is_up K.is_clean K.failures keeper r.1 ⊥ ⊤) }
 {
     match parts(alloc, roster, base) {
         Ok((roster, base)) => match Desk::open(alloc, roster, base, keeper) {
@@ -85,8 +85,8 @@ pub fn rebuild_over<K: Keeper>(
         (kept K.is_up K.is_empty K.is_desk K.is_old K.roster K.holds K.failures keeper r.1) r.0) }
     ensures unchanged { IfErr result (λ r. K.is_up r.1 → K.is_same keeper r.1) }
     ensures served { MatchResult result
-        (λ d. IsServed (K.is_up keeper) (K.is_clean keeper) (K.is_up d.keeper) (K.is_clean d.keeper) (K.failures keeper) (K.failures d.keeper))
-        (λ r. IsServed (K.is_up keeper) (K.is_clean keeper) (K.is_up r.1) (K.is_clean r.1) (K.failures keeper) (K.failures r.1)) }
+        (λ d. IsServed K.is_up K.is_clean K.failures keeper d.keeper ⊥ ⊤)
+        (λ r. IsServed K.is_up K.is_clean K.failures keeper r.1 ⊥ ⊤) }
 {
     match parts(alloc, roster, base) {
         Ok((roster, base)) => match Desk::rebuild(alloc, roster, base, keeper) {

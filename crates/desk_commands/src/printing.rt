@@ -1,14 +1,14 @@
 //! Printing a host's file.
 
-ghost use Rattle.std.specs.Prelude.{◌≡◌, ◌⊎◌, ◌↔◌, ◌≤◌, ◌∷◌, ℕ, List, false, length, map, Err, IfErr, IfOk, string_bytes};
+ghost use Rattle.std.specs.Prelude.{◌≡◌, ◌⊎◌, ◌↔◌, ◌≤◌, ◌∷◌, ℕ, List, false, length, map, Err, IfErr, IfOk, string_bytes, ⊤};
 ghost use Rattle.std.specs.Io.KnownBytes.{Appends};
 ghost use Rattle.messages.specs.declared.message.Message.{Message};
 ghost use Rattle.roster.specs.Rules.{is_among};
 ghost use Rattle.desk_store.specs.Keeping.{HasFailed};
+ghost use Rattle.desk_store.specs.Serving.{IsServed};
 ghost use Rattle.desk_store.specs.Sets.{Lists, SameSet};
 ghost use Rattle.desk_outcomes.specs.HostFile.{AreLines, Line};
 ghost use Rattle.desk.specs.Refusals.{IsWant};
-ghost use Rattle.desk.specs.private.Serving.{IsServed};
 ghost use Rattle.desk.specs.declared.refusal.Refusal.TheVariants as refusal;
 ghost use Rattle.desk_commands.specs.Kept.{kept};
 ghost use Rattle.desk_commands.specs.Leaving.{LeavesTaken, SaysTaking};
@@ -40,8 +40,7 @@ fn file_of<K: Keeper>(
     ensures same { K.is_up desk.new.keeper → K.is_same desk.old.keeper desk.new.keeper }
     ensures roster { desk.new.roster ≡ desk.old.roster }
     ensures cause { result ≡ Err refusal.Storage → HasFailed (K.failures desk.old.keeper) (K.failures desk.new.keeper) }
-    ensures served { IsServed (K.is_up desk.old.keeper) (K.is_clean desk.old.keeper) (K.is_up desk.new.keeper) (K.is_clean desk.new.keeper)
-        (K.failures desk.old.keeper) (K.failures desk.new.keeper) }
+    ensures served { IsServed K.is_up K.is_clean K.failures desk.old.keeper desk.new.keeper ⊥ ⊤ }
     ensures unknown { (result ≡ Err refusal.UnknownHost) ↔ (is_among desk.old.roster.says.hosts host.now ≡ false) }
     ensures few { (set : List Message) (lines : List Line) → K.is_up desk.new.keeper → Lists (K.holds desk.old.keeper) set → AreLines desk.old.roster.says set host.now lines
         → length (lines_printed after lines) ≤ 8_192 → IfErr result (λ e. (e ≡ refusal.UnknownHost) ⊎ IsWant e) }
@@ -73,8 +72,7 @@ fn print_of<K: Keeper, R: Read, E: Write>(
         → LeavesTaken store.now desk.old.roster.says (R.remaining input.old) (K.holds desk.old.keeper) (K.holds desk.new.keeper) }
     ensures unread { (store.now ≡ stores.Memory → ⊥) → input.new ≡ input.old }
     ensures roster { desk.new.roster ≡ desk.old.roster }
-    ensures served { IsServed (K.is_up desk.old.keeper) (K.is_clean desk.old.keeper) (K.is_up desk.new.keeper) (K.is_clean desk.new.keeper)
-        (K.failures desk.old.keeper) (K.failures desk.new.keeper) }
+    ensures served { IsServed K.is_up K.is_clean K.failures desk.old.keeper desk.new.keeper ⊥ ⊤ }
 {
     take_input(alloc, store, desk, input, err)?;
     match file_of(desk, host, after) {
@@ -104,7 +102,7 @@ fn print_over<K: Keeper, R: Read, E: Write>(
         (kept K.is_up K.is_empty K.is_desk K.is_old K.roster K.holds K.failures keeper result.1)
         (K.is_same keeper result.1) (R.remaining input.old) (E.contents err.old) (E.contents err.new)) }
     ensures unread { (places.now.store ≡ stores.Memory → ⊥) → input.new ≡ input.old }
-    ensures served { IsServed (K.is_up keeper) (K.is_clean keeper) (K.is_up result.1) (K.is_clean result.1) (K.failures keeper) (K.failures result.1) }
+    ensures served { IsServed K.is_up K.is_clean K.failures keeper result.1 ⊥ ⊤ }
 {
     match open_over(alloc, roster, base, keeper) {
         Ok(mut desk) => {
@@ -136,7 +134,7 @@ pub fn print_host<K: Keeper, R: Read, E: Write>(
         (kept K.is_up K.is_empty K.is_desk K.is_old K.roster K.holds K.failures keeper result.1)
         (K.is_same keeper result.1) (R.remaining input.old) (E.contents err.old) (E.contents err.new)) }
     ensures unread { (places.now.store ≡ stores.Memory → ⊥) → input.new ≡ input.old }
-    ensures served { IsServed (K.is_up keeper) (K.is_clean keeper) (K.is_up result.1) (K.is_clean result.1) (K.failures keeper) (K.failures result.1) }
+    ensures served { IsServed K.is_up K.is_clean K.failures keeper result.1 ⊥ ⊤ }
 {
     match files {
         [roster, base, ..] => print_over(

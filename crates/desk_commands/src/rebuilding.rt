@@ -1,7 +1,7 @@
 //! Giving a desk another roster.
 
-ghost use Rattle.std.specs.Prelude.{◌≡◌, ◌∷◌, ℕ, List, Option, IfErr, IfOk, codes, map, string_bytes};
-ghost use Rattle.desk.specs.private.Serving.{IsServed};
+ghost use Rattle.std.specs.Prelude.{◌≡◌, ◌∷◌, ℕ, List, Option, IfOk, codes, map, string_bytes, IfErr, ⊤};
+ghost use Rattle.desk_store.specs.Serving.{IsServed};
 ghost use Rattle.desk_commands.specs.Kept.{kept};
 ghost use Rattle.desk_commands.specs.private.Outcomes.{IsLeft, IsOutcome};
 ghost use Rattle.desk_jobs.specs.declared.status.Status.TheVariants.{Done};
@@ -38,7 +38,7 @@ fn rebuilt<K: Keeper>(
     ensures left { (places : Parts) (more : List (List ℕ)) (input err : Option (List ℕ)) → IfErr result.0 (λ _. IsLeft (jobs.Rebuild places) (roster.now ∷ base.now ∷ more)
         (kept K.is_up K.is_empty K.is_desk K.is_old K.roster K.holds K.failures keeper result.1)
         (K.is_same keeper result.1) input err err) }
-    ensures served { IsServed (K.is_up keeper) (K.is_clean keeper) (K.is_up result.1) (K.is_clean result.1) (K.failures keeper) (K.failures result.1) }
+    ensures served { IsServed K.is_up K.is_clean K.failures keeper result.1 ⊥ ⊤ }
 {
     let Ok(answer) = ok(alloc) else {
         return (Err(Refusal::NoMemory), keeper);
@@ -60,7 +60,7 @@ pub fn rebuild_desk<K: Keeper>(
     ensures left { (places : Parts) (input err : Option (List ℕ)) → IfErr result.0 (λ _. IsLeft (jobs.Rebuild places) (map (λ f. f.items) files.now)
         (kept K.is_up K.is_empty K.is_desk K.is_old K.roster K.holds K.failures keeper result.1)
         (K.is_same keeper result.1) input err err) }
-    ensures served { IsServed (K.is_up keeper) (K.is_clean keeper) (K.is_up result.1) (K.is_clean result.1) (K.failures keeper) (K.failures result.1) }
+    ensures served { IsServed K.is_up K.is_clean K.failures keeper result.1 ⊥ ⊤ }
 {
     match files {
         [roster, base, ..] => rebuilt(alloc, roster.as_slice(), base.as_slice(), keeper),

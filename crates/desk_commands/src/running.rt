@@ -1,12 +1,11 @@
 //! Doing a job. Its answer is made whole before any of it is written.
 
-ghost use Rattle.std.specs.Prelude.{◌≡◌, ◌≢◌, ◌⊎◌, ◌≤◌, ℕ, List, [], Option, IfErr, IfOk, MatchResult, map, string_bytes};
+ghost use Rattle.std.specs.Prelude.{◌≡◌, ◌≢◌, ◌⊎◌, ℕ, List, [], IfErr, IfOk, map, string_bytes, Option, MatchResult, ⊤};
 ghost use Rattle.std.specs.Io.Buffered.{writer_buffer, writer_contents};
 ghost use Rattle.std.specs.Io.KnownBytes.{Appends, Keeps};
 ghost use Rattle.sudo_policy.specs.Spelling.{Spells};
 ghost use Rattle.sudo_decide.specs.Decision.{Decides};
-ghost use Rattle.desk_store.specs.Keeping.{HasFailed};
-ghost use Rattle.desk.specs.private.Serving.{IsServed};
+ghost use Rattle.desk_store.specs.Serving.{IsServed};
 ghost use Rattle.desk_commands.specs.Answers.{CauseOfFile, CauseOfFiles, ChecksFile, DecidesByFile, EndsReading, HasAnswer, HasCause, IsAnswer, IsDecided, IsOnDesk, OfFile, OfFiles, ReadsInput, status_of};
 ghost use Rattle.desk_commands.specs.Comparing.{ComparesFiles, EndsComparing};
 ghost use Rattle.desk_commands.specs.Kept.{kept};
@@ -140,7 +139,7 @@ fn answered<K: Keeper, R: Read, E: Write>(
         (K.is_same keeper result.1) (R.remaining input.old) (E.contents err.old) (E.contents err.new)) }
     ensures unasked { (IsOnDesk job.now → ⊥) → result.1 ≡ keeper }
     ensures unread { (ReadsInput job.now → ⊥) → input.new ≡ input.old }
-    ensures served { IsServed (K.is_up keeper) (K.is_clean keeper) (K.is_up result.1) (K.is_clean result.1) (K.failures keeper) (K.failures result.1) }
+    ensures served { IsServed K.is_up K.is_clean K.failures keeper result.1 ⊥ ⊤ }
 {
     match job {
         Job::Check { .. } => (check_first(alloc, files), keeper),
@@ -216,10 +215,7 @@ pub fn run<K: Keeper, R: Read, W: Write, E: Write>(
     // Only a job on a desk asks the keeper, and only one that takes lines reads the input.
     ensures unasked { (IsOnDesk job.now → ⊥) → result.1 ≡ keeper }
     ensures unread { (ReadsInput job.now → ⊥) → input.new ≡ input.old }
-    ensures was_up { K.is_up result.1 → K.is_up keeper }
-    ensures was_clean { K.is_clean result.1 → K.is_clean keeper }
-    ensures shuts { K.is_up keeper → K.is_clean result.1 → K.is_up result.1 ⊎ HasFailed (K.failures keeper) (K.failures result.1) }
-    ensures counts { K.failures keeper ≤ K.failures result.1 }
+    ensures served { IsServed K.is_up K.is_clean K.failures keeper result.1 ⊥ ⊤ }
 {
     let (answer, keeper) = answered(alloc, job, files, keeper, input, err);
     (conclude(answer, out, err), keeper)

@@ -1,11 +1,11 @@
 //! Taking the lines of the input before a question: they are delivered to a desk that is kept in memory alone.
 
-ghost use Rattle.std.specs.Prelude.{◌≡◌, ◌++◌, ℕ, List, Contains, Err, IfErr, IfOk, OnOk, string_bytes};
+ghost use Rattle.std.specs.Prelude.{◌≡◌, ◌++◌, ℕ, List, Contains, Err, IfErr, IfOk, OnOk, string_bytes, ⊤};
 ghost use Rattle.std.specs.Io.KnownBytes.{Appends};
 ghost use Rattle.desk.specs.Refusals.{IsWant};
 ghost use Rattle.desk.specs.declared.refusal.Refusal.TheVariants as refusals;
-ghost use Rattle.desk.specs.private.Serving.{IsServed};
 ghost use Rattle.desk_store.specs.Keeping.{HasFailed};
+ghost use Rattle.desk_store.specs.Serving.{IsServed};
 ghost use Rattle.desk_store.specs.Sets.{SameSet};
 ghost use Rattle.desk_commands.specs.Leaving.{AreSomeTaken, LeavesTaken, SaysTaking};
 ghost use Rattle.desk_commands.specs.Telling.{AppendsFront};
@@ -96,8 +96,7 @@ fn take_lines<K: Keeper, R: Read, E: Write>(
     ensures left { K.is_up desk.new.keeper → AreSomeTaken desk.old.roster.says (R.remaining input.old) (K.holds desk.old.keeper) (K.holds desk.new.keeper) }
     ensures roster { desk.new.roster ≡ desk.old.roster }
     ensures base { desk.new.base ≡ desk.old.base }
-    ensures served { IsServed (K.is_up desk.old.keeper) (K.is_clean desk.old.keeper) (K.is_up desk.new.keeper) (K.is_clean desk.new.keeper)
-        (K.failures desk.old.keeper) (K.failures desk.new.keeper) }
+    ensures served { IsServed K.is_up K.is_clean K.failures desk.old.keeper desk.new.keeper ⊥ ⊤ }
 {
     let lines = read_lines(alloc, desk.roster().first_relay().as_str(), input)?;
     let answers = desk.deliver_all(lines.as_slice())?;
@@ -124,8 +123,7 @@ pub fn take_input<K: Keeper, R: Read, E: Write>(
     ensures unread { (store.now ≡ stores.Memory → ⊥) → input.new ≡ input.old }
     ensures roster { desk.new.roster ≡ desk.old.roster }
     ensures base { desk.new.base ≡ desk.old.base }
-    ensures served { IsServed (K.is_up desk.old.keeper) (K.is_clean desk.old.keeper) (K.is_up desk.new.keeper) (K.is_clean desk.new.keeper)
-        (K.failures desk.old.keeper) (K.failures desk.new.keeper) }
+    ensures served { IsServed K.is_up K.is_clean K.failures desk.old.keeper desk.new.keeper ⊥ ⊤ }
 {
     match store {
         Store::Memory => take_lines(alloc, desk, input, err),

@@ -1,6 +1,8 @@
 pub mod CollectedLemmas
 pub mod MemoryLemmas
 pub mod OutcomeLemmas
+-- what storage does to calls, one after the other
+pub mod ServingLemmas
 -- what is told
 pub mod TellLemmas
 -- what a crash leaves

@@ -1,6 +1,7 @@
 -- sets of messages
 pub use Rattle.desk_tables.specs.Sets
 pub mod Keeping
+pub mod Serving
 pub mod Faults
 -- a keeper in memory
 pub mod Memory

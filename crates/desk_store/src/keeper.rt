@@ -1,11 +1,12 @@
 //! The keeper of a desk.
 
-ghost use Rattle.std.specs.Prelude.{◌≡◌, ℕ, ◌≤◌, ◌⊎◌, List, length, IfOk, OnOk, OnErr, Err};
+ghost use Rattle.std.specs.Prelude.{◌≡◌, ℕ, ◌≤◌, ◌⊎◌, List, length, IfOk, IsErr, OnOk, OnErr, Err};
 ghost use Rattle.messages.specs.Wire.{IsMessage, wire};
 ghost use Rattle.messages.specs.declared.message.Message.{Message as AnyMessage};
 ghost use Rattle.desk_tables.specs.Sets.{IsNothing, SameSet, IsWith, Lists, With};
-ghost use Rattle.desk_store.specs.Keeping.{IsKnownOf, Tells, HasFailed};
+ghost use Rattle.desk_store.specs.Keeping.{IsKnownOf, Tells};
 ghost use Rattle.desk_store.specs.Left.{Left, IsAsKept, IsDeskOf, IsNothingOrFresh, IsReplacedOrNot, IsWithOrWithout, LeavesOnly};
+ghost use Rattle.desk_store.specs.Serving.{IsServed};
 
 use crate::error::KeeperError;
 use crate::found::Found;
@@ -17,7 +18,8 @@ use messages::Message;
 /// Each call that changes what is kept does it whole, in one commit, or not at all, and takes the memory that it needs
 /// before. A clause of what is kept holds where the keeper is up as the call ends: its storage has been honest, and no
 /// failure has shut it. A keeper in memory is always up. `Storage` is answered only where the count of failures rose in
-/// that call, or stands at the greatest number of 64 bits.
+/// that call, or stands at the greatest number of 64 bits. A clause `served` says this of each call, with whether the keeper
+/// is up then.
 ///
 /// A clause `crash` holds at each exit of its call, also after a failure, as long as the storage has been honest: what a
 /// crash may leave then, for the next opening, is all that was kept as the call began, or all that the call was to commit.
@@ -58,12 +60,7 @@ pub trait Keeper {
     fn look(&mut self) -> Result<Found, KeeperError>
         ensures found { is_up self.new → IfOk result (Tells (is_empty self.old) (is_desk self.old) (is_old self.old) (roster self.old)) }
         ensures same { is_up self.new → is_same self.old self.new }
-        ensures was_up { is_up self.new → is_up self.old }
-        ensures was_clean { is_clean self.new → is_clean self.old }
-        ensures shuts { is_up self.old → is_clean self.new → is_up self.new ⊎ HasFailed (failures self.old) (failures self.new) }
-        ensures counts { failures self.old ≤ failures self.new }
-        ensures cause { result ≡ Err KeeperError.Storage → HasFailed (failures self.old) (failures self.new) }
-        ensures up { is_up self.old → is_clean self.new → OnOk result (is_up self.new) }
+        ensures served { IsServed is_up is_clean failures self.old self.new (result ≡ Err KeeperError.Storage) (IsErr result) }
         ensures crash { is_up self.old → is_clean self.new → LeavesOnly (may_leave self.new) (IsAsKept (is_empty self.old) (is_desk self.old) (is_old self.old) (roster self.old) (holds self.old)) };
 
     /// Makes a desk of this roster text, without messages, in one commit.
@@ -73,12 +70,7 @@ pub trait Keeper {
         ensures recorded { is_up self.new → OnOk result (roster self.new ≡ text.now) }
         ensures nothing { is_up self.new → OnOk result (IsNothing (holds self.new)) }
         ensures unmade { is_up self.new → OnErr result (is_same self.old self.new) }
-        ensures was_up { is_up self.new → is_up self.old }
-        ensures was_clean { is_clean self.new → is_clean self.old }
-        ensures shuts { is_up self.old → is_clean self.new → is_up self.new ⊎ HasFailed (failures self.old) (failures self.new) }
-        ensures counts { failures self.old ≤ failures self.new }
-        ensures cause { result ≡ Err KeeperError.Storage → HasFailed (failures self.old) (failures self.new) }
-        ensures up { is_up self.old → is_clean self.new → OnOk result (is_up self.new) }
+        ensures served { IsServed is_up is_clean failures self.old self.new (result ≡ Err KeeperError.Storage) (IsErr result) }
         ensures crash { is_up self.old → is_clean self.new → LeavesOnly (may_leave self.new) (IsNothingOrFresh text.now) }
         ensures lasting { is_up self.old → is_clean self.new → OnOk result (LeavesOnly (may_leave self.new) (IsDeskOf text.now (λ _. ⊥))) }
         ensures durable { is_up self.new → LeavesOnly (may_leave self.new) (IsAsKept (is_empty self.new) (is_desk self.new) (is_old self.new) (roster self.new) (holds self.new)) };
@@ -94,12 +86,7 @@ pub trait Keeper {
         ensures unchanged { is_up self.new → OnErr result (is_same self.old self.new) }
         ensures desk { is_up self.new → is_desk self.new }
         ensures roster { is_up self.new → roster self.new ≡ roster self.old }
-        ensures was_up { is_up self.new → is_up self.old }
-        ensures was_clean { is_clean self.new → is_clean self.old }
-        ensures shuts { is_up self.old → is_clean self.new → is_up self.new ⊎ HasFailed (failures self.old) (failures self.new) }
-        ensures counts { failures self.old ≤ failures self.new }
-        ensures cause { result ≡ Err KeeperError.Storage → HasFailed (failures self.old) (failures self.new) }
-        ensures up { is_up self.old → is_clean self.new → OnOk result (is_up self.new) }
+        ensures served { IsServed is_up is_clean failures self.old self.new (result ≡ Err KeeperError.Storage) (IsErr result) }
         ensures crash { is_up self.old → is_clean self.new → LeavesOnly (may_leave self.new) (IsWithOrWithout (roster self.old) (holds self.old) message.now) }
         ensures lasting { is_up self.old → is_clean self.new → OnOk result (LeavesOnly (may_leave self.new) (IsDeskOf (roster self.old) (With (holds self.old) message.now))) }
         ensures durable { is_up self.new → LeavesOnly (may_leave self.new) (IsDeskOf (roster self.new) (holds self.new)) };
@@ -112,12 +99,7 @@ pub trait Keeper {
         ensures recorded { is_up self.new → OnOk result (roster self.new ≡ text.now) }
         ensures held { is_up self.new → OnOk result (SameSet (holds self.old) (holds self.new)) }
         ensures unchanged { is_up self.new → OnErr result (is_same self.old self.new) }
-        ensures was_up { is_up self.new → is_up self.old }
-        ensures was_clean { is_clean self.new → is_clean self.old }
-        ensures shuts { is_up self.old → is_clean self.new → is_up self.new ⊎ HasFailed (failures self.old) (failures self.new) }
-        ensures counts { failures self.old ≤ failures self.new }
-        ensures cause { result ≡ Err KeeperError.Storage → HasFailed (failures self.old) (failures self.new) }
-        ensures up { is_up self.old → is_clean self.new → OnOk result (is_up self.new) }
+        ensures served { IsServed is_up is_clean failures self.old self.new (result ≡ Err KeeperError.Storage) (IsErr result) }
         ensures crash { is_up self.old → is_clean self.new
             → LeavesOnly (may_leave self.new) (IsReplacedOrNot (is_desk self.old) (is_old self.old) (roster self.old) text.now (holds self.old)) }
         ensures lasting { is_up self.old → is_clean self.new → OnOk result (LeavesOnly (may_leave self.new) (IsDeskOf text.now (holds self.old))) }
@@ -130,12 +112,7 @@ pub trait Keeper {
         requires { is_up self.old → is_desk self.old }
         ensures known { is_up self.new → IfOk result (IsKnownOf (holds self.old)) }
         ensures same { is_up self.new → is_same self.old self.new }
-        ensures was_up { is_up self.new → is_up self.old }
-        ensures was_clean { is_clean self.new → is_clean self.old }
-        ensures shuts { is_up self.old → is_clean self.new → is_up self.new ⊎ HasFailed (failures self.old) (failures self.new) }
-        ensures counts { failures self.old ≤ failures self.new }
-        ensures cause { result ≡ Err KeeperError.Storage → HasFailed (failures self.old) (failures self.new) }
-        ensures up { is_up self.old → is_clean self.new → OnOk result (is_up self.new) }
+        ensures served { IsServed is_up is_clean failures self.old self.new (result ≡ Err KeeperError.Storage) (IsErr result) }
         ensures crash { is_up self.old → is_clean self.new → LeavesOnly (may_leave self.new) (IsDeskOf (roster self.old) (holds self.old)) };
 
     /// The desk's messages, in an order of the keeper's own. What is kept stays as it is.
@@ -143,12 +120,7 @@ pub trait Keeper {
         requires { is_up self.old → is_desk self.old }
         ensures listed { is_up self.new → IfOk result (λ list. Lists (holds self.old) list.items) }
         ensures same { is_up self.new → is_same self.old self.new }
-        ensures was_up { is_up self.new → is_up self.old }
-        ensures was_clean { is_clean self.new → is_clean self.old }
-        ensures shuts { is_up self.old → is_clean self.new → is_up self.new ⊎ HasFailed (failures self.old) (failures self.new) }
-        ensures counts { failures self.old ≤ failures self.new }
-        ensures cause { result ≡ Err KeeperError.Storage → HasFailed (failures self.old) (failures self.new) }
-        ensures up { is_up self.old → is_clean self.new → OnOk result (is_up self.new) }
+        ensures served { IsServed is_up is_clean failures self.old self.new (result ≡ Err KeeperError.Storage) (IsErr result) }
         ensures crash { is_up self.old → is_clean self.new → LeavesOnly (may_leave self.new) (IsDeskOf (roster self.old) (holds self.old)) };
 
     /// How many failures it has counted, up to the greatest number of 64 bits.

@@ -1,7 +1,7 @@
 -- The desk's answers as replies.
 use Rattle.std.proofs.Common.{◌≡◌, ◌⊎◌, ◌<◌, ◌≤◌, ◌&&◌, ◌==◌, ◌∙◌, ℕ, Bool, true, false, List, [], ◌∷◌, length, nat_le, Result, Ok, Err, String, sym, ap, refl, inl, inr}
 use Rattle.std.proofs.lemmas.Bool.{cases_Bool, leb-true, leb-false}
-use Rattle.std.specs.Prelude.{◌↔◌, ◌≢◌, IfOk, IfErr, MatchResult, string_bytes}
+use Rattle.std.specs.Prelude.{◌↔◌, ◌≢◌, IfOk, IfErr, IsErrAnd, MatchResult, string_bytes}
 use Rattle.std.specs.declared.alloc.Global.{Global}
 use Rattle.sudo_words.specs.Word.{is_host_name}
 use Rattle.sudo_words.specs.declared.cmnd.Cmnd.{Cmnd}
@@ -12,6 +12,8 @@ use Rattle.roster.specs.Fields.{RosterFields}
 use Rattle.roster.specs.Rules.{is_among}
 use Rattle.grants.specs.declared.denial.Denial.TheVariants as denials
 use Rattle.desk_outcomes.specs.HostFile.{Line, AreLines, IsHostFile, IsHostFileAfter, lines_after, with_lines}
+use Rattle.desk_store.specs.Serving.{IsServed}
+use Rattle.desk_store.proofs.ServingLemmas.{served_as}
 use Rattle.desk.specs.Refusals.{IsWant}
 use Rattle.desk.specs.declared.refusal.Refusal.{Refusal}
 use Rattle.desk.specs.declared.refusal.Refusal.TheVariants.{UnknownRelay, UnknownHost, TooLong, NotCanonical, BadField, Denied, TooManyRules, RosterChanged, NotADesk, OldSchema, Storage, NoMemory, BaseTooLarge}
@@ -61,11 +63,21 @@ is_storage (Denied denials.WindowBackwards) same = other (Denied denials.WindowB
 is_storage Storage same = refl
 
 -- no text is that reply
-pub text_cause : (r : Result (String Global) Refusal) → to_question r ≡ refusal Storage → r ≡ Err Storage
+text_cause : (r : Result (String Global) Refusal) → to_question r ≡ refusal Storage → r ≡ Err Storage
 text_cause (Ok s) same =
     let wrong : status.Done ≡ status.ServiceUnavailable = ap (λ (r : Reply). r.status) same in
     absurd cc
 text_cause (Err e) same = ap (λ (x : Refusal). Err x) (is_storage e same)
+
+-- nor one of a want
+pub text_served : {K : Type 0} {is_up is_clean : K → Type 0} {failures : K → ℕ} {a b : K} (r : Result (String Global) Refusal)
+    → IsServed is_up is_clean failures a b (r ≡ Err Storage) (IsErrAnd r IsWant)
+    → IsServed is_up is_clean failures a b (to_question r ≡ refusal Storage) (IsWanting (to_question r))
+text_served r served = served_as (to_question r ≡ refusal Storage) (IsWanting (to_question r)) (text_cause r) (text_want r) served
+  where
+    text_want : (r : Result (String Global) Refusal) → IsErrAnd r IsWant → IsWanting (to_question r)
+    text_want (Ok s) none = absurd none
+    text_want (Err e) want = wanting e want
 
 -- ---- a report
 

@@ -11,9 +11,11 @@ use Rattle.sudo_policy.specs.declared.entry.Entry.{Entry}
 use Rattle.messages.specs.declared.message.Message.{Message}
 use Rattle.roster.specs.Fields.{RosterFields}
 use Rattle.desk_store.specs.Keeping.{HasFailed}
+use Rattle.desk_store.specs.Serving.{IsServed}
+use Rattle.desk_store.proofs.ServingLemmas.{served_as}
 use Rattle.relay_http.specs.Asked.{Asked, Request, deliver, all_messages, grants, parked, host_file, host_file_after, report, refused}
 use Rattle.relay_http.specs.Counting.{most_failures, one_failure}
-use Rattle.relay_http.specs.Exchange.{IsAcknowledged, IsExchange, IsPost}
+use Rattle.relay_http.specs.Exchange.{IsAcknowledged, IsExchange, IsPost, WritesWant}
 use Rattle.relay_http.specs.Replies.{Leaves, Reply}
 use Rattle.relay_http.specs.Reply.{written}
 use Rattle.relay_http.specs.Wanted.{Asks, Dates, HasHead, asks_by, front, is_head}
@@ -114,9 +116,9 @@ only_done_leaves Same old new (host_file_after host at) reply left = inl left
 only_done_leaves Same old new (report at) reply left = inl left
 only_done_leaves Same old new (refused fault) reply left = inl left
 
-module _ (f : RosterFields Cmnd) (base : List Entry) (IsUp : Type 0) (old new : Message → Type 0) (Same Failed : Type 0) (Wrote : List ℕ → Type 0) where
+module _ (f : RosterFields Cmnd) (base : List Entry) (IsUp : Type 0) (old new : Message → Type 0) (Same : Type 0) (Served : Type 0 → Type 0 → Type 0) (Wrote : List ℕ → Type 0) where
   -- an exchange changes nothing, or it is acknowledged
-  pub changes : (bytes : List ℕ) (request : Request ℕ) → Asks bytes request → IsExchange f base IsUp old new Same Failed Wrote request → IsUp
+  pub changes : (bytes : List ℕ) (request : Request ℕ) → Asks bytes request → IsExchange f base IsUp old new Same Served Wrote request → IsUp
       → Same ⊎ IsAcknowledged bytes Wrote
   changes bytes request asks x up =
       elim (only_done_leaves Same old new request.asked x.reply (x.answered.leaves up)) as (λ _. Same ⊎ IsAcknowledged bytes Wrote) [
@@ -133,7 +135,7 @@ module _ (f : RosterFields Cmnd) (base : List Entry) (IsUp : Type 0) (old new : 
       ]
 
   -- the head of another method is none of a POST
-  pub queries : (bytes : List ℕ) (request : Request ℕ) → Asks bytes request → IsExchange f base IsUp old new Same Failed Wrote request → IsUp
+  pub queries : (bytes : List ℕ) (request : Request ℕ) → Asks bytes request → IsExchange f base IsUp old new Same Served Wrote request → IsUp
       → (head : RequestHead) → HasHead bytes head → head.method ≢ codes "POST" → Same
   queries bytes request asks x up head has differs =
       elim (changes bytes request asks x up) as (λ _. Same) [
@@ -145,13 +147,21 @@ module _ (f : RosterFields Cmnd) (base : List Entry) (IsUp : Type 0) (old new : 
   -- the same, of all the bytes of a stream
   pub all_changes : (known : Option (List ℕ)) (bytes : List ℕ) (asked : Request ℕ) → Asks bytes asked
       → IfSome known (λ all. (request : Request ℕ) → Asks bytes request → Asks all request)
-      → IsExchange f base IsUp old new Same Failed Wrote asked → IsUp → IfSome known (λ all. Same ⊎ IsAcknowledged all Wrote)
+      → IsExchange f base IsUp old new Same Served Wrote asked → IsUp → IfSome known (λ all. Same ⊎ IsAcknowledged all Wrote)
   all_changes None bytes asked asks more x up = tt
   all_changes (Some all) bytes asked asks more x up = changes all asked (more asked asks) x up
 
   pub all_queries : (known : Option (List ℕ)) (bytes : List ℕ) (asked : Request ℕ) → Asks bytes asked
       → IfSome known (λ all. (request : Request ℕ) → Asks bytes request → Asks all request)
-      → IsExchange f base IsUp old new Same Failed Wrote asked → IsUp
+      → IsExchange f base IsUp old new Same Served Wrote asked → IsUp
       → IfSome known (λ all. (head : RequestHead) → HasHead all head → head.method ≢ codes "POST" → Same)
   all_queries None bytes asked asks more x up = tt
   all_queries (Some all) bytes asked asks more x up = queries all asked (more asked asks) x up
+
+-- ---- what storage did
+
+pub exchange_served : {K : Type 0} {is_up is_clean : K → Type 0} {failures : K → ℕ} {a b : K} (f : RosterFields Cmnd) (base : List Entry) (IsUp : Type 0) (old new : Message → Type 0) (Same : Type 0)
+    (Wrote : List ℕ → Type 0) (request : Request ℕ) → IsExchange f base IsUp old new Same (IsServed is_up is_clean failures a b) Wrote request
+    → IsServed is_up is_clean failures a b ⊥ (WritesWant Wrote)
+exchange_served f base IsUp old new Same Wrote request x =
+    served_as ⊥ (WritesWant Wrote) (λ none. absurd none) (λ want. (x.reply, request.with_body, want, x.wrote)) x.answered.served

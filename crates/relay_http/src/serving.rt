@@ -1,12 +1,12 @@
 //! One exchange.
 
-ghost use Rattle.std.specs.Prelude.{◌≡◌, ◌≢◌, ◌⊎◌, ◌≤◌, ℕ, List, Err, IfSome, MatchResult, OnOk, codes};
+ghost use Rattle.std.specs.Prelude.{◌≡◌, ◌≢◌, ◌⊎◌, ℕ, Err, IfSome, MatchResult, OnOk, codes};
 ghost use Rattle.httparse.specs.Grammar.{RequestHead};
-ghost use Rattle.desk.specs.private.Serving.{IsServed};
 ghost use Rattle.desk_store.specs.Keeping.{HasFailed};
+ghost use Rattle.desk_store.specs.Serving.{IsServed};
 ghost use Rattle.relay_http.specs.Asked.{Request};
 ghost use Rattle.relay_http.specs.Counting.{one_failure};
-ghost use Rattle.relay_http.specs.Exchange.{HasReplied, IsAcknowledged, IsExchange};
+ghost use Rattle.relay_http.specs.Exchange.{HasReplied, IsAcknowledged, IsExchange, WritesWant};
 ghost use Rattle.relay_http.specs.Sent.{Sends};
 ghost use Rattle.relay_http.specs.Wanted.{Asks, HasHead};
 ghost use Rattle.relay_http.specs.declared.serving.ServeFault.TheVariants.{NoMemory, ReadFailed, WriteFailed};
@@ -62,13 +62,11 @@ fn reply_to<K: Keeper, W: Write>(
 ) -> Result<(), sending::WriteFailed>
     ensures exchange { (request : Request ℕ) × Asks bytes.now request
         × IsExchange desk.old.roster.says desk.old.base (K.is_up desk.new.keeper) (K.holds desk.old.keeper) (K.holds desk.new.keeper)
-        (K.is_same desk.old.keeper desk.new.keeper) (HasFailed (K.failures desk.old.keeper) (K.failures desk.new.keeper))
+        (K.is_same desk.old.keeper desk.new.keeper) (IsServed K.is_up K.is_clean K.failures desk.old.keeper desk.new.keeper)
         (λ reply. Sends (W.contents writer.old.inner) (W.contents writer.new.inner) result reply) request }
     ensures counted { MatchResult result (λ _. writer.new.failures ≡ writer.old.failures) (λ _. writer.new.failures ≡ one_failure writer.old.failures) }
     ensures roster { desk.new.roster ≡ desk.old.roster }
     ensures base { desk.new.base ≡ desk.old.base }
-    ensures served { IsServed (K.is_up desk.old.keeper) (K.is_clean desk.old.keeper) (K.is_up desk.new.keeper) (K.is_clean desk.new.keeper)
-        (K.failures desk.old.keeper) (K.failures desk.new.keeper) }
 {
     let wanted = wanted(routes, bytes);
     let answer = answered(alloc, desk, wanted.ask);
@@ -94,7 +92,7 @@ pub fn serve_in<K: Keeper, R: Read, W: Write>(
     // The bytes that the reader has left ask for one thing. The desk's reply to it was written, or where a write failed a beginning of it.
     ensures exchange { HasReplied result → IfSome (R.remaining reader.old.inner) (λ all. (request : Request ℕ) → Asks all request
         → IsExchange desk.old.roster.says desk.old.base (K.is_up desk.new.keeper) (K.holds desk.old.keeper) (K.holds desk.new.keeper)
-        (K.is_same desk.old.keeper desk.new.keeper) (HasFailed (K.failures desk.old.keeper) (K.failures desk.new.keeper))
+        (K.is_same desk.old.keeper desk.new.keeper) (IsServed K.is_up K.is_clean K.failures desk.old.keeper desk.new.keeper)
         (λ bytes. Sends (W.contents writer.old.inner) (W.contents writer.new.inner) result bytes) request) }
     // A GET or HEAD leaves all as it was, and so does each exchange but that of a POST to a relay's messages with the status 200.
     ensures queries { HasReplied result → K.is_up desk.new.keeper → IfSome (R.remaining reader.old.inner) (λ all. (head : RequestHead) → HasHead all head
@@ -109,11 +107,9 @@ pub fn serve_in<K: Keeper, R: Read, W: Write>(
     ensures unfailing { OnOk result ((reader.new.failures ≡ reader.old.failures) × (writer.new.failures ≡ writer.old.failures)) }
     ensures roster { desk.new.roster ≡ desk.old.roster }
     ensures base { desk.new.base ≡ desk.old.base }
-    ensures was_up { K.is_up desk.new.keeper → K.is_up desk.old.keeper }
-    ensures was_clean { K.is_clean desk.new.keeper → K.is_clean desk.old.keeper }
-    ensures shuts { K.is_up desk.old.keeper → K.is_clean desk.new.keeper
-        → K.is_up desk.new.keeper ⊎ HasFailed (K.failures desk.old.keeper) (K.failures desk.new.keeper) }
-    ensures counts { K.failures desk.old.keeper ≤ K.failures desk.new.keeper }
+    // The keeper is up then, unless a reply of K4 or K5 was written, or a beginning of it.
+    ensures served { IsServed K.is_up K.is_clean K.failures desk.old.keeper desk.new.keeper ⊥
+        (WritesWant (λ bytes. Sends (W.contents writer.old.inner) (W.contents writer.new.inner) result bytes)) }
 {
     let Ok(kept) = room.kept(alloc) else {
         return Err(ServeFault::NoMemory);
@@ -140,7 +136,7 @@ pub fn serve_one<K: Keeper, R: Read, W: Write>(
     // The bytes that the reader has left ask for one thing. The desk's reply to it was written, or where a write failed a beginning of it.
     ensures exchange { HasReplied result → IfSome (R.remaining reader.old.inner) (λ all. (request : Request ℕ) → Asks all request
         → IsExchange desk.old.roster.says desk.old.base (K.is_up desk.new.keeper) (K.holds desk.old.keeper) (K.holds desk.new.keeper)
-        (K.is_same desk.old.keeper desk.new.keeper) (HasFailed (K.failures desk.old.keeper) (K.failures desk.new.keeper))
+        (K.is_same desk.old.keeper desk.new.keeper) (IsServed K.is_up K.is_clean K.failures desk.old.keeper desk.new.keeper)
         (λ bytes. Sends (W.contents writer.old.inner) (W.contents writer.new.inner) result bytes) request) }
     // A GET or HEAD leaves all as it was, and so does each exchange but that of a POST to a relay's messages with the status 200.
     ensures queries { HasReplied result → K.is_up desk.new.keeper → IfSome (R.remaining reader.old.inner) (λ all. (head : RequestHead) → HasHead all head
@@ -155,11 +151,9 @@ pub fn serve_one<K: Keeper, R: Read, W: Write>(
     ensures unfailing { OnOk result ((reader.new.failures ≡ reader.old.failures) × (writer.new.failures ≡ writer.old.failures)) }
     ensures roster { desk.new.roster ≡ desk.old.roster }
     ensures base { desk.new.base ≡ desk.old.base }
-    ensures was_up { K.is_up desk.new.keeper → K.is_up desk.old.keeper }
-    ensures was_clean { K.is_clean desk.new.keeper → K.is_clean desk.old.keeper }
-    ensures shuts { K.is_up desk.old.keeper → K.is_clean desk.new.keeper
-        → K.is_up desk.new.keeper ⊎ HasFailed (K.failures desk.old.keeper) (K.failures desk.new.keeper) }
-    ensures counts { K.failures desk.old.keeper ≤ K.failures desk.new.keeper }
+    // The keeper is up then, unless a reply of K4 or K5 was written, or a beginning of it.
+    ensures served { IsServed K.is_up K.is_clean K.failures desk.old.keeper desk.new.keeper ⊥
+        (WritesWant (λ bytes. Sends (W.contents writer.old.inner) (W.contents writer.new.inner) result bytes)) }
 {
     let mut room = Room::new();
     serve_in(alloc, desk, &mut room, reader, writer)

@@ -1,8 +1,8 @@
 //! The report of a desk.
 
-ghost use Rattle.std.specs.Prelude.{◌≡◌, ◌⊎◌, ◌≤◌, List, IfOk, IfErr, Err, string_bytes};
+ghost use Rattle.std.specs.Prelude.{◌≡◌, List, IfOk, IsErrAnd, IfErr, Err, string_bytes};
 ghost use Rattle.messages.specs.declared.message.Message.{Message as AnyMessage};
-ghost use Rattle.desk_store.specs.Keeping.{HasFailed};
+ghost use Rattle.desk_store.specs.Serving.{IsServed};
 ghost use Rattle.desk_store.specs.Sets.{Lists};
 ghost use Rattle.desk.specs.Refusals.{IsWant};
 ghost use Rattle.desk.specs.declared.refusal.Refusal.TheVariants as refusal;
@@ -24,12 +24,7 @@ pub fn report<K: Keeper>(desk: &mut Desk<K>, at: Moment) -> Result<String, Refus
     ensures unchanged { K.is_up desk.new.keeper → K.is_same desk.old.keeper desk.new.keeper }
     ensures roster { desk.new.roster ≡ desk.old.roster }
     ensures base { desk.new.base ≡ desk.old.base }
-    ensures was_up { K.is_up desk.new.keeper → K.is_up desk.old.keeper }
-    ensures was_clean { K.is_clean desk.new.keeper → K.is_clean desk.old.keeper }
-    ensures shuts { K.is_up desk.old.keeper → K.is_clean desk.new.keeper
-        → K.is_up desk.new.keeper ⊎ HasFailed (K.failures desk.old.keeper) (K.failures desk.new.keeper) }
-    ensures counts { K.failures desk.old.keeper ≤ K.failures desk.new.keeper }
-    ensures cause { result ≡ Err refusal.Storage → HasFailed (K.failures desk.old.keeper) (K.failures desk.new.keeper) }
+    ensures served { IsServed K.is_up K.is_clean K.failures desk.old.keeper desk.new.keeper (result ≡ Err refusal.Storage) (IsErrAnd result IsWant) }
 {
     let Holdings { summaries, parked } = desk.holdings()?;
     let alloc = *summaries.allocator();

@@ -1,9 +1,10 @@
 use Rattle.std.proofs.Common.{◌≡◌, ◌∙◌, sym, inl, inr, rules}
 use Rattle.std.specs.Prelude.{string_bytes}
+use Rattle.desk_store.proofs.OutcomeLemmas.{ok_no_err}
+use Rattle.desk_store.proofs.ServingLemmas.{not_err, served_after, served_at_ok}
 use Rattle.desk.proofs.CrashLemmas.{kept_by_opening, leaves_same, made_by_opening}
 use Rattle.desk.proofs.OpeningLemmas.{told_desk, told_empty, told_no_desk, told_old}
-use Rattle.desk.proofs.RefusalLemmas.{told_no_base, told_storage, told_up, told_want}
-use Rattle.desk.proofs.ServingLemmas.{failed_later, up_or_failed_later}
+use Rattle.desk.proofs.RefusalLemmas.{handed_on, told_no_base, told_want}
 use Rattle.desk.proofs.opening.find_or_make.Goals as goal
 
 -- ---- a look that failed
@@ -20,68 +21,48 @@ returns-in_err-look-clause-refused g c up = told_want c.in_err-look.field-0.0 c.
 pub returns-in_err-look-clause-fits : goal.returns-in_err-look-clause-fits
 returns-in_err-look-clause-fits g c = told_no_base c.in_err-look.field-0.0 c.from_residual.result c.from_residual.ensures.1
 
-pub returns-in_err-look-clause-cause : goal.returns-in_err-look-clause-cause
-returns-in_err-look-clause-cause g c is = c.look.ensures.cause (told_storage c.in_err-look.field-0.0 c.look.result c.from_residual.result c.in_err-look.was c.from_residual.ensures.1 is)
-
-pub returns-in_err-look-clause-up : goal.returns-in_err-look-clause-up
-returns-in_err-look-clause-up g c up clean = told_up c.in_err-look.field-0.0 c.from_residual.result _ c.from_residual.ensures.1
+pub returns-in_err-look-clause-served : goal.returns-in_err-look-clause-served
+returns-in_err-look-clause-served g c = handed_on c.in_err-look.field-0.0 c.look.result c.from_residual.result c.in_err-look.was c.from_residual.ensures.1 c.look.ensures.served
 
 -- ---- nothing of a desk's
 
-pub returns-in_err-make-in-Empty-clause-up : goal.returns-in_err-make-in-Empty-clause-up
-returns-in_err-make-in-Empty-clause-up g c up clean = told_up c.in_err-make-in-Empty.field-0.0 c.from_residual-in_err-make-in-Empty.result _ c.from_residual-in_err-make-in-Empty.ensures.1
+pub returns-in_ok-make-in-Empty-clause-served : goal.returns-in_ok-make-in-Empty-clause-served
+returns-in_ok-make-in-Empty-clause-served g c = served_at_ok _ _ (λ is. ok_no_err _ _ is) (served_after c.in_ok-look.ensures.served c.in_ok-make-in-Empty.ensures.served)
 
-pub returns-in_ok-make-in-Empty-clause-up : goal.returns-in_ok-make-in-Empty-clause-up
-returns-in_ok-make-in-Empty-clause-up g c up clean = c.in_ok-make-in-Empty.ensures.up (c.in_ok-look.ensures.up up (c.make.ensures.was_clean clean)) clean
+pub returns-in_err-make-in-Empty-clause-served : goal.returns-in_err-make-in-Empty-clause-served
+returns-in_err-make-in-Empty-clause-served g c =
+    let err = c.in_err-make-in-Empty in
+    let told = c.from_residual-in_err-make-in-Empty in
+    served_after c.in_ok-look.ensures.served (handed_on err.field-0.0 c.make.result told.result err.was told.ensures.1 c.make.ensures.served)
 
 pub returns-in_ok-make-in-Empty-clause-opens : goal.returns-in_ok-make-in-Empty-clause-opens
 returns-in_ok-make-in-Empty-clause-opens g c up =
     let K = g.K.Keeper in
     let k = c.args.keeper.now in
-    let told = told_empty (K.is_empty k) (K.is_desk k) (K.is_old k) (K.roster k) c.in_ok-look.field-0 c.in-Empty.is (c.in_ok-look.ensures.found (c.make.ensures.was_up up)) in
+    let told = told_empty (K.is_empty k) (K.is_desk k) (K.is_old k) (K.roster k) c.in_ok-look.field-0 c.in-Empty.is (c.in_ok-look.ensures.found (c.make.ensures.served.was_up up)) in
     inl (told.0, told.1, told.2, c.in_ok-make-in-Empty.ensures.nothing up)
 
 pub returns-in_ok-make-in-Empty-clause-crash : goal.returns-in_ok-make-in-Empty-clause-crash
 returns-in_ok-make-in-Empty-clause-crash g c up clean left may =
     let K = g.K.Keeper in
     let k = c.args.keeper.now in
-    let between = c.in_ok-look.ensures.up up (c.make.ensures.was_clean clean) in
+    let between = not_err (c.in_ok-look.ensures.served.up up (c.make.ensures.served.was_clean clean)) in
     let told = told_empty (K.is_empty k) (K.is_desk k) (K.is_old k) (K.roster k) c.in_ok-look.field-0 c.in-Empty.is (c.in_ok-look.ensures.found between) in
     made_by_opening (K.is_empty k) (K.is_desk k) (K.is_old k) (K.roster k) c.args.text.now (K.holds k) left told.1 told.2 (c.make.ensures.crash between clean left may)
-
-pub returns-in_ok-make-in-Empty-clause-shuts : goal.returns-in_ok-make-in-Empty-clause-shuts
-returns-in_ok-make-in-Empty-clause-shuts g c up clean =
-    let K = g.K.Keeper in
-    up_or_failed_later (K.is_up c.make.new.self) (K.failures c.args.keeper.now) (K.failures c.look.new.self) (K.failures c.make.new.self) c.look.ensures.counts
-    (c.make.ensures.shuts (c.in_ok-look.ensures.up up (c.make.ensures.was_clean clean)) clean)
 
 pub returns-in_err-make-in-Empty-clause-crash : goal.returns-in_err-make-in-Empty-clause-crash
 returns-in_err-make-in-Empty-clause-crash g c up clean left may =
     let K = g.K.Keeper in
     let k = c.args.keeper.now in
-    let between = c.in_ok-look.ensures.up up (c.make.ensures.was_clean clean) in
+    let between = not_err (c.in_ok-look.ensures.served.up up (c.make.ensures.served.was_clean clean)) in
     let told = told_empty (K.is_empty k) (K.is_desk k) (K.is_old k) (K.roster k) c.in_ok-look.field-0 c.in-Empty.is (c.in_ok-look.ensures.found between) in
     made_by_opening (K.is_empty k) (K.is_desk k) (K.is_old k) (K.roster k) c.args.text.now (K.holds k) left told.1 told.2 (c.make.ensures.crash between clean left may)
-
-pub returns-in_err-make-in-Empty-clause-shuts : goal.returns-in_err-make-in-Empty-clause-shuts
-returns-in_err-make-in-Empty-clause-shuts g c up clean =
-    let K = g.K.Keeper in
-    up_or_failed_later (K.is_up c.make.new.self) (K.failures c.args.keeper.now) (K.failures c.look.new.self) (K.failures c.make.new.self) c.look.ensures.counts
-    (c.make.ensures.shuts (c.in_ok-look.ensures.up up (c.make.ensures.was_clean clean)) clean)
 
 pub returns-in_err-make-in-Empty-clause-refused : goal.returns-in_err-make-in-Empty-clause-refused
 returns-in_err-make-in-Empty-clause-refused g c up = told_want c.in_err-make-in-Empty.field-0.0 c.from_residual-in_err-make-in-Empty.result _ c.from_residual-in_err-make-in-Empty.ensures.1
 
 pub returns-in_err-make-in-Empty-clause-fits : goal.returns-in_err-make-in-Empty-clause-fits
 returns-in_err-make-in-Empty-clause-fits g c = told_no_base c.in_err-make-in-Empty.field-0.0 c.from_residual-in_err-make-in-Empty.result c.from_residual-in_err-make-in-Empty.ensures.1
-
-pub returns-in_err-make-in-Empty-clause-cause : goal.returns-in_err-make-in-Empty-clause-cause
-returns-in_err-make-in-Empty-clause-cause g c is =
-    let K = g.K.Keeper in
-    let err = c.in_err-make-in-Empty in
-    let told = c.from_residual-in_err-make-in-Empty in
-    failed_later (K.failures c.args.keeper.now) (K.failures c.look.new.self) (K.failures c.make.new.self) c.look.ensures.counts
-    (c.make.ensures.cause (told_storage err.field-0.0 c.make.result told.result err.was told.ensures.1 is))
 
 -- ---- something of a desk's
 
@@ -137,7 +118,7 @@ returns-in-Desk-clause-durable g c up =
     let told = told_desk (K.is_empty old) (K.is_desk old) (K.is_old old) (K.roster old) c.in_ok-look.field-0 c.in-Desk.recorded c.in-Desk.is (c.in_ok-look.ensures.found up) in
     leaves_same (K.may_leave new) (K.roster new) (K.roster old) (K.holds new) (K.holds old) (sym (laws.stays_roster old new same told.0))
     (laws.stays_set new old (laws.same_back old new same) (laws.stays_desk old new same told.0))
-    (λ left may. (c.look.ensures.crash (c.look.ensures.was_up up) (laws.up_is_clean new up) left may).desk told.0)
+    (λ left may. (c.look.ensures.crash (c.look.ensures.served.was_up up) (laws.up_is_clean new up) left may).desk told.0)
 
 pub returns-in-Desk-clause-roster : goal.returns-in-Desk-clause-roster
 returns-in-Desk-clause-roster g c = λ up.

@@ -1,12 +1,14 @@
-use Rattle.std.proofs.Common.{◌∙◌, Global, IfOk, List, String, inl, map, subst, sym}
-use Rattle.std.specs.Prelude.{string_bytes}
+use Rattle.std.proofs.Common.{◌≡◌, ◌∙◌, Err, Global, IfOk, List, String, inl, map, subst, sym}
+use Rattle.std.specs.Prelude.{IsErrAnd, string_bytes}
 use Rattle.std.specs.List.{Contains}
-use Rattle.std.proofs.lemmas.Result.{IfErr-weaker, MatchResult-from_both, err_from_is_err_and}
+use Rattle.std.proofs.lemmas.Result.{IfErr-weaker, err_from_is_err_and}
 use Rattle.messages.specs.declared.message.Message.{Message}
 use Rattle.roster.specs.Fields.{Reading}
+use Rattle.desk_store.proofs.ServingLemmas.{served_as, served_then}
 use Rattle.desk.specs.Texts.{AreTexts}
-use Rattle.desk.specs.private.Serving.{IsServed}
-use Rattle.desk.proofs.ServingLemmas.{served_once_more}
+use Rattle.desk.specs.Refusals.{IsWant}
+use Rattle.desk.specs.declared.refusal.Refusal.TheVariants.{Storage}
+use Rattle.desk.proofs.RefusalLemmas.{wants}
 use Rattle.desk_audit.specs.Audit.{IsAudit}
 use Rattle.desk_audit.proofs.AuditLemmas.{lists_same}
 use Rattle.desk_audit.proofs.entry.audit.Goals as goal
@@ -29,13 +31,9 @@ returns g c =
     let new = c.entries_of.new.desk in
     let brought = c.in_ok-texts.ensures in
     let told = c.entries_of.ensures in
-    let first : IsServed (K.is_up old.keeper) (K.is_clean old.keeper) (K.is_up mid.keeper) (K.is_clean mid.keeper) (K.failures old.keeper) (K.failures mid.keeper) =
-    record { up = brought.was_up; clean = brought.was_clean; shuts = brought.shuts; counts = brought.counts } in
-    let served = served_once_more (K.is_up old.keeper) (K.is_clean old.keeper) (K.is_up mid.keeper) (K.is_clean mid.keeper) (K.is_up new.keeper) (K.is_clean new.keeper)
-    (K.failures old.keeper) (K.failures mid.keeper) (K.failures new.keeper) first told.was_up told.was_clean told.shuts told.counts in
     record {
       audit = λ set up is_desk lists.
-          let was_up = told.was_up up in
+          let was_up = told.served.was_up up in
           let same = brought.unchanged was_up in
           let was_desk = law.stays_desk new.keeper mid.keeper (law.same_back mid.keeper new.keeper (told.unchanged up)) is_desk in
           let first_desk = law.stays_desk mid.keeper old.keeper (law.same_back old.keeper mid.keeper same) was_desk in
@@ -46,14 +44,9 @@ returns g c =
           let F : Reading → Type 0 = λ r. IfOk c.entries_of.result (λ es. IsAudit r.says set es.items) in
           subst F brought.roster (told.audit set up is_desk still gathers);
       refused = λ set up lists. IfErr-weaker c.entries_of.result _ _ (λ e want. inl want) told.err;
-      unchanged = λ up. law.same_on old.keeper mid.keeper new.keeper (brought.unchanged (told.was_up up)) (told.unchanged up);
+      unchanged = λ up. law.same_on old.keeper mid.keeper new.keeper (brought.unchanged (told.served.was_up up)) (told.unchanged up);
       roster = told.roster ∙ brought.roster;
       base = told.base ∙ brought.base;
-      was_up = served.up;
-      was_clean = served.clean;
-      shuts = served.shuts;
-      up = λ up clean.
-          let middle = brought.up up (told.was_clean clean) in
-          MatchResult-from_both c.entries_of.result _ _ (told.up middle clean) (IfErr-weaker c.entries_of.result _ _ (λ e want. inl want) told.err);
-      counts = served.counts;
+      served = served_then (λ none. absurd none) brought.served
+          (served_as (c.entries_of.result ≡ Err Storage) (IsErrAnd c.entries_of.result IsWant) (λ is. is) (wants c.entries_of.result told.err) told.served);
     }

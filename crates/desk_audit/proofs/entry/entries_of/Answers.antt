@@ -3,8 +3,8 @@ use Rattle.std.proofs.lemmas.List.{append-nil, map-append}
 use Rattle.std.specs.List.{AllByRecursion}
 use Rattle.messages.specs.declared.request_name.RequestName.{RequestName}
 use Rattle.roster.specs.Fields.{Reading}
-use Rattle.desk.specs.private.Serving.{IsServed}
-use Rattle.desk.proofs.ServingLemmas.{served_by_none, served_once_more}
+use Rattle.desk_store.proofs.OutcomeLemmas.{ok_no_err}
+use Rattle.desk_store.proofs.ServingLemmas.{served_as, served_at_ok, served_by_none, served_then}
 use Rattle.desk_outcomes.specs.Outcomes.{ComesTo}
 use Rattle.desk_audit.specs.declared.entry.Entry.{Entry}
 use Rattle.desk_audit.proofs.AuditLemmas.{is_audit, keyed, keyed_is, lists_same, one_status_more, split_ends, split_once_more}
@@ -22,8 +22,7 @@ loop-name-init g c =
       same = λ up. g.met.K.Keeper.same_itself old.keeper;
       roster = refl;
       base = refl;
-      up = λ up clean. up;
-      served = served_by_none (g.K.Keeper.is_up old.keeper) (g.K.Keeper.is_clean old.keeper) (g.K.Keeper.failures old.keeper);
+      served = served_by_none old.keeper ⊥ ⊥ (λ none. none);
     }
 
 pub loop-name-preserved : goal.loop-name-preserved
@@ -41,7 +40,7 @@ loop-name-preserved g c =
       split = split_once_more entries c.push.new.self.items entry _ c.loop-name.name-iterator c.next.new.self c.args.all.entries c.in_ok-push.ensures.items
           (keyed_is entry _ _ done.same.0 done.same.1) c.in-Some.ensures.steps kept.split;
       told = λ set up is_desk lists.
-          let was_up = done.was_up up in
+          let was_up = done.served.was_up up in
           let was_desk = law.stays_desk new.keeper mid.keeper (law.same_back mid.keeper new.keeper (done.unchanged up)) is_desk in
           let same = kept.same was_up in
           let first_desk = law.stays_desk mid.keeper old.keeper (law.same_back old.keeper mid.keeper same) was_desk in
@@ -49,12 +48,10 @@ loop-name-preserved g c =
           let P : Entry → Type 0 = λ e. ComesTo old.roster.says set e.name e.status in
           let F : Reading → Type 0 = λ r. ComesTo r.says set entry.name entry.status in
           one_status_more P entries c.push.new.self.items entry c.in_ok-push.ensures.items (kept.told set was_up was_desk lists) (subst F kept.roster (subst (λ (n : RequestName). ComesTo mid.roster.says set n entry.status) (sym done.same.0) (done.status set up still)));
-      same = λ up. law.same_on old.keeper mid.keeper new.keeper (kept.same (done.was_up up)) (done.unchanged up);
+      same = λ up. law.same_on old.keeper mid.keeper new.keeper (kept.same (done.served.was_up up)) (done.unchanged up);
       roster = done.roster ∙ kept.roster;
       base = done.base ∙ kept.base;
-      up = λ up clean. done.up (kept.up up (done.was_clean clean)) clean;
-      served = served_once_more (K.is_up old.keeper) (K.is_clean old.keeper) (K.is_up mid.keeper) (K.is_clean mid.keeper) (K.is_up new.keeper) (K.is_clean new.keeper)
-          (K.failures old.keeper) (K.failures mid.keeper) (K.failures new.keeper) kept.served done.was_up done.was_clean done.shuts done.counts;
+      served = served_then (λ none. none) kept.served (served_at_ok ⊥ ⊥ (λ none. none) done.served);
     }
 
 pub returns-in_err-entry : goal.returns-in_err-entry
@@ -65,19 +62,14 @@ returns-in_err-entry g c =
     let new = c.entry_of.new.desk in
     let kept = c.loop-name.invariant in
     let done = c.in_err-entry.ensures in
-    let served = served_once_more (K.is_up old.keeper) (K.is_clean old.keeper) (K.is_up mid.keeper) (K.is_clean mid.keeper) (K.is_up new.keeper) (K.is_clean new.keeper)
-    (K.failures old.keeper) (K.failures mid.keeper) (K.failures new.keeper) kept.served done.was_up done.was_clean done.shuts done.counts in
+    let served = served_then (λ none. absurd none) kept.served done.served in
     record {
       audit = search rules;
       err = search rules;
-      unchanged = λ up. g.met.K.Keeper.same_on old.keeper mid.keeper new.keeper (kept.same (done.was_up up)) (done.unchanged up);
+      unchanged = λ up. g.met.K.Keeper.same_on old.keeper mid.keeper new.keeper (kept.same (done.served.was_up up)) (done.unchanged up);
       roster = done.roster ∙ kept.roster;
       base = done.base ∙ kept.base;
-      was_up = served.up;
-      was_clean = served.clean;
-      shuts = served.shuts;
-      up = search rules;
-      counts = served.counts;
+      served = search rules;
     }
 
 pub returns-in_err-push : goal.returns-in_err-push
@@ -88,19 +80,14 @@ returns-in_err-push g c =
     let new = c.entry_of.new.desk in
     let kept = c.loop-name.invariant in
     let done = c.in_ok-entry.ensures in
-    let served = served_once_more (K.is_up old.keeper) (K.is_clean old.keeper) (K.is_up mid.keeper) (K.is_clean mid.keeper) (K.is_up new.keeper) (K.is_clean new.keeper)
-    (K.failures old.keeper) (K.failures mid.keeper) (K.failures new.keeper) kept.served done.was_up done.was_clean done.shuts done.counts in
+    let served = served_then (λ none. none) kept.served (served_at_ok ⊥ ⊥ (λ none. none) done.served) in
     record {
       audit = search rules;
       err = search rules;
-      unchanged = λ up. g.met.K.Keeper.same_on old.keeper mid.keeper new.keeper (kept.same (done.was_up up)) (done.unchanged up);
+      unchanged = λ up. g.met.K.Keeper.same_on old.keeper mid.keeper new.keeper (kept.same (done.served.was_up up)) (done.unchanged up);
       roster = done.roster ∙ kept.roster;
       base = done.base ∙ kept.base;
-      was_up = served.up;
-      was_clean = served.clean;
-      shuts = served.shuts;
-      up = search rules;
-      counts = served.counts;
+      served = search rules;
     }
 
 pub returns : goal.returns
@@ -113,9 +100,5 @@ returns g c =
       unchanged = kept.same;
       roster = kept.roster;
       base = kept.base;
-      was_up = kept.served.up;
-      was_clean = kept.served.clean;
-      shuts = kept.served.shuts;
-      up = kept.up;
-      counts = kept.served.counts;
+      served = served_as _ _ (λ is. ok_no_err _ _ is) (λ none. absurd none) kept.served;
     }

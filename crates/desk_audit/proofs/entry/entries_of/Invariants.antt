@@ -1,9 +1,9 @@
 use Rattle.std.proofs.Common.{◌≡◌, List, ◌++◌, map}
 use Rattle.std.specs.List.{AllByRecursion}
 use Rattle.messages.specs.declared.message.Message.{Message}
+use Rattle.desk_store.specs.Serving.{IsServed}
 use Rattle.desk_store.specs.Sets.{Lists}
 use Rattle.desk_outcomes.specs.Outcomes.{ComesTo}
-use Rattle.desk.specs.private.Serving.{IsServed}
 use Rattle.desk_audit.proofs.AuditLemmas.{keyed}
 use Rattle.desk_audit.proofs.entry.entries_of.Given as goal
 
@@ -15,7 +15,5 @@ invariant-loop-name g l = record {
   same : g.K.Keeper.is_up l.desk.keeper → g.K.Keeper.is_same l.fn.desk.keeper l.desk.keeper;
   roster : l.desk.roster ≡ l.fn.desk.roster;
   base : l.desk.base ≡ l.fn.desk.base;
-  up : g.K.Keeper.is_up l.fn.desk.keeper → g.K.Keeper.is_clean l.desk.keeper → g.K.Keeper.is_up l.desk.keeper;
-  served : IsServed (g.K.Keeper.is_up l.fn.desk.keeper) (g.K.Keeper.is_clean l.fn.desk.keeper) (g.K.Keeper.is_up l.desk.keeper) (g.K.Keeper.is_clean l.desk.keeper)
-      (g.K.Keeper.failures l.fn.desk.keeper) (g.K.Keeper.failures l.desk.keeper);
+  served : IsServed g.K.Keeper.is_up g.K.Keeper.is_clean g.K.Keeper.failures l.fn.desk.keeper l.desk.keeper ⊥ ⊥;
 }

@@ -1,8 +1,10 @@
 use Rattle.std.proofs.Common.{◌≡◌, ◌∙◌, ◌∷◌, IfErr, ap, subst, sym}
-use Rattle.desk.specs.private.Serving.{IsServed}
+use Rattle.std.specs.Prelude.{⊤}
+use Rattle.desk_store.specs.Serving.{IsServed}
+use Rattle.desk_store.proofs.ServingLemmas.{served_then}
 use Rattle.desk_commands.specs.Kept.{kept}
 use Rattle.desk_commands.specs.private.Outcomes.{IsLeft, IsOutcome}
-use Rattle.desk_commands.proofs.OverLemmas.{delivered, undelivered, served_both}
+use Rattle.desk_commands.proofs.OverLemmas.{delivered, undelivered}
 use Rattle.desk_jobs.specs.declared.task.Job.TheVariants.{Deliver}
 use Rattle.desk_commands.proofs.LeavingLemmas.{left_delivered}
 use Rattle.desk_commands.proofs.delivering.deliver_over.Goals as goal
@@ -22,15 +24,15 @@ returns-in-Ok-clause-outcome g c places more err =
     subst (λ y. IsOutcome (Deliver places c.args.relay.now) (c.args.roster.now ∷ c.args.base.now ∷ more)
     (kept K.is_up K.is_empty K.is_desk K.is_old K.roster K.holds K.failures c.args.keeper y) input asked.result err err) (sym same)
     (delivered K.is_up K.is_empty K.is_desk K.is_old K.roster K.holds K.failures c.args.keeper desk.keeper after c.args.roster.now c.args.base.now
-    desk.roster.says desk.base c.in-Ok.ensures.found keeps asked.ensures.served.up c.in-Ok.ensures.opens c.in-Ok.ensures.served.counts more input
+    desk.roster.says desk.base c.in-Ok.ensures.found keeps asked.ensures.served.was_up c.in-Ok.ensures.opens c.in-Ok.ensures.served.counts more input
     places c.args.relay.now asked.result err asked.ensures.found asked.ensures.err)
 
 pub returns-in-Ok-clause-served : goal.returns-in-Ok-clause-served
 returns-in-Ok-clause-served g c =
     let K = g.K.Keeper in
     let keeper = c.args.keeper in
-    subst (λ y. IsServed (K.is_up keeper) (K.is_clean keeper) (K.is_up y) (K.is_clean y) (K.failures keeper) (K.failures y)) (sym c.into_keeper.ensures.same)
-    (served_both _ _ _ _ _ _ _ _ _ c.in-Ok.ensures.served c.deliver_to-answer.ensures.served)
+    subst (λ y. IsServed K.is_up K.is_clean K.failures keeper y ⊥ ⊤) (sym c.into_keeper.ensures.same)
+    (served_then (λ any. any) c.in-Ok.ensures.served c.deliver_to-answer.ensures.served)
 
 pub returns-in-Err-clause-outcome : goal.returns-in-Err-clause-outcome
 returns-in-Err-clause-outcome g c places more err =
@@ -51,5 +53,5 @@ returns-in-Ok-clause-left g c places more err =
     subst (λ y. IfErr asked.result (λ _. IsLeft (Deliver places c.args.relay.now) (c.args.roster.now ∷ c.args.base.now ∷ more)
     (kept K.is_up K.is_empty K.is_desk K.is_old K.roster K.holds K.failures c.args.keeper y) (K.is_same c.args.keeper y) input err err)) (sym same)
     (left_delivered K.is_up K.is_empty K.is_desk K.is_old K.roster K.holds K.failures c.args.keeper desk.keeper after c.args.roster.now c.args.base.now
-    desk.roster.says desk.base c.in-Ok.ensures.found is_kept asked.ensures.served.up c.in-Ok.ensures.opens c.in-Ok.ensures.was more input
+    desk.roster.says desk.base c.in-Ok.ensures.found is_kept asked.ensures.served.was_up c.in-Ok.ensures.opens c.in-Ok.ensures.was more input
     (K.is_same c.args.keeper after) places c.args.relay.now asked.result err asked.ensures.left)

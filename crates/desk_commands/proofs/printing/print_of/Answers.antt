@@ -3,7 +3,7 @@ use Rattle.sudo_policy.specs.declared.entry.Entry.{Entry}
 use Rattle.roster.specs.Fields.{Reading}
 use Rattle.desk_store.specs.Keeping.{HasFailed}
 use Rattle.desk_store.specs.Sets.{SameSet}
-use Rattle.desk.proofs.ServingLemmas.{failed_later}
+use Rattle.desk_store.proofs.ServingLemmas.{failed_later}
 use Rattle.desk_commands.specs.Printing.{PrintsHost}
 use Rattle.desk_commands.specs.Taking.{HeldWith, Takes}
 use Rattle.desk_commands.specs.declared.refusal.Refusal.TheVariants as reasons
@@ -30,7 +30,7 @@ returns-in-Ok-clause-found g c =
     subst (λ (r : Reading). K.is_up mid.keeper → SameSet (HeldWith r.says taking.0 (K.holds old.keeper)) (K.holds mid.keeper)) (sym same_roster) taking.4 in
     let of_mid = prints mid.roster.says mid.base c.args.store.now input (K.holds old.keeper) (K.holds mid.keeper) (K.holds new.keeper)
     (K.is_up new.keeper × K.is_desk new.keeper) (K.is_up new.keeper) (K.is_up mid.keeper) taking.0 taking.1 taken held c.args.host.now c.args.after
-    c.file_of.result c.in-Ok.text (string_bytes c.in-Ok.text) (λ known. known.0) c.file_of.ensures.served.up c.in-Ok.is c.file_of.ensures.unknown
+    c.file_of.result c.in-Ok.text (string_bytes c.in-Ok.text) (λ known. known.0) c.file_of.ensures.served.was_up c.in-Ok.is c.file_of.ensures.unknown
     (λ set up lists. c.in-Ok.ensures.printed set up lists) (λ set up lists. c.in-Ok.ensures.rights set up lists)
     (λ known. let same = c.file_of.ensures.same known.0 in
     laws.stays_set mid.keeper new.keeper same (laws.stays_desk new.keeper mid.keeper (laws.same_back mid.keeper new.keeper same) known.1)) in (
@@ -59,7 +59,7 @@ returns-in-Err-clause-cause g c =
     (HasFailed (K.failures old.keeper) (K.failures new.keeper)) input (reasons.Desk c.in-Err.refusal)) same_roster
     (ends_file mid.roster.says mid.base c.args.store.now input (K.holds old.keeper) (K.holds mid.keeper) (K.holds new.keeper)
     (K.is_up new.keeper) (K.is_up new.keeper) (K.is_up mid.keeper) taking.0 taking.1 taken held c.args.host.now c.args.after (HasFailed (K.failures old.keeper) (K.failures new.keeper))
-    c.file_of.result c.in-Err.refusal c.file_of.ensures.served.up c.in-Err.is c.file_of.ensures.unknown
+    c.file_of.result c.in-Err.refusal c.file_of.ensures.served.was_up c.in-Err.is c.file_of.ensures.unknown
     (λ set lines up lists are few. c.in-Err.ensures.few set lines up lists are few) c.in-Err.ensures.err
     (λ storage. failed_later _ _ _ c.take_input.ensures.served.counts (c.file_of.ensures.cause (c.in-Err.is ∙ ap Err storage))))
 
@@ -72,7 +72,7 @@ returns-in-Ok-clause-left g c = λ up desk.
     let new = c.file_of.new.desk in
     let same = c.file_of.ensures.same up in
     taken_stay old.roster.says (g.R.Read.remaining c.args.input.now) c.args.store.now (K.holds old.keeper) (K.holds mid.keeper) (K.holds new.keeper)
-    (c.take_input.ensures.left (c.file_of.ensures.served.up up))
+    (c.take_input.ensures.left (c.file_of.ensures.served.was_up up))
     (laws.stays_set mid.keeper new.keeper same (laws.stays_desk new.keeper mid.keeper (laws.same_back mid.keeper new.keeper same) desk))
 
 pub returns-in-Err-clause-left : goal.returns-in-Err-clause-left
@@ -84,7 +84,7 @@ returns-in-Err-clause-left g c = λ up desk.
     let new = c.file_of.new.desk in
     let same = c.file_of.ensures.same up in
     taken_stay old.roster.says (g.R.Read.remaining c.args.input.now) c.args.store.now (K.holds old.keeper) (K.holds mid.keeper) (K.holds new.keeper)
-    (c.take_input.ensures.left (c.file_of.ensures.served.up up))
+    (c.take_input.ensures.left (c.file_of.ensures.served.was_up up))
     (laws.stays_set mid.keeper new.keeper same (laws.stays_desk new.keeper mid.keeper (laws.same_back mid.keeper new.keeper same) desk))
 
 pub returns-in-Err-clause-said : goal.returns-in-Err-clause-said

@@ -3,7 +3,7 @@ use Rattle.sudo_policy.specs.declared.entry.Entry.{Entry}
 use Rattle.roster.specs.Fields.{Reading}
 use Rattle.desk_store.specs.Keeping.{HasFailed}
 use Rattle.desk_store.specs.Sets.{SameSet}
-use Rattle.desk.proofs.ServingLemmas.{failed_later}
+use Rattle.desk_store.proofs.ServingLemmas.{failed_later}
 use Rattle.desk_commands.specs.Reviewing.{ReviewsDesk}
 use Rattle.desk_commands.specs.Taking.{HeldWith, Takes}
 use Rattle.desk_commands.proofs.PrintLemmas.{reviews, wants_end_report}
@@ -28,7 +28,7 @@ returns-in-Ok-clause-found g c =
     subst (λ (r : Reading). K.is_up mid.keeper → SameSet (HeldWith r.says taking.0 (K.holds old.keeper)) (K.holds mid.keeper)) (sym same_roster) taking.4 in
     let of_mid = reviews mid.roster.says mid.base c.args.store.now input (K.holds old.keeper) (K.holds mid.keeper) (K.holds new.keeper)
     (K.is_up new.keeper × K.is_desk new.keeper) (K.is_up new.keeper) (K.is_up mid.keeper) taking.0 taking.1 taken held c.args.at
-    (string_bytes c.in-Ok.text) (λ known. known.0) c.report.ensures.was_up
+    (string_bytes c.in-Ok.text) (λ known. known.0) c.report.ensures.served.was_up
     (λ set up lists. c.in-Ok.ensures.report set up lists)
     (λ known. let same = c.report.ensures.unchanged known.0 in
     laws.stays_set mid.keeper new.keeper same (laws.stays_desk new.keeper mid.keeper (laws.same_back mid.keeper new.keeper same) known.1)) in (
@@ -43,7 +43,7 @@ returns-in-Ok-clause-found g c =
 pub returns-in-Err-clause-cause : goal.returns-in-Err-clause-cause
 returns-in-Err-clause-cause g c =
     wants_end_report c.args.store.now (HasFailed (g.K.Keeper.failures c.args.desk.now.keeper) (g.K.Keeper.failures c.report.new.desk.keeper)) c.in-Err.refusal c.in-Err.ensures.err
-    (λ storage. failed_later _ _ _ c.take_input.ensures.served.counts (c.report.ensures.cause (c.in-Err.is ∙ ap Err storage)))
+    (λ storage. failed_later _ _ _ c.take_input.ensures.served.counts (c.report.ensures.served.cause (c.in-Err.is ∙ ap Err storage)))
 
 pub returns-in-Ok-clause-left : goal.returns-in-Ok-clause-left
 returns-in-Ok-clause-left g c = λ up desk.
@@ -54,7 +54,7 @@ returns-in-Ok-clause-left g c = λ up desk.
     let new = c.report.new.desk in
     let same = c.report.ensures.unchanged up in
     taken_stay old.roster.says (g.R.Read.remaining c.args.input.now) c.args.store.now (K.holds old.keeper) (K.holds mid.keeper) (K.holds new.keeper)
-    (c.take_input.ensures.left (c.report.ensures.was_up up))
+    (c.take_input.ensures.left (c.report.ensures.served.was_up up))
     (laws.stays_set mid.keeper new.keeper same (laws.stays_desk new.keeper mid.keeper (laws.same_back mid.keeper new.keeper same) desk))
 
 pub returns-in-Err-clause-left : goal.returns-in-Err-clause-left
@@ -66,7 +66,7 @@ returns-in-Err-clause-left g c = λ up desk.
     let new = c.report.new.desk in
     let same = c.report.ensures.unchanged up in
     taken_stay old.roster.says (g.R.Read.remaining c.args.input.now) c.args.store.now (K.holds old.keeper) (K.holds mid.keeper) (K.holds new.keeper)
-    (c.take_input.ensures.left (c.report.ensures.was_up up))
+    (c.take_input.ensures.left (c.report.ensures.served.was_up up))
     (laws.stays_set mid.keeper new.keeper same (laws.stays_desk new.keeper mid.keeper (laws.same_back mid.keeper new.keeper same) desk))
 
 pub returns-in-Err-clause-said : goal.returns-in-Err-clause-said

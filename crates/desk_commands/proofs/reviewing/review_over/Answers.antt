@@ -1,8 +1,10 @@
 use Rattle.std.proofs.Common.{◌≡◌, ◌∙◌, ◌∷◌, IfErr, ap, subst, sym}
-use Rattle.desk.specs.private.Serving.{IsServed}
+use Rattle.std.specs.Prelude.{⊤}
+use Rattle.desk_store.specs.Serving.{IsServed}
+use Rattle.desk_store.proofs.ServingLemmas.{served_then}
 use Rattle.desk_commands.specs.Kept.{kept}
 use Rattle.desk_commands.specs.private.Outcomes.{IsLeft, IsOutcome}
-use Rattle.desk_commands.proofs.OverLemmas.{reviewed, unreviewed, served_both}
+use Rattle.desk_commands.proofs.OverLemmas.{reviewed, unreviewed}
 use Rattle.desk_jobs.specs.declared.task.Job.TheVariants.{Review}
 use Rattle.desk_commands.proofs.LeavingLemmas.{left_reviewed}
 use Rattle.desk_commands.proofs.reviewing.review_over.Goals as goal
@@ -22,15 +24,15 @@ returns-in-Ok-clause-outcome g c more =
     subst (λ y. IsOutcome (Review c.args.places.now c.args.at) (c.args.roster.now ∷ c.args.base.now ∷ more)
     (kept K.is_up K.is_empty K.is_desk K.is_old K.roster K.holds K.failures c.args.keeper y) input asked.result (g.E.Write.contents c.args.err.now) (g.E.Write.contents asked.new.err)) (sym same)
     (reviewed K.is_up K.is_empty K.is_desk K.is_old K.roster K.holds K.failures c.args.keeper desk.keeper after c.args.roster.now c.args.base.now
-    desk.roster.says desk.base c.in-Ok.ensures.found keeps asked.ensures.served.up c.in-Ok.ensures.opens c.in-Ok.ensures.served.counts more input
+    desk.roster.says desk.base c.in-Ok.ensures.found keeps asked.ensures.served.was_up c.in-Ok.ensures.opens c.in-Ok.ensures.served.counts more input
     c.args.places.now c.args.at asked.result (g.E.Write.contents c.args.err.now) (g.E.Write.contents asked.new.err) asked.ensures.found asked.ensures.cause)
 
 pub returns-in-Ok-clause-served : goal.returns-in-Ok-clause-served
 returns-in-Ok-clause-served g c =
     let K = g.K.Keeper in
     let keeper = c.args.keeper in
-    subst (λ y. IsServed (K.is_up keeper) (K.is_clean keeper) (K.is_up y) (K.is_clean y) (K.failures keeper) (K.failures y)) (sym c.into_keeper.ensures.same)
-    (served_both _ _ _ _ _ _ _ _ _ c.in-Ok.ensures.served c.review_of-answer.ensures.served)
+    subst (λ y. IsServed K.is_up K.is_clean K.failures keeper y ⊥ ⊤) (sym c.into_keeper.ensures.same)
+    (served_then (λ any. any) c.in-Ok.ensures.served c.review_of-answer.ensures.served)
 
 pub returns-in-Err-clause-outcome : goal.returns-in-Err-clause-outcome
 returns-in-Err-clause-outcome g c more =
@@ -51,5 +53,5 @@ returns-in-Ok-clause-left g c more =
     subst (λ y. IfErr asked.result (λ _. IsLeft (Review c.args.places.now c.args.at) (c.args.roster.now ∷ c.args.base.now ∷ more)
     (kept K.is_up K.is_empty K.is_desk K.is_old K.roster K.holds K.failures c.args.keeper y) (K.is_same c.args.keeper y) input (g.E.Write.contents c.args.err.now) (g.E.Write.contents asked.new.err))) (sym same)
     (left_reviewed K.is_up K.is_empty K.is_desk K.is_old K.roster K.holds K.failures c.args.keeper desk.keeper after c.args.roster.now c.args.base.now
-    desk.roster.says desk.base c.in-Ok.ensures.found is_kept asked.ensures.served.up c.in-Ok.ensures.opens c.in-Ok.ensures.was more input
+    desk.roster.says desk.base c.in-Ok.ensures.found is_kept asked.ensures.served.was_up c.in-Ok.ensures.opens c.in-Ok.ensures.was more input
     (K.is_same c.args.keeper after) c.args.places.now c.args.at asked.result (g.E.Write.contents c.args.err.now) (g.E.Write.contents asked.new.err) asked.ensures.left asked.ensures.said)

@@ -1,6 +1,6 @@
 use Rattle.std.proofs.Common.{◌≡◌, ◌⊎◌, ℕ, List, true, sym, subst}
 use Rattle.sudo_words.specs.Word.{is_host_name}
-use Rattle.relay_http.proofs.AnswerLemmas.{file_right, left_whole, text_cause}
+use Rattle.relay_http.proofs.AnswerLemmas.{file_right, left_whole, text_served}
 use Rattle.relay_http.specs.Asked.{host_file}
 use Rattle.relay_http.specs.Prepared.{to_question}
 use Rattle.relay_http.specs.Replies.{IsReply, IsWanting}
@@ -18,5 +18,5 @@ returns-in-Ok-clause-answered g c =
           (file_right (λ lines. lines) f base set c.in-Ok.host c.host_file.result name
           (left_whole f base set c.in-Ok.host c.host_file.result (done.file set up lists)) (λ ls. done.few set ls up lists) (λ ls. done.many set ls up lists) done.unknown done.err);
       leaves = done.unchanged;
-      cause = λ failed. done.cause (text_cause c.host_file.result failed);
+      served = text_served c.host_file.result done.served;
     }

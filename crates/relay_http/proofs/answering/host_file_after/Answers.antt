@@ -1,7 +1,7 @@
 use Rattle.std.proofs.Common.{◌≡◌, ◌⊎◌, ℕ, List, true, sym, subst}
 use Rattle.sudo_words.specs.Word.{is_host_name}
 use Rattle.desk_outcomes.specs.HostFile.{lines_after}
-use Rattle.relay_http.proofs.AnswerLemmas.{file_right, left_after, text_cause}
+use Rattle.relay_http.proofs.AnswerLemmas.{file_right, left_after, text_served}
 use Rattle.relay_http.specs.Asked.{host_file_after}
 use Rattle.relay_http.specs.Prepared.{to_question}
 use Rattle.relay_http.specs.Replies.{IsReply, IsWanting}
@@ -20,5 +20,5 @@ returns-in-Ok-clause-answered g c =
           (file_right (lines_after at) f base set c.in-Ok.host c.host_file_after.result name
           (left_after f base set c.in-Ok.host at c.host_file_after.result (done.file set up lists)) (λ ls. done.few set ls up lists) (λ ls. done.many set ls up lists) done.unknown done.err);
       leaves = done.unchanged;
-      cause = λ failed. done.cause (text_cause c.host_file_after.result failed);
+      served = text_served c.host_file_after.result done.served;
     }

@@ -1,4 +1,4 @@
-use Rattle.relay_http.proofs.AnswerLemmas.{report_right, text_cause}
+use Rattle.relay_http.proofs.AnswerLemmas.{report_right, text_served}
 use Rattle.relay_http.proofs.answering.report.Goals as goal
 
 pub returns-clause-answered : goal.returns-clause-answered
@@ -7,5 +7,5 @@ returns-clause-answered g c =
     record {
       right = λ set up lists. report_right c.args.desk.now.roster.says c.args.desk.now.base set c.args.at c.report.result (done.report set up lists) done.err;
       leaves = done.unchanged;
-      cause = λ failed. done.cause (text_cause c.report.result failed);
+      served = text_served c.report.result done.served;
     }

@@ -50,7 +50,7 @@ invariant_of-self-2 g c =
     let known = subst (IsKnown (K.is_up old) (K.holds old)) (sym c.take.ensures.value) c.self.invariant.4 in (
       c.self.invariant.0,
       λ up. c.add-added.ensures.desk up,
-      λ up. c.add-added.ensures.roster up ∙ c.self.invariant.2 (c.add-added.ensures.was_up up),
+      λ up. c.add-added.ensures.roster up ∙ c.self.invariant.2 (c.add-added.ensures.served.was_up up),
       λ up. c.add-added.ensures.durable up,
-      known_more (K.is_up old) (K.is_up new) (K.holds old) (K.holds new) c.in_ok-message.message c.take.result c.with_message-known.result known c.add-added.ensures.was_up c.in_ok-added.ensures.added c.with_message-known.ensures.more c.with_message-known.ensures.nothing,
+      known_more (K.is_up old) (K.is_up new) (K.holds old) (K.holds new) c.in_ok-message.message c.take.result c.with_message-known.result known c.add-added.ensures.served.was_up c.in_ok-added.ensures.added c.with_message-known.ensures.more c.with_message-known.ensures.nothing,
     )

@@ -1,17 +1,17 @@
-use Rattle.std.proofs.Common.{◌≡◌, ◌⊎◌, ℕ, ◌+◌, ◌∙◌, inl, inr, List, [], ◌∷◌, ◌++◌, map, take, Result, Err, sym, ap, subst, refl, arith, rules}
+use Rattle.std.proofs.Common.{◌≡◌, ℕ, ◌+◌, ◌∙◌, inl, inr, List, [], ◌∷◌, ◌++◌, map, take, Result, Err, sym, ap, subst, refl, arith, rules}
 use Rattle.std.specs.List.{Contains}
 use Rattle.std.proofs.lemmas.List.{map_push}
 use Rattle.std.proofs.lemmas.List.Elements.{Contains-push_cases}
 use Rattle.sudo_decide.proofs.AnswerLemmas.{take_one_more}
 use Rattle.roster.specs.Fields.{Reading}
-use Rattle.desk_store.specs.Keeping.{HasFailed}
+use Rattle.desk_store.specs.Serving.{IsServed}
+use Rattle.desk_store.proofs.ServingLemmas.{served_as, served_both, served_by_none}
 use Rattle.desk.specs.declared.ack.Ack.{Ack}
 use Rattle.desk.specs.declared.refusal.Refusal.{Refusal}
 use Rattle.desk.specs.declared.refusal.Refusal.TheVariants.{Storage}
 use Rattle.desk.specs.Delivery.{AreAnswers, Delivery, HaveFailed, HeldAfterAll, IsDeliveryAnswer, WasWantingAmong, delivery_of, storage_failures}
 use Rattle.desk.proofs.DeliveryLemmas.{answers_push, held_by_none, held_push}
-use Rattle.desk.proofs.FailureLemmas.{failures_push, have_failed_push, wanting_before, wanting_or_up}
-use Rattle.desk.proofs.ServingLemmas.{failed_later, failed_sooner, served_by_none, served_once_more}
+use Rattle.desk.proofs.FailureLemmas.{failures_push, have_failed_push, wanting_before, wanting_now}
 use Rattle.desk.proofs.desk.Desk.deliver_each.Goals as goal
 
 pub loop-relay-init : goal.loop-relay-init
@@ -28,10 +28,8 @@ loop-relay-init g c =
       held = λ up. subst Q (sym none) (held_by_none (K.holds keeper));
       roster = refl;
       base = refl;
-      served = served_by_none (K.is_up keeper) (K.is_clean keeper) (K.failures keeper);
-      up = λ up clean. inr up;
+      served = served_by_none keeper (R c.args.answers.now.items) (WasWantingAmong c.args.answers.now.items) (λ failed. let there = subst R none failed in omega (arith, there.1));
       causes = subst F (sym none) (inl (omega arith));
-      cause = λ failed. absurd (let there = subst R none failed in omega (arith, there.1));
       count = search rules;
       room = c.requires.room;
     }
@@ -65,30 +63,22 @@ loop-relay-preserved g c =
     let P' : List (Result Ack Refusal) → Type 0 = λ as'. AreAnswers old.roster.says (map delivery_of (take (i + 1) list)) as' in
     let Q : List Delivery → Type 0 = λ ds. HeldAfterAll (K.holds old.keeper) ds (answers ++ result ∷ []) (K.holds new.keeper) in
     let Q' : List (Result Ack Refusal) → Type 0 = λ as'. HeldAfterAll (K.holds old.keeper) (map delivery_of (take (i + 1) list)) as' (K.holds new.keeper) in
-    let R : List (Result Ack Refusal) → Type 0 = λ as'. Contains as' (Err Storage) in
-    let U : List (Result Ack Refusal) → Type 0 = λ as'. WasWantingAmong as' ⊎ K.is_up new.keeper in
+    let U : List (Result Ack Refusal) → Type 0 = λ as'. IsServed K.is_up K.is_clean K.failures old.keeper new.keeper (Contains as' (Err Storage)) (WasWantingAmong as') in
     let H : List (Result Ack Refusal) → Type 0 = λ as'. HaveFailed (storage_failures as') (K.failures old.keeper) (K.failures new.keeper) in
     let N : ℕ → Type 0 = λ n. HaveFailed n (K.failures old.keeper) (K.failures new.keeper) in
     record {
       answered = subst P' (sym {A = List (Result Ack Refusal)} c.push_reserved.ensures.items) (subst P (sym {A = List Delivery} more) (answers_push old.roster.says before answers d result kept.answered answer));
       held = λ up. subst Q' (sym {A = List (Result Ack Refusal)} c.push_reserved.ensures.items) (subst Q (sym {A = List Delivery} more)
-          (held_push old.roster.says (K.holds old.keeper) (K.holds mid.keeper) (K.holds new.keeper) before answers d result kept.answered (kept.held (done.was_up up)) (done.held up)));
+          (held_push old.roster.says (K.holds old.keeper) (K.holds mid.keeper) (K.holds new.keeper) before answers d result kept.answered (kept.held (done.served.was_up up)) (done.held up)));
       roster = done.roster ∙ kept.roster;
       base = done.base ∙ kept.base;
-      served = served_once_more (K.is_up old.keeper) (K.is_clean old.keeper) (K.is_up mid.keeper) (K.is_clean mid.keeper) (K.is_up new.keeper) (K.is_clean new.keeper)
-          (K.failures old.keeper) (K.failures mid.keeper) (K.failures new.keeper) kept.served done.was_up done.was_clean done.shuts done.counts;
-      up = λ up clean. subst U (sym {A = List (Result Ack Refusal)} c.push_reserved.ensures.items)
-          (elim (kept.up up (done.was_clean clean)) as (λ _. WasWantingAmong (answers ++ result ∷ []) ⊎ K.is_up new.keeper) [
-            | inl sooner ↦ inl (wanting_before answers result sooner)
-            | inr still ↦ wanting_or_up (K.is_up new.keeper) answers result (done.up still clean)
-          ]);
+      served = subst U (sym {A = List (Result Ack Refusal)} c.push_reserved.ensures.items)
+          (served_as (Contains (answers ++ result ∷ []) (Err Storage)) (WasWantingAmong (answers ++ result ∷ []))
+          (λ failed. Contains-push_cases answers result (Err Storage) failed)
+          (λ want. elim want as (λ _. WasWantingAmong (answers ++ result ∷ [])) [ inl sooner ↦ wanting_before answers result sooner | inr now ↦ wanting_now answers result now ])
+          (served_both kept.served done.served));
       causes = subst H (sym {A = List (Result Ack Refusal)} c.push_reserved.ensures.items) (subst N (sym (failures_push answers result))
-          (have_failed_push (storage_failures answers) (K.failures old.keeper) (K.failures mid.keeper) (K.failures new.keeper) result kept.causes done.counts done.cause));
-      cause = λ failed. elim (Contains-push_cases answers result (Err Storage) (subst R c.push_reserved.ensures.items failed))
-          as (λ _. HasFailed (K.failures old.keeper) (K.failures new.keeper)) [
-            | inl sooner ↦ failed_sooner (K.failures old.keeper) (K.failures mid.keeper) (K.failures new.keeper) (kept.cause sooner) done.counts
-            | inr now ↦ failed_later (K.failures old.keeper) (K.failures mid.keeper) (K.failures new.keeper) kept.served.counts (done.cause now)
-          ];
+          (have_failed_push (storage_failures answers) (K.failures old.keeper) (K.failures mid.keeper) (K.failures new.keeper) result kept.causes done.served.counts done.served.cause));
       count = omega (arith, c.push_reserved.ensures.len, kept.count);
       room = omega (arith, c.push_reserved.ensures.capacity, kept.room);
     }

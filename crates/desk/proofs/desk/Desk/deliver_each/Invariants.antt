@@ -1,8 +1,7 @@
-use Rattle.std.proofs.Common.{◌≡◌, ◌⊎◌, ◌≤◌, length, map, take, vec_len, vec_capacity, Err}
+use Rattle.std.proofs.Common.{◌≡◌, ◌≤◌, length, map, take, vec_len, vec_capacity, Err}
 use Rattle.std.specs.List.{Contains}
-use Rattle.desk_store.specs.Keeping.{HasFailed}
+use Rattle.desk_store.specs.Serving.{IsServed}
 use Rattle.desk.specs.Delivery.{AreAnswers, HaveFailed, HeldAfterAll, WasWantingAmong, delivery_of, storage_failures}
-use Rattle.desk.specs.private.Serving.{IsServed}
 use Rattle.desk.specs.declared.refusal.Refusal.TheVariants.{Storage}
 use Rattle.desk.proofs.desk.Desk.deliver_each.Given as goal
 
@@ -12,10 +11,8 @@ invariant-loop-relay g l = record {
   held : g.K.Keeper.is_up l.self.keeper → HeldAfterAll (g.K.Keeper.holds l.fn.self.keeper) (map delivery_of (take l.relay-index l.list)) l.answers.items (g.K.Keeper.holds l.self.keeper);
   roster : l.self.roster ≡ l.fn.self.roster;
   base : l.self.base ≡ l.fn.self.base;
-  served : IsServed (g.K.Keeper.is_up l.fn.self.keeper) (g.K.Keeper.is_clean l.fn.self.keeper) (g.K.Keeper.is_up l.self.keeper) (g.K.Keeper.is_clean l.self.keeper) (g.K.Keeper.failures l.fn.self.keeper) (g.K.Keeper.failures l.self.keeper);
-  up : g.K.Keeper.is_up l.fn.self.keeper → g.K.Keeper.is_clean l.self.keeper → WasWantingAmong l.answers.items ⊎ g.K.Keeper.is_up l.self.keeper;
+  served : IsServed g.K.Keeper.is_up g.K.Keeper.is_clean g.K.Keeper.failures l.fn.self.keeper l.self.keeper (Contains l.answers.items (Err Storage)) (WasWantingAmong l.answers.items);
   causes : HaveFailed (storage_failures l.answers.items) (g.K.Keeper.failures l.fn.self.keeper) (g.K.Keeper.failures l.self.keeper);
-  cause : Contains l.answers.items (Err Storage) → HasFailed (g.K.Keeper.failures l.fn.self.keeper) (g.K.Keeper.failures l.self.keeper);
   count : vec_len l.answers ≡ l.relay-index;
   room : length l.list ≤ vec_capacity l.answers;
 }

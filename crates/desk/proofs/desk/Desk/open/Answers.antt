@@ -1,5 +1,8 @@
-use Rattle.std.proofs.Common.{rules, ◌≡◌, ◌∙◌, subst}
+use Rattle.std.proofs.Common.{rules, ◌≡◌, ◌∙◌, Err, ap, subst}
 use Rattle.grants.specs.Bases.{FitsBase}
+use Rattle.desk_store.proofs.ServingLemmas.{no_want, served_as}
+use Rattle.desk.specs.declared.refusal.Refusal.TheVariants.{Storage}
+use Rattle.desk.specs.Refusals.{IsWant}
 use Rattle.desk.specs.Opening.{Opens}
 use Rattle.desk.proofs.CrashLemmas.{of_roster}
 use Rattle.desk.proofs.KnownLemmas.{at_first}
@@ -28,11 +31,17 @@ pub returns-in-Ok-clause-lasting : goal.returns-in-Ok-clause-lasting
 returns-in-Ok-clause-lasting g c up clean =
     let K = g.K.Keeper in
     let new = c.find_or_make.new.keeper in
-    let still = c.in-Ok.ensures.up up clean in
+    let still = no_want (c.in-Ok.ensures.served.up up clean) in
     let text : c.text.result.now ≡ c.args.roster.text = search rules in
     of_roster (K.may_leave new) c.args.roster.text (K.roster new) (K.holds new) (c.in-Ok.ensures.roster still ∙ text) (c.in-Ok.ensures.durable still)
 
+pub returns-in-Ok-clause-served : goal.returns-in-Ok-clause-served
+returns-in-Ok-clause-served g c = served_as ⊥ ⊥ (λ none. absurd none) (λ none. none) c.in-Ok.ensures.served
+
 -- ---- and why there is none
+
+pub returns-in-Err-clause-served : goal.returns-in-Err-clause-served
+returns-in-Err-clause-served g c = served_as (c.in-Err.refusal ≡ Storage) (IsWant c.in-Err.refusal) (λ is. ap Err is) (λ want. want) c.in-Err.ensures.served
 
 pub returns-in-Err-clause-refused : goal.returns-in-Err-clause-refused
 returns-in-Err-clause-refused g c up =

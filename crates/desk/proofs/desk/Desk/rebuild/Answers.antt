@@ -1,6 +1,8 @@
-use Rattle.std.proofs.Common.{rules, ◌≡◌, ◌∙◌, Err, subst}
+use Rattle.std.proofs.Common.{rules, ◌≡◌, ◌∙◌, Err, ap}
 use Rattle.grants.specs.Bases.{FitsBase}
-use Rattle.desk.specs.declared.refusal.Refusal.{Refusal}
+use Rattle.desk_store.proofs.ServingLemmas.{no_want, served_as}
+use Rattle.desk.specs.declared.refusal.Refusal.TheVariants.{Storage}
+use Rattle.desk.specs.Refusals.{IsWant}
 use Rattle.desk.proofs.CrashLemmas.{of_roster}
 use Rattle.desk.proofs.RebuildingLemmas.{not_rebuilt_over, told_why}
 use Rattle.desk.proofs.desk.Desk.rebuild.Goals as goal
@@ -17,21 +19,22 @@ pub returns-in-Ok-clause-lasting : goal.returns-in-Ok-clause-lasting
 returns-in-Ok-clause-lasting g c up clean =
     let K = g.K.Keeper in
     let new = c.make_or_replace.new.keeper in
-    let still = c.in-Ok.ensures.up up clean in
+    let still = no_want (c.in-Ok.ensures.served.up up clean) in
     let text : c.text.result.now ≡ c.args.roster.text = search rules in
     of_roster (K.may_leave new) c.args.roster.text (K.roster new) (K.holds new) (c.in-Ok.ensures.roster still ∙ text) (c.in-Ok.ensures.durable still)
 
+pub returns-in-Ok-clause-served : goal.returns-in-Ok-clause-served
+returns-in-Ok-clause-served g c = served_as ⊥ ⊥ (λ none. absurd none) (λ none. none) c.in-Ok.ensures.served
+
 -- ---- and why there is none
+
+pub returns-in-Err-clause-served : goal.returns-in-Err-clause-served
+returns-in-Err-clause-served g c = served_as (c.in-Err.refusal ≡ Storage) (IsWant c.in-Err.refusal) (λ is. ap Err is) (λ want. want) c.in-Err.ensures.served
 
 pub returns-in-Err-clause-too_large : goal.returns-in-Err-clause-too_large
 returns-in-Err-clause-too_large g c =
     let fits : FitsBase c.args.base = search rules in
     (λ is. absurd (c.in-Err.ensures.fits is), λ past. absurd (past fits))
-
-pub returns-in-Err-clause-cause : goal.returns-in-Err-clause-cause
-returns-in-Err-clause-cause g c is =
-    let P : Refusal → Type 0 = λ e. c.make_or_replace.result ≡ Err e in
-    c.make_or_replace.ensures.cause (subst P is c.in-Err.is)
 
 pub returns-in-Err-clause-refused : goal.returns-in-Err-clause-refused
 returns-in-Err-clause-refused g c up =

@@ -17,23 +17,15 @@ returns-then-not-is_autocommit-clause-nothing g c up = tt
 pub returns-then-not-is_autocommit-clause-unmade : goal.returns-then-not-is_autocommit-clause-unmade
 returns-then-not-is_autocommit-clause-unmade g c up = refl
 
-pub returns-then-not-is_autocommit-clause-was_up : goal.returns-then-not-is_autocommit-clause-was_up
-returns-then-not-is_autocommit-clause-was_up g c up = up
-
-pub returns-then-not-is_autocommit-clause-was_clean : goal.returns-then-not-is_autocommit-clause-was_clean
-returns-then-not-is_autocommit-clause-was_clean g c clean = clean
-
-pub returns-then-not-is_autocommit-clause-shuts : goal.returns-then-not-is_autocommit-clause-shuts
-returns-then-not-is_autocommit-clause-shuts g c up clean = inl up
-
-pub returns-then-not-is_autocommit-clause-counts : goal.returns-then-not-is_autocommit-clause-counts
-returns-then-not-is_autocommit-clause-counts g c = c.storage.ensures.counts
-
-pub returns-then-not-is_autocommit-clause-cause : goal.returns-then-not-is_autocommit-clause-cause
-returns-then-not-is_autocommit-clause-cause g c is = c.storage.ensures.failed
-
-pub returns-then-not-is_autocommit-clause-up : goal.returns-then-not-is_autocommit-clause-up
-returns-then-not-is_autocommit-clause-up g c up clean = tt
+pub returns-then-not-is_autocommit-clause-served : goal.returns-then-not-is_autocommit-clause-served
+returns-then-not-is_autocommit-clause-served g c = record {
+  was_up = λ up. up;
+  was_clean = λ clean. clean;
+  shuts = λ up clean. inl up;
+  counts = c.storage.ensures.counts;
+  cause = λ is. c.storage.ensures.failed;
+  up = λ up clean. inl refl;
+}
 
 pub returns-then-not-is_autocommit-clause-crash : goal.returns-then-not-is_autocommit-clause-crash
 returns-then-not-is_autocommit-clause-crash g c up clean left may = inl ((up_left (state g.S.Store c.args.self.now.conn) c.settles.ensures up left may).empty (c.requires up))
@@ -56,23 +48,15 @@ returns-in-Ok-clause-nothing g c up = holds_nothing (state g.S.Store c.make-made
 pub returns-in-Ok-clause-unmade : goal.returns-in-Ok-clause-unmade
 returns-in-Ok-clause-unmade g c up = tt
 
-pub returns-in-Ok-clause-was_up : goal.returns-in-Ok-clause-was_up
-returns-in-Ok-clause-was_up g c up = c.make-made.ensures.was_up up
-
-pub returns-in-Ok-clause-was_clean : goal.returns-in-Ok-clause-was_clean
-returns-in-Ok-clause-was_clean g c clean = c.make-made.ensures.was_clean clean
-
-pub returns-in-Ok-clause-shuts : goal.returns-in-Ok-clause-shuts
-returns-in-Ok-clause-shuts g c up clean = inl (c.in-Ok.ensures.up up clean)
-
-pub returns-in-Ok-clause-counts : goal.returns-in-Ok-clause-counts
-returns-in-Ok-clause-counts g c = le_refl _
-
-pub returns-in-Ok-clause-cause : goal.returns-in-Ok-clause-cause
-returns-in-Ok-clause-cause g c is = ok_no_err _ _ is
-
-pub returns-in-Ok-clause-up : goal.returns-in-Ok-clause-up
-returns-in-Ok-clause-up g c up clean = c.in-Ok.ensures.up up clean
+pub returns-in-Ok-clause-served : goal.returns-in-Ok-clause-served
+returns-in-Ok-clause-served g c = record {
+  was_up = λ up. c.make-made.ensures.was_up up;
+  was_clean = λ clean. c.make-made.ensures.was_clean clean;
+  shuts = λ up clean. inl (c.in-Ok.ensures.up up clean);
+  counts = le_refl _;
+  cause = λ is. ok_no_err _ _ is;
+  up = λ up clean. inr (c.in-Ok.ensures.up up clean);
+}
 
 pub returns-in-Ok-clause-crash : goal.returns-in-Ok-clause-crash
 returns-in-Ok-clause-crash g c up clean left may = nothing_or_made (state g.S.Store c.args.self.now.conn) (state g.S.Store c.make-made.new.conn) c.settles.ensures up clean left may c.args.text.now (c.requires up) (c.make-made.ensures.survives up)
@@ -95,23 +79,15 @@ returns-in-Err-clause-nothing g c up = tt
 pub returns-in-Err-clause-unmade : goal.returns-in-Err-clause-unmade
 returns-in-Err-clause-unmade g c up = c.in-Err.ensures.unmade up
 
-pub returns-in-Err-clause-was_up : goal.returns-in-Err-clause-was_up
-returns-in-Err-clause-was_up g c up = c.make-made.ensures.was_up up
-
-pub returns-in-Err-clause-was_clean : goal.returns-in-Err-clause-was_clean
-returns-in-Err-clause-was_clean g c clean = c.make-made.ensures.was_clean clean
-
-pub returns-in-Err-clause-shuts : goal.returns-in-Err-clause-shuts
-returns-in-Err-clause-shuts g c up clean = inr c.told.ensures.failed
-
-pub returns-in-Err-clause-counts : goal.returns-in-Err-clause-counts
-returns-in-Err-clause-counts g c = c.told.ensures.counts
-
-pub returns-in-Err-clause-cause : goal.returns-in-Err-clause-cause
-returns-in-Err-clause-cause g c is = c.told.ensures.failed
-
-pub returns-in-Err-clause-up : goal.returns-in-Err-clause-up
-returns-in-Err-clause-up g c up clean = tt
+pub returns-in-Err-clause-served : goal.returns-in-Err-clause-served
+returns-in-Err-clause-served g c = record {
+  was_up = λ up. c.make-made.ensures.was_up up;
+  was_clean = λ clean. c.make-made.ensures.was_clean clean;
+  shuts = λ up clean. inr c.told.ensures.failed;
+  counts = c.told.ensures.counts;
+  cause = λ is. c.told.ensures.failed;
+  up = λ up clean. inl refl;
+}
 
 pub returns-in-Err-clause-crash : goal.returns-in-Err-clause-crash
 returns-in-Err-clause-crash g c up clean left may = nothing_or_made (state g.S.Store c.args.self.now.conn) (state g.S.Store c.make-made.new.conn) c.settles.ensures up clean left may c.args.text.now (c.requires up) (c.make-made.ensures.survives up)

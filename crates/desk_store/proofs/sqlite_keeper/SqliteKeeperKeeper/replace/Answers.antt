@@ -1,4 +1,4 @@
-use Rattle.std.proofs.Common.{ap, inl, inr, le_refl}
+use Rattle.std.proofs.Common.{ap, inl, inr, le_refl, refl}
 use Rattle.sqlite.specs.Held.{state}
 use Rattle.desk_tables.specs.Stored.{Content}
 use Rattle.desk_store.proofs.FoundLemmas.{replaced_or_not, roster_lasts, same_texts, up_left}
@@ -17,23 +17,15 @@ returns-in-Ok-clause-held g c up = same_texts (state g.S.Store c.args.self.now.c
 pub returns-in-Ok-clause-unchanged : goal.returns-in-Ok-clause-unchanged
 returns-in-Ok-clause-unchanged g c up = tt
 
-pub returns-in-Ok-clause-was_up : goal.returns-in-Ok-clause-was_up
-returns-in-Ok-clause-was_up g c up = c.replace_in-replaced.ensures.was_up up
-
-pub returns-in-Ok-clause-was_clean : goal.returns-in-Ok-clause-was_clean
-returns-in-Ok-clause-was_clean g c clean = c.replace_in-replaced.ensures.was_clean clean
-
-pub returns-in-Ok-clause-shuts : goal.returns-in-Ok-clause-shuts
-returns-in-Ok-clause-shuts g c up clean = inl (c.in-Ok.ensures.up up clean)
-
-pub returns-in-Ok-clause-counts : goal.returns-in-Ok-clause-counts
-returns-in-Ok-clause-counts g c = le_refl _
-
-pub returns-in-Ok-clause-cause : goal.returns-in-Ok-clause-cause
-returns-in-Ok-clause-cause g c is = ok_no_err _ _ is
-
-pub returns-in-Ok-clause-up : goal.returns-in-Ok-clause-up
-returns-in-Ok-clause-up g c up clean = c.in-Ok.ensures.up up clean
+pub returns-in-Ok-clause-served : goal.returns-in-Ok-clause-served
+returns-in-Ok-clause-served g c = record {
+  was_up = λ up. c.replace_in-replaced.ensures.was_up up;
+  was_clean = λ clean. c.replace_in-replaced.ensures.was_clean clean;
+  shuts = λ up clean. inl (c.in-Ok.ensures.up up clean);
+  counts = le_refl _;
+  cause = λ is. ok_no_err _ _ is;
+  up = λ up clean. inr (c.in-Ok.ensures.up up clean);
+}
 
 pub returns-in-Ok-clause-crash : goal.returns-in-Ok-clause-crash
 returns-in-Ok-clause-crash g c up clean left may = replaced_or_not (state g.S.Store c.args.self.now.conn) (state g.S.Store c.replace_in-replaced.new.conn) c.settles.ensures up clean left may c.args.text.now (c.replace_in-replaced.ensures.survives up clean)
@@ -56,23 +48,15 @@ returns-in-Err-clause-held g c up = tt
 pub returns-in-Err-clause-unchanged : goal.returns-in-Err-clause-unchanged
 returns-in-Err-clause-unchanged g c up = c.in-Err.ensures.unchanged up
 
-pub returns-in-Err-clause-was_up : goal.returns-in-Err-clause-was_up
-returns-in-Err-clause-was_up g c up = c.replace_in-replaced.ensures.was_up up
-
-pub returns-in-Err-clause-was_clean : goal.returns-in-Err-clause-was_clean
-returns-in-Err-clause-was_clean g c clean = c.replace_in-replaced.ensures.was_clean clean
-
-pub returns-in-Err-clause-shuts : goal.returns-in-Err-clause-shuts
-returns-in-Err-clause-shuts g c up clean = inr c.told.ensures.failed
-
-pub returns-in-Err-clause-counts : goal.returns-in-Err-clause-counts
-returns-in-Err-clause-counts g c = c.told.ensures.counts
-
-pub returns-in-Err-clause-cause : goal.returns-in-Err-clause-cause
-returns-in-Err-clause-cause g c is = c.told.ensures.failed
-
-pub returns-in-Err-clause-up : goal.returns-in-Err-clause-up
-returns-in-Err-clause-up g c up clean = tt
+pub returns-in-Err-clause-served : goal.returns-in-Err-clause-served
+returns-in-Err-clause-served g c = record {
+  was_up = λ up. c.replace_in-replaced.ensures.was_up up;
+  was_clean = λ clean. c.replace_in-replaced.ensures.was_clean clean;
+  shuts = λ up clean. inr c.told.ensures.failed;
+  counts = c.told.ensures.counts;
+  cause = λ is. c.told.ensures.failed;
+  up = λ up clean. inl refl;
+}
 
 pub returns-in-Err-clause-crash : goal.returns-in-Err-clause-crash
 returns-in-Err-clause-crash g c up clean left may = replaced_or_not (state g.S.Store c.args.self.now.conn) (state g.S.Store c.replace_in-replaced.new.conn) c.settles.ensures up clean left may c.args.text.now (c.replace_in-replaced.ensures.survives up clean)
