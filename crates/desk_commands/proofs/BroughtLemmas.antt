@@ -1,5 +1,5 @@
 -- The messages of lines that were delivered, where neither memory nor the storage was wanting.
-use Rattle.std.proofs.Common.{Option, IfSome, ap, ◌≡◌, ◌⊎◌, ℕ, zero, suc, ◌<◌, true, false, List, [], ◌∷◌, ◌∙◌, Result, Ok, Err, IsOk, arith, get_or, inl, inr, length, map, refl, subst, sym}
+use Rattle.std.proofs.Common.{Option, ap, ◌≡◌, ◌⊎◌, ℕ, zero, suc, ◌<◌, true, List, [], ◌∷◌, ◌∙◌, Result, Ok, Err, IsOk, arith, get_or, inl, inr, length, refl, subst, sym}
 use Rattle.std.specs.List.{AllZip, Contains}
 use Rattle.sudo_words.specs.declared.cmnd.Cmnd.{Cmnd}
 use Rattle.messages.specs.Wire.{IsMessage, wire}
@@ -10,7 +10,7 @@ use Rattle.roster.specs.Relations.{IsFirst}
 use Rattle.roster.specs.Rules.{is_among}
 use Rattle.grants.specs.Admission.{Admits}
 use Rattle.desk_store.specs.Sets.{Lists, SameSet}
-use Rattle.desk.specs.Delivery.{Acknowledges, AcknowledgesAmong, Answers, AnswersBody, AreAnswers, Delivery, HeldAfterAll, IsDeliveryAnswer, IsBodyOf, WasWanting}
+use Rattle.desk.specs.Delivery.{Acknowledges, AcknowledgesAmong, Answers, AreAnswers, Delivery, HeldAfterAll, IsDeliveryAnswer, IsBodyOf, WasWanting}
 use Rattle.desk.specs.declared.ack.Ack.{Ack}
 use Rattle.desk.specs.declared.refusal.Refusal.{Refusal}
 use Rattle.desk_commands.specs.Lines.{AreBrought, AreRead, IsBrought, from_relay}

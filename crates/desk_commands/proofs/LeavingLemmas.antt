@@ -1,5 +1,5 @@
 -- What a refused job leaves at the keeper, and on the standard error.
-use Rattle.std.proofs.Common.{◌≡◌, ◌≢◌, ◌⊎◌, ◌∙◌, ℕ, List, [], ◌∷◌, Option, Some, None, IfSome, Result, Ok, Err, IfErr, MatchResult, inl, inr, refl, string_bytes, subst, sym}
+use Rattle.std.proofs.Common.{◌≡◌, ◌⊎◌, ◌∙◌, ℕ, List, [], ◌∷◌, Option, Some, None, IfSome, Result, Ok, Err, IfErr, MatchResult, inl, inr, refl, string_bytes, subst, sym}
 use Rattle.std.specs.Io.KnownBytes.{Appends}
 use Rattle.std.specs.List.{AllZip}
 use Rattle.messages.specs.declared.message.Message.{Message}
@@ -11,12 +11,12 @@ use Rattle.desk.specs.Delivery.{AcknowledgesAmong, AreAnswers, Delivery, HeldAft
 use Rattle.desk.specs.Opening.{Opens}
 use Rattle.desk.specs.declared.ack.Ack.{Ack}
 use Rattle.desk.specs.declared.refusal.Refusal.{Refusal}
-use Rattle.desk_commands.specs.Answers.{HasAnswer, IsAnswer, OfFiles}
+use Rattle.desk_commands.specs.Answers.{HasAnswer, IsAnswer}
 use Rattle.desk_commands.specs.Files.{IsDeskOf}
 use Rattle.desk_commands.specs.Kept.{Kept, held_in, keeps, kept}
-use Rattle.desk_commands.specs.Leaving.{AreDelivered, AreSomeTaken, KeepsAfterRefusal, LeavesDelivered, LeavesDesk, LeavesTaken, OverOpened, SaysTaking, TellsBefore, TellsRefusal, WasOpened}
+use Rattle.desk_commands.specs.Leaving.{AreSomeTaken, KeepsAfterRefusal, LeavesDelivered, LeavesTaken, OverOpened, SaysTaking, TellsBefore, TellsRefusal, WasOpened}
 use Rattle.desk_commands.specs.Lines.{AreRead, IsBrought, from_relay, input_lines}
-use Rattle.desk_commands.specs.Taking.{HeldWith, Takes}
+use Rattle.desk_commands.specs.Taking.{Takes}
 use Rattle.desk_commands.specs.Telling.{AppendsFront, refusal_line}
 use Rattle.desk_commands.specs.declared.answer.Answer.{Answer}
 use Rattle.desk_commands.specs.declared.refusal.Refusal.{Refusal as Reason}

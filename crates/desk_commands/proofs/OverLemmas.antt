@@ -1,7 +1,6 @@
 -- A job over a desk that was opened over a keeper: what is answered of the set that the desk held is answered of what was kept before.
 use Rattle.std.proofs.Common.{◌≡◌, ◌⊎◌, ◌∙◌, ℕ, ◌≤◌, List, [], ◌∷◌, ap, arith, get_or, length, map, subst, Option, Some, None, Result, Ok, Err, IfErr, IfOk, inl, inr, codes, refl, string_bytes, sym}
 use Rattle.std.proofs.lemmas.List.{append-nil}
-use Rattle.std.proofs.lemmas.Result.{IfErr-weaker, IfOk-weaker}
 use Rattle.std.specs.Io.KnownBytes.{Appends}
 use Rattle.sudo_words.specs.declared.cmnd.Cmnd.{Cmnd}
 use Rattle.sudo_policy.specs.declared.entry.Entry.{Entry}
@@ -10,16 +9,14 @@ use Rattle.roster.specs.Fields.{RosterFields}
 use Rattle.desk_store.specs.Keeping.{HasFailed}
 use Rattle.desk_store.specs.Sets.{Lists, SameSet}
 use Rattle.desk_store.proofs.ServingLemmas.{failed_later}
-use Rattle.desk.specs.declared.refusal.Refusal.{Refusal}
 use Rattle.desk.specs.declared.refusal.Refusal.TheVariants as desk
-use Rattle.desk_commands.specs.Answers.{IsAnswer, IsCause}
 use Rattle.desk_commands.specs.Delivering.{DeliversLines, EndsDelivering}
-use Rattle.desk_commands.specs.Files.{EndsMaking, EndsOpening, IsDeskOf, KeepsDesk}
+use Rattle.desk_commands.specs.Files.{EndsMaking, IsDeskOf}
 use Rattle.desk_commands.specs.Kept.{Kept, held_in, kept}
 use Rattle.desk_commands.specs.Printing.{EndsPrinting, HasManyLines, PrintsHost}
-use Rattle.desk_commands.specs.Rebuilding.{EndsRebuilding, RebuildsDesk}
+use Rattle.desk_commands.specs.Rebuilding.{EndsRebuilding}
 use Rattle.desk_commands.specs.Reviewing.{EndsReviewing, ReviewsDesk}
-use Rattle.desk_commands.specs.Taking.{HeldWith, MayFailTaking}
+use Rattle.desk_commands.specs.Taking.{HeldWith}
 use Rattle.desk_commands.specs.declared.answer.Answer.{Answer}
 use Rattle.desk_commands.specs.declared.refusal.Refusal.{Refusal as Reason}
 use Rattle.desk_commands.specs.declared.refusal.Refusal.TheVariants as reasons

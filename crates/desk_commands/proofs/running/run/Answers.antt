@@ -1,5 +1,4 @@
-use Rattle.std.proofs.Common.{List, ℕ, map}
-use Rattle.desk_commands.specs.Kept.{kept}
+use Rattle.std.proofs.Common.{map}
 use Rattle.desk_commands.proofs.AnswerLemmas.{concluded, not_concluded}
 use Rattle.desk_commands.proofs.LeavingLemmas.{kept_after, told_after}
 use Rattle.desk_commands.proofs.running.run.Goals as goal

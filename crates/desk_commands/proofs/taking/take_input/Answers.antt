@@ -1,4 +1,4 @@
-use Rattle.std.proofs.Common.{◌≡◌, [], inl, inr, refl, subst, sym}
+use Rattle.std.proofs.Common.{[], inl, inr, refl, subst, sym}
 use Rattle.desk_commands.specs.Leaving.{LeavesTaken}
 use Rattle.desk_commands.specs.Taking.{Takes}
 use Rattle.desk_commands.proofs.BroughtLemmas.{nothing_brought}
