@@ -64,3 +64,14 @@ rebuilt_twice Empty Desk Old Empty' Desk' Old' S T U V desk (inr kept) same (inr
 pub told_why : (e : Refusal) → IsWant e ⊎ (e ≡ NotADesk) → IsWant e ⊎ (e ≡ NotADesk) ⊎ (e ≡ BaseTooLarge)
 told_why e (inl want) = inl want
 told_why e (inr is) = inr (inl is)
+
+-- what a desk was rebuilt to is the same where the same messages are held
+pub rebuilt_still : (Empty Desk Old : Type 0) (S T U : Message → Type 0) → Rebuilds Empty Desk Old S T → SameSet T U → Rebuilds Empty Desk Old S U
+rebuilt_still Empty Desk Old S T U (inl nothing) same = inl (nothing.0, nothing.1, nothing.2, λ m held. nothing.3 m ((same m).1 held))
+rebuilt_still Empty Desk Old S T U (inr kept) same = inr (kept.0, kept.1, same_sets S T U kept.2 same)
+
+-- why the last of two is not rebuilt
+pub last_refused : (First Fits Other : Type 0) (e : Refusal) → First → IsWant e ⊎ ((e ≡ BaseTooLarge) × (¬ Fits))
+    → IsWant e ⊎ Other ⊎ ((e ≡ BaseTooLarge) × First × (¬ Fits))
+last_refused First Fits Other e first (inl want) = inl want
+last_refused First Fits Other e first (inr large) = inr (inr (large.0, first, large.1))

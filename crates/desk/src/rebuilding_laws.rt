@@ -4,7 +4,7 @@ ghost use Rattle.std.specs.Prelude.{◌≡◌, ◌⊎◌, IfOk, IfErr};
 ghost use Rattle.grants.specs.Bases.{FitsBase};
 ghost use Rattle.desk_store.specs.Left.{IsDeskOf, LeavesOnly};
 ghost use Rattle.desk_tables.specs.Sets.{SameSet};
-ghost use Rattle.desk.specs.Rebuilding.{Rebuilds};
+ghost use Rattle.desk.specs.Rebuilding.{Rebuilds, RefusesToRebuild};
 ghost use Rattle.desk.specs.Refusals.{IsWant};
 ghost use Rattle.desk.specs.Same.{AnswerAlike};
 ghost use Rattle.desk.specs.declared.refusal.Refusal.TheVariants as refusal;
@@ -39,6 +39,9 @@ pub fn rebuild_again<K: Keeper>(
 /// Rebuilds what the keeper keeps with a first roster, and then with a last one.
 ///
 /// What comes of it is what rebuilding with the last roster alone promises: the same messages, and the last roster's text.
+///
+/// The first is refused as by `rebuild`, and hands the keeper back with what it keeps as it was. Then the last is refused for a base past the limits
+/// alone, and for want of memory or of the storage; and the keeper has the desk of the first roster's text.
 pub fn rebuild_twice<K: Keeper>(
     alloc: Global,
     first: (Roster, Policy),
@@ -49,6 +52,13 @@ pub fn rebuild_twice<K: Keeper>(
     ensures keeps { IfOk result (λ d. K.is_up d.keeper
         → Rebuilds (K.is_empty keeper) (K.is_desk keeper) (K.is_old keeper) (K.holds keeper) (K.holds d.keeper)) }
     ensures durable { IfOk result (λ d. K.is_up d.keeper → LeavesOnly (K.may_leave d.keeper) (IsDeskOf last.0.text (K.holds d.keeper))) }
+    ensures fits { IfOk result (λ d. FitsBase first.1 × FitsBase last.1) }
+    ensures refused { IfErr result (λ r. K.is_up r.1 → IsWant r.0
+        ⊎ RefusesToRebuild (FitsBase first.1) (K.is_empty keeper) (K.is_desk keeper) (K.is_old keeper) r.0
+        ⊎ ((r.0 ≡ refusal.BaseTooLarge) × FitsBase first.1 × (¬ FitsBase last.1))) }
+    ensures unchanged { IfErr result (λ r. K.is_up r.1 → K.is_same keeper r.1
+        ⊎ (FitsBase first.1 × K.is_desk r.1 × (K.roster r.1 ≡ first.0.text)
+        × Rebuilds (K.is_empty keeper) (K.is_desk keeper) (K.is_old keeper) (K.holds keeper) (K.holds r.1))) }
 {
     let (roster, base) = first;
     let (last_roster, last_base) = last;

@@ -37,7 +37,7 @@ fn main(rt: HostRuntime) -> ExitCode {
     hold_streams(&rt);
     let status = match outcome(&rt) {
         Ok(status) => status,
-        Err(refusal) => refuse(refusal, &mut rt.stderr()),
+        Err(refusal) => refuse(refusal, &mut rt.stderr()).0,
     };
     ExitCode::from(code(status))
 }

@@ -1,7 +1,7 @@
 -- What a job comes to, and what is written of it.
-use Rattle.std.proofs.Common.{◌≡◌, ◌≢◌, ◌⊎◌, ℕ, List, [], Option, Result, Ok, Err, IfErr, IfOk, inl, inr, refl, string_bytes, subst, sym}
+use Rattle.std.proofs.Common.{◌≡◌, ◌≢◌, ◌⊎◌, ℕ, List, [], Option, Result, Ok, Err, IfErr, IfOk, inl, inr, string_bytes, subst, sym}
 use Rattle.std.specs.Io.KnownBytes.{Appends}
-use Rattle.desk_commands.specs.Answers.{HasAnswer, HasCause, IsAnswer, IsCause, OfFile, OfFiles}
+use Rattle.desk_commands.specs.Answers.{HasAnswer, HasCause, IsAnswer, IsCause}
 use Rattle.desk_commands.specs.Kept.{Kept}
 use Rattle.desk_commands.specs.declared.answer.Answer.{Answer}
 use Rattle.desk_commands.specs.declared.refusal.Refusal.{Refusal as Reason}

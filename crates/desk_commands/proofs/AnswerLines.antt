@@ -1,5 +1,5 @@
 -- How the lines of answers grow, answer by answer.
-use Rattle.std.proofs.Common.{◌≡◌, ℕ, ◌+◌, ◌<◌, ◌≤◌, List, [], ◌∷◌, ◌++◌, ◌∙◌, Result, append_assoc, ap, drop, get_or, length, refl, subst, sym}
+use Rattle.std.proofs.Common.{◌≡◌, ℕ, ◌+◌, ◌<◌, ◌≤◌, List, [], ◌∷◌, ◌++◌, ◌∙◌, Result, append_assoc, drop, get_or, length, refl, subst, sym}
 use Rattle.std.proofs.lemmas.List.{append-nil, drop_all}
 use Rattle.desk_commands.specs.Delivering.{answer_line, answer_lines}
 use Rattle.desk_commands.proofs.ComplaintLemmas.{rest_at}

@@ -1,5 +1,5 @@
 -- The messages of lines that were delivered, where neither memory nor the storage was wanting.
-use Rattle.std.proofs.Common.{Option, IfSome, ap, ◌≡◌, ◌⊎◌, ℕ, zero, suc, ◌<◌, true, false, List, [], ◌∷◌, ◌∙◌, Result, Ok, Err, IsOk, arith, get_or, inl, inr, length, map, refl, subst, sym}
+use Rattle.std.proofs.Common.{Option, ap, ◌≡◌, ◌⊎◌, ℕ, zero, suc, ◌<◌, true, List, [], ◌∷◌, ◌∙◌, Result, Ok, Err, IsOk, arith, get_or, inl, inr, length, refl, subst, sym}
 use Rattle.std.specs.List.{AllZip, Contains}
 use Rattle.sudo_words.specs.declared.cmnd.Cmnd.{Cmnd}
 use Rattle.messages.specs.Wire.{IsMessage, wire}
@@ -10,14 +10,14 @@ use Rattle.roster.specs.Relations.{IsFirst}
 use Rattle.roster.specs.Rules.{is_among}
 use Rattle.grants.specs.Admission.{Admits}
 use Rattle.desk_store.specs.Sets.{Lists, SameSet}
-use Rattle.desk.specs.Delivery.{Acknowledges, AcknowledgesAmong, Answers, AnswersBody, AreAnswers, Delivery, HeldAfterAll, IsDeliveryAnswer, IsBodyOf, WasWanting}
+use Rattle.desk.specs.Delivery.{Acknowledges, AcknowledgesAmong, Answers, AreAnswers, Delivery, HeldAfterAll, IsDeliveryAnswer, IsBodyOf, WasWanting}
 use Rattle.desk.specs.declared.ack.Ack.{Ack}
 use Rattle.desk.specs.declared.refusal.Refusal.{Refusal}
 use Rattle.desk_commands.specs.Lines.{AreBrought, AreRead, IsBrought, from_relay}
 use Rattle.desk_commands.specs.Taking.{AreTaken, HadMemory, HeldWith, complaints}
 
 module _ (f : RosterFields Cmnd) where
-  right_answer : (d : Delivery) (answer : Result Ack Refusal) → IsDeliveryAnswer f d answer → (WasWanting answer → ⊥) → Answers f d answer
+  pub right_answer : (d : Delivery) (answer : Result Ack Refusal) → IsDeliveryAnswer f d answer → (WasWanting answer → ⊥) → Answers f d answer
   right_answer d answer is had = elim is.sound [ inl wanting ↦ absurd (had wanting) | inr right ↦ right ]
 
   pub right_answers : (ds : List Delivery) (answers : List (Result Ack Refusal)) → AllZip (IsDeliveryAnswer f) ds answers → HadMemory answers
@@ -87,13 +87,13 @@ module _ (f : RosterFields Cmnd) where
 
   -- ---- what is acknowledged is brought, and what is brought is acknowledged
 
-  here : (line : List ℕ) (lines : List (List ℕ)) (m : Message) → IsBodyOf line m → Admits f m → IsBrought f (line ∷ lines) m
+  pub here : (line : List ℕ) (lines : List (List ℕ)) (m : Message) → IsBodyOf line m → Admits f m → IsBrought f (line ∷ lines) m
   here line lines m body admitted = record { line = line; among = first_of line lines; body = body; admitted = admitted }
 
-  further : (line : List ℕ) (lines : List (List ℕ)) (m : Message) → IsBrought f lines m → IsBrought f (line ∷ lines) m
+  pub further : (line : List ℕ) (lines : List (List ℕ)) (m : Message) → IsBrought f lines m → IsBrought f (line ∷ lines) m
   further line lines m is = record { line = is.line; among = later line lines is.line is.among; body = is.body; admitted = is.admitted }
 
-  admitted_of : (d : Delivery) (answer : Result Ack Refusal) (m : Message) → Answers f d answer → Acknowledges d answer m → IsBodyOf d.body m × Admits f m
+  pub admitted_of : (d : Delivery) (answer : Result Ack Refusal) (m : Message) → Answers f d answer → Acknowledges d answer m → IsBodyOf d.body m × Admits f m
   admitted_of d (Ok ack) m right acked =
       let is = acknowledged d ack right in
       let same : is.0 ≡ m = only_one d is.0 m is.1 acked.0 acked.1 in

@@ -9,3 +9,5 @@ pub mod AnswerLemmas
 pub mod FileLemmas
 pub mod CompareLemmas
 pub mod CaseLines
+pub mod TellingLemmas
+pub mod LeavingLemmas

@@ -6,7 +6,7 @@ use Rattle.sudo_policy.specs.declared.entry.Entry.{Entry}
 use Rattle.messages.specs.declared.message.Message.{Message}
 use Rattle.roster.specs.Fields.{Reading, RosterFields}
 use Rattle.grants.specs.Bases.{FitsBase}
-use Rattle.desk_store.specs.Sets.{IsNothing, SameSet}
+use Rattle.desk_store.specs.Sets.{SameSet}
 use Rattle.desk.specs.Opening.{Opens, Refuses}
 use Rattle.desk.specs.Rebuilding.{Rebuilds, RefusesToRebuild}
 use Rattle.desk.specs.Refusals.{IsWant}

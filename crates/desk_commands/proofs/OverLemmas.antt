@@ -1,7 +1,6 @@
 -- A job over a desk that was opened over a keeper: what is answered of the set that the desk held is answered of what was kept before.
 use Rattle.std.proofs.Common.{◌≡◌, ◌⊎◌, ◌∙◌, ℕ, ◌≤◌, List, [], ◌∷◌, ap, arith, get_or, length, map, subst, Option, Some, None, Result, Ok, Err, IfErr, IfOk, inl, inr, codes, refl, string_bytes, sym}
 use Rattle.std.proofs.lemmas.List.{append-nil}
-use Rattle.std.proofs.lemmas.Result.{IfErr-weaker, IfOk-weaker}
 use Rattle.std.specs.Io.KnownBytes.{Appends}
 use Rattle.sudo_words.specs.declared.cmnd.Cmnd.{Cmnd}
 use Rattle.sudo_policy.specs.declared.entry.Entry.{Entry}
@@ -10,16 +9,14 @@ use Rattle.roster.specs.Fields.{RosterFields}
 use Rattle.desk_store.specs.Keeping.{HasFailed}
 use Rattle.desk_store.specs.Sets.{Lists, SameSet}
 use Rattle.desk_store.proofs.ServingLemmas.{failed_later}
-use Rattle.desk.specs.declared.refusal.Refusal.{Refusal}
 use Rattle.desk.specs.declared.refusal.Refusal.TheVariants as desk
-use Rattle.desk_commands.specs.Answers.{IsAnswer, IsCause}
 use Rattle.desk_commands.specs.Delivering.{DeliversLines, EndsDelivering}
-use Rattle.desk_commands.specs.Files.{EndsMaking, EndsOpening, IsDeskOf, KeepsDesk}
+use Rattle.desk_commands.specs.Files.{EndsMaking, IsDeskOf}
 use Rattle.desk_commands.specs.Kept.{Kept, held_in, kept}
 use Rattle.desk_commands.specs.Printing.{EndsPrinting, HasManyLines, PrintsHost}
-use Rattle.desk_commands.specs.Rebuilding.{EndsRebuilding, RebuildsDesk}
+use Rattle.desk_commands.specs.Rebuilding.{EndsRebuilding}
 use Rattle.desk_commands.specs.Reviewing.{EndsReviewing, ReviewsDesk}
-use Rattle.desk_commands.specs.Taking.{HeldWith, MayFailTaking}
+use Rattle.desk_commands.specs.Taking.{HeldWith}
 use Rattle.desk_commands.specs.declared.answer.Answer.{Answer}
 use Rattle.desk_commands.specs.declared.refusal.Refusal.{Refusal as Reason}
 use Rattle.desk_commands.specs.declared.refusal.Refusal.TheVariants as reasons
@@ -42,14 +39,14 @@ pub listed : (S T : Message → Type 0) (messages : List Message) → SameSet S 
 listed S T messages same lists = set_on T S _ (set_back S T same) lists
 
 -- the same sets with more are the same
-both_more : (S T More : Message → Type 0) → SameSet S T → SameSet (λ m. S m ⊎ More m) (λ m. T m ⊎ More m)
+pub both_more : (S T More : Message → Type 0) → SameSet S T → SameSet (λ m. S m ⊎ More m) (λ m. T m ⊎ More m)
 both_more S T More same = λ m. (
   λ s. elim s [ inl old ↦ inl ((same m).0 old) | inr more ↦ inr more ],
   λ t. elim t [ inl old ↦ inl ((same m).1 old) | inr more ↦ inr more ],
 )
 
 -- the same set with more is the same with more
-with_more : (S T More new : Message → Type 0) → SameSet S T → SameSet (λ m. T m ⊎ More m) new → SameSet (λ m. S m ⊎ More m) new
+pub with_more : (S T More new : Message → Type 0) → SameSet S T → SameSet (λ m. T m ⊎ More m) new → SameSet (λ m. S m ⊎ More m) new
 with_more S T More new same held = set_on (λ m. S m ⊎ More m) (λ m. T m ⊎ More m) new (both_more S T More same) held
 
 -- ---- what is answered of one set is answered of the same, and of what is known to be up

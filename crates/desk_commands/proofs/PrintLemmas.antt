@@ -13,11 +13,11 @@ use Rattle.desk.specs.declared.refusal.Refusal.{Refusal}
 use Rattle.desk.specs.declared.refusal.Refusal.TheVariants as desk
 use Rattle.desk_commands.specs.Printing.{HasRights, IsPrinted, PrintsHost, lines_printed}
 use Rattle.desk_commands.specs.Reviewing.{ReviewsDesk}
-use Rattle.desk_commands.specs.Taking.{HeldWith, MayFailTaking, Takes}
+use Rattle.desk_commands.specs.Taking.{HeldWith, Takes}
 use Rattle.desk_commands.specs.declared.refusal.Refusal.{Refusal as Reason}
 use Rattle.desk_commands.specs.declared.refusal.Refusal.TheVariants as reasons
-use Rattle.desk_commands.specs.private.Outcomes.{EndsFile, EndsInput, EndsReport, EndsTaking}
-use Rattle.desk_commands.proofs.OverLemmas.{listed, set_back, set_on}
+use Rattle.desk_commands.specs.private.Outcomes.{EndsFile, EndsInput, EndsReport}
+use Rattle.desk_commands.proofs.OverLemmas.{listed, set_on}
 use Rattle.desk_jobs.specs.declared.status.Status.TheVariants.{Done}
 use Rattle.desk_jobs.specs.declared.task.Store.{Store}
 

@@ -18,6 +18,11 @@ pub record Kept : Type 1 where
   pub up : Type 0
   pub failed : Type 0
 
+-- what a keeper keeps, by its contract
+abbrev pub keeps : {K : Type 0} → (is_empty is_desk is_old : K → Type 0) → (roster : K → List ℕ) → (holds : K → Message → Type 0) → (keeper : K) → Keeps
+keeps is_empty is_desk is_old roster holds keeper =
+    record { empty = is_empty keeper; desk = is_desk keeper; old = is_old keeper; roster = roster keeper; holds = holds keeper }
+
 -- the same, by what a keeper's contract says of it
 abbrev pub kept : {K : Type 0} → (is_up is_empty is_desk is_old : K → Type 0) → (roster : K → List ℕ) → (holds : K → Message → Type 0) → (failures : K → ℕ)
     → (before after : K) → Kept

@@ -1,4 +1,5 @@
 pub mod Refusals
+pub mod Telling
 pub mod Kept
 pub mod Files
 pub mod Lines
@@ -9,4 +10,5 @@ pub mod Reviewing
 pub mod Rebuilding
 pub mod Comparing
 pub mod Answers
+pub mod Leaving
 pub mod private

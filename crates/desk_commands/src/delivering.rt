@@ -6,8 +6,9 @@ ghost use Rattle.desk.specs.declared.refusal.Refusal.TheVariants as refusal;
 ghost use Rattle.desk_store.specs.Serving.{IsServed};
 ghost use Rattle.desk_commands.specs.Delivering.{DeliversLines, answer_line, answer_lines, status_after};
 ghost use Rattle.desk_commands.specs.Kept.{kept};
+ghost use Rattle.desk_commands.specs.Leaving.{LeavesDelivered};
 ghost use Rattle.desk_commands.specs.declared.refusal.Refusal.TheVariants as reasons;
-ghost use Rattle.desk_commands.specs.private.Outcomes.{IsOutcome};
+ghost use Rattle.desk_commands.specs.private.Outcomes.{IsLeft, IsOutcome};
 ghost use Rattle.desk_jobs.specs.declared.task.Job.TheVariants as jobs;
 ghost use Rattle.desk_jobs.specs.declared.task.Places.{Places as Parts};
 
@@ -74,6 +75,8 @@ pub fn deliver_to<K: Keeper, R: Read>(
     ensures found { IfOk result (λ a. DeliversLines desk.old.roster.says relay.now (K.holds desk.old.keeper) (K.holds desk.new.keeper) (K.is_up desk.new.keeper)
         (R.remaining input.old) a.status (string_bytes a.text)) }
     ensures err { IfErr result (λ e. (e ≡ reasons.FileFailed) ⊎ (e ≡ reasons.NoMemory) ⊎ (e ≡ reasons.Desk refusal.NoMemory)) }
+    ensures left { K.is_up desk.new.keeper → IfErr result
+        (λ _. LeavesDelivered desk.old.roster.says relay.now (R.remaining input.old) (K.holds desk.old.keeper) (K.holds desk.new.keeper)) }
     ensures roster { desk.new.roster ≡ desk.old.roster }
     ensures served { IsServed K.is_up K.is_clean K.failures desk.old.keeper desk.new.keeper ⊥ ⊤ }
 {
@@ -96,6 +99,9 @@ fn deliver_over<K: Keeper, R: Read>(
 ) -> (Result<Answer, Refusal>, K)
     ensures outcome { (places : Parts) (more : List (List ℕ)) (err : Option (List ℕ)) → IsOutcome (jobs.Deliver places relay.now) (roster.now ∷ base.now ∷ more)
         (kept K.is_up K.is_empty K.is_desk K.is_old K.roster K.holds K.failures keeper result.1) (R.remaining input.old) result.0 err err }
+    ensures left { (places : Parts) (more : List (List ℕ)) (err : Option (List ℕ)) → IfErr result.0 (λ _. IsLeft (jobs.Deliver places relay.now) (roster.now ∷ base.now ∷ more)
+        (kept K.is_up K.is_empty K.is_desk K.is_old K.roster K.holds K.failures keeper result.1)
+        (K.is_same keeper result.1) (R.remaining input.old) err err) }
     ensures served { IsServed K.is_up K.is_clean K.failures keeper result.1 ⊥ ⊤ }
 {
     match open_over(alloc, roster, base, keeper) {
@@ -117,6 +123,9 @@ pub fn deliver_lines<K: Keeper, R: Read>(
 ) -> (Result<Answer, Refusal>, K)
     ensures outcome { (places : Parts) (err : Option (List ℕ)) → IsOutcome (jobs.Deliver places relay.now) (map (λ f. f.items) files.now)
         (kept K.is_up K.is_empty K.is_desk K.is_old K.roster K.holds K.failures keeper result.1) (R.remaining input.old) result.0 err err }
+    ensures left { (places : Parts) (err : Option (List ℕ)) → IfErr result.0 (λ _. IsLeft (jobs.Deliver places relay.now) (map (λ f. f.items) files.now)
+        (kept K.is_up K.is_empty K.is_desk K.is_old K.roster K.holds K.failures keeper result.1)
+        (K.is_same keeper result.1) (R.remaining input.old) err err) }
     ensures served { IsServed K.is_up K.is_clean K.failures keeper result.1 ⊥ ⊤ }
 {
     match files {

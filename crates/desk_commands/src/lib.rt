@@ -13,6 +13,7 @@ mod refusal;
 mod reviewing;
 mod running;
 mod taking;
+mod telling;
 
 pub use compare_laws::{case_tells, none_tells};
 pub use desk_jobs::{
@@ -21,4 +22,5 @@ pub use desk_jobs::{
 };
 pub use opening::open_over;
 pub use refusal::Refusal;
-pub use running::{finish, refuse, run};
+pub use running::{finish, run};
+pub use telling::refuse;

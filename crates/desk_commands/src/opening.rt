@@ -5,7 +5,8 @@ ghost use Rattle.sudo_policy.specs.Spelling.{Spells};
 ghost use Rattle.desk_store.specs.Serving.{IsServed};
 ghost use Rattle.desk_store.specs.Sets.{SameSet};
 ghost use Rattle.desk_commands.specs.Files.{EndsMaking, IsDeskOf, IsRosterFile, IsRosterFault};
-ghost use Rattle.desk_commands.specs.Kept.{held_in, kept};
+ghost use Rattle.desk_commands.specs.Kept.{held_in, keeps, kept};
+ghost use Rattle.desk_commands.specs.Leaving.{WasOpened};
 ghost use Rattle.desk_commands.specs.Rebuilding.{EndsRebuilding};
 ghost use Rattle.desk_commands.specs.private.Outcomes.{EndsParts};
 
@@ -51,6 +52,7 @@ pub fn open_over<K: Keeper>(
     ensures found { IfOk result (λ d. IsDeskOf roster.now base.now d.roster.says d.base) }
     ensures recorded { IfOk result (λ d. d.roster.text ≡ roster.now) }
     ensures opens { IfOk result (λ d. K.is_up d.keeper → SameSet (held_in (K.is_desk keeper) (K.is_old keeper) (K.holds keeper)) (K.holds d.keeper)) }
+    ensures was { IfOk result (λ d. K.is_up d.keeper → WasOpened roster.now (keeps K.is_empty K.is_desk K.is_old K.roster K.holds keeper)) }
     ensures err { IfErr result (λ r. EndsMaking roster.now base.now
         (kept K.is_up K.is_empty K.is_desk K.is_old K.roster K.holds K.failures keeper r.1) r.0) }
     ensures unchanged { IfErr result (λ r. K.is_up r.1 → K.is_same keeper r.1) }

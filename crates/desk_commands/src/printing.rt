@@ -11,8 +11,9 @@ ghost use Rattle.desk_outcomes.specs.HostFile.{AreLines, Line};
 ghost use Rattle.desk.specs.Refusals.{IsWant};
 ghost use Rattle.desk.specs.declared.refusal.Refusal.TheVariants as refusal;
 ghost use Rattle.desk_commands.specs.Kept.{kept};
+ghost use Rattle.desk_commands.specs.Leaving.{LeavesTaken, SaysTaking};
 ghost use Rattle.desk_commands.specs.Printing.{HasRights, IsPrinted, PrintsHost, lines_printed};
-ghost use Rattle.desk_commands.specs.private.Outcomes.{EndsFile, IsOutcome};
+ghost use Rattle.desk_commands.specs.private.Outcomes.{EndsFile, IsLeft, IsOutcome};
 ghost use Rattle.desk_jobs.specs.declared.task.Job.TheVariants as jobs;
 ghost use Rattle.desk_jobs.specs.declared.task.Store.TheVariants as stores;
 
@@ -66,6 +67,9 @@ fn print_of<K: Keeper, R: Read, E: Write>(
         × Appends (E.contents err.old) (E.contents err.new) said) }
     ensures cause { IfErr result (EndsFile desk.old.roster.says store.now host.now after (K.holds desk.old.keeper)
         (K.is_up desk.new.keeper) (HasFailed (K.failures desk.old.keeper) (K.failures desk.new.keeper)) (R.remaining input.old)) }
+    ensures said { IfErr result (λ _. SaysTaking store.now desk.old.roster.says (R.remaining input.old) (E.contents err.old) (E.contents err.new)) }
+    ensures left { K.is_up desk.new.keeper → K.is_desk desk.new.keeper
+        → LeavesTaken store.now desk.old.roster.says (R.remaining input.old) (K.holds desk.old.keeper) (K.holds desk.new.keeper) }
     ensures unread { (store.now ≡ stores.Memory → ⊥) → input.new ≡ input.old }
     ensures roster { desk.new.roster ≡ desk.old.roster }
     ensures served { IsServed K.is_up K.is_clean K.failures desk.old.keeper desk.new.keeper ⊥ ⊤ }
@@ -94,6 +98,9 @@ fn print_over<K: Keeper, R: Read, E: Write>(
 ) -> (Result<Answer, Refusal>, K)
     ensures outcome { (more : List (List ℕ)) → IsOutcome (jobs.Print places.now host.now after) (roster.now ∷ base.now ∷ more)
         (kept K.is_up K.is_empty K.is_desk K.is_old K.roster K.holds K.failures keeper result.1) (R.remaining input.old) result.0 (E.contents err.old) (E.contents err.new) }
+    ensures left { (more : List (List ℕ)) → IfErr result.0 (λ _. IsLeft (jobs.Print places.now host.now after) (roster.now ∷ base.now ∷ more)
+        (kept K.is_up K.is_empty K.is_desk K.is_old K.roster K.holds K.failures keeper result.1)
+        (K.is_same keeper result.1) (R.remaining input.old) (E.contents err.old) (E.contents err.new)) }
     ensures unread { (places.now.store ≡ stores.Memory → ⊥) → input.new ≡ input.old }
     ensures served { IsServed K.is_up K.is_clean K.failures keeper result.1 ⊥ ⊤ }
 {
@@ -123,6 +130,9 @@ pub fn print_host<K: Keeper, R: Read, E: Write>(
 ) -> (Result<Answer, Refusal>, K)
     ensures outcome { IsOutcome (jobs.Print places.now host.now after) (map (λ f. f.items) files.now)
         (kept K.is_up K.is_empty K.is_desk K.is_old K.roster K.holds K.failures keeper result.1) (R.remaining input.old) result.0 (E.contents err.old) (E.contents err.new) }
+    ensures left { IfErr result.0 (λ _. IsLeft (jobs.Print places.now host.now after) (map (λ f. f.items) files.now)
+        (kept K.is_up K.is_empty K.is_desk K.is_old K.roster K.holds K.failures keeper result.1)
+        (K.is_same keeper result.1) (R.remaining input.old) (E.contents err.old) (E.contents err.new)) }
     ensures unread { (places.now.store ≡ stores.Memory → ⊥) → input.new ≡ input.old }
     ensures served { IsServed K.is_up K.is_clean K.failures keeper result.1 ⊥ ⊤ }
 {

@@ -1,9 +1,9 @@
 //! Giving a desk another roster.
 
-ghost use Rattle.std.specs.Prelude.{◌≡◌, ◌∷◌, ℕ, List, Option, IfOk, codes, map, string_bytes, ⊤};
+ghost use Rattle.std.specs.Prelude.{◌≡◌, ◌∷◌, ℕ, List, Option, IfOk, codes, map, string_bytes, IfErr, ⊤};
 ghost use Rattle.desk_store.specs.Serving.{IsServed};
 ghost use Rattle.desk_commands.specs.Kept.{kept};
-ghost use Rattle.desk_commands.specs.private.Outcomes.{IsOutcome};
+ghost use Rattle.desk_commands.specs.private.Outcomes.{IsLeft, IsOutcome};
 ghost use Rattle.desk_jobs.specs.declared.status.Status.TheVariants.{Done};
 ghost use Rattle.desk_jobs.specs.declared.task.Job.TheVariants as jobs;
 ghost use Rattle.desk_jobs.specs.declared.task.Places.{Places as Parts};
@@ -35,6 +35,9 @@ fn rebuilt<K: Keeper>(
 ) -> (Result<Answer, Refusal>, K)
     ensures outcome { (places : Parts) (more : List (List ℕ)) (input err : Option (List ℕ)) → IsOutcome (jobs.Rebuild places) (roster.now ∷ base.now ∷ more)
         (kept K.is_up K.is_empty K.is_desk K.is_old K.roster K.holds K.failures keeper result.1) input result.0 err err }
+    ensures left { (places : Parts) (more : List (List ℕ)) (input err : Option (List ℕ)) → IfErr result.0 (λ _. IsLeft (jobs.Rebuild places) (roster.now ∷ base.now ∷ more)
+        (kept K.is_up K.is_empty K.is_desk K.is_old K.roster K.holds K.failures keeper result.1)
+        (K.is_same keeper result.1) input err err) }
     ensures served { IsServed K.is_up K.is_clean K.failures keeper result.1 ⊥ ⊤ }
 {
     let Ok(answer) = ok(alloc) else {
@@ -54,6 +57,9 @@ pub fn rebuild_desk<K: Keeper>(
 ) -> (Result<Answer, Refusal>, K)
     ensures outcome { (places : Parts) (input err : Option (List ℕ)) → IsOutcome (jobs.Rebuild places) (map (λ f. f.items) files.now)
         (kept K.is_up K.is_empty K.is_desk K.is_old K.roster K.holds K.failures keeper result.1) input result.0 err err }
+    ensures left { (places : Parts) (input err : Option (List ℕ)) → IfErr result.0 (λ _. IsLeft (jobs.Rebuild places) (map (λ f. f.items) files.now)
+        (kept K.is_up K.is_empty K.is_desk K.is_old K.roster K.holds K.failures keeper result.1)
+        (K.is_same keeper result.1) input err err) }
     ensures served { IsServed K.is_up K.is_clean K.failures keeper result.1 ⊥ ⊤ }
 {
     match files {

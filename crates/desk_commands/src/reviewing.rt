@@ -5,8 +5,9 @@ ghost use Rattle.std.specs.Io.KnownBytes.{Appends};
 ghost use Rattle.desk_store.specs.Keeping.{HasFailed};
 ghost use Rattle.desk_store.specs.Serving.{IsServed};
 ghost use Rattle.desk_commands.specs.Kept.{kept};
+ghost use Rattle.desk_commands.specs.Leaving.{LeavesTaken, SaysTaking};
 ghost use Rattle.desk_commands.specs.Reviewing.{ReviewsDesk};
-ghost use Rattle.desk_commands.specs.private.Outcomes.{EndsReport, IsOutcome};
+ghost use Rattle.desk_commands.specs.private.Outcomes.{EndsReport, IsLeft, IsOutcome};
 ghost use Rattle.desk_jobs.specs.declared.task.Job.TheVariants as jobs;
 ghost use Rattle.desk_jobs.specs.declared.task.Store.TheVariants as stores;
 
@@ -34,6 +35,9 @@ fn review_of<K: Keeper, R: Read, E: Write>(
         (K.holds desk.old.keeper) (K.holds desk.new.keeper) (K.is_up desk.new.keeper × K.is_desk desk.new.keeper) (R.remaining input.old) a.status (string_bytes a.text) said
         × Appends (E.contents err.old) (E.contents err.new) said) }
     ensures cause { IfErr result (EndsReport store.now (HasFailed (K.failures desk.old.keeper) (K.failures desk.new.keeper))) }
+    ensures said { IfErr result (λ _. SaysTaking store.now desk.old.roster.says (R.remaining input.old) (E.contents err.old) (E.contents err.new)) }
+    ensures left { K.is_up desk.new.keeper → K.is_desk desk.new.keeper
+        → LeavesTaken store.now desk.old.roster.says (R.remaining input.old) (K.holds desk.old.keeper) (K.holds desk.new.keeper) }
     ensures unread { (store.now ≡ stores.Memory → ⊥) → input.new ≡ input.old }
     ensures roster { desk.new.roster ≡ desk.old.roster }
     ensures served { IsServed K.is_up K.is_clean K.failures desk.old.keeper desk.new.keeper ⊥ ⊤ }
@@ -61,6 +65,9 @@ fn review_over<K: Keeper, R: Read, E: Write>(
 ) -> (Result<Answer, Refusal>, K)
     ensures outcome { (more : List (List ℕ)) → IsOutcome (jobs.Review places.now at) (roster.now ∷ base.now ∷ more)
         (kept K.is_up K.is_empty K.is_desk K.is_old K.roster K.holds K.failures keeper result.1) (R.remaining input.old) result.0 (E.contents err.old) (E.contents err.new) }
+    ensures left { (more : List (List ℕ)) → IfErr result.0 (λ _. IsLeft (jobs.Review places.now at) (roster.now ∷ base.now ∷ more)
+        (kept K.is_up K.is_empty K.is_desk K.is_old K.roster K.holds K.failures keeper result.1)
+        (K.is_same keeper result.1) (R.remaining input.old) (E.contents err.old) (E.contents err.new)) }
     ensures unread { (places.now.store ≡ stores.Memory → ⊥) → input.new ≡ input.old }
     ensures served { IsServed K.is_up K.is_clean K.failures keeper result.1 ⊥ ⊤ }
 {
@@ -88,6 +95,9 @@ pub fn review_desk<K: Keeper, R: Read, E: Write>(
 ) -> (Result<Answer, Refusal>, K)
     ensures outcome { IsOutcome (jobs.Review places.now at) (map (λ f. f.items) files.now)
         (kept K.is_up K.is_empty K.is_desk K.is_old K.roster K.holds K.failures keeper result.1) (R.remaining input.old) result.0 (E.contents err.old) (E.contents err.new) }
+    ensures left { IfErr result.0 (λ _. IsLeft (jobs.Review places.now at) (map (λ f. f.items) files.now)
+        (kept K.is_up K.is_empty K.is_desk K.is_old K.roster K.holds K.failures keeper result.1)
+        (K.is_same keeper result.1) (R.remaining input.old) (E.contents err.old) (E.contents err.new)) }
     ensures unread { (places.now.store ≡ stores.Memory → ⊥) → input.new ≡ input.old }
     ensures served { IsServed K.is_up K.is_clean K.failures keeper result.1 ⊥ ⊤ }
 {

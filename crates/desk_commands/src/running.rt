@@ -1,6 +1,6 @@
 //! Doing a job. Its answer is made whole before any of it is written.
 
-ghost use Rattle.std.specs.Prelude.{◌≡◌, ◌≢◌, ◌⊎◌, ℕ, List, [], IfErr, IfOk, map, string_bytes, ⊤};
+ghost use Rattle.std.specs.Prelude.{◌≡◌, ◌≢◌, ◌⊎◌, ℕ, List, [], IfErr, IfOk, map, string_bytes, Option, MatchResult, ⊤};
 ghost use Rattle.std.specs.Io.Buffered.{writer_buffer, writer_contents};
 ghost use Rattle.std.specs.Io.KnownBytes.{Appends, Keeps};
 ghost use Rattle.sudo_policy.specs.Spelling.{Spells};
@@ -9,7 +9,10 @@ ghost use Rattle.desk_store.specs.Serving.{IsServed};
 ghost use Rattle.desk_commands.specs.Answers.{CauseOfFile, CauseOfFiles, ChecksFile, DecidesByFile, EndsReading, HasAnswer, HasCause, IsAnswer, IsDecided, IsOnDesk, OfFile, OfFiles, ReadsInput, status_of};
 ghost use Rattle.desk_commands.specs.Comparing.{ComparesFiles, EndsComparing};
 ghost use Rattle.desk_commands.specs.Kept.{kept};
-ghost use Rattle.desk_commands.specs.private.Outcomes.{IsOutcome};
+ghost use Rattle.desk_commands.specs.Leaving.{KeepsAfterRefusal, TellsRefusal};
+ghost use Rattle.desk_commands.specs.Telling.{AppendsFront, refusal_line};
+ghost use Rattle.desk_commands.specs.declared.refusal.Refusal.TheVariants.{FileFailed};
+ghost use Rattle.desk_commands.specs.private.Outcomes.{IsLeft, IsOutcome};
 
 use crate::answer::Answer;
 use crate::comparing::compare_files;
@@ -18,6 +21,7 @@ use crate::printing::print_host;
 use crate::rebuilding::rebuild_desk;
 use crate::refusal::Refusal;
 use crate::reviewing::review_desk;
+use crate::telling::refuse;
 use desk::Keeper;
 use desk_jobs::{Job, Status};
 use review::Scope;
@@ -130,6 +134,9 @@ fn answered<K: Keeper, R: Read, E: Write>(
 ) -> (Result<Answer, Refusal>, K)
     ensures outcome { IsOutcome job.now (map (λ f. f.items) files.old)
         (kept K.is_up K.is_empty K.is_desk K.is_old K.roster K.holds K.failures keeper result.1) (R.remaining input.old) result.0 (E.contents err.old) (E.contents err.new) }
+    ensures left { IfErr result.0 (λ _. IsLeft job.now (map (λ f. f.items) files.old)
+        (kept K.is_up K.is_empty K.is_desk K.is_old K.roster K.holds K.failures keeper result.1)
+        (K.is_same keeper result.1) (R.remaining input.old) (E.contents err.old) (E.contents err.new)) }
     ensures unasked { (IsOnDesk job.now → ⊥) → result.1 ≡ keeper }
     ensures unread { (ReadsInput job.now → ⊥) → input.new ≡ input.old }
     ensures served { IsServed K.is_up K.is_clean K.failures keeper result.1 ⊥ ⊤ }
@@ -150,22 +157,14 @@ fn answered<K: Keeper, R: Read, E: Write>(
     }
 }
 
-/// Says on `err` why the program refuses. Where that cannot be written either, nothing else can be done.
-pub fn refuse<E: Write>(refusal: Refusal, err: &mut E) -> Status
-    ensures { result ≡ Status.Refused }
-{
-    let _ = writeln!(err, "{refusal}");
-    let _ = err.flush();
-    Status::Refused
-}
-
 fn write_answer<W: Write, E: Write>(answer: &Answer, out: &mut W, err: &mut E) -> Status
     ensures status { result ≢ Status.Refused → result ≡ answer.now.status }
     ensures written { result ≢ Status.Refused → Appends (W.contents out.old) (W.contents out.new) (string_bytes answer.now.text) }
     ensures quiet { result ≢ Status.Refused → E.contents err.new ≡ E.contents err.old }
+    ensures told { AppendsFront (E.contents err.old) (E.contents err.new) (refusal_line FileFailed) }
 {
     if out.write_all(answer.text.as_bytes()).is_err() {
-        return refuse(Refusal::FileFailed, err);
+        return refuse(Refusal::FileFailed, err).0;
     }
     answer.status
 }
@@ -175,10 +174,12 @@ fn conclude<W: Write, E: Write>(answer: Result<Answer, Refusal>, out: &mut W, er
     ensures answered { IfOk answer (λ a. result ≢ Status.Refused → (result ≡ a.status)
         × Appends (W.contents out.old) (W.contents out.new) (string_bytes a.text) × (E.contents err.new ≡ E.contents err.old)) }
     ensures unanswered { IfErr answer (λ _. (result ≡ Status.Refused) × (W.contents out.new ≡ W.contents out.old)) }
+    ensures told { MatchResult answer (λ _. AppendsFront (E.contents err.old) (E.contents err.new) (refusal_line FileFailed))
+        (λ e. AppendsFront (E.contents err.old) (E.contents err.new) (refusal_line e)) }
 {
     match answer {
         Ok(answer) => write_answer(&answer, out, err),
-        Err(refusal) => refuse(refusal, err),
+        Err(refusal) => refuse(refusal, err).0,
     }
 }
 
@@ -205,6 +206,12 @@ pub fn run<K: Keeper, R: Read, W: Write, E: Write>(
     ensures refused { result.0 ≡ Status.Refused → ((W.contents out.new ≡ W.contents out.old)
         × HasCause job.now (map (λ f. f.items) files.old) (kept K.is_up K.is_empty K.is_desk K.is_old K.roster K.holds K.failures keeper result.1) (R.remaining input.old))
         ⊎ HasAnswer job.now (map (λ f. f.items) files.old) (kept K.is_up K.is_empty K.is_desk K.is_old K.roster K.holds K.failures keeper result.1) (R.remaining input.old) }
+    // What a refused job leaves at the keeper, and what it says on `err`.
+    ensures kept { result.0 ≡ Status.Refused → K.is_up result.1
+        → KeepsAfterRefusal job.now (map (λ f. f.items) files.old) (kept K.is_up K.is_empty K.is_desk K.is_old K.roster K.holds K.failures keeper result.1) (K.is_same keeper result.1) (R.remaining input.old)
+        ⊎ HasAnswer job.now (map (λ f. f.items) files.old) (kept K.is_up K.is_empty K.is_desk K.is_old K.roster K.holds K.failures keeper result.1) (R.remaining input.old) }
+    ensures told { result.0 ≡ Status.Refused → TellsRefusal job.now (map (λ f. f.items) files.old) (kept K.is_up K.is_empty K.is_desk K.is_old K.roster K.holds K.failures keeper result.1)
+        (R.remaining input.old) (E.contents err.old) (E.contents err.new) }
     // Only a job on a desk asks the keeper, and only one that takes lines reads the input.
     ensures unasked { (IsOnDesk job.now → ⊥) → result.1 ≡ keeper }
     ensures unread { (ReadsInput job.now → ⊥) → input.new ≡ input.old }
@@ -227,12 +234,13 @@ pub fn finish<W: Write + Drop, E: Write>(
     ensures written_out { result ≢ Status.Refused → writer_buffer out.new ≡ [] }
     ensures kept { Keeps (writer_contents W.contents out.old) (writer_contents W.contents out.new) }
     ensures quiet { result ≢ Status.Refused → E.contents err.new ≡ E.contents err.old }
+    ensures told { AppendsFront (E.contents err.old) (E.contents err.new) (refusal_line FileFailed) }
 {
     if status == Status::Refused {
         return status;
     }
     if out.flush().is_err() {
-        return refuse(Refusal::FileFailed, err);
+        return refuse(Refusal::FileFailed, err).0;
     }
     status
 }

@@ -7,12 +7,15 @@ ghost use Rattle.desk.specs.declared.refusal.Refusal.TheVariants as refusals;
 ghost use Rattle.desk_store.specs.Keeping.{HasFailed};
 ghost use Rattle.desk_store.specs.Serving.{IsServed};
 ghost use Rattle.desk_store.specs.Sets.{SameSet};
+ghost use Rattle.desk_commands.specs.Leaving.{AreSomeTaken, LeavesTaken, SaysTaking};
+ghost use Rattle.desk_commands.specs.Telling.{AppendsFront};
 ghost use Rattle.desk_commands.specs.Taking.{AreTaken, HadMemory, HeldWith, Takes, complaint, complaints};
 ghost use Rattle.desk_commands.specs.private.Outcomes.{EndsInput, EndsTaking};
 ghost use Rattle.desk_jobs.specs.declared.task.Store.TheVariants as stores;
 
 use crate::lines::read_lines;
 use crate::refusal::Refusal;
+use crate::telling::write_front;
 use desk::{Ack, Desk, Keeper};
 use desk_jobs::Store;
 use std::alloc::{AllocError, Global};
@@ -56,9 +59,10 @@ fn complaints_of(alloc: Global, answers: &[Result<Ack, desk::Refusal>]) -> Resul
 /// Writes it on `err`, the whole of it.
 fn write_whole<E: Write>(said: &str, err: &mut E) -> Result<(), Refusal>
     ensures said { OnOk result (Appends (E.contents err.old) (E.contents err.new) said.now) }
+    ensures front { AppendsFront (E.contents err.old) (E.contents err.new) said.now }
     ensures err { IfErr result (EndsTaking ⊥) }
 {
-    if err.write_all(said.as_bytes()).is_err() || err.flush().is_err() {
+    if write_front(said.as_bytes(), err).is_err() || err.flush().is_err() {
         return Err(Refusal::FileFailed);
     }
     Ok(())
@@ -67,6 +71,7 @@ fn write_whole<E: Write>(said: &str, err: &mut E) -> Result<(), Refusal>
 /// Says it on `err`.
 fn say<E: Write>(said: &str, err: &mut E) -> Result<(), Refusal>
     ensures said { OnOk result (Appends (E.contents err.old) (E.contents err.new) said.now) }
+    ensures front { AppendsFront (E.contents err.old) (E.contents err.new) said.now }
     ensures err { IfErr result (EndsTaking ⊥) }
 {
     if said.is_empty() {
@@ -87,6 +92,8 @@ fn take_lines<K: Keeper, R: Read, E: Write>(
         × Appends (E.contents err.old) (E.contents err.new) said
         × (K.is_up desk.new.keeper → SameSet (HeldWith desk.old.roster.says lines (K.holds desk.old.keeper)) (K.holds desk.new.keeper))) }
     ensures err { IfErr result (EndsTaking (HasFailed (K.failures desk.old.keeper) (K.failures desk.new.keeper))) }
+    ensures said { IfErr result (λ _. SaysTaking stores.Memory desk.old.roster.says (R.remaining input.old) (E.contents err.old) (E.contents err.new)) }
+    ensures left { K.is_up desk.new.keeper → AreSomeTaken desk.old.roster.says (R.remaining input.old) (K.holds desk.old.keeper) (K.holds desk.new.keeper) }
     ensures roster { desk.new.roster ≡ desk.old.roster }
     ensures base { desk.new.base ≡ desk.old.base }
     ensures served { IsServed K.is_up K.is_clean K.failures desk.old.keeper desk.new.keeper ⊥ ⊤ }
@@ -109,6 +116,9 @@ pub fn take_input<K: Keeper, R: Read, E: Write>(
         × Appends (E.contents err.old) (E.contents err.new) said
         × (K.is_up desk.new.keeper → SameSet (HeldWith desk.old.roster.says lines (K.holds desk.old.keeper)) (K.holds desk.new.keeper))) }
     ensures err { IfErr result (EndsInput store.now (HasFailed (K.failures desk.old.keeper) (K.failures desk.new.keeper))) }
+    ensures said { IfErr result (λ _. SaysTaking store.now desk.old.roster.says (R.remaining input.old) (E.contents err.old) (E.contents err.new)) }
+    ensures left { K.is_up desk.new.keeper
+        → LeavesTaken store.now desk.old.roster.says (R.remaining input.old) (K.holds desk.old.keeper) (K.holds desk.new.keeper) }
     // Of a desk that a database keeps nothing is read, and nothing said.
     ensures unread { (store.now ≡ stores.Memory → ⊥) → input.new ≡ input.old }
     ensures roster { desk.new.roster ≡ desk.old.roster }

@@ -9,6 +9,7 @@ use Rattle.desk.specs.declared.refusal.Refusal.TheVariants as desk
 use Rattle.desk_commands.specs.Answers.{IsAnswer, IsCause}
 use Rattle.desk_commands.specs.Files.{HoldsRoster, IsFaultOf, IsRosterFault}
 use Rattle.desk_commands.specs.Kept.{Kept}
+use Rattle.desk_commands.specs.Leaving.{KeepsAfterRefusal, TellsBefore}
 use Rattle.desk_commands.specs.Printing.{HasManyLines}
 use Rattle.desk_commands.specs.Taking.{MayFailTaking}
 use Rattle.desk_commands.specs.declared.answer.Answer.{Answer}
@@ -22,6 +23,11 @@ pub record IsOutcome (job : Job) (files : List (List ℕ)) (k : Kept) (input : O
     (err_before err_after : Option (List ℕ)) : Type 0 where
   pub found : IfOk result (λ a. (said : List ℕ) × IsAnswer job files k input a.status (string_bytes a.text) said × Appends err_before err_after said)
   pub cause : IfErr result (IsCause job files k input)
+
+-- What a job leaves that is refused for a cause: at the keeper, and on the standard error before the line that says so.
+pub record IsLeft (job : Job) (files : List (List ℕ)) (k : Kept) (Same : Type 0) (input err_before err_after : Option (List ℕ)) : Type 0 where
+  pub kept : k.up → KeepsAfterRefusal job files k Same input
+  pub told : TellsBefore job files input err_before err_after
 
 -- the files hold no roster and base for this: so they make no desk, whatever is kept
 abbrev pub EndsParts : (roster_file base_file : List ℕ) → Refusal → Type 0

@@ -1,4 +1,4 @@
-use Rattle.desk_commands.proofs.OpenedLemmas.{ends_replacing, parts_end, rebuilt}
+use Rattle.desk_commands.proofs.OpenedLemmas.{rebuilt}
 use Rattle.desk_commands.proofs.opening.rebuild_over.Goals as goal
 
 pub returns-in-Ok-rebuild-clause-keeps : goal.returns-in-Ok-rebuild-clause-keeps

@@ -10,6 +10,7 @@ use Rattle.desk_commands.specs.declared.refusal.Refusal.TheVariants as reasons
 use Rattle.desk_commands.specs.private.Outcomes.{EndsFile}
 use Rattle.desk_commands.proofs.PrintLemmas.{ends_file, prints}
 use Rattle.desk_jobs.specs.declared.status.Status.TheVariants.{Done}
+use Rattle.desk_commands.proofs.LeavingLemmas.{says, taken_stay}
 use Rattle.desk_commands.proofs.printing.print_of.Goals as goal
 
 pub returns-in-Ok-clause-found : goal.returns-in-Ok-clause-found
@@ -61,3 +62,33 @@ returns-in-Err-clause-cause g c =
     c.file_of.result c.in-Err.refusal c.file_of.ensures.served.was_up c.in-Err.is c.file_of.ensures.unknown
     (λ set lines up lists are few. c.in-Err.ensures.few set lines up lists are few) c.in-Err.ensures.err
     (λ storage. failed_later _ _ _ c.take_input.ensures.served.counts (c.file_of.ensures.cause (c.in-Err.is ∙ ap Err storage))))
+
+pub returns-in-Ok-clause-left : goal.returns-in-Ok-clause-left
+returns-in-Ok-clause-left g c = λ up desk.
+    let K = g.K.Keeper in
+    let laws = g.met.K.Keeper in
+    let old = c.args.desk.now in
+    let mid = c.take_input.new.desk in
+    let new = c.file_of.new.desk in
+    let same = c.file_of.ensures.same up in
+    taken_stay old.roster.says (g.R.Read.remaining c.args.input.now) c.args.store.now (K.holds old.keeper) (K.holds mid.keeper) (K.holds new.keeper)
+    (c.take_input.ensures.left (c.file_of.ensures.served.was_up up))
+    (laws.stays_set mid.keeper new.keeper same (laws.stays_desk new.keeper mid.keeper (laws.same_back mid.keeper new.keeper same) desk))
+
+pub returns-in-Err-clause-left : goal.returns-in-Err-clause-left
+returns-in-Err-clause-left g c = λ up desk.
+    let K = g.K.Keeper in
+    let laws = g.met.K.Keeper in
+    let old = c.args.desk.now in
+    let mid = c.take_input.new.desk in
+    let new = c.file_of.new.desk in
+    let same = c.file_of.ensures.same up in
+    taken_stay old.roster.says (g.R.Read.remaining c.args.input.now) c.args.store.now (K.holds old.keeper) (K.holds mid.keeper) (K.holds new.keeper)
+    (c.take_input.ensures.left (c.file_of.ensures.served.was_up up))
+    (laws.stays_set mid.keeper new.keeper same (laws.stays_desk new.keeper mid.keeper (laws.same_back mid.keeper new.keeper same) desk))
+
+pub returns-in-Err-clause-said : goal.returns-in-Err-clause-said
+returns-in-Err-clause-said g c =
+    let taking = c.in_ok-take_input.ensures.taken in
+    says c.args.desk.now.roster.says (g.R.Read.remaining c.args.input.now) c.args.store.now taking.0 taking.1 (g.E.Write.contents c.args.err.now)
+    (g.E.Write.contents c.take_input.new.err) taking.2 taking.3

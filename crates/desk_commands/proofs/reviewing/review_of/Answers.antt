@@ -8,6 +8,7 @@ use Rattle.desk_commands.specs.Reviewing.{ReviewsDesk}
 use Rattle.desk_commands.specs.Taking.{HeldWith, Takes}
 use Rattle.desk_commands.proofs.PrintLemmas.{reviews, wants_end_report}
 use Rattle.desk_jobs.specs.declared.status.Status.TheVariants.{Done}
+use Rattle.desk_commands.proofs.LeavingLemmas.{says, taken_stay}
 use Rattle.desk_commands.proofs.reviewing.review_of.Goals as goal
 
 pub returns-in-Ok-clause-found : goal.returns-in-Ok-clause-found
@@ -43,3 +44,33 @@ pub returns-in-Err-clause-cause : goal.returns-in-Err-clause-cause
 returns-in-Err-clause-cause g c =
     wants_end_report c.args.store.now (HasFailed (g.K.Keeper.failures c.args.desk.now.keeper) (g.K.Keeper.failures c.report.new.desk.keeper)) c.in-Err.refusal c.in-Err.ensures.err
     (λ storage. failed_later _ _ _ c.take_input.ensures.served.counts (c.report.ensures.served.cause (c.in-Err.is ∙ ap Err storage)))
+
+pub returns-in-Ok-clause-left : goal.returns-in-Ok-clause-left
+returns-in-Ok-clause-left g c = λ up desk.
+    let K = g.K.Keeper in
+    let laws = g.met.K.Keeper in
+    let old = c.args.desk.now in
+    let mid = c.take_input.new.desk in
+    let new = c.report.new.desk in
+    let same = c.report.ensures.unchanged up in
+    taken_stay old.roster.says (g.R.Read.remaining c.args.input.now) c.args.store.now (K.holds old.keeper) (K.holds mid.keeper) (K.holds new.keeper)
+    (c.take_input.ensures.left (c.report.ensures.served.was_up up))
+    (laws.stays_set mid.keeper new.keeper same (laws.stays_desk new.keeper mid.keeper (laws.same_back mid.keeper new.keeper same) desk))
+
+pub returns-in-Err-clause-left : goal.returns-in-Err-clause-left
+returns-in-Err-clause-left g c = λ up desk.
+    let K = g.K.Keeper in
+    let laws = g.met.K.Keeper in
+    let old = c.args.desk.now in
+    let mid = c.take_input.new.desk in
+    let new = c.report.new.desk in
+    let same = c.report.ensures.unchanged up in
+    taken_stay old.roster.says (g.R.Read.remaining c.args.input.now) c.args.store.now (K.holds old.keeper) (K.holds mid.keeper) (K.holds new.keeper)
+    (c.take_input.ensures.left (c.report.ensures.served.was_up up))
+    (laws.stays_set mid.keeper new.keeper same (laws.stays_desk new.keeper mid.keeper (laws.same_back mid.keeper new.keeper same) desk))
+
+pub returns-in-Err-clause-said : goal.returns-in-Err-clause-said
+returns-in-Err-clause-said g c =
+    let taking = c.in_ok-take_input.ensures.taken in
+    says c.args.desk.now.roster.says (g.R.Read.remaining c.args.input.now) c.args.store.now taking.0 taking.1 (g.E.Write.contents c.args.err.now)
+    (g.E.Write.contents c.take_input.new.err) taking.2 taking.3

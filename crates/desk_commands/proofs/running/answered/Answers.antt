@@ -1,9 +1,9 @@
 use Rattle.std.proofs.Common.{◌≡◌, ◌∙◌, ap, map, refl, subst, sym}
 use Rattle.std.proofs.lemmas.Result.{IfOk-weaker}
 use Rattle.desk_commands.specs.Answers.{IsOnDesk, ReadsInput}
-use Rattle.desk_jobs.specs.declared.task.Job.{Job}
-use Rattle.desk_jobs.specs.declared.task.Job.TheVariants.{Beyond, Check, Decide, Deliver, Print, Rebuild, Review}
+use Rattle.desk_jobs.specs.declared.task.Job.TheVariants.{Deliver}
 use Rattle.desk_commands.proofs.AnswerLemmas.{of_job, quietly}
+use Rattle.desk_commands.proofs.LeavingLemmas.{if_err, left_of_job, same_job}
 use Rattle.desk_commands.proofs.running.answered.Goals as goal
 
 pub returns-in-Check-clause-outcome : goal.returns-in-Check-clause-outcome
@@ -65,3 +65,48 @@ returns-in-Print-clause-unread g c = λ never. c.print_host.ensures.unread (λ m
 
 pub returns-in-Review-clause-unread : goal.returns-in-Review-clause-unread
 returns-in-Review-clause-unread g c = λ never. c.review_desk.ensures.unread (λ memory. never (subst ReadsInput (sym c.in-Review.is) memory))
+
+pub returns-in-Check-clause-left : goal.returns-in-Check-clause-left
+returns-in-Check-clause-left g c =
+    if_err c.check_first.result (same_job (map (λ f. f.items) c.args.files.now) _ _ (g.R.Read.remaining c.args.input.now) (g.E.Write.contents c.args.err.now)
+    (λ _. g.met.K.Keeper.same_itself c.args.keeper) c.args.job.now)
+
+pub returns-in-Decide-clause-left : goal.returns-in-Decide-clause-left
+returns-in-Decide-clause-left g c =
+    if_err c.decide_by_first.result (same_job (map (λ f. f.items) c.args.files.now) _ _ (g.R.Read.remaining c.args.input.now) (g.E.Write.contents c.args.err.now)
+    (λ _. g.met.K.Keeper.same_itself c.args.keeper) c.args.job.now)
+
+pub returns-in-Beyond-clause-left : goal.returns-in-Beyond-clause-left
+returns-in-Beyond-clause-left g c =
+    if_err c.compared.result (same_job (map (λ f. f.items) c.args.files.now) _ _ (g.R.Read.remaining c.args.input.now) (g.E.Write.contents c.args.err.now)
+    (λ _. g.met.K.Keeper.same_itself c.args.keeper) c.args.job.now)
+
+pub returns-in-Serve-clause-left : goal.returns-in-Serve-clause-left
+returns-in-Serve-clause-left g c =
+    same_job (map (λ f. f.items) c.args.files.now) _ _ (g.R.Read.remaining c.args.input.now) (g.E.Write.contents c.args.err.now)
+    (λ _. g.met.K.Keeper.same_itself c.args.keeper) c.args.job.now
+
+pub returns-in-Deliver-clause-left : goal.returns-in-Deliver-clause-left
+returns-in-Deliver-clause-left g c =
+    let places = c.in-Deliver.places in
+    let err = g.E.Write.contents c.args.err.now in
+    let is : c.args.job.now ≡ Deliver places c.as_str.result.now = c.in-Deliver.is ∙ ap (Deliver places) (sym c.as_str.ensures) in
+    left_of_job c.deliver_lines.result.0 c.args.job.now _ (map (λ f. f.items) c.args.files.now) _ _ (g.R.Read.remaining c.args.input.now) err err is
+    (c.deliver_lines.ensures.left places err)
+
+pub returns-in-Print-clause-left : goal.returns-in-Print-clause-left
+returns-in-Print-clause-left g c =
+    left_of_job c.print_host.result.0 c.args.job.now _ (map (λ f. f.items) c.args.files.now) _ _ (g.R.Read.remaining c.args.input.now) (g.E.Write.contents c.args.err.now)
+    (g.E.Write.contents c.print_host.new.err) c.in-Print.is c.print_host.ensures.left
+
+pub returns-in-Review-clause-left : goal.returns-in-Review-clause-left
+returns-in-Review-clause-left g c =
+    left_of_job c.review_desk.result.0 c.args.job.now _ (map (λ f. f.items) c.args.files.now) _ _ (g.R.Read.remaining c.args.input.now) (g.E.Write.contents c.args.err.now)
+    (g.E.Write.contents c.review_desk.new.err) c.in-Review.is c.review_desk.ensures.left
+
+pub returns-in-Rebuild-clause-left : goal.returns-in-Rebuild-clause-left
+returns-in-Rebuild-clause-left g c =
+    let input = g.R.Read.remaining c.args.input.now in
+    let err = g.E.Write.contents c.args.err.now in
+    left_of_job c.rebuild_desk.result.0 c.args.job.now _ (map (λ f. f.items) c.args.files.now) _ _ input err err c.in-Rebuild.is
+    (c.rebuild_desk.ensures.left c.in-Rebuild.places input err)

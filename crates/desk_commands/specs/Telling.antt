@@ -1,0 +1,13 @@
+-- How the program says that it refuses.
+use Rattle.std.specs.Prelude.{ℕ, List, ◌++◌, Option, codes, take}
+use Rattle.std.specs.Io.KnownBytes.{Appends}
+use Rattle.desk_commands.specs.Refusals.{reason_text}
+use Rattle.desk_commands.specs.declared.refusal.Refusal.{Refusal}
+
+-- the line of a refusal: its code and name, and a newline
+abbrev pub refusal_line : Refusal → List ℕ
+refusal_line refusal = reason_text refusal ++ codes "\n"
+
+-- Known bytes grow by a beginning of these: by all of them, or by none, too.
+abbrev pub AppendsFront : (before after : Option (List ℕ)) → (bytes : List ℕ) → Type 0
+AppendsFront before after bytes = (n : ℕ) × Appends before after (take n bytes)
