@@ -120,11 +120,15 @@ pub(crate) fn ask_parked<K: Keeper>(said: &mut String, desk: &mut Desk<K>) -> Re
 
 /// Adds the lines of a file, with a bar between.
 fn say_lines(said: &mut String, file: &str) -> Result<(), Trouble> {
-    let mut before = ", file: ";
+    said.push_str(", file: ")?;
+    let mut is_first = true;
     for line in file.split('\n') {
         if !line.is_empty() {
-            write!(said, "{before}{line}")?;
-            before = " | ";
+            if !is_first {
+                said.push_str(" | ")?;
+            }
+            said.push_str(line)?;
+            is_first = false;
         }
     }
     Ok(())
