@@ -6,8 +6,9 @@ use crate::states::State;
 use crate::texts::{APPROVAL, REQUEST, Rules, parts};
 use crate::trouble::Trouble;
 use desk::{Desk, Keeper, MemoryKeeper, Refusal};
-use desk_store::FailingKeeper;
+use desk_store::{FailingKeeper, SqliteKeeper};
 use roster::Roster;
+use sqlite::Alter;
 use std::alloc::Global;
 use std::fmt::Write as _;
 use sudo_syntax::Policy;
@@ -224,12 +225,22 @@ pub(crate) fn say_in_memory(alloc: Global, said: &mut String) -> Result<(), Trou
     Ok(())
 }
 
+/// Adds what the two deliveries come to over a database that fails after so many calls: one function over any store.
+fn say_stored<S: Alter + Drop>(
+    alloc: Global,
+    said: &mut String,
+    calls: u64,
+    keeper: SqliteKeeper<S>,
+) -> Result<bool, Trouble> {
+    say_failing(alloc, said, calls, keeper)
+}
+
 /// The same over a database.
 pub(crate) fn say_in_database(alloc: Global, said: &mut String) -> Result<(), Trouble> {
     said.push_str("A keeper over a database fails after so many calls\n")?;
     for calls in 0..MOST {
         let keeper = crate::files::opened_whole(alloc, &crate::files::empty(alloc))?;
-        if say_failing(alloc, said, calls, keeper)? {
+        if say_stored(alloc, said, calls, keeper)? {
             return Ok(());
         }
     }

@@ -9,6 +9,7 @@ use crate::states::State;
 use crate::trouble::Trouble;
 use desk::{Keeper, Refusal};
 use desk_store::SqliteKeeper;
+use sqlite::Alter;
 use sqlite_disk::{Disk, Files};
 use sqlite_store::FileStore;
 use std::alloc::Global;
@@ -159,10 +160,19 @@ fn seen_over<K: Keeper + Drop>(alloc: Global, keeper: K, call: Call) -> Result<S
     })
 }
 
+/// What a keeper over a database keeps, before and after the call: one function over any store.
+fn seen_stored<S: Alter + Drop>(
+    alloc: Global,
+    keeper: SqliteKeeper<S>,
+    call: Call,
+) -> Result<Seen, Trouble> {
+    seen_over(alloc, keeper, call)
+}
+
 /// What is found in a store of these bytes.
 fn seen_in(alloc: Global, left: &Pair, call: Call) -> Result<Seen, Trouble> {
     match opened(alloc, left, WHOLE)? {
-        Ok(keeper) => seen_over(alloc, keeper, call),
+        Ok(keeper) => seen_stored(alloc, keeper, call),
         Err(files) => {
             drop(files);
             Ok(Seen {
