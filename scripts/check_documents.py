@@ -5,6 +5,7 @@ they print. It needs Debian's packages sqlite3, curl, jq and sudo (visudo)."""
 
 from __future__ import annotations
 
+import json
 import os
 import re
 import signal
@@ -20,6 +21,7 @@ PROGRAM = os.path.abspath(os.environ.get("DESK", desk.PROGRAM[0]))
 STORE = "build/desk.d/desk.db"
 PATIENCE = 600  # the seconds after which something hangs: the machine may be busy
 OURS = f"build/desk %s examples/roster.toml examples/site.sudo {STORE} %s"
+AUDIT = "build/desk-audit examples/roster.toml examples/site.sudo"
 APPROVED = desk.read("examples", "approved.messages")
 GRANT = "ann 7 db-care 20260105091500Z 20260105110000Z\n"
 
@@ -34,6 +36,9 @@ class Page:
         os.symlink(desk.EXAMPLES, os.path.join(folder, "examples"))
         os.mkdir(os.path.join(folder, "build"))
         os.symlink(PROGRAM, os.path.join(folder, "build", "desk"))
+        folder_of, name_of = os.path.split(PROGRAM)
+        audit = os.path.join(folder_of, name_of.replace("desk", "desk-audit", 1))
+        os.symlink(audit, os.path.join(folder, "build", "desk-audit"))
 
     def blocks(self, kind: str = "sh", heading: str | None = None) -> list[str]:
         text = self.text if heading is None else self.text.split(f"\n## {heading}\n")[1]
@@ -71,12 +76,14 @@ def told(request: int) -> list[str]:
 
 
 def store(page: Page) -> None:
-    first, inside, backup, tried, joined, rebuilt, compared, older = page.blocks()
+    from_log, first, inside, fetched, backup, tried, *more = page.blocks()
+    joined, rebuilt, compared, older = more
     said = page.out(first)
     page.holds("a first desk", said.startswith("ack\nack\n") and "\nREVIEW 2026" in said, said)
     host_file = page.out(OURS % ("print", "db1"))
     page.holds("its file", "NOTAFTER=20260105110000Z /usr/bin/id\n" in host_file, host_file)
     look_inside(page, inside)
+    fetched_backup(page, fetched)
     page.run(backup)
     page.holds("the file of a backup", page.out(tried) == host_file, page.run(tried))
     page.holds("stores joined", page.out(joined) == "ack\nack\n", page.run(joined))
@@ -86,7 +93,7 @@ def store(page: Page) -> None:
     page.holds("what a roster takes", re.search("^< ann +7 ", said, re.M) is not None, said)
     page.holds("and why", re.search("^> ann +7 +bob +duty$", said, re.M) is not None, said)
     old_store(page, older)
-    log_alone(page)
+    log_alone(page, from_log)
     page.says("**`K4` does not**: the commit failed, and the message may be there")
 
 
@@ -108,6 +115,17 @@ def look_inside(page: Page, block: str) -> None:
     page.holds("of a printed one", ran.stderr == "K1 RosterChanged\n", ran)
 
 
+def fetched_backup(page: Page, block: str) -> None:
+    """The messages of a desk that is served are a backup, and a curl that fails leaves the last."""
+    with desk.Server(os.path.join(page.folder, STORE), program=[PROGRAM]) as server:
+        page.run(f"desk=http://127.0.0.1:{server.port}\n{block}")
+        server.end()
+    wanted = sorted(APPROVED.splitlines())
+    page.holds("a backup over HTTP", page.file("messages.txt").splitlines() == wanted)
+    page.run(f"desk=http://127.0.0.1:{server.port}\n{block}")
+    page.holds("no desk there", page.file("messages.txt").splitlines() == wanted)
+
+
 def old_store(page: Page, block: str) -> None:
     """A store of before `rebuild` is K2, and its messages come over."""
     path = os.path.join(page.folder, "old.db")
@@ -125,9 +143,9 @@ def old_store(page: Page, block: str) -> None:
     page.holds("it comes over", said.split()[1:] == ["2", "ack", "ok"], said)
 
 
-def log_alone(page: Page) -> None:
-    """A store whose file is gone and whose log is there: copied away first, the two are whole; else
-    the next command empties the log."""
+def log_alone(page: Page, block: str) -> None:
+    """A store whose file is gone and whose log is there: copied away first, the two are whole, and
+    the log alone has the messages; else the next command empties the log."""
     page.says("is gone, or empty, and its log is still there, copy the log away before")
     with desk.Server(os.path.join(page.folder, "lost.db"), program=[PROGRAM]) as server:
         for line in APPROVED.splitlines():
@@ -135,6 +153,10 @@ def log_alone(page: Page) -> None:
         server.end(signal.SIGKILL)
     question = "build/desk print examples/roster.toml examples/site.sudo %s db1"
     page.run("cp lost.db kept.db; cp lost.db-wal kept.db-wal; mv lost.db away.db")
+    page.run("cp lost.db-wal copy-of-the-log")
+    names = "build/desk deliver examples/roster.toml examples/site.sudo from-log.db"
+    said = page.out(block.replace("desk deliver ROSTER BASE new.db", names))
+    page.holds("what the log alone has", said.split() == ["2", "ack"], said)
     said = page.out(question % "lost.db")
     page.holds("without its file", said == "dba ALL = (postgres) ALL\n", said)
     page.run("cp away.db lost.db; cp lost.db-wal late.db-wal; cp away.db late.db")
@@ -153,7 +175,8 @@ def http(page: Page) -> None:
     with desk.Server(program=[PROGRAM]) as server:
         address = f"http://{server.address}"
         place, *asked = [it.replace("http://127.0.0.1:8080", address) for it in page.blocks()[1:]]
-        posted, request, messages, grants, parked, files, later, fetched, review = asked[:9]
+        posted, request, audited, messages, grants, parked, files, *more = asked[:10]
+        later, fetched, review = more
         shown = [it.replace("127.0.0.1:8080", server.address) for it in page.blocks("")]
         page.holds("an approval", page.out(place + posted) == "ack\n", page.run(place + posted))
         body = shown[0].split("\n\n")[1].strip()
@@ -164,6 +187,7 @@ def http(page: Page) -> None:
         page.holds("its reply", whole(page, place + posted) == shown[1].strip(), shown[1])
         page.holds("a request", page.out(place + request) == "ack\n", page.run(place + request))
         by_jq(page, place)
+        what_became(page, place + audited)
         made = [told(1)[0], page.file("approval.json")]
         said = page.out(place + messages)
         page.holds("all messages", said == "".join(sorted(it + "\n" for it in made)), said)
@@ -186,6 +210,14 @@ def whole(page: Page, block: str) -> str:
     return page.out(block.replace("curl ", "curl -s -i ")).replace("\r", "").strip()
 
 
+def what_became(page: Page, block: str) -> None:
+    """What people are told of their requests."""
+    said = page.out(block.replace("desk-audit ROSTER BASE", AUDIT))
+    names = json.loads(said)["names"] if said else []
+    found = [(it["by"], it["no"], it["status"]) for it in names]
+    page.holds("what became of a request", found == [("ann", 7, "granted")], said)
+
+
 def by_jq(page: Page, place: str) -> None:
     """The text that jq makes, as the page says, and with its newline."""
     page.says("Where `jq` makes the text: `jq -cjS`")
@@ -199,7 +231,8 @@ def by_jq(page: Page, place: str) -> None:
 
 
 def auditing(page: Page) -> None:
-    report, grep, every, decided, beyond, other = page.blocks()
+    # (cases_audit.py runs those that stand between)
+    report, grep, every, *_, decided, beyond, other = page.blocks()
     said = page.out(report)
     is_right = said.endswith("PARKED\n0\n") and re.search("^ann +7", said, re.M) is not None
     page.holds("a report", is_right, said)
@@ -220,8 +253,8 @@ def auditing(page: Page) -> None:
     page.says("`ann db1 root 20260105091500Z /usr/bin/id` and status 1")
     page.holds("beyond", said.endswith("\nann db1 root 20260105091500Z /usr/bin/id\n1\n"), said)
     page.says(
-        "what such a person gives is refused (`A1`)",
-        "On which hosts and with which commands stands in the request",
+        "a delivery by such a person is refused (`A1`)",
+        "The hosts and commands stand in the request",
     )
     gone = desk.approval(by="zoe")
     words = "build/desk deliver examples/roster.toml examples/site.sudo - chat"
