@@ -371,7 +371,7 @@ def restore(room: Room) -> None:
     room.run("rm /run/desk.pid; sleep 0.5")
     room.write(f"{HERE}/desk.db", "no database at all" * 300)
     done = room.follow(heading, 0)
-    room.says(heading, "From a copy of the messages, which is enough")
+    room.says(heading, "**Where it prints nothing the copy is empty**")
     room.holds("each is acknowledged", done.stdout.split() == ["2", "ack"], done)
     room.holds("what is there", room.text("/v1/messages") == listed(messages), done)
     lost = [name for name in os.listdir(room.path(HERE)) if name.startswith("lost-")]
