@@ -287,6 +287,8 @@ def pages() -> Iterator[Page]:
 
 
 def main() -> None:
+    # (where this runs under nohup, the desk would not see SIGHUP either)
+    signal.signal(signal.SIGHUP, signal.SIG_DFL)
     for name in ("sqlite3", "curl", "jq", "visudo"):
         desk.tool(name)
     followed = [(page.tried, page.wrong) for page in pages()]
