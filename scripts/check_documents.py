@@ -94,7 +94,10 @@ def store(page: Page) -> None:
     page.holds("and why", re.search("^> ann +7 +bob +duty$", said, re.M) is not None, said)
     old_store(page, older)
     log_alone(page, from_log)
-    page.says("**`K4` does not**: the commit failed, and the message may be there")
+    page.says(
+        "**`K4` does not**: the commit failed, and the message may be there",
+        "some 600 bytes a message, and a desk that was asked something 1,000 to 1,900",
+    )
 
 
 def look_inside(page: Page, block: str) -> None:
