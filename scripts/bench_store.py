@@ -1,37 +1,58 @@
 #!/usr/bin/env python3
-"""Times a desk over a file: `desk deliver` of 10,000 messages, in rounds of 2,000, beside C SQLite,
-and what it costs to open 100,000.
+"""Times a desk over a file, beside C SQLite and beside the reading of its messages.
 
-C SQLite is Python's `sqlite3`: it makes the same tables and the same commits, one a message, with
-the desk's journal mode (`wal`) and synchronous level (`full`), on the same disk. Beside both stands
-`fdatasync` alone, as often, each after a block of 4,096 bytes; and `deliver` to memory, which is
-what the desk does beside keeping. Then, over files in memory so that no disk is asked: opening a
-file of 100,000 messages (`deliver` of no line) beside what it costs to read them alone (`deliver`
-of them over a roster that lists nobody, which keeps none), in instructions where valgrind is there
-(its callgrind), so that the machine's load does not matter; and what a delivery costs over 1,000
-and over 100,000 messages: 10,000 more, less the opening. Prints of each the wall time or the
-processor time, the best of a few runs, the peak memory, and the ratios with what the desk promises.
+C SQLite is Python's `sqlite3`: it makes the same tables and takes 10,000 messages by the same
+statements and the same commits, one a message, with the desk's journal mode (`wal`) and
+synchronous level (`full`), on the same disk, in rounds of 2,000 that alternate with those of
+`desk deliver`. Beside both stands `fdatasync` alone, as often, each after a block of 4,096 bytes;
+and `deliver` to memory, which is what the desk does beside keeping.
+
+Then, over files in memory so that no disk is asked:
+
+- what a delivery costs over 1,000, over 100,000 and over 1,000,000 messages: 10,000 more, which
+  are given once the file is open, so that the opening is not counted;
+- opening 100,000 messages (`deliver` of no line), and its memory, beside what it costs to read
+  them alone (`deliver` of them over a roster that lists nobody, which keeps none);
+- `rebuild` of 100,000 messages with another roster, beside opening them;
+- the first question over a file of 8,000 grants, beside a later one and the reading of its rows;
+- a POST of a message to a desk in memory.
+
+What is counted in instructions (valgrind's callgrind, where it is there) does not depend on the
+machine's load; the rest is the least processor time of a few runs. Prints each figure, and the
+ratios with what the desk promises; the status is 1 where one does not hold.
 `bench_store.py WORDS..` runs another program than build/desk.
 """
 
 import json
 import os
+import re
 import shutil
 import sqlite3
 import subprocess
 import sys
 import tempfile
 import time
-from collections.abc import Callable
+from collections.abc import Callable, Sequence
+from typing import NamedTuple
 
 import desk
 
 import store_files
 
-DELIVERED, HELD, FEW, MORE, RUNS, ROUNDS = 10_000, 100_000, 1_000, 10_000, 3, 5
-# seconds of wall time, seconds of processor time, and the peak memory in MiB
-Cost = tuple[float, float, float]
+DELIVERED, HELD, MORE, GRANTS, RUNS, ROUNDS = 10_000, 100_000, 10_000, 8_000, 3, 5
+SIZES = (1_000, 100_000, 1_000_000)
+POSTS = (500, 1_500)
 NOBODY = 'relays = ["chat"]\nhosts = ["db1"]\nduties = []\nconflicts = []\n[people]\n[ceilings]\n'
+ASKED = desk.asked(b"GET", b"/v1/grants/20260105093000Z")
+NOWHERE = desk.asked(b"GET", b"/none")
+
+
+class Cost(NamedTuple):
+    """Seconds of wall time, seconds of processor time, and the peak memory in bytes."""
+
+    wall: float
+    busy: float
+    peak: int
 
 
 def bodies(first: int, count: int) -> list[str]:
@@ -42,27 +63,47 @@ def bodies(first: int, count: int) -> list[str]:
     ]
 
 
-def words_of(store: str, roster: str) -> list[str]:
+def lines_of(messages: list[str]) -> str:
+    return "".join(message + "\n" for message in messages)
+
+
+def delivering(store: str, roster: str = desk.ROSTER) -> list[str]:
+    """The words of a delivery."""
     return [*desk.named(), "deliver", roster, desk.BASE, store, "chat"]
 
 
-def deliver(
-    store: str, lines: list[str], folder: str, roster: str = desk.ROSTER, status: int = 0
-) -> Cost:
-    """What a delivery takes: seconds of wall time, seconds of processor time, and the peak memory
-    in MiB."""
-    given = os.path.join(folder, "given")
-    with open(given, "w") as file:
-        file.writelines(line + "\n" for line in lines)
-    with open(given) as file:
-        begun = time.perf_counter()
-        process = subprocess.Popen(words_of(store, roster), stdin=file, stdout=subprocess.DEVNULL)
-        _, ended, used = os.wait4(process.pid, 0)
-        wall = time.perf_counter() - begun
-    process.returncode = os.waitstatus_to_exitcode(ended)
+def ended(process: subprocess.Popen[bytes], begun: float, status: int) -> Cost:
+    """What a process took, which ends with this status."""
+    _, how, used = os.wait4(process.pid, 0)
+    wall = time.perf_counter() - begun
+    process.returncode = os.waitstatus_to_exitcode(how)
     if process.returncode != status:
-        sys.exit(f"deliver to {store} ends with {process.returncode}")
-    return wall, used.ru_utime + used.ru_stime, used.ru_maxrss / 1024
+        sys.exit(f"bench_store: {process.args!r} ends with {process.returncode}")
+    return Cost(wall, used.ru_utime + used.ru_stime, used.ru_maxrss * 1024)
+
+
+def run(words: Sequence[str], given: str = os.devnull, status: int = 0) -> Cost:
+    """What a run takes, over a file's input."""
+    with open(given, "rb") as source:
+        begun = time.perf_counter()
+        process = subprocess.Popen(words, stdin=source, stdout=subprocess.DEVNULL)
+        return ended(process, begun, status)
+
+
+def best(measure: Callable[[], Cost]) -> Cost:
+    """The least times of a few runs, and the greatest memory."""
+    runs = [measure() for _ in range(RUNS)]
+    return Cost(*(min(cost[n] for cost in runs) for n in (0, 1)), max(cost.peak for cost in runs))
+
+
+def judged(what: str, ratio: float, most: float) -> bool:
+    """Prints a figure beside what is promised of it; whether it is more."""
+    holds = ratio <= most
+    print(f"{what}: {ratio:,.2f}, at most {most:,g}: {'holds' if holds else 'FAILS'}", flush=True)
+    return not holds
+
+
+# ---- a disk
 
 
 def take_in(conn: sqlite3.Connection, body: str) -> None:
@@ -70,12 +111,8 @@ def take_in(conn: sqlite3.Connection, body: str) -> None:
     it = json.loads(body)
     name = (it["by"], it["no"]) if it["kind"] == "request" else (it["of"], it["no"])
     conn.execute("BEGIN")
-    found = conn.execute(
-        "INSERT INTO messages (body) SELECT ?1 WHERE NOT EXISTS"
-        " (SELECT 1 FROM messages WHERE body = ?1)",
-        (body,),
-    )
-    if found.rowcount == 1:
+    if not conn.execute("SELECT body FROM messages WHERE body = ?", (body,)).fetchall():
+        conn.execute("INSERT INTO messages (body) VALUES (?)", (body,))
         asked = conn.execute("SELECT body FROM names WHERE asker = ? AND no = ?", name).fetchall()
         if it["kind"] == "request":
             conn.execute("DELETE FROM names WHERE asker = ? AND no = ?", name)
@@ -90,7 +127,7 @@ def take_in(conn: sqlite3.Connection, body: str) -> None:
     conn.execute("COMMIT")
 
 
-def by_sqlite(folder: str, lines: list[str]) -> float:
+def by_sqlite(folder: str, messages: list[str]) -> float:
     """The same commits by C SQLite: seconds of wall time."""
     store = os.path.join(folder, "sqlite.db")
     begun = time.perf_counter()
@@ -99,8 +136,8 @@ def by_sqlite(folder: str, lines: list[str]) -> float:
         conn.execute("PRAGMA synchronous = full")
         for table in store_files.TABLES[2]:
             conn.execute(store_files.definition(table))
-        for line in lines:
-            take_in(conn, line)
+        for message in messages:
+            take_in(conn, message)
     return time.perf_counter() - begun
 
 
@@ -114,91 +151,199 @@ def by_disk(folder: str, count: int) -> float:
     return time.perf_counter() - begun
 
 
-def told(what: str, ratio: float, promised: float) -> None:
-    print(
-        f"{what}: {ratio:.2f} (at most"
-        f" {promised}){'' if ratio <= promised else ', which it is not'}"
-    )
-
-
-def on_disk() -> None:
+def on_disk() -> int:
     """Deliveries to a disk, in rounds, each beside the same commits by C SQLite, so that what the
-    disk does meanwhile falls on both."""
-    walls, used, theirs, synced = [], [], [], []
+    disk does meanwhile falls on both; 1 where they do not hold."""
+    costs, theirs, synced = [], [], []
     with tempfile.TemporaryDirectory(dir=desk.BUILD) as folder:
         for turn in range(ROUNDS):
-            lines = bodies(turn * DELIVERED // ROUNDS, DELIVERED // ROUNDS)
+            messages = bodies(turn * DELIVERED // ROUNDS, DELIVERED // ROUNDS)
             place = os.path.join(folder, str(turn))
             os.mkdir(place)
-            wall, busy, peak = deliver(os.path.join(place, "desk.db"), lines, place)
-            walls.append(wall)
-            used.append(busy)
-            theirs.append(by_sqlite(place, lines))
-            synced.append(by_disk(place, len(lines)))
-        alone, _, _ = deliver("-", bodies(0, DELIVERED), folder)
+            given = desk.write(place, "given", lines_of(messages))
+            costs.append(run(delivering(os.path.join(place, "desk.db")), given))
+            theirs.append(by_sqlite(place, messages))
+            synced.append(by_disk(place, len(messages)))
+        given = desk.write(folder, "given", lines_of(bodies(0, DELIVERED)))
+        alone = run(delivering("-"), given)
+    walls = [cost.wall for cost in costs]
     print(
-        f"deliver of {DELIVERED} messages to files, {ROUNDS} rounds: {sum(walls):.2f} s, of which"
-        f" {sum(used):.2f} s of the processor; {peak:.0f} MiB"
+        f"deliver of {DELIVERED:,} messages to files, {ROUNDS} rounds: {sum(walls):.2f} s, of which"
+        f" {sum(cost.busy for cost in costs):.2f} s of the processor;"
+        f" {max(cost.peak for cost in costs) / 2**20:.0f} MiB"
     )
     print(
         f"C SQLite {sqlite3.sqlite_version}, the same commits: {sum(theirs):.2f} s; fdatasync"
-        f" alone: {sum(synced):.2f} s; deliver to memory: {alone:.2f} s"
+        f" alone: {sum(synced):.2f} s; deliver to memory: {alone.wall:.2f} s"
     )
     each = ", ".join(f"{ours / other:.2f}" for ours, other in zip(walls, theirs))
     print(f"of each round: {each}")
-    told("deliver to a file beside C SQLite", sum(walls) / sum(theirs), 1.2)
+    return judged("deliver to a file, beside C SQLite", sum(walls) / sum(theirs), 1.2)
 
 
-def best(measure: Callable[[], Cost]) -> tuple[float, float]:
-    """The least processor time of a few runs, and the greatest memory."""
-    runs = [measure() for _ in range(RUNS)]
-    return min(used for _, used, _ in runs), max(peak for _, _, peak in runs)
+# ---- files in memory
 
 
 def held(folder: str, count: int) -> str:
     """The file of a desk with so many messages."""
     store = os.path.join(folder, f"held{count}.db")
-    store_files.make_desk(store, desk.read(desk.ROSTER), bodies(0, count))
+    if not os.path.exists(store):
+        store_files.make_desk(store, desk.read(desk.ROSTER), bodies(0, count))
     return store
 
 
-def in_memory() -> None:
-    """Openings, and the cost of a delivery by how many messages are held."""
-    with tempfile.TemporaryDirectory(dir=desk.MEMORY) as folder:
-        nobody = desk.write(folder, "nobody.toml", NOBODY)
-        read, read_peak = best(lambda: deliver("-", bodies(0, HELD), folder, nobody, 2))
-        print(f"reading {HELD} messages alone: {read:.3f} s, {read_peak:.0f} MiB")
-        each = {}
-        for count in (FEW, HELD):
-            store = held(folder, count)
-            opened, peak = best(lambda: deliver(store, [], folder))
-            print(f"opening a file of {count} messages: {opened:.3f} s, {peak:.0f} MiB")
+def copy_of(store: str) -> str:
+    """Another file of the same desk, in place of the one before."""
+    copy = os.path.join(os.path.dirname(store), "copy.db")
+    for end in ("", "-wal"):
+        if os.path.exists(copy + end):
+            os.unlink(copy + end)
+    shutil.copy(store, copy)
+    return copy
 
-            def deliver_more() -> Cost:
-                copy = os.path.join(folder, "copy.db")
-                for end in ("", "-wal"):
-                    if os.path.exists(store + end):
-                        shutil.copy(store + end, copy + end)
-                return deliver(copy, bodies(HELD, MORE), folder)
 
-            used, peak = best(deliver_more)
-            each[count] = (used - opened) / MORE
-            print(f"a delivery over {count} messages: {each[count] * 1e6:.0f} us, {peak:.0f} MiB")
-        given = "".join(line + "\n" for line in bodies(0, HELD))
-        lines = desk.write(folder, "lines", given)
-        reads = desk.instructions(words_of("-", nobody), lines)
-        if reads:
-            opens = desk.instructions(words_of(store, desk.ROSTER))
-            print(
-                f"opening {HELD} messages: {opens / 1e6:,.0f} million instructions, reading them"
-                f" alone {reads / 1e6:,.0f}"
+def used_by(pid: int) -> int:
+    """The nanoseconds of the processor that a process has used."""
+    with open(f"/proc/{pid}/schedstat", encoding="ascii") as file:
+        return int(file.read().split()[0])
+
+
+def once_open(store: str, messages: list[str]) -> Cost:
+    """What it takes to deliver messages to a desk that is open: the program reads its input then,
+    and is given it once it uses no more of the processor."""
+    process = subprocess.Popen(
+        delivering(store), stdin=subprocess.PIPE, stdout=subprocess.DEVNULL
+    )
+    assert process.stdin is not None
+    before, idle = -1, 0
+    while idle < 5:
+        time.sleep(0.05)
+        now = used_by(process.pid)
+        idle, before = (idle + 1 if now == before else 0), now
+    begun = time.perf_counter()
+    process.stdin.write(lines_of(messages).encode())
+    process.stdin.close()
+    cost = ended(process, begun, 0)
+    return cost._replace(busy=cost.busy - before / 1e9)
+
+
+def deliveries(folder: str) -> int:
+    """What a delivery costs by how many messages are held; how many rows do not hold."""
+    each = {}
+    for count in SIZES:
+        store = held(folder, count)
+        cost = best(lambda: once_open(copy_of(store), bodies(count, MORE)))
+        each[count] = cost.busy / MORE
+        print(f"a delivery over {count:,} messages: {each[count] * 1e6:.0f} us", flush=True)
+        if count > HELD:
+            os.unlink(store)
+    # the tree of the messages' texts has a level more
+    return sum(
+        judged(f"a delivery over {more:,} messages, beside {less:,}", each[more] / each[less], 1.3)
+        for less, more in ((SIZES[0], SIZES[1]), (SIZES[0], SIZES[2]))
+    )
+
+
+def opening(folder: str) -> int:
+    """Openings beside reading alone, and `rebuild` beside opening; how many rows do not hold."""
+    nobody = desk.write(folder, "nobody.toml", NOBODY)
+    given = desk.write(folder, "given", lines_of(bodies(0, HELD)))
+    store = held(folder, HELD)
+    reading, opens = delivering("-", nobody), delivering(store)
+    read, opened = best(lambda: run(reading, given, 2)), best(lambda: run(opens))
+    print(f"reading {HELD:,} messages alone: {read.busy:.3f} s, {read.peak / 2**20:.0f} MiB")
+    print(f"opening a file of them: {opened.busy:.3f} s, {opened.peak / 2**20:.0f} MiB")
+    counts = desk.instructions(opens), desk.instructions(reading, given)
+    if 0 in counts:
+        ratio = opened.busy / read.busy
+    else:
+        ratio = counts[0] / counts[1]
+        print(
+            f"in millions of instructions: opening {counts[0] / 1e6:,.0f}, reading"
+            f" {counts[1] / 1e6:,.0f}"
+        )
+    wrong = judged(f"opening {HELD:,} messages, beside reading them", ratio, 2)
+    wrong += judged("opening, bytes of memory a message", opened.peak / HELD, 1_000)
+    other = desk.write(folder, "other.toml", desk.read(desk.ROSTER) + "# another roster\n")
+    rebuilt = best(
+        lambda: run([*desk.named(), "rebuild", other, desk.BASE, copy_of(store)])
+    )
+    print(f"rebuild of {HELD:,} messages: {rebuilt.busy:.3f} s, {rebuilt.peak / 2**20:.0f} MiB")
+    return wrong + judged(
+        f"rebuild of {HELD:,} messages, beside opening them", rebuilt.busy / opened.busy, 6
+    )
+
+
+def served(store: str, requests: list[bytes], inside: str = "") -> int:
+    """The instructions of a server that answers these requests, one a connection; or those of the
+    functions alone that this pattern names."""
+    words = ["valgrind", "--tool=callgrind", "--callgrind-out-file=/dev/null"]
+    if inside:
+        words += ["--collect-atstart=no", f"--toggle-collect={inside}"]
+    with desk.Server(
+        store,
+        "--requests",
+        str(len(requests)),
+        program=desk.named(),
+        before=words,
+        stderr=subprocess.PIPE,
+    ) as server:
+        for given in requests:
+            with server.connect(seconds=600) as peer:
+                peer.sendall(given)
+                desk.received(peer)
+        said = server.error.read().decode()
+        server.wait(600)
+    counted = re.search(r"Collected : (\d+)", said)
+    return int(counted[1]) if counted else 0
+
+
+def questions(folder: str) -> int:
+    """The first question over a file beside a later one; 1 where that does not hold."""
+    if not desk.found("valgrind"):
+        return 0
+    store = held(folder, 2 * GRANTS)
+    none, one, two = (served(store, asked) for asked in ([NOWHERE], [ASKED], [ASKED, ASKED]))
+    rows = served(store, [ASKED], "*desk_opening*shown_of*")
+    first, later = one - none, two - one
+    if 0 in (none, one, two, rows):
+        return 0
+    print(
+        f"in millions of instructions, over {GRANTS:,} grants: the first question"
+        f" {first / 1e6:,.0f}, a later one {later / 1e6:,.0f}, the reading of the rows"
+        f" {rows / 1e6:,.0f}"
+    )
+    return judged(
+        "the first question, beside a later one and the rows", first / (later + rows), 1.5
+    )
+
+
+def posts() -> None:
+    """What a POST of a new message costs, beside a delivery of it, in memory."""
+    if not desk.found("valgrind"):
+        return
+    counts = [
+        served("-", [desk.posted(b"chat", body.encode()) for body in bodies(0, count)])
+        for count in POSTS
+    ]
+    print(f"a POST: {(counts[1] - counts[0]) / (POSTS[1] - POSTS[0]):,.0f} instructions")
+    with tempfile.TemporaryDirectory() as folder:
+        counts = [
+            desk.instructions(
+                delivering("-"), desk.write(folder, "given", lines_of(bodies(0, count)))
             )
-            told(f"opening {HELD} messages beside reading them, in instructions", opens / reads, 3)
-        else:
-            told(f"opening {HELD} messages beside reading them", opened / read, 3)
-        # a tree of pages has a level more, at most
-        told(f"a delivery over {HELD} messages beside one over {FEW}", each[HELD] / each[FEW], 2)
+            for count in POSTS
+        ]
+    print(f"a delivery: {(counts[1] - counts[0]) / (POSTS[1] - POSTS[0]):,.0f} instructions")
 
 
-on_disk()
-in_memory()
+def main() -> int:
+    wrong = on_disk()
+    posts()
+    with tempfile.TemporaryDirectory(dir=desk.MEMORY) as folder:
+        wrong += questions(folder) + opening(folder) + deliveries(folder)
+    return 1 if wrong else 0
+
+
+if __name__ == "__main__":
+    sys.exit(main())

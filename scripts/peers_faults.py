@@ -9,8 +9,9 @@ removed, cut, replaced or made read-only while it is served, or its log is remov
 the log of another; and a byte is turned in each page, and in its log. Each answer is the plain one
 or a named refusal, and what was acknowledged is there afterwards. `peers_faults.py WORDS..` runs
 another program than build/desk; `--only PART..` before them tries some of the parts, and `--whole`
-each place instead of some: of a long reply each of its first and last 1,000 bytes, those at each
-4,096th, and some by chance.
+each place instead of some. A long reply is cut at each byte in copies of the desk
+(scripts/cut_replies.c); over a socket it is so at each of its first and last 1,000 bytes, those at
+each 4,096th, and some by chance.
 """
 
 from __future__ import annotations
@@ -25,14 +26,17 @@ import sqlite3
 import subprocess
 import sys
 import tempfile
+import threading
 import time
 from collections import Counter
-from collections.abc import Callable, Iterator
+from collections.abc import Callable, Iterable, Iterator
+from concurrent.futures import ThreadPoolExecutor
+from typing import Any
 
 import desk
 
 import store_files
-from failing import CALL, CALLS, ERRORS, READ, WRITE, Plan
+from failing import CALL, CALLS, ERRORS, READ, WRITE, Cuts, Plan
 from tally import PATIENCE, Count, program, try_parts
 
 GRANTS = 8_000
@@ -56,6 +60,7 @@ UNPRIVILEGED = ("setpriv", "--bounding-set", "-dac_override,-dac_read_search", "
 UNSIGNALLED = ("sh", "-c", "trap '' XFSZ; exec \"$@\"", "sh")
 # A program without a proof is slow over a file: SPARSE=8 tries an eighth of the places.
 SPARSE = int(os.environ.get("SPARSE", "1"))
+LANES = max(1, (os.cpu_count() or 2) - 1)
 
 
 class Trial:
@@ -121,13 +126,21 @@ def body_of(reply: bytes) -> list[str]:
     return reply.partition(b"\r\n\r\n")[2].decode().splitlines()
 
 
-def ask(server: desk.Server, given: bytes) -> bytes:
-    """What comes of a reply until the desk lets the peer go."""
+def ask(
+    server: desk.Server,
+    given: bytes,
+    seconds: float = PATIENCE,
+    begins: Callable[[], bool] = lambda: True,
+) -> bytes:
+    """What comes of a reply until the desk lets the peer go, which reads once it begins to."""
     whole = b""
-    with server.connect(seconds=PATIENCE) as peer, contextlib.suppress(ConnectionError):
-        peer.sendall(given)
-        while piece := peer.recv(65_536):
-            whole += piece
+    with server.connect(None if begins() else 4_096, seconds) as peer:
+        with contextlib.suppress(ConnectionError):
+            peer.sendall(given)
+            while not begins():
+                time.sleep(0.01)
+            while piece := peer.recv(65_536):
+                whole += piece
     return whole
 
 
@@ -197,13 +210,13 @@ def fail_questions(trial: Trial) -> None:
     """The file of a host with 8,000 grants, as GET and as HEAD: each byte of the request, each byte
     of HEAD's reply, and of GET's each at its ends and some between."""
     store = trial.path("large.db")
-    for first in range(0, GRANTS // SPARSE, 1_000):
-        numbers = range(first, min(first + 1_000, GRANTS // SPARSE))
-        lines = [line for no in numbers for line in (desk.request(no), desk.approval(no))]
-        said = trial.deliver(store, lines)
-        trial.count.same("grants", said, (0, "ack\n" * len(lines), ""))
+    store_files.make_desk(
+        store,
+        desk.read(desk.ROSTER),
+        [make(no) for no in range(GRANTS // SPARSE) for make in (desk.request, desk.approval)],
+    )
     with serving(trial, store) as asked:
-        for method in (b"GET", b"HEAD"):
+        for method in (b"HEAD", b"GET"):
             given = desk.asked(method, b"/v1/hosts/db1/sudoers")
             whole = ask(asked.server, given)
             trial.count.holds("a whole reply", whole.startswith(REPLIES[0]), whole[:80])
@@ -212,6 +225,51 @@ def fail_questions(trial: Trial) -> None:
             for place in places(whole, trial.is_whole):
                 asked.fails(WRITE, place, "EIO", given, whole)
             asked.passes(WRITE, len(whole), given, whole)
+    cut_replies(trial, store, len(whole))
+
+
+def cut_replies(trial: Trial, store: str, longest: int) -> None:
+    """In copies of a desk its reply is cut at each byte: the file of the host to a peer that reads
+    at once, and in many writes to one that reads late; that to HEAD, and that to a message."""
+    cuts = Cuts(trial.folder, longest)
+    question, step = b"/v1/hosts/db1/sudoers", trial.step(211)
+    late = 16 if trial.is_whole else 4 * step
+    get, head = desk.asked(b"GET", question), desk.asked(b"HEAD", question)
+    post = desk.posted(b"chat", APPROVAL.encode())
+    with open(trial.path("said"), "w+b") as said:
+        with desk.Server(
+            store, program=trial.words, environment=cuts.environment, stderr=said
+        ) as server:
+            for title, given, apart, is_late in (
+                (f"the reply of {GRANTS // SPARSE:,} grants", get, step, False),
+                ("the same to a peer that reads late", get, late, True),
+                ("the reply to HEAD", head, 1, False),
+                ("the reply to a message", post, 1, False),
+            ):
+                whole = ask(server, given)
+                wanted = len(range(0, len(whole), apart))
+                cuts.set(whole, apart, *((50_000, 16_384) if is_late else ()))
+                begins = lambda: (
+                    not is_late or cuts.seen().waits > 0 or cuts.seen().copies == wanted
+                )
+                trial.count.same(title, ask(server, given, 7_200, begins) == whole, True)
+                seen = cuts.seen()
+                trial.count.same(f"{title}: cuts", seen.copies, wanted)
+                trial.count.holds(f"{title}: the desk waits for its peer", is_late <= seen.waits)
+                trial.count.tried += seen.copies
+                trial.count.wrong += seen.wrong
+                print(
+                    f"{seen.copies} of {len(whole)} bytes at which {title} was cut, in"
+                    f" {seen.writes} writes: {seen.wrong} went otherwise {seen.first()}".rstrip(),
+                    flush=True,
+                )
+            # a desk that goes on at another byte than the next is seen
+            cuts.set(whole, len(whole), lie=20)
+            ask(server, given, 7_200)
+            trial.count.same("a copy that is misled", cuts.seen()[2:], (2, 1, 20, 78))
+            server.end()
+        said.seek(0)
+        trial.count.same("the standard error", lines_of(said.read()), [])
 
 
 def places(whole: bytes, is_whole: bool) -> list[int]:
@@ -546,56 +604,74 @@ def mix_files(trial: Trial) -> None:
 # ---- a byte, turned
 
 
+def side_by_side(one: Callable[[Any], Any], cases: Iterable[Any]) -> Iterator[Any]:
+    """What comes of each case, in order."""
+    with ThreadPoolExecutor(LANES) as lanes:
+        yield from lanes.map(one, cases)
+
+
+def own_store(trial: Trial, data: bytes) -> str:
+    """The file of this lane alone, with these bytes."""
+    store = trial.path(f"lane.{threading.get_ident()}.db")
+    clear(store)
+    return desk.write(*os.path.split(store), data)
+
+
 def turn_bytes(trial: Trial) -> None:
     """A byte is turned in each page of a file of ten messages, all of whose bits or one: the
     question is refused by name, or answered as before."""
-    whole, store = trial.path("ten.db"), trial.path("turned.db")
+    whole, outcomes = trial.path("ten.db"), Counter[str]()
     sent = [REQUEST, APPROVAL, *(desk.approval(no, kind="refuse") for no in range(20, 28))]
     trial.count.same("ten messages", trial.deliver(whole, sent), (0, "ack\n" * 10, ""))
     before = trial.review(whole)
     with open(whole, "rb") as file:
         data = file.read()
-    step, outcomes = trial.step(331), dict[str, int]()
-    for place in range(0, len(data), step):
-        for mask in (0xFF,) if not trial.is_whole else (0xFF, 1 << place % 8):
-            clear(store)
-            desk.write(trial.folder, "turned.db", turned(data, place, mask))
-            got = trial.review(store)
-            is_named = got[:2] == (2, "") and got[2] in NAMED
-            is_right = is_named or got == before
-            trial.count.holds(f"byte {place} of {len(data)} turned by {mask:#x}", is_right, got)
-            name = got[2].strip() or ("as before" if is_right else "another answer")
-            outcomes[name] = outcomes.get(name, 0) + 1
-    print(f"a byte turned in a file of {len(data)} bytes: {outcomes}")
+
+    def review(case: tuple[int, int]) -> tuple[str, tuple[int, str, str]]:
+        place, mask = case
+        got = trial.review(own_store(trial, turned(data, place, mask)))
+        return f"byte {place} of {len(data)} turned by {mask:#x}", got
+
+    places = range(0, len(data), trial.step(331))
+    masks = lambda place: (0xFF, 1 << place % 8) if trial.is_whole else (0xFF,)
+    for title, got in side_by_side(review, [(it, mask) for it in places for mask in masks(it)]):
+        is_named = got[:2] == (2, "") and got[2] in NAMED
+        is_right = is_named or got == before
+        trial.count.holds(title, is_right, got)
+        outcomes[got[2].strip() or ("as before" if is_right else "another answer")] += 1
+    print(f"a byte turned in a file of {len(data)} bytes: {dict(outcomes)}")
 
 
 def turn_log(trial: Trial) -> None:
     """A byte is turned in the log of ten messages that a desk which was killed left, or the log is
     cut there. SQLite's form cannot tell that from a log that was being written: it ends where its
     sums no longer fit. So what is found is refused by name, or is a beginning of what was sent."""
-    store, sent = trial.path("logged.db"), [desk.request(number) for number in range(10)]
-    clear(store)
-    with desk.Server(store, program=trial.words) as server:
+    made, sent = trial.path("logged.db"), [desk.request(number) for number in range(10)]
+    clear(made)
+    with desk.Server(made, program=trial.words) as server:
         for body in sent:
             ask(server, desk.posted(b"chat", body.encode()))
         server.end(signal.SIGKILL)
-    first = {end: open(store + end, "rb").read() for end in ("", "-wal")}
+    first = {end: open(made + end, "rb").read() for end in ("", "-wal")}
     log, found = first["-wal"], Counter[str]()
-    for place in range(0, len(log), trial.step(190) * 31):
-        for is_cut in (False, True):
-            clear(store)
-            desk.write(trial.folder, "logged.db", first[""])
-            changed = log[:place] if is_cut else turned(log, place, 0xFF)
-            desk.write(trial.folder, "logged.db-wal", changed)
-            title = f"a log {'cut' if is_cut else 'turned'} at byte {place} of {len(log)}"
-            got = trial.review(store)
-            if got[0] == 0:
-                held = kept(store)
-                trial.count.same(title, held, sorted(sent[: len(held)]))
-                found[f"{len(held):2} messages"] += 1
-            else:
-                trial.count.holds(title, got[:2] == (2, "") and got[2] in NAMED, got)
-                found[got[2].strip()] += 1
+
+    def review(case: tuple[int, bool]) -> tuple[str, tuple[int, str, str], list[str]]:
+        place, is_cut = case
+        store = own_store(trial, first[""])
+        changed = log[:place] if is_cut else turned(log, place, 0xFF)
+        desk.write(*os.path.split(store + "-wal"), changed)
+        title = f"a log {'cut' if is_cut else 'turned'} at byte {place} of {len(log)}"
+        got = trial.review(store)
+        return title, got, kept(store) if got[0] == 0 else []
+
+    places = range(0, len(log), trial.step(190) * 31)
+    for title, got, held in side_by_side(review, itertools.product(places, (False, True))):
+        if got[0] == 0:
+            trial.count.same(title, held, sorted(sent[: len(held)]))
+            found[f"{len(held):2} messages"] += 1
+        else:
+            trial.count.holds(title, got[:2] == (2, "") and got[2] in NAMED, got)
+            found[got[2].strip()] += 1
     print(f"a log of {len(log)} bytes, turned or cut: {dict(sorted(found.items()))}")
     trial.count.holds("logs that end early, and whole ones", len(found) > 3, found)
 

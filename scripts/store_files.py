@@ -237,7 +237,8 @@ def read(path: str) -> tuple[list[Cells], list[str]]:
         for table, wanted in rows_of(bodies).items():
             found = sorted(conn.execute(f"SELECT * FROM {table}"))
             if table == "names":
-                strays = [row for row in found if row[2] not in bodies]
+                known = {*bodies}
+                strays = [row for row in found if row[2] not in known]
                 if strays:
                     raise sqlite3.DatabaseError(f"names: {strays[0]}")
                 found = [(*row[:2], None if row[3] else row[2], row[3]) for row in found]
