@@ -3,6 +3,7 @@ use Rattle.std.proofs.Common.{◌≡◌, ◌≢◌, ◌⊎◌, ℕ, inl, inr, Re
 use Rattle.std.specs.Prelude.{IfErr, IsErr, IsErrAnd}
 use Rattle.messages.specs.declared.fault.MessageFault.{MessageFault}
 use Rattle.messages.specs.declared.fault.MessageFault.TheVariants as faults
+use Rattle.desk_schema.specs.Beside.{TableWithRows}
 use Rattle.desk_store.specs.declared.error.KeeperError.{KeeperError}
 use Rattle.desk_store.specs.declared.error.KeeperError.TheVariants as errors
 use Rattle.desk_store.specs.Serving.{IsServed}
@@ -41,9 +42,9 @@ told_lack errors.Storage (Err e) is = inr is
 told_lack errors.NoMemory (Err e) is = inl is
 
 -- what storage did to the call
-pub handed_on : {A B K : Type 0} {is_up is_clean : K → Type 0} {failures : K → ℕ} {a b : K} (error : KeeperError) (s : Result B KeeperError) (r : Result A Refusal)
-    → s ≡ Err error → IsErrAnd r (λ e. e ≡ refusal_of_error error) → IsServed is_up is_clean failures a b (s ≡ Err errors.Storage) (IsErr s)
-    → IsServed is_up is_clean failures a b (r ≡ Err Storage) (IsErrAnd r IsWant)
+pub handed_on : {A B K : Type 0} {is_up is_clean : K → Type 0} {failures : K → ℕ} {beside : K → TableWithRows → Type 0} {a b : K} (error : KeeperError) (s : Result B KeeperError) (r : Result A Refusal)
+    → s ≡ Err error → IsErrAnd r (λ e. e ≡ refusal_of_error error) → IsServed is_up is_clean failures beside a b (s ≡ Err errors.Storage) (IsErr s)
+    → IsServed is_up is_clean failures beside a b (r ≡ Err Storage) (IsErrAnd r IsWant)
 handed_on error s r was is served = served_as (r ≡ Err Storage) (IsErrAnd r IsWant) (told_storage error s r was is) (λ _. told_lack error r is) served
 
 -- a refusal that can only be one of want is one

@@ -6,6 +6,7 @@ use Rattle.messages.specs.Names.{SameMessages}
 use Rattle.messages.specs.declared.message.Message.{Message}
 use Rattle.roster.specs.Fields.{RosterFields}
 use Rattle.desk_tables.specs.Sets.{Lists, SameSet}
+use Rattle.desk_schema.specs.Beside.{TableWithRows}
 use Rattle.desk_store.specs.Serving.{IsServed}
 use Rattle.desk.specs.Opening.{Opens, Refuses}
 use Rattle.desk.specs.Refusals.{IsWant}
@@ -86,8 +87,8 @@ of_both (Ok a) P Q R each p q = each a p q
 of_both (Err e) P Q R each p q = tt
 
 -- what was given was up, where what came of it is
-pub was_up_of : {K : Type 0} (is_up is_clean : K → Type 0) (failures : K → ℕ) (k : K) (r : Result (DeskState K) (Refusal × K))
-    → MatchResult r (λ d. IsServed is_up is_clean failures k d.keeper ⊥ ⊥) (λ x. IsServed is_up is_clean failures k x.1 (x.0 ≡ Storage) (IsWant x.0))
+pub was_up_of : {K : Type 0} (is_up is_clean : K → Type 0) (failures : K → ℕ) (beside : K → TableWithRows → Type 0) (k : K) (r : Result (DeskState K) (Refusal × K))
+    → MatchResult r (λ d. IsServed is_up is_clean failures beside k d.keeper ⊥ ⊥) (λ x. IsServed is_up is_clean failures beside k x.1 (x.0 ≡ Storage) (IsWant x.0))
     → MatchResult r (λ d. is_up d.keeper → is_up k) (λ x. is_up x.1 → is_up k)
-was_up_of is_up is_clean failures k (Ok d) served = served.was_up
-was_up_of is_up is_clean failures k (Err x) served = served.was_up
+was_up_of is_up is_clean failures beside k (Ok d) served = served.was_up
+was_up_of is_up is_clean failures beside k (Err x) served = served.was_up

@@ -46,7 +46,7 @@ pub(crate) fn find_or_make<K: Keeper>(keeper: &mut K, text: &str) -> Result<Orig
         (λ e. IsWant e ⊎ Refuses ⊤ (K.is_empty keeper.old) (K.is_desk keeper.old) (K.is_old keeper.old) (K.roster keeper.old) text.now e) }
     ensures fits { IfErr result (λ e. e ≢ refusal.BaseTooLarge) }
     ensures unchanged { K.is_up keeper.new → OnErr result (K.is_same keeper.old keeper.new) }
-    ensures served { IsServed K.is_up K.is_clean K.failures keeper.old keeper.new (result ≡ Err refusal.Storage) (IsErrAnd result IsWant) }
+    ensures served { IsServed K.is_up K.is_clean K.failures K.beside keeper.old keeper.new (result ≡ Err refusal.Storage) (IsErrAnd result IsWant) }
     ensures crash { K.is_up keeper.old → K.is_clean keeper.new → LeavesOnly (K.may_leave keeper.new)
         (IsLeftByOpening (K.is_empty keeper.old) (K.is_desk keeper.old) (K.is_old keeper.old) (K.roster keeper.old) text.now (K.holds keeper.old)) }
     ensures durable { K.is_up keeper.new → OnOk result (LeavesOnly (K.may_leave keeper.new) (IsDeskOf (K.roster keeper.new) (K.holds keeper.new))) }

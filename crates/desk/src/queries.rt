@@ -32,7 +32,7 @@ impl<K: Keeper> Desk<K> {
         ensures unchanged { K.is_up self.new.keeper → K.is_same self.old.keeper self.new.keeper }
         ensures roster { self.new.roster ≡ self.old.roster }
         ensures base { self.new.base ≡ self.old.base }
-        ensures served { IsServed K.is_up K.is_clean K.failures self.old.keeper self.new.keeper (result ≡ Err refusal.Storage) (IsErrAnd result IsWant) }
+        ensures served { IsServed K.is_up K.is_clean K.failures K.beside self.old.keeper self.new.keeper (result ≡ Err refusal.Storage) (IsErrAnd result IsWant) }
     {
         let known = known_of(self.known.take(), &mut self.keeper)?;
         let status = status_in(&self.roster, &known, name);
@@ -48,7 +48,7 @@ impl<K: Keeper> Desk<K> {
         ensures unchanged { K.is_up self.new.keeper → K.is_same self.old.keeper self.new.keeper }
         ensures roster { self.new.roster ≡ self.old.roster }
         ensures base { self.new.base ≡ self.old.base }
-        ensures served { IsServed K.is_up K.is_clean K.failures self.old.keeper self.new.keeper (result ≡ Err refusal.Storage) (IsErrAnd result IsWant) }
+        ensures served { IsServed K.is_up K.is_clean K.failures K.beside self.old.keeper self.new.keeper (result ≡ Err refusal.Storage) (IsErrAnd result IsWant) }
     {
         let known = known_of(self.known.take(), &mut self.keeper)?;
         let list = live_in(self.alloc, &self.roster, &known, at);
@@ -64,7 +64,7 @@ impl<K: Keeper> Desk<K> {
         ensures unchanged { K.is_up self.new.keeper → K.is_same self.old.keeper self.new.keeper }
         ensures roster { self.new.roster ≡ self.old.roster }
         ensures base { self.new.base ≡ self.old.base }
-        ensures served { IsServed K.is_up K.is_clean K.failures self.old.keeper self.new.keeper (result ≡ Err refusal.Storage) (IsErrAnd result IsWant) }
+        ensures served { IsServed K.is_up K.is_clean K.failures K.beside self.old.keeper self.new.keeper (result ≡ Err refusal.Storage) (IsErrAnd result IsWant) }
     {
         let known = known_of(self.known.take(), &mut self.keeper)?;
         let texts = parked_in(self.alloc, &known);
@@ -81,7 +81,7 @@ impl<K: Keeper> Desk<K> {
         ensures unchanged { K.is_up self.new.keeper → K.is_same self.old.keeper self.new.keeper }
         ensures roster { self.new.roster ≡ self.old.roster }
         ensures base { self.new.base ≡ self.old.base }
-        ensures served { IsServed K.is_up K.is_clean K.failures self.old.keeper self.new.keeper (result ≡ Err refusal.Storage) (IsErrAnd result IsWant) }
+        ensures served { IsServed K.is_up K.is_clean K.failures K.beside self.old.keeper self.new.keeper (result ≡ Err refusal.Storage) (IsErrAnd result IsWant) }
     {
         let known = known_of(self.known.take(), &mut self.keeper)?;
         let list = summaries_in(self.alloc, &known);
@@ -99,7 +99,7 @@ impl<K: Keeper> Desk<K> {
         ensures unchanged { K.is_up self.new.keeper → K.is_same self.old.keeper self.new.keeper }
         ensures roster { self.new.roster ≡ self.old.roster }
         ensures base { self.new.base ≡ self.old.base }
-        ensures served { IsServed K.is_up K.is_clean K.failures self.old.keeper self.new.keeper (result ≡ Err refusal.Storage) (IsErrAnd result IsWant) }
+        ensures served { IsServed K.is_up K.is_clean K.failures K.beside self.old.keeper self.new.keeper (result ≡ Err refusal.Storage) (IsErrAnd result IsWant) }
     {
         let known = known_of(self.known.take(), &mut self.keeper)?;
         let held = holdings_in(self.alloc, &known);
@@ -130,7 +130,7 @@ impl<K: Keeper> Desk<K> {
         ensures unchanged { K.is_up self.new.keeper → K.is_same self.old.keeper self.new.keeper }
         ensures roster { self.new.roster ≡ self.old.roster }
         ensures base { self.new.base ≡ self.old.base }
-        ensures served { IsServed K.is_up K.is_clean K.failures self.old.keeper self.new.keeper (result ≡ Err refusal.Storage) (IsErrAnd result IsWant) }
+        ensures served { IsServed K.is_up K.is_clean K.failures K.beside self.old.keeper self.new.keeper (result ≡ Err refusal.Storage) (IsErrAnd result IsWant) }
     {
         self.file_of(host, None)
     }
@@ -157,7 +157,7 @@ impl<K: Keeper> Desk<K> {
         ensures unchanged { K.is_up self.new.keeper → K.is_same self.old.keeper self.new.keeper }
         ensures roster { self.new.roster ≡ self.old.roster }
         ensures base { self.new.base ≡ self.old.base }
-        ensures served { IsServed K.is_up K.is_clean K.failures self.old.keeper self.new.keeper (result ≡ Err refusal.Storage) (IsErrAnd result IsWant) }
+        ensures served { IsServed K.is_up K.is_clean K.failures K.beside self.old.keeper self.new.keeper (result ≡ Err refusal.Storage) (IsErrAnd result IsWant) }
     {
         self.file_of(host, Some(moment))
     }
@@ -177,7 +177,7 @@ impl<K: Keeper> Desk<K> {
         ensures unchanged { K.is_up self.new.keeper → K.is_same self.old.keeper self.new.keeper }
         ensures roster { self.new.roster ≡ self.old.roster }
         ensures base { self.new.base ≡ self.old.base }
-        ensures served { IsServed K.is_up K.is_clean K.failures self.old.keeper self.new.keeper (result ≡ Err refusal.Storage) (IsErrAnd result IsWant) }
+        ensures served { IsServed K.is_up K.is_clean K.failures K.beside self.old.keeper self.new.keeper (result ≡ Err refusal.Storage) (IsErrAnd result IsWant) }
     {
         if !self.roster.has_host(host) {
             return Err(Refusal::UnknownHost);

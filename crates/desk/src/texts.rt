@@ -27,7 +27,7 @@ impl<K: Keeper> Desk<K> {
         ensures unchanged { K.is_up self.new.keeper → K.is_same self.old.keeper self.new.keeper }
         ensures roster { self.new.roster ≡ self.old.roster }
         ensures base { self.new.base ≡ self.old.base }
-        ensures served { IsServed K.is_up K.is_clean K.failures self.old.keeper self.new.keeper (result ≡ Err refusal.Storage) (IsErrAnd result IsWant) }
+        ensures served { IsServed K.is_up K.is_clean K.failures K.beside self.old.keeper self.new.keeper (result ≡ Err refusal.Storage) (IsErrAnd result IsWant) }
     {
         let set = listed(&mut self.keeper, &self.known)?;
         Ok(texts_in(self.alloc, set.as_slice())?)

@@ -44,7 +44,7 @@ fn entry_of<K: Keeper>(
     ensures unchanged { K.is_up desk.new.keeper → K.is_same desk.old.keeper desk.new.keeper }
     ensures roster { desk.new.roster ≡ desk.old.roster }
     ensures base { desk.new.base ≡ desk.old.base }
-    ensures served { IsServed K.is_up K.is_clean K.failures desk.old.keeper desk.new.keeper (result ≡ Err refusal.Storage) (IsErr result) }
+    ensures served { IsServed K.is_up K.is_clean K.failures K.beside desk.old.keeper desk.new.keeper (result ≡ Err refusal.Storage) (IsErr result) }
 {
     let status = desk.status_of(&name)?;
     Ok(Entry {
@@ -66,7 +66,7 @@ fn entries_of<K: Keeper>(
     ensures unchanged { K.is_up desk.new.keeper → K.is_same desk.old.keeper desk.new.keeper }
     ensures roster { desk.new.roster ≡ desk.old.roster }
     ensures base { desk.new.base ≡ desk.old.base }
-    ensures served { IsServed K.is_up K.is_clean K.failures desk.old.keeper desk.new.keeper (result ≡ Err refusal.Storage) (IsErr result) }
+    ensures served { IsServed K.is_up K.is_clean K.failures K.beside desk.old.keeper desk.new.keeper (result ≡ Err refusal.Storage) (IsErr result) }
 {
     let mut entries = Vec::new(alloc);
     for (name, about) in all {
@@ -88,7 +88,7 @@ pub fn audit<K: Keeper>(desk: &mut Desk<K>) -> Result<Vec<Entry>, Refusal>
     ensures unchanged { K.is_up desk.new.keeper → K.is_same desk.old.keeper desk.new.keeper }
     ensures roster { desk.new.roster ≡ desk.old.roster }
     ensures base { desk.new.base ≡ desk.old.base }
-    ensures served { IsServed K.is_up K.is_clean K.failures desk.old.keeper desk.new.keeper (result ≡ Err refusal.Storage) (IsErrAnd result IsWant) }
+    ensures served { IsServed K.is_up K.is_clean K.failures K.beside desk.old.keeper desk.new.keeper (result ≡ Err refusal.Storage) (IsErrAnd result IsWant) }
 {
     let texts = desk.texts()?;
     let alloc = *texts.allocator();

@@ -5,7 +5,8 @@ use Rattle.desk_commands.specs.Answers.{HasAnswer, HasCause, IsAnswer, IsCause}
 use Rattle.desk_commands.specs.Kept.{Kept}
 use Rattle.desk_commands.specs.declared.answer.Answer.{Answer}
 use Rattle.desk_commands.specs.declared.refusal.Refusal.{Refusal as Reason}
-use Rattle.desk_commands.specs.private.Outcomes.{IsOutcome}
+use Rattle.desk_commands.specs.Wanting.{TellsWant}
+use Rattle.desk_commands.specs.private.Outcomes.{IsOutcome, WantsIn}
 use Rattle.desk_commands.proofs.OverLemmas.{nothing_said}
 use Rattle.desk_jobs.specs.declared.status.Status.{Status}
 use Rattle.desk_jobs.specs.declared.status.Status.TheVariants.{Refused}
@@ -30,8 +31,10 @@ module _ (job : Job) (files : List (List ℕ)) (k : Kept) (input : Option (List 
   pub concluded : (r : Result Answer Reason) (status : Status) → IsOutcome job files k input r err_before err_between
       → IfOk r (λ a. status ≢ Refused → (status ≡ a.status) × Appends out_before out_after (string_bytes a.text) × (err_after ≡ err_between))
       → IfErr r (λ _. (status ≡ Refused) × (out_after ≡ out_before))
+      → (Up Clean Still : Type 0) → (Up → Clean → WantsIn job r ⊎ Still)
       → status ≢ Refused → (text : List ℕ) × (said : List ℕ) × IsAnswer job files k input status text said × Appends out_before out_after text × Appends err_before err_after said
-  concluded (Ok a) status outcome written none taken =
+      × (Up → Clean → TellsWant job text ⊎ Still)
+  concluded (Ok a) status outcome written none Up Clean Still up taken =
       let w = written taken in
       let found = outcome.found in (
         string_bytes a.text,
@@ -39,8 +42,9 @@ module _ (job : Job) (files : List (List ℕ)) (k : Kept) (input : Option (List 
         subst (λ s. IsAnswer job files k input s (string_bytes a.text) found.0) (sym w.0) found.1,
         w.1,
         subst (λ known. Appends err_before known found.0) (sym w.2) found.2,
+        up,
       )
-  concluded (Err e) status outcome written none taken = absurd (taken none.0)
+  concluded (Err e) status outcome written none Up Clean Still up taken = absurd (taken none.0)
 
   -- what is there of this result, where the job is refused
   pub not_concluded : (r : Result Answer Reason) (status : Status) → IsOutcome job files k input r err_before err_between

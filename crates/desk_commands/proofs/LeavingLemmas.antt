@@ -21,7 +21,7 @@ use Rattle.desk_commands.specs.Telling.{AppendsFront, refusal_line}
 use Rattle.desk_commands.specs.declared.answer.Answer.{Answer}
 use Rattle.desk_commands.specs.declared.refusal.Refusal.{Refusal as Reason}
 use Rattle.desk_commands.specs.declared.refusal.Refusal.TheVariants.{FileFailed}
-use Rattle.desk_commands.specs.private.Outcomes.{IsLeft, IsOutcome}
+use Rattle.desk_commands.specs.private.Outcomes.{IsLeft, IsOutcome, WantsIn}
 use Rattle.desk_commands.proofs.BroughtLemmas.{admitted_of, further, here, right_answer}
 use Rattle.desk_commands.proofs.OverLemmas.{nothing_said, set_on, with_more}
 use Rattle.desk_commands.proofs.TellingLemmas.{whole_front}
@@ -271,18 +271,23 @@ module _ (job : Job) (files : List (List ℕ)) (k : Kept) (Same : Type 0) (input
   pub told_after : (r : Result Answer Reason) → IsOutcome job files k input r err_before err_between
       → IfErr r (λ _. IsLeft job files k Same input err_before err_between)
       → MatchResult r (λ _. AppendsFront err_between err_after (refusal_line FileFailed)) (λ e. AppendsFront err_between err_after (refusal_line e))
-      → TellsRefusal job files k input err_before err_after
-  told_after (Ok a) outcome left line = record {
+      → (Steady : Type 0) → (Steady → WantsIn job r ⊎ k.up) → TellsRefusal job files k Steady input err_before err_after
+  told_after (Ok a) outcome left line Steady up = record {
     between = err_between;
     reason = FileFailed;
     said = said_before k input err_before err_between a.status (string_bytes a.text) outcome.found.0 outcome.found.2 job files outcome.found.1;
     line = line;
     cause = inr (refl, (a.status, string_bytes a.text, outcome.found.0, outcome.found.1));
+    up = λ steady. elim (up steady) [
+      | inl want ↦ inl (inr (a.status, string_bytes a.text, outcome.found.0, outcome.found.1, want))
+      | inr still ↦ inr still
+    ];
   }
-  told_after (Err e) outcome left line = record {
+  told_after (Err e) outcome left line Steady up = record {
     between = err_between;
     reason = e;
     said = left.told;
     line = line;
     cause = inl outcome.cause;
+    up = λ steady. elim (up steady) [ inl want ↦ inl (inl want) | inr still ↦ inr still ];
   }

@@ -11,3 +11,4 @@ pub mod CompareLemmas
 pub mod CaseLines
 pub mod TellingLemmas
 pub mod LeavingLemmas
+pub mod WantLemmas

@@ -52,14 +52,15 @@ with_more S T More new same held = set_on (λ m. S m ⊎ More m) (λ m. T m ⊎ 
 -- ---- what is answered of one set is answered of the same, and of what is known to be up
 
 module _ (f : RosterFields Cmnd) (base : List Entry) (S T new : Message → Type 0) (Up Known : Type 0) (known : Up → Known) (same : Up → SameSet S T) (input : Option (List ℕ)) where
-  lines_over : (relay : List ℕ) (a : Answer) → DeliversLines f relay T new Known input a.status (string_bytes a.text)
-      → DeliversLines f relay S new Up input a.status (string_bytes a.text)
-  lines_over relay a is = record {
+  lines_over : (relay : List ℕ) (a : Answer) (Since Failed : Type 0) → (Since → Failed) → DeliversLines f relay T new Known Since input a.status (string_bytes a.text)
+      → DeliversLines f relay S new Up Failed input a.status (string_bytes a.text)
+  lines_over relay a Since Failed counted is = record {
     lines = is.lines;
     answers = is.answers;
     lines_are = is.lines_are;
     answered = is.answered;
     held = λ up. with_more S T _ new (same up) (is.held (known up));
+    cause = λ told. counted (is.cause told);
     status_is = is.status_is;
     text_is = is.text_is;
   }
@@ -139,11 +140,25 @@ module _ {K : Type 0} (is_up is_empty is_desk is_old : K → Type 0) (roster : K
   Old = held_in (is_desk before) (is_old before) (holds before)
 
   pub delivered : (places : Places) (relay : List ℕ) (r : Result Answer Reason) (err : Option (List ℕ))
-      → IfOk r (λ a. DeliversLines f relay (holds opened) (holds after) (is_up after) input a.status (string_bytes a.text))
+      → IfOk r (λ a. DeliversLines f relay (holds opened) (holds after) (is_up after) (HasFailed (failures opened) (failures after)) input a.status (string_bytes a.text))
       → IfErr r (λ e. (e ≡ reasons.FileFailed) ⊎ (e ≡ reasons.NoMemory) ⊎ (e ≡ reasons.Desk desk.NoMemory))
       → IsOutcome (Deliver places relay) (roster_file ∷ base_file ∷ more) k input r err err
   delivered places relay (Ok a) err found cause = record {
-    found = ([], ((f, base, made, keeps, lines_over f base Old (holds opened) (holds after) (is_up after) (is_up after) (λ up. up) before_is input relay a found), refl), nothing_said err);
+    found = (
+      [],
+      (
+        (
+          f,
+          base,
+          made,
+          keeps,
+          lines_over f base Old (holds opened) (holds after) (is_up after) (is_up after) (λ up. up) before_is input relay a
+              (HasFailed (failures opened) (failures after)) (HasFailed (failures before) (failures after)) failed found,
+        ),
+        refl,
+      ),
+      nothing_said err,
+    );
     cause = tt;
   }
   delivered places relay (Err e) err found cause = record {

@@ -58,7 +58,7 @@ IsAnswer (Check name) files k input status text said = OfFile files (λ file. Ch
 IsAnswer (Decide name invocation) files k input status text said = OfFile files (λ file. DecidesByFile file invocation status text) × (said ≡ [])
 IsAnswer (Beyond a_name b_name scope) files k input status text said = OfFiles files (λ a b. ComparesFiles scope a b status text) × (said ≡ [])
 IsAnswer (Deliver places relay) files k input status text said = OfFiles files (λ roster base. OverDesk roster base k
-    (λ f b. DeliversLines f relay (held k.before) k.after.holds k.up input status text)) × (said ≡ [])
+    (λ f b. DeliversLines f relay (held k.before) k.after.holds k.up k.failed input status text)) × (said ≡ [])
 IsAnswer (Print places host after) files k input status text said = OfFiles files (λ roster base. OverDesk roster base k
     (λ f b. PrintsHost f b places.store host after (held k.before) k.after.holds k.up input status text said))
 IsAnswer (Review places at) files k input status text said = OfFiles files (λ roster base. OverDesk roster base k

@@ -1,5 +1,5 @@
 -- What `deliver` answers.
-use Rattle.std.specs.Prelude.{◌≡◌, ℕ, List, [], ◌∷◌, ◌++◌, Option, Result, Err, Ok, IfSome, codes, if◌then◌else◌, is_ok}
+use Rattle.std.specs.Prelude.{◌≡◌, ℕ, List, [], ◌∷◌, ◌++◌, Contains, Option, Result, Err, Ok, IfSome, codes, if◌then◌else◌, is_ok}
 use Rattle.std.specs.List.{list_all}
 use Rattle.sudo_words.specs.declared.cmnd.Cmnd.{Cmnd}
 use Rattle.messages.specs.declared.message.Message.{Message}
@@ -8,6 +8,7 @@ use Rattle.desk.specs.Delivery.{AreAnswers, HeldAfterAll}
 use Rattle.desk.specs.Refusals.{refusal_text}
 use Rattle.desk.specs.declared.ack.Ack.{Ack}
 use Rattle.desk.specs.declared.refusal.Refusal.{Refusal}
+use Rattle.desk.specs.declared.refusal.Refusal.TheVariants.{Storage}
 use Rattle.desk_commands.specs.Files.{EndsMaking}
 use Rattle.desk_commands.specs.Kept.{Kept}
 use Rattle.desk_commands.specs.Lines.{from_relay, input_lines}
@@ -30,14 +31,16 @@ answer_lines (answer ∷ answers) = answer_line answer ++ answer_lines answers
 abbrev pub status_after : List (Result Ack Refusal) → Status
 status_after answers = if list_all is_ok answers then Done else LinesRefused
 
--- `deliver` answers with what the desk answers to each line of the input, in order, as the relay's. What is acknowledged is held then, and nothing else is new.
-pub record DeliversLines (roster : RosterFields Cmnd) (relay : List ℕ) (old new : Message → Type 0) (Up : Type 0) (input : Option (List ℕ)) (status : Status)
+-- `deliver` answers with what the desk answers to each line of the input, in order, as the relay's. What is acknowledged is held then, and nothing else is new. A line
+-- is answered `K4 Storage` only where a failure was counted.
+pub record DeliversLines (roster : RosterFields Cmnd) (relay : List ℕ) (old new : Message → Type 0) (Up Failed : Type 0) (input : Option (List ℕ)) (status : Status)
     (text : List ℕ) : Type 0 where
   pub lines : List (List ℕ)
   pub answers : List (Result Ack Refusal)
   pub lines_are : IfSome input (λ bytes. lines ≡ input_lines bytes)
   pub answered : AreAnswers roster (from_relay relay lines) answers
   pub held : Up → HeldAfterAll old (from_relay relay lines) answers new
+  pub cause : Contains answers (Err Storage) → Failed
   pub status_is : status ≡ status_after answers
   pub text_is : text ≡ answer_lines answers
 

@@ -9,14 +9,16 @@ use Rattle.desk_store.specs.Sets.{SameSet}
 use Rattle.desk.specs.Delivery.{AreAnswers, HeldAfterAll}
 use Rattle.desk.specs.declared.ack.Ack.{Ack}
 use Rattle.desk.specs.declared.refusal.Refusal.{Refusal}
-use Rattle.desk_commands.specs.Answers.{HasAnswer, IsCause, OfFiles}
+use Rattle.desk_commands.specs.Answers.{HasAnswer, IsAnswer, IsCause, OfFiles}
 use Rattle.desk_commands.specs.Files.{IsDeskOf, IsRosterFile}
 use Rattle.desk_commands.specs.Kept.{Keeps, Kept, held}
 use Rattle.desk_commands.specs.Lines.{from_relay, input_lines}
 use Rattle.desk_commands.specs.Taking.{AreTaken, HeldWith}
 use Rattle.desk_commands.specs.Telling.{AppendsFront, refusal_line}
+use Rattle.desk_commands.specs.Wanting.{IsWanting, TellsWant}
 use Rattle.desk_commands.specs.declared.refusal.Refusal.{Refusal as Reason}
 use Rattle.desk_commands.specs.declared.refusal.Refusal.TheVariants.{FileFailed}
+use Rattle.desk_jobs.specs.declared.status.Status.{Status}
 use Rattle.desk_jobs.specs.declared.task.Job.{Job}
 use Rattle.desk_jobs.specs.declared.task.Job.TheVariants.{Deliver, Print, Review}
 use Rattle.desk_jobs.specs.declared.task.Store.{Store}
@@ -96,11 +98,16 @@ TellsBefore (Review places at) files input before after =
     Appends before after [] ⊎ OfFiles files (λ roster base. SaysBefore places.store roster input before after)
 TellsBefore job files input before after = Appends before after []
 
+-- the job has an answer, which tells of want
+abbrev pub HasWantingAnswer : Job → (files : List (List ℕ)) → Kept → (input : Option (List ℕ)) → Type 0
+HasWantingAnswer job files k input = (status : Status) × (text said : List ℕ) × IsAnswer job files k input status text said × TellsWant job text
+
 -- After what a refused job says before stands the line of its refusal, or a beginning of it. The refusal is the job's cause; or the job has an answer, and
--- it is `F1 FileFailed`.
-pub record TellsRefusal (job : Job) (files : List (List ℕ)) (k : Kept) (input before after : Option (List ℕ)) : Type 0 where
+-- it is `F1 FileFailed`. Where the keeper was up and its storage is honest, it is up, unless the refusal is one of want, or the answer tells of want.
+pub record TellsRefusal (job : Job) (files : List (List ℕ)) (k : Kept) (Steady : Type 0) (input before after : Option (List ℕ)) : Type 0 where
   pub between : Option (List ℕ)
   pub reason : Reason
   pub said : TellsBefore job files input before between
   pub line : AppendsFront between after (refusal_line reason)
   pub cause : IsCause job files k input reason ⊎ ((reason ≡ FileFailed) × HasAnswer job files k input)
+  pub up : Steady → (IsWanting reason ⊎ HasWantingAnswer job files k input) ⊎ k.up

@@ -4,6 +4,7 @@ pub mod Kept
 pub mod Files
 pub mod Lines
 pub mod Delivering
+pub mod Wanting
 pub mod Taking
 pub mod Printing
 pub mod Reviewing

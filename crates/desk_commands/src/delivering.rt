@@ -1,14 +1,15 @@
 //! Delivering the lines of the input, with an answer to each.
 
-ghost use Rattle.std.specs.Prelude.{◌≡◌, ◌⊎◌, ◌++◌, ◌∷◌, ℕ, List, Option, [], IfErr, IfOk, OnOk, is_ok, map, string_bytes, ⊤};
+ghost use Rattle.std.specs.Prelude.{◌≡◌, ◌⊎◌, ◌++◌, ◌∷◌, ℕ, List, Option, [], IfErr, IfOk, OnOk, is_ok, map, string_bytes};
 ghost use Rattle.std.specs.List.{list_all};
 ghost use Rattle.desk.specs.declared.refusal.Refusal.TheVariants as refusal;
+ghost use Rattle.desk_store.specs.Keeping.{HasFailed};
 ghost use Rattle.desk_store.specs.Serving.{IsServed};
 ghost use Rattle.desk_commands.specs.Delivering.{DeliversLines, answer_line, answer_lines, status_after};
 ghost use Rattle.desk_commands.specs.Kept.{kept};
 ghost use Rattle.desk_commands.specs.Leaving.{LeavesDelivered};
 ghost use Rattle.desk_commands.specs.declared.refusal.Refusal.TheVariants as reasons;
-ghost use Rattle.desk_commands.specs.private.Outcomes.{IsLeft, IsOutcome};
+ghost use Rattle.desk_commands.specs.private.Outcomes.{IsLeft, IsOutcome, ShowsWantIn};
 ghost use Rattle.desk_jobs.specs.declared.task.Job.TheVariants as jobs;
 ghost use Rattle.desk_jobs.specs.declared.task.Places.{Places as Parts};
 
@@ -73,12 +74,12 @@ pub fn deliver_to<K: Keeper, R: Read>(
     input: &mut R,
 ) -> Result<Answer, Refusal>
     ensures found { IfOk result (λ a. DeliversLines desk.old.roster.says relay.now (K.holds desk.old.keeper) (K.holds desk.new.keeper) (K.is_up desk.new.keeper)
-        (R.remaining input.old) a.status (string_bytes a.text)) }
+        (HasFailed (K.failures desk.old.keeper) (K.failures desk.new.keeper)) (R.remaining input.old) a.status (string_bytes a.text)) }
     ensures err { IfErr result (λ e. (e ≡ reasons.FileFailed) ⊎ (e ≡ reasons.NoMemory) ⊎ (e ≡ reasons.Desk refusal.NoMemory)) }
     ensures left { K.is_up desk.new.keeper → IfErr result
         (λ _. LeavesDelivered desk.old.roster.says relay.now (R.remaining input.old) (K.holds desk.old.keeper) (K.holds desk.new.keeper)) }
     ensures roster { desk.new.roster ≡ desk.old.roster }
-    ensures served { IsServed K.is_up K.is_clean K.failures desk.old.keeper desk.new.keeper ⊥ ⊤ }
+    ensures served { IsServed K.is_up K.is_clean K.failures K.beside desk.old.keeper desk.new.keeper ⊥ (ShowsWantIn result) }
 {
     let lines = read_lines(alloc, relay, input)?;
     let answers = desk.deliver_all(lines.as_slice())?;
@@ -102,7 +103,7 @@ fn deliver_over<K: Keeper, R: Read>(
     ensures left { (places : Parts) (more : List (List ℕ)) (err : Option (List ℕ)) → IfErr result.0 (λ _. IsLeft (jobs.Deliver places relay.now) (roster.now ∷ base.now ∷ more)
         (kept K.is_up K.is_empty K.is_desk K.is_old K.roster K.holds K.failures keeper result.1)
         (K.is_same keeper result.1) (R.remaining input.old) err err) }
-    ensures served { IsServed K.is_up K.is_clean K.failures keeper result.1 ⊥ ⊤ }
+    ensures served { IsServed K.is_up K.is_clean K.failures K.beside keeper result.1 ⊥ (ShowsWantIn result.0) }
 {
     match open_over(alloc, roster, base, keeper) {
         Ok(mut desk) => {
@@ -126,7 +127,7 @@ pub fn deliver_lines<K: Keeper, R: Read>(
     ensures left { (places : Parts) (err : Option (List ℕ)) → IfErr result.0 (λ _. IsLeft (jobs.Deliver places relay.now) (map (λ f. f.items) files.now)
         (kept K.is_up K.is_empty K.is_desk K.is_old K.roster K.holds K.failures keeper result.1)
         (K.is_same keeper result.1) (R.remaining input.old) err err) }
-    ensures served { IsServed K.is_up K.is_clean K.failures keeper result.1 ⊥ ⊤ }
+    ensures served { IsServed K.is_up K.is_clean K.failures K.beside keeper result.1 ⊥ (ShowsWantIn result.0) }
 {
     match files {
         [roster, base, ..] => deliver_over(

@@ -1,6 +1,6 @@
 //! Opening a desk over the bytes of its files and what a keeper keeps.
 
-ghost use Rattle.std.specs.Prelude.{◌≡◌, ◌≤◌, IfErr, IfOk, MatchResult, ⊤};
+ghost use Rattle.std.specs.Prelude.{◌≡◌, ◌≤◌, IfErr, IfOk, MatchResult};
 ghost use Rattle.sudo_policy.specs.Spelling.{Spells};
 ghost use Rattle.desk_store.specs.Serving.{IsServed};
 ghost use Rattle.desk_store.specs.Sets.{SameSet};
@@ -8,6 +8,7 @@ ghost use Rattle.desk_commands.specs.Files.{EndsMaking, IsDeskOf, IsRosterFile, 
 ghost use Rattle.desk_commands.specs.Kept.{held_in, keeps, kept};
 ghost use Rattle.desk_commands.specs.Leaving.{WasOpened};
 ghost use Rattle.desk_commands.specs.Rebuilding.{EndsRebuilding};
+ghost use Rattle.desk_commands.specs.Wanting.{IsWanting};
 ghost use Rattle.desk_commands.specs.private.Outcomes.{EndsParts};
 
 use crate::refusal::Refusal;
@@ -57,8 +58,8 @@ pub fn open_over<K: Keeper>(
         (kept K.is_up K.is_empty K.is_desk K.is_old K.roster K.holds K.failures keeper r.1) r.0) }
     ensures unchanged { IfErr result (λ r. K.is_up r.1 → K.is_same keeper r.1) }
     ensures served { MatchResult result
-        (λ d. IsServed K.is_up K.is_clean K.failures keeper d.keeper ⊥ ⊤)
-        (λ r. IsServed K.is_up K.is_clean K.failures keeper r.1 ⊥ ⊤) }
+        (λ d. IsServed K.is_up K.is_clean K.failures K.beside keeper d.keeper ⊥ ⊥)
+        (λ r. IsServed K.is_up K.is_clean K.failures K.beside keeper r.1 ⊥ (IsWanting r.0)) }
 {
     match parts(alloc, roster, base) {
         Ok((roster, base)) => match Desk::open(alloc, roster, base, keeper) {
@@ -85,8 +86,8 @@ pub fn rebuild_over<K: Keeper>(
         (kept K.is_up K.is_empty K.is_desk K.is_old K.roster K.holds K.failures keeper r.1) r.0) }
     ensures unchanged { IfErr result (λ r. K.is_up r.1 → K.is_same keeper r.1) }
     ensures served { MatchResult result
-        (λ d. IsServed K.is_up K.is_clean K.failures keeper d.keeper ⊥ ⊤)
-        (λ r. IsServed K.is_up K.is_clean K.failures keeper r.1 ⊥ ⊤) }
+        (λ d. IsServed K.is_up K.is_clean K.failures K.beside keeper d.keeper ⊥ ⊥)
+        (λ r. IsServed K.is_up K.is_clean K.failures K.beside keeper r.1 ⊥ (IsWanting r.0)) }
 {
     match parts(alloc, roster, base) {
         Ok((roster, base)) => match Desk::rebuild(alloc, roster, base, keeper) {

@@ -1,12 +1,13 @@
 //! Printing the report of a desk.
 
-ghost use Rattle.std.specs.Prelude.{◌≡◌, ◌∷◌, ℕ, List, map, IfErr, IfOk, string_bytes, ⊤};
+ghost use Rattle.std.specs.Prelude.{◌≡◌, ◌∷◌, ℕ, List, map, IfErr, IfOk, IsErrAnd, string_bytes};
 ghost use Rattle.std.specs.Io.KnownBytes.{Appends};
 ghost use Rattle.desk_store.specs.Keeping.{HasFailed};
 ghost use Rattle.desk_store.specs.Serving.{IsServed};
 ghost use Rattle.desk_commands.specs.Kept.{kept};
 ghost use Rattle.desk_commands.specs.Leaving.{LeavesTaken, SaysTaking};
 ghost use Rattle.desk_commands.specs.Reviewing.{ReviewsDesk};
+ghost use Rattle.desk_commands.specs.Wanting.{IsWanting};
 ghost use Rattle.desk_commands.specs.private.Outcomes.{EndsReport, IsLeft, IsOutcome};
 ghost use Rattle.desk_jobs.specs.declared.task.Job.TheVariants as jobs;
 ghost use Rattle.desk_jobs.specs.declared.task.Store.TheVariants as stores;
@@ -40,7 +41,7 @@ fn review_of<K: Keeper, R: Read, E: Write>(
         → LeavesTaken store.now desk.old.roster.says (R.remaining input.old) (K.holds desk.old.keeper) (K.holds desk.new.keeper) }
     ensures unread { (store.now ≡ stores.Memory → ⊥) → input.new ≡ input.old }
     ensures roster { desk.new.roster ≡ desk.old.roster }
-    ensures served { IsServed K.is_up K.is_clean K.failures desk.old.keeper desk.new.keeper ⊥ ⊤ }
+    ensures served { IsServed K.is_up K.is_clean K.failures K.beside desk.old.keeper desk.new.keeper ⊥ (IsErrAnd result IsWanting) }
 {
     take_input(alloc, store, desk, input, err)?;
     match report(desk, at) {
@@ -69,7 +70,7 @@ fn review_over<K: Keeper, R: Read, E: Write>(
         (kept K.is_up K.is_empty K.is_desk K.is_old K.roster K.holds K.failures keeper result.1)
         (K.is_same keeper result.1) (R.remaining input.old) (E.contents err.old) (E.contents err.new)) }
     ensures unread { (places.now.store ≡ stores.Memory → ⊥) → input.new ≡ input.old }
-    ensures served { IsServed K.is_up K.is_clean K.failures keeper result.1 ⊥ ⊤ }
+    ensures served { IsServed K.is_up K.is_clean K.failures K.beside keeper result.1 ⊥ (IsErrAnd result.0 IsWanting) }
 {
     match open_over(alloc, roster, base, keeper) {
         Ok(mut desk) => {
@@ -99,7 +100,7 @@ pub fn review_desk<K: Keeper, R: Read, E: Write>(
         (kept K.is_up K.is_empty K.is_desk K.is_old K.roster K.holds K.failures keeper result.1)
         (K.is_same keeper result.1) (R.remaining input.old) (E.contents err.old) (E.contents err.new)) }
     ensures unread { (places.now.store ≡ stores.Memory → ⊥) → input.new ≡ input.old }
-    ensures served { IsServed K.is_up K.is_clean K.failures keeper result.1 ⊥ ⊤ }
+    ensures served { IsServed K.is_up K.is_clean K.failures K.beside keeper result.1 ⊥ (IsErrAnd result.0 IsWanting) }
 {
     match files {
         [roster, base, ..] => review_over(

@@ -11,8 +11,9 @@ ghost use Rattle.desk_commands.specs.Comparing.{ComparesFiles, EndsComparing};
 ghost use Rattle.desk_commands.specs.Kept.{kept};
 ghost use Rattle.desk_commands.specs.Leaving.{KeepsAfterRefusal, TellsRefusal};
 ghost use Rattle.desk_commands.specs.Telling.{AppendsFront, refusal_line};
+ghost use Rattle.desk_commands.specs.Wanting.{TellsWant};
 ghost use Rattle.desk_commands.specs.declared.refusal.Refusal.TheVariants.{FileFailed};
-ghost use Rattle.desk_commands.specs.private.Outcomes.{IsLeft, IsOutcome};
+ghost use Rattle.desk_commands.specs.private.Outcomes.{IsLeft, IsOutcome, WantsIn};
 
 use crate::answer::Answer;
 use crate::comparing::compare_files;
@@ -139,7 +140,7 @@ fn answered<K: Keeper, R: Read, E: Write>(
         (K.is_same keeper result.1) (R.remaining input.old) (E.contents err.old) (E.contents err.new)) }
     ensures unasked { (IsOnDesk job.now → ⊥) → result.1 ≡ keeper }
     ensures unread { (ReadsInput job.now → ⊥) → input.new ≡ input.old }
-    ensures served { IsServed K.is_up K.is_clean K.failures keeper result.1 ⊥ ⊤ }
+    ensures served { IsServed K.is_up K.is_clean K.failures K.beside keeper result.1 ⊥ (WantsIn job.now result.0) }
 {
     match job {
         Job::Check { .. } => (check_first(alloc, files), keeper),
@@ -201,7 +202,8 @@ pub fn run<K: Keeper, R: Read, W: Write, E: Write>(
     ensures answered { result.0 ≢ Status.Refused → (text : List ℕ) × (said : List ℕ)
         × IsAnswer job.now (map (λ f. f.items) files.old) (kept K.is_up K.is_empty K.is_desk K.is_old K.roster K.holds K.failures keeper result.1) (R.remaining input.old) result.0 text said
         × Appends (W.contents out.old) (W.contents out.new) text
-        × Appends (E.contents err.old) (E.contents err.new) said }
+        × Appends (E.contents err.old) (E.contents err.new) said
+        × (K.is_up keeper → K.is_clean result.1 → TellsWant job.now text ⊎ K.is_up result.1) }
     // A job that is refused leaves what stood on `out`, and there is a reason for it; or it has an answer, which could not be written.
     ensures refused { result.0 ≡ Status.Refused → ((W.contents out.new ≡ W.contents out.old)
         × HasCause job.now (map (λ f. f.items) files.old) (kept K.is_up K.is_empty K.is_desk K.is_old K.roster K.holds K.failures keeper result.1) (R.remaining input.old))
@@ -211,11 +213,11 @@ pub fn run<K: Keeper, R: Read, W: Write, E: Write>(
         → KeepsAfterRefusal job.now (map (λ f. f.items) files.old) (kept K.is_up K.is_empty K.is_desk K.is_old K.roster K.holds K.failures keeper result.1) (K.is_same keeper result.1) (R.remaining input.old)
         ⊎ HasAnswer job.now (map (λ f. f.items) files.old) (kept K.is_up K.is_empty K.is_desk K.is_old K.roster K.holds K.failures keeper result.1) (R.remaining input.old) }
     ensures told { result.0 ≡ Status.Refused → TellsRefusal job.now (map (λ f. f.items) files.old) (kept K.is_up K.is_empty K.is_desk K.is_old K.roster K.holds K.failures keeper result.1)
-        (R.remaining input.old) (E.contents err.old) (E.contents err.new) }
+        (K.is_up keeper × K.is_clean result.1) (R.remaining input.old) (E.contents err.old) (E.contents err.new) }
     // Only a job on a desk asks the keeper, and only one that takes lines reads the input.
     ensures unasked { (IsOnDesk job.now → ⊥) → result.1 ≡ keeper }
     ensures unread { (ReadsInput job.now → ⊥) → input.new ≡ input.old }
-    ensures served { IsServed K.is_up K.is_clean K.failures keeper result.1 ⊥ ⊤ }
+    ensures served { IsServed K.is_up K.is_clean K.failures K.beside keeper result.1 ⊥ ⊤ }
 {
     let (answer, keeper) = answered(alloc, job, files, keeper, input, err);
     (conclude(answer, out, err), keeper)

@@ -1,6 +1,6 @@
 //! Taking the lines of the input before a question: they are delivered to a desk that is kept in memory alone.
 
-ghost use Rattle.std.specs.Prelude.{◌≡◌, ◌++◌, ℕ, List, Contains, Err, IfErr, IfOk, OnOk, string_bytes, ⊤};
+ghost use Rattle.std.specs.Prelude.{◌≡◌, ◌++◌, ℕ, List, Contains, Err, IfErr, IfOk, IsErrAnd, OnOk, string_bytes};
 ghost use Rattle.std.specs.Io.KnownBytes.{Appends};
 ghost use Rattle.desk.specs.Refusals.{IsWant};
 ghost use Rattle.desk.specs.declared.refusal.Refusal.TheVariants as refusals;
@@ -10,6 +10,7 @@ ghost use Rattle.desk_store.specs.Sets.{SameSet};
 ghost use Rattle.desk_commands.specs.Leaving.{AreSomeTaken, LeavesTaken, SaysTaking};
 ghost use Rattle.desk_commands.specs.Telling.{AppendsFront};
 ghost use Rattle.desk_commands.specs.Taking.{AreTaken, HadMemory, HeldWith, Takes, complaint, complaints};
+ghost use Rattle.desk_commands.specs.Wanting.{IsWanting};
 ghost use Rattle.desk_commands.specs.private.Outcomes.{EndsInput, EndsTaking};
 ghost use Rattle.desk_jobs.specs.declared.task.Store.TheVariants as stores;
 
@@ -34,6 +35,7 @@ fn complain(said: &mut String, number: usize, refusal: desk::Refusal) -> Result<
     ensures said { OnOk result (string_bytes said.new ≡ string_bytes said.old ++ complaint number refusal) }
     ensures memory { OnOk result (¬ IsWant refusal) }
     ensures err { IfErr result (EndsTaking (refusal ≡ refusals.Storage)) }
+    ensures wanting { IfErr result IsWanting }
 {
     match refusal {
         desk::Refusal::NoMemory | desk::Refusal::Storage => Err(Refusal::Desk(refusal)),
@@ -46,6 +48,7 @@ fn complaints_of(alloc: Global, answers: &[Result<Ack, desk::Refusal>]) -> Resul
     ensures said { IfOk result (λ s. string_bytes s ≡ complaints 1 answers.now) }
     ensures memory { OnOk result (HadMemory answers.now) }
     ensures err { IfErr result (EndsTaking (Contains answers.now (Err refusals.Storage))) }
+    ensures wanting { IfErr result IsWanting }
 {
     let mut said = String::new(alloc);
     for (index, answer) in answers.iter().enumerate() {
@@ -96,7 +99,7 @@ fn take_lines<K: Keeper, R: Read, E: Write>(
     ensures left { K.is_up desk.new.keeper → AreSomeTaken desk.old.roster.says (R.remaining input.old) (K.holds desk.old.keeper) (K.holds desk.new.keeper) }
     ensures roster { desk.new.roster ≡ desk.old.roster }
     ensures base { desk.new.base ≡ desk.old.base }
-    ensures served { IsServed K.is_up K.is_clean K.failures desk.old.keeper desk.new.keeper ⊥ ⊤ }
+    ensures served { IsServed K.is_up K.is_clean K.failures K.beside desk.old.keeper desk.new.keeper ⊥ (IsErrAnd result IsWanting) }
 {
     let lines = read_lines(alloc, desk.roster().first_relay().as_str(), input)?;
     let answers = desk.deliver_all(lines.as_slice())?;
@@ -123,7 +126,7 @@ pub fn take_input<K: Keeper, R: Read, E: Write>(
     ensures unread { (store.now ≡ stores.Memory → ⊥) → input.new ≡ input.old }
     ensures roster { desk.new.roster ≡ desk.old.roster }
     ensures base { desk.new.base ≡ desk.old.base }
-    ensures served { IsServed K.is_up K.is_clean K.failures desk.old.keeper desk.new.keeper ⊥ ⊤ }
+    ensures served { IsServed K.is_up K.is_clean K.failures K.beside desk.old.keeper desk.new.keeper ⊥ (IsErrAnd result IsWanting) }
 {
     match store {
         Store::Memory => take_lines(alloc, desk, input, err),

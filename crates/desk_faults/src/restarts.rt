@@ -1,11 +1,16 @@
 //! What a desk answers once it was given up and opened again.
 
-use crate::asking::{ask_live, ask_status, ask_summaries, ask_texts, say_all};
-use crate::files::{empty, opened_whole};
-use crate::texts::{APPROVAL, REQUEST, Rules, parts};
-use crate::trouble::Trouble;
 use desk::{Ack, Desk, Keeper, MemoryKeeper, Refusal, restart, restart_over};
 use desk_store::SqliteKeeper;
+use desk_trial::asking::{
+    ask_file_after, ask_holdings, ask_live, ask_status, ask_summaries, ask_texts, say_all,
+};
+use desk_trial::calls::{Answer, Call, make_call};
+use desk_trial::files::{empty, opened_whole};
+use desk_trial::seeing::seen_over;
+use desk_trial::states::State;
+use desk_trial::texts::{APPROVAL, REQUEST, Rules, parts};
+use desk_trial::trouble::Trouble;
 use roster::Roster;
 use sqlite::Alter;
 use std::alloc::Global;
@@ -105,7 +110,8 @@ fn deliver_many<K: Keeper>(
     }
 }
 
-/// Adds what the desk answers of a number under which nobody asks, and which grants are in force as the window ends and a second later.
+/// Adds what the desk answers of a number under which nobody asks, and which grants are in force, and which lines are left, as the window ends and a second
+/// later.
 fn say_edges<K: Keeper>(
     alloc: Global,
     said: &mut String,
@@ -115,11 +121,13 @@ fn say_edges<K: Keeper>(
     ask_status(alloc, said, desk, 9)?;
     said.push_str("; as the window ends")?;
     ask_live(said, desk, "20260105110000Z")?;
+    ask_file_after(alloc, said, desk, "20260105110000Z")?;
     said.push_str("; a second later")?;
-    ask_live(said, desk, "20260105110001Z")
+    ask_live(said, desk, "20260105110001Z")?;
+    ask_file_after(alloc, said, desk, "20260105110001Z")
 }
 
-/// Adds what the desk answers to each question, and how much it holds.
+/// Adds what the desk answers to each question, how much it holds, and which messages.
 fn say_more<K: Keeper>(
     alloc: Global,
     said: &mut String,
@@ -128,6 +136,8 @@ fn say_more<K: Keeper>(
     said.push_str("  ")?;
     say_all(alloc, said, desk)?;
     ask_summaries(said, desk)?;
+    ask_holdings(said, desk)?;
+    said.push_str("; messages")?;
     ask_texts(said, desk)?;
     say_edges(alloc, said, desk)?;
     said.push_str("\n")?;
@@ -277,4 +287,21 @@ pub(crate) fn say_restarts(alloc: Global, said: &mut String) -> Result<(), Troub
     say_in_database(alloc, said, Rules::Full)?;
     said.push_str("A desk over a database is opened again with another roster\n")?;
     say_in_database(alloc, said, Rules::Short)
+}
+
+/// Adds what a desk in memory comes to that is rebuilt with another roster.
+pub(crate) fn say_rebuilding(alloc: Global, said: &mut String) -> Result<(), Trouble> {
+    let (filled, keeper) = make_call(alloc, Call::Both, MemoryKeeper::new(alloc));
+    let seen = seen_over(alloc, keeper, Call::Rebuild(Rules::Short))?;
+    let is_right = filled? == Answer::Done
+        && seen.found == State::Granted
+        && seen.again == Answer::Done
+        && seen.then == State::Lapsed;
+    let mark = if is_right { "" } else { "; OTHERWISE" };
+    write!(
+        said,
+        "A desk in memory is rebuilt with another roster\n  before: {}; {}; after: {}{mark}\n",
+        seen.found, seen.again, seen.then
+    )?;
+    Ok(())
 }

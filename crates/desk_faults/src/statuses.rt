@@ -1,10 +1,10 @@
 //! What a request comes to.
 
-use crate::asking::ask_status;
-use crate::calls::{Answer, deliver};
-use crate::texts::{REQUEST, Rules, parts};
-use crate::trouble::Trouble;
 use desk::{Desk, MemoryKeeper};
+use desk_trial::asking::{ask_rules, ask_status};
+use desk_trial::calls::{Answer, deliver};
+use desk_trial::texts::{REQUEST, Rules, parts};
+use desk_trial::trouble::Trouble;
 use std::alloc::Global;
 use std::fmt::Write as _;
 
@@ -51,7 +51,7 @@ fn deliver_verdict(alloc: Global, desk: &mut Desk<MemoryKeeper>, row: &str) -> R
     done
 }
 
-/// Delivers the request and these verdicts on it, and adds what it comes to.
+/// Delivers the request and these verdicts on it, and adds what it comes to, and how many rules it gives.
 fn deliver_row(
     alloc: Global,
     said: &mut String,
@@ -66,6 +66,7 @@ fn deliver_row(
     }
     write!(said, "  {row}: ")?;
     ask_status(alloc, said, desk, 7)?;
+    ask_rules(alloc, said, desk)?;
     said.push_str("\n")?;
     Ok(())
 }

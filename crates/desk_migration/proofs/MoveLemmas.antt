@@ -21,7 +21,8 @@ use Rattle.desk_tables.proofs.RosterLemmas.{same_messages, same_names, same_park
 use Rattle.desk_tables.proofs.RowSets.{rows_same}
 use Rattle.desk_tables.proofs.TurnLemmas.{Desk, rows_at, spares_but, spares_then}
 use Rattle.desk_schema.specs.Shapes.{IsUnmarked}
-use Rattle.desk_schema.proofs.MadeLemmas.{has_before, none_in}
+use Rattle.desk_schema.proofs.MadeLemmas.{none_in}
+use Rattle.desk_schema.proofs.TableLists.{has_before}
 use Rattle.desk_schema.proofs.MarksLemmas.{unmarked_still}
 use Rattle.desk_opening.specs.Opened.{IsOldDesk}
 use Rattle.desk_migration.specs.Migrated.{Migrates}

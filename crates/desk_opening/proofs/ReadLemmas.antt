@@ -25,9 +25,9 @@ use Rattle.desk_schema.specs.declared.part.Part.TheVariants.{Desk, Messages, Nam
 use Rattle.desk_schema.specs.Parts.{table_at}
 use Rattle.desk_schema.specs.Shapes.{FindsPart}
 use Rattle.desk_schema.proofs.ShapeLemmas.{tree_in}
-use Rattle.desk_opening.specs.private.Reading.{Reads}
 use Rattle.desk_opening.specs.private.Selecting.{ShowsPart, select_of, shown_of}
 use Rattle.desk_opening.proofs.PartQueries.{means_of, project_of, showing}
+use Rattle.desk_opening.specs.Opened.{Reads}
 
 -- ---- the connection
 

@@ -1,10 +1,17 @@
 -- The messages that rows show, one after the other.
+use Rattle.std.specs.Prelude.{IsUtf8}
 use Rattle.std.proofs.Common.{◌≡◌, inl, inr, ℕ, ◌<◌, ◌+◌, List, [], ◌∷◌, ◌++◌, length, get_or, take, map, Contains, sym, ap, subst, ◌∙◌}
 use Rattle.std.proofs.lemmas.List.{take_more, map-append}
 use Rattle.std.proofs.lemmas.List.Elements.{Contains-push_cases}
 use Rattle.sqlite.specs.Order.{Row, column}
 use Rattle.messages.specs.declared.message.Message.{Message}
+use Rattle.messages.proofs.Readings.{text_of_message}
+use Rattle.desk_tables.specs.Stored.{IsWritten}
 use Rattle.desk_opening.specs.private.Reading.{AreBodies, AreHeld, IsKeepable, body}
+
+-- the text of a message is UTF-8
+pub written_utf8 : (t : List ℕ) → IsWritten t → IsUtf8 t
+written_utf8 t written = subst IsUtf8 (sym written.2) (text_of_message written.0 written.1).utf8
 
 -- one row and its message more
 pub bodies_more : (rows : List Row) (ms : List Message) (i : ℕ) (r : Row) (m : Message) → AreBodies (take i rows) ms → i < length rows → r ≡ get_or rows i r → (column r 0 ≡ body m) × IsKeepable m → AreBodies (take (i + 1) rows) (ms ++ m ∷ [])

@@ -1,4 +1,4 @@
--- What a database is found to keep as it is opened.
+-- What a database is found to keep as it is opened, and what a call that reads leaves as it is.
 use Rattle.std.specs.Prelude.{◌≡◌, ◌&&◌, cond, false, true, Bool, ℕ, pos, List, [], ◌∷◌, Option, Some, None, codes, string_bytes, IsUtf8}
 use Rattle.std.specs.List.{list_any}
 use Rattle.std.specs.Ordering.{int_eq}
@@ -6,8 +6,10 @@ use Rattle.sqlite.specs.declared.types.Value.{Value}
 use Rattle.sqlite.specs.declared.types.Value.TheVariants.{Null, Int, Real, Text, Blob}
 use Rattle.sqlite.specs.Order.{Row, column}
 use Rattle.sqlite.specs.Effect.{Database}
+use Rattle.sqlite.specs.State.{HasCleanDisk, State, Survives}
 use Rattle.desk_tables.specs.Kept.{HoldsText, IsDeskDatabase, table_in}
 use Rattle.desk_tables.specs.Sets.{Lists}
+use Rattle.desk_tables.specs.SqliteStates.{IsUp, Rests}
 use Rattle.desk_tables.specs.Stored.{IsWritten, content_of, has, is_stray, text_at}
 use Rattle.desk_schema.specs.declared.part.Part.TheVariants.{Verdicts}
 use Rattle.desk_schema.specs.Shapes.{FindsPart, HasCommon, IsOld, IsUnmarked, IsVacant}
@@ -72,3 +74,13 @@ FoundIn db NotADesk = (¬ IsVacant db.schema) × (¬ IsDeskBesideRows db) × (¬
 -- A desk's tables and texts are there, and the rows that follow from these, or foreign keys, are none that a desk writes.
 abbrev pub IsDamaged : Database → Type 0
 IsDamaged db = IsDeskBesideRows db × (¬ IsKept db)
+
+-- ---- calls that read
+
+-- The database is as it was, and nothing is committed.
+pub record Reads (old new : State) : Type 0 where
+  pub rests : Rests new
+  pub was_up : IsUp new → IsUp old
+  pub was_clean : HasCleanDisk new → HasCleanDisk old
+  pub same : IsUp new → new.now ≡ old.now
+  pub survives : IsUp old → HasCleanDisk new → Survives old new (λ _. ⊥)

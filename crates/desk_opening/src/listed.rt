@@ -9,8 +9,8 @@ ghost use Rattle.desk_tables.specs.SqliteStates.{IsUp, Rests};
 ghost use Rattle.desk_tables.specs.declared.fault.Fault.TheVariants as fault;
 ghost use Rattle.desk_schema.specs.declared.part.Part.TheVariants as part;
 ghost use Rattle.desk_schema.specs.Shapes.{FindsPart};
-ghost use Rattle.desk_opening.specs.Opened.{HasTexts};
-ghost use Rattle.desk_opening.specs.private.Reading.{AreBodies, HasForeign, Reads};
+ghost use Rattle.desk_opening.specs.Opened.{HasTexts, Reads};
+ghost use Rattle.desk_opening.specs.private.Reading.{AreBodies, HasForeign};
 
 use crate::reading::message_in;
 use crate::statements::rows_of;

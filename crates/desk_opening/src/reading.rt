@@ -4,8 +4,9 @@ ghost use Rattle.std.specs.Prelude.{◌≡◌, ◌&&◌, List, ℕ, true, false,
 ghost use Rattle.std.specs.String.{string_bytes};
 ghost use Rattle.sqlite.specs.declared.types.Value.TheVariants.{Text};
 ghost use Rattle.sqlite.specs.Order.{column};
-ghost use Rattle.messages.specs.Wire.{IsMessage};
+ghost use Rattle.messages.specs.Wire.{wire, IsMessage};
 ghost use Rattle.messages.specs.declared.message.Message.{Message as AnyMessage};
+ghost use Rattle.desk_tables.specs.Stored.{IsWritten};
 ghost use Rattle.desk_opening.specs.Rows.{HaveRowids};
 ghost use Rattle.desk_opening.specs.private.Reading.{IsForeign, IsKeepable, AreBodies, AreHeld, HasForeign, body, shown_mark};
 
@@ -13,7 +14,7 @@ use crate::compare::is_number;
 use crate::once::are_keyed;
 use crate::rows::are_rows;
 use crate::stored::Stored;
-use messages::{Message, MessageFault, read_message, text};
+use messages::{Message, MessageFault, read_message};
 use sqlite::Row;
 use sqlite_value::value::ValueRef;
 use std::alloc::Global;
@@ -48,17 +49,15 @@ pub(crate) fn roster_of(
     }
 }
 
-/// The message, with its text.
-fn stored(alloc: Global, message: Message) -> Result<Stored, NoMemory>
-    requires { IsMessage message }
-    ensures { IfOk result (λ s. s ≡ message) }
+/// The message that the bytes are the text of.
+fn message_of(alloc: Global, bytes: &[u8]) -> Result<Option<Message>, NoMemory>
+    ensures message { IfOk result (λ found. IfSome found (λ m. (bytes.now ≡ wire m) × IsKeepable m)) }
+    ensures none { IfOk result (λ found. IfNone found (¬ IsWritten bytes.now)) }
 {
-    match text(alloc, &message) {
-        Ok(body) => Ok(Stored::new(body, message)),
-        Err(error) => {
-            drop(message);
-            Err(error)
-        }
+    match read_message(alloc, bytes) {
+        Ok(message) => Ok(Some(message)),
+        Err(MessageFault::NoMemory) => Err(NoMemory),
+        Err(_) => Ok(None),
     }
 }
 
@@ -70,22 +69,22 @@ pub(crate) fn message_in(alloc: Global, row: &Row) -> Result<Option<Message>, No
     let Ok(ValueRef::Text(bytes)) = row.get_ref(0) else {
         return Ok(None);
     };
-    match read_message(alloc, bytes) {
-        Ok(message) => Ok(Some(message)),
-        Err(MessageFault::NoMemory) => Err(NoMemory),
-        Err(_) => Ok(None),
-    }
+    message_of(alloc, bytes)
 }
 
-/// The message whose text the row shows, with this text.
+/// The message whose text the row shows, with a copy of this text: it is not written again.
+#[tactic(auto, using(crate::proofs::ReadingLemmas::written_utf8))]
 fn stored_in(alloc: Global, row: &Row) -> Result<Option<Stored>, NoMemory>
     ensures message { IfOk result (λ found. IfSome found (λ m. (column row.now 0 ≡ body m) × IsKeepable m)) }
     ensures none { IfOk result (λ found. IfNone found (IsForeign (column row.now 0))) }
 {
-    let Some(message) = message_in(alloc, row)? else {
+    let Some(body) = text_at(alloc, row, 0)? else {
         return Ok(None);
     };
-    Ok(Some(stored(alloc, message)?))
+    let Some(message) = message_of(alloc, body.as_bytes())? else {
+        return Ok(None);
+    };
+    Ok(Some(Stored::new(body, message)))
 }
 
 /// The messages whose texts the rows show, where they show nothing else.

@@ -11,8 +11,7 @@ ghost use Rattle.desk_tables.specs.SqliteStates.{IsUp, Rests};
 ghost use Rattle.desk_tables.specs.declared.fault.Fault.TheVariants as fault;
 ghost use Rattle.desk_schema.specs.declared.part.Part.TheVariants as part;
 ghost use Rattle.desk_schema.specs.Shapes.{FindsPart, HasCommon};
-ghost use Rattle.desk_opening.specs.Opened.{IsKept};
-ghost use Rattle.desk_opening.specs.private.Reading.{Reads};
+ghost use Rattle.desk_opening.specs.Opened.{IsKept, Reads};
 ghost use Rattle.desk_opening.specs.private.Showing.{AreShown, IsNoStray, ShowsName, ShowsParked, ShowsVerdict};
 
 use crate::cells::{flag_at, kind_at, message_at, moment_at, name_at, number_at};

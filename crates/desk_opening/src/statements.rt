@@ -5,8 +5,8 @@ ghost use Rattle.sqlite.specs.State.{HasCleanDisk};
 ghost use Rattle.sqlite.specs.Held.{state};
 ghost use Rattle.desk_tables.specs.SqliteStates.{IsUp, Rests};
 ghost use Rattle.desk_schema.specs.Shapes.{FindsPart};
-ghost use Rattle.desk_opening.specs.private.Reading.{Reads};
 ghost use Rattle.desk_opening.specs.private.Selecting.{ShowsPart, select_of};
+ghost use Rattle.desk_opening.specs.Opened.{Reads};
 
 use desk_schema::Part;
 use sqlite::{Alter, Connection, Error, Row};

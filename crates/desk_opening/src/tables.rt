@@ -6,8 +6,8 @@ ghost use Rattle.sqlite.specs.Held.{state};
 ghost use Rattle.desk_tables.specs.SqliteStates.{IsUp, Rests};
 ghost use Rattle.desk_schema.specs.declared.part.Part.TheVariants as part;
 ghost use Rattle.desk_schema.specs.Shapes.{FindsPart, HasCommon};
-ghost use Rattle.desk_opening.specs.private.Reading.{Reads};
 ghost use Rattle.desk_opening.specs.private.Selecting.{ShowsRows, ShowsTexts};
+ghost use Rattle.desk_opening.specs.Opened.{Reads};
 
 use crate::statements::rows_of;
 use desk_schema::Part;

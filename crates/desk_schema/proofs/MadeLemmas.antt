@@ -11,9 +11,9 @@ use Rattle.sqlite.specs.Table.{Table}
 use Rattle.sqlite.specs.Effect.{Database, IsDatabase}
 use Rattle.sqlite.specs.State.{State}
 use Rattle.sqlite_rules.specs.Lists.{Has}
-use Rattle.sqlite_schema.specs.Names.{same_name}
+use Rattle.sqlite_schema.specs.Names.{same_name, table_named}
 use Rattle.desk_tables.specs.Kept.{IsDeskDatabase, IsKeyed, IsNeat, IsTidy, table_in}
-use Rattle.desk_tables.specs.Stored.{Finds, HasDesk, IsUnreferred, content_of, has, is_stray, recorded, texts_of, tree_of}
+use Rattle.desk_tables.specs.Stored.{Finds, HasDesk, IsUnreferred, content_of, has, is_in, is_stray, recorded, texts_of, tree_of}
 use Rattle.desk_tables.specs.private.Stepping.{IsBare, Marked, Marks, Says}
 use Rattle.desk_tables.proofs.OneSchema.{again, unused_again}
 use Rattle.desk_tables.proofs.RefillLemmas.{no_rows}
@@ -22,14 +22,15 @@ use Rattle.desk_tables.proofs.StepLemmas.{keyed_none, neat_none}
 use Rattle.desk_schema.specs.declared.part.Part.{Part}
 use Rattle.desk_schema.specs.declared.part.Part.TheVariants as part
 use Rattle.desk_schema.specs.Parts.{name_of, table_at}
-use Rattle.desk_schema.specs.Shapes.{Lacks}
+use Rattle.desk_schema.specs.Beside.{IsOther, KeepsBeside, found_as}
+use Rattle.desk_schema.specs.Shapes.{FindsPart, Lacks}
 use Rattle.desk_schema.specs.private.Making.{AddsPart, Differs, Filled, Founds, Grows, GrownWhole, GrowsWhole, HasEmpty, Makes, fresh}
 use Rattle.desk_schema.specs.Ready.{IsReady}
-use Rattle.std.proofs.lemmas.Bool.Decides.{eqb_tells}
 use Rattle.sqlite.specs.Change.{KeepsRows}
-use Rattle.desk_schema.proofs.Grown.{find_kept}
+use Rattle.desk_schema.proofs.BesideLemmas.{new_tree, other_new, other_none, there_still}
 use Rattle.desk_schema.proofs.GrowLemmas.{grows_more, same_itself}
 use Rattle.desk_schema.proofs.RecognizedLemmas.{tree_is}
+use Rattle.desk_schema.proofs.TableLists.{all_member, all_of, has_before}
 
 -- ---- the five tables
 
@@ -171,46 +172,6 @@ module _ (a b : Database) (g : GrowsWhole a b) where
 
 -- ---- the tables that were there
 
-module _ (q : Table → Bool) where
-  -- what is a member is found, or another before it
-  found_some : (ts : List Table) (t : Table) → Has ts t → q t ≡ true → (u : Table) × (find q ts ≡ Some u)
-  found_some [] t there is = absurd there
-  found_some (x ∷ ts) t there is = go (q x) refl (λ later. found_some ts t later is)
-    where
-      go : (b : Bool) → q x ≡ b → (Has ts t → (u : Table) × (find q ts ≡ Some u)) → (u : Table) × (cond (q x) (Some x) (find q ts) ≡ Some u)
-      go true e more = (x, ap (λ b. cond b (Some x) (find q ts)) e)
-      go false e more = elim there [
-        | inl same ↦ absurd (let no : true ≡ false = sym is ∙ ap q same ∙ e in cc)
-        | inr later ↦ let it = more later in (it.0, ap (λ b. cond b (Some x) (find q ts)) e ∙ it.1)
-      ]
-
-  -- what is found has no name that none has
-  not_named : (p : Table → Bool) (i : ℕ) (ts : List Table) (u : Table) → position_from p i ts ≡ None → find q ts ≡ Some u → p u ≡ false
-  not_named p i [] u none h = absurd cc
-  not_named p i (x ∷ ts) u none h = go (p x) refl (q x) none h (λ n e. not_named p (i + 1) ts u n e)
-    where
-      go : (b : Bool) → p x ≡ b → (c : Bool) → cond b (Some i) (position_from p (i + 1) ts) ≡ None → cond c (Some x) (find q ts) ≡ Some u → (position_from p (i + 1) ts ≡ None → find q ts ≡ Some u → p u ≡ false) → p u ≡ false
-      go true e c n f more = absurd cc
-      go false e true n f more = let same : x ≡ u = cc in ap p (sym same) ∙ e
-      go false e false n f more = more n f
-
-all_of : (P : Table → Type 0) (ts : List Table) → ((t : Table) → Has ts t → P t) → AllByRecursion P ts
-all_of P [] each = tt
-all_of P (t ∷ ts) each = (each t (inl refl), all_of P ts (λ u there. each u (inr there)))
-
-all_member : (P : Table → Type 0) (ts : List Table) (t : Table) → Has ts t → AllByRecursion P ts → P t
-all_member P [] t there all = absurd there
-all_member P (u ∷ ts) t (inl same) all = subst P (sym same) all.0
-all_member P (u ∷ ts) t (inr later) all = all_member P ts t later all.1
-
-pub has_before : (ts us : List Table) (t : Table) → Has ts t → Has (ts ++ us) t
-has_before [] us t there = absurd there
-has_before (u ∷ ts) us t (inl same) = inl same
-has_before (u ∷ ts) us t (inr later) = inr (has_before ts us t later)
-
-same_number : (m : ℕ) → (m == m) ≡ true
-same_number m = elim (eqb_tells m m) [ inl is ↦ is.0 | inr apart ↦ absurd (apart.1 refl) ]
-
 module _ (roster : List ℕ) (a b c : Database) (ready : IsReady a.schema) (g : GrowsWhole a b) (put : Marks (Says roster) b c) where
   abbrev desk_tree : ℕ
   desk_tree = tree_of b.schema (codes "desk")
@@ -218,28 +179,46 @@ module _ (roster : List ℕ) (a b c : Database) (ready : IsReady a.schema) (g : 
   -- no table that was there has the tree of the new one
   apart_from : (t : Table) → Has a.schema.tables t → t.tree ≢ desk_tree
   apart_from t there same =
-      let q : Table → Bool = λ u. u.tree == desk_tree in
-      let it = found_some (λ (u : Table). u.tree == desk_tree) a.schema.tables t there (ap (λ n. n == desk_tree) same ∙ same_number desk_tree) in
-      let longer : find (λ (u : Table). u.tree == desk_tree) b.schema.tables ≡ Some it.0 = ap (find (λ (u : Table). u.tree == desk_tree)) g.tables ∙ find_kept (λ (u : Table). u.tree == desk_tree) it.0 a.schema.tables g.more it.1 in
-      let whole = found b part.Desk (d a b g) in
-      let two : Some it.0 ≡ Some (table_at part.Desk desk_tree) = sym longer ∙ whole.by_tree in
-      let is : it.0 ≡ table_at part.Desk desk_tree = cc in
-      let named = not_named (λ (u : Table). u.tree == desk_tree) (λ (u : Table). same_name u.name (codes "desk")) 0 a.schema.tables it.0 ready.vacant.0.lacks.table it.1 in
-      absurd (let no : true ≡ false = sym (same_itself part.Desk desk_tree) ∙ ap (λ (u : Table). same_name u.name (codes "desk")) (sym is) ∙ named in cc)
+      let it = d a b g in
+      new_tree a.schema b.schema g.more g.tables part.Desk t ready.vacant.0.lacks.table (it.at, it.tree, it.finds) there (sym (same ∙ tree_in b part.Desk it))
 
   pub keeps_whole : KeepsRows a.schema.tables a.trees c.trees
   keeps_whole = all_of (λ (t : Table). c.trees t.tree ≡ a.trees t.tree) a.schema.tables (λ t there.
       all_member (λ (u : Table). u.tree ≢ desk_tree → c.trees u.tree ≡ b.trees u.tree) b.schema.tables t (subst (λ ts. Has ts t) (sym g.tables) (has_before a.schema.tables g.more t there)) put.others (apart_from t there)
       ∙ all_member (λ (u : Table). b.trees u.tree ≡ a.trees u.tree) a.schema.tables t there g.kept)
 
+  -- ---- the tables of other names
+
+  abbrev grown_tables : c.schema.tables ≡ a.schema.tables ++ g.more
+  grown_tables = ap (λ (s : Schema). s.tables) put.schema ∙ g.tables
+
+  came : (p : Part) (t : Table) → table_named a.schema (name_of p) ≡ None → HasEmpty b p → Has a.schema.tables t → is_in (found_as c.schema (name_of p)) t.tree ≡ false
+  came p t free it there = other_new a.schema c.schema g.more grown_tables p t free (subst (λ (s : Schema). FindsPart s p) (sym put.schema) (it.at, it.tree, it.finds)) there
+
+  other_than : (t : Table) → Has a.schema.tables t → IsOther c.schema t.tree
+  other_than t there part.Desk = came part.Desk t ready.vacant.0.lacks.table (d a b g) there
+  other_than t there part.Messages = came part.Messages t ready.vacant.1.0.lacks.table (m a b g) there
+  other_than t there part.Names = came part.Names t ready.vacant.1.1.0.lacks.table (n a b g) there
+  other_than t there part.Verdicts = came part.Verdicts t ready.vacant.1.1.1.0.lacks.table (v a b g) there
+  other_than t there part.Parked = came part.Parked t ready.vacant.1.1.1.1.0.lacks.table (k a b g) there
+  other_than t there part.Marks = other_none c.schema part.Marks t.tree (subst (λ (s : Schema). Lacks s part.Marks) (sym put.schema) g.open'.0.lacks)
+
+  pub keeps_beside : KeepsBeside a c
+  keeps_beside it stands = record {
+    there = there_still a.schema c.schema g.more grown_tables it.table stands.there;
+    other = other_than it.table stands.there;
+    rows = all_member (λ (t : Table). c.trees t.tree ≡ a.trees t.tree) a.schema.tables it.table stands.there keeps_whole ∙ stands.rows;
+  }
+
 pub filled : (roster : List ℕ) → IsUtf8 roster → (a b c : State) → GrownWhole a b → Marked IsBare (Says roster) b c → Filled roster a c
 filled roster utf8 a b c grown put = record {
   mode = put.inside.mode;
-  founds = λ ready.
-      let g = grown.grows ready in
-      let marks = put.marks (tidy a.now b.now g) (unrecorded a.now b.now g) in
-      record { makes = makes a.now b.now g roster utf8 c.now marks; kept = keeps_whole roster a.now b.now c.now ready g marks };
+  founds = λ ready. let g = grown.grows ready in record { makes = makes a.now b.now g roster utf8 c.now (marks ready); kept = keeps_whole roster a.now b.now c.now ready g (marks ready) };
+  beside = λ ready. keeps_beside roster a.now b.now c.now ready (grown.grows ready) (marks ready);
 }
+  where
+    marks : (ready : IsReady a.now.schema) → Marks (Says roster) b.now c.now
+    marks ready = let g = grown.grows ready in put.marks (tidy a.now b.now g) (unrecorded a.now b.now g)
 
 -- ---- what was promised of one schema holds of each that the trees list
 

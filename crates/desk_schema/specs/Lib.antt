@@ -3,4 +3,5 @@ pub mod Shapes
 pub mod Ready
 pub mod References
 pub mod Migratable
+pub mod Beside
 pub mod private

@@ -6,6 +6,7 @@ ghost use Rattle.sqlite.specs.Held.{state};
 ghost use Rattle.desk_tables.specs.SqliteStates.{IsUp, Rests};
 ghost use Rattle.desk_tables.specs.private.Stepping.{InStep};
 ghost use Rattle.desk_tables.specs.private.Steps.{IsStep};
+ghost use Rattle.desk_schema.specs.Beside.{KeepsBeside};
 ghost use Rattle.desk_schema.specs.Ready.{IsReady};
 ghost use Rattle.desk_schema.specs.private.Making.{AddsPart, Filled, Founds, FoundsAt, GrownWhole, text_of};
 
@@ -81,6 +82,7 @@ pub fn make<S: Alter>(conn: &mut Connection<S>, roster: &str) -> Result<(), Erro
     ensures up { IsUp (state S.Store conn.old) → HasCleanDisk (state S.Store conn.new) → OnOk result (IsUp (state S.Store conn.new)) }
     ensures unmade { IsUp (state S.Store conn.new) → OnErr result ((state S.Store conn.new).now ≡ (state S.Store conn.old).now) }
     ensures made { IsUp (state S.Store conn.new) → OnOk result (Founds roster.now (state S.Store conn.old).now (state S.Store conn.new).now) }
+    ensures beside { IsUp (state S.Store conn.new) → OnOk result (KeepsBeside (state S.Store conn.old).now (state S.Store conn.new).now) }
     ensures survives { IsUp (state S.Store conn.old)
         → Survives (state S.Store conn.old) (state S.Store conn.new) (FoundsAt roster.now (state S.Store conn.old).now) }
 {

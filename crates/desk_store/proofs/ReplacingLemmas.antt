@@ -1,21 +1,27 @@
 -- What the calls leave, one after the other, that replace the roster's text.
-use Rattle.std.proofs.Common.{◌≡◌, ℕ, List, Result, Ok, Err, inl, le_refl, refl, subst}
+use Rattle.std.proofs.Common.{◌≡◌, ◌∙◌, ℕ, List, [], ◌∷◌, Result, Ok, Err, inl, le_refl, refl, subst}
 use Rattle.std.specs.Prelude.{IsErr, OnErr, OnOk}
+use Rattle.sqlite.specs.Table.{Table}
 use Rattle.sqlite.specs.Tree.{Trees}
 use Rattle.sqlite.specs.Effect.{Database}
 use Rattle.sqlite.specs.State.{State, HasCleanDisk, Survives}
 use Rattle.sqlite.proofs.StateLemmas.{survives_then, survives_weaker}
+use Rattle.sqlite_rules.specs.Lists.{Has}
+use Rattle.desk_tables.specs.DeskTables.{verdicts_at}
 use Rattle.desk_tables.specs.Kept.{IsDeskDatabase, Spares}
 use Rattle.desk_tables.specs.SqliteStates.{IsUp, Rests}
 use Rattle.desk_tables.specs.Stored.{content_of, with_roster}
 use Rattle.desk_tables.specs.private.Survival.{ChangesAt}
+use Rattle.desk_schema.specs.Beside.{IsOther, KeepsBeside}
+use Rattle.desk_schema.specs.declared.part.Part.TheVariants as part
+use Rattle.desk_schema.proofs.BesideLemmas.{other_apart, other_new, other_still, spared_beside, there_still}
+use Rattle.desk_schema.proofs.ShapeLemmas.{common_of}
 use Rattle.desk_schema.proofs.MarksLemmas.{unmarked_spared, unmarked_still}
 use Rattle.desk_opening.specs.declared.found.Contents.{Contents}
 use Rattle.desk_opening.specs.declared.found.Found.{Found}
 use Rattle.desk_opening.specs.declared.found.Found.TheVariants as found
-use Rattle.desk_migration.specs.Migrated.{MigratesAt}
-use Rattle.desk_opening.specs.Opened.{FoundIn, IsKept}
-use Rattle.desk_opening.specs.private.Reading.{Reads}
+use Rattle.desk_migration.specs.Migrated.{GainsVerdicts, IsBeside, KeepsOthers, MigratesAt}
+use Rattle.desk_opening.specs.Opened.{FoundIn, IsKept, IsOldDesk, Reads}
 use Rattle.desk_store.specs.private.Replacing.{Becomes, BecomesAt, Replaces}
 
 -- what was found, by its case
@@ -36,6 +42,7 @@ nothing_done roster s e rests = record {
   was_clean = λ clean. clean;
   up = λ up clean. tt;
   becomes = λ up. tt;
+  beside = λ up. tt;
   unchanged = λ up. refl;
   survives = λ up clean. survives_same s (BecomesAt roster s.now);
 }
@@ -53,6 +60,7 @@ module _ {A E : Type 0} (roster : List ℕ) (a b : State) (reads : Reads a b) wh
     was_clean = reads.was_clean;
     up = λ up clean. tt;
     becomes = λ up. tt;
+    beside = λ up. tt;
     unchanged = reads.same;
     survives = λ up clean. survives_weaker a b (λ _. ⊥) (BecomesAt roster a.now) (λ _ db none. absurd none) (reads.survives up clean);
   }
@@ -69,6 +77,7 @@ module _ {A E : Type 0} (roster : List ℕ) (a b : State) (reads : Reads a b) wh
     was_clean = λ clean. reads.was_clean (two.was_clean clean);
     up = λ up clean. two.up (still up (two.was_clean clean)) clean;
     becomes = λ up. subst (λ (d : Database). OnOk r (Becomes roster d c.now)) (reads.same (two.was_up up)) (two.becomes up);
+    beside = λ up. subst (λ (d : Database). OnOk r (KeepsBeside d c.now)) (reads.same (two.was_up up)) (two.beside up);
     unchanged = λ up. subst (λ (d : Database). OnErr r (c.now ≡ d)) (reads.same (two.was_up up)) (two.unchanged up);
     survives = λ up clean.
         let mid = still up (two.was_clean clean) in
@@ -82,11 +91,22 @@ both_ok : {A E P Q R : Type 0} (r : Result A E) → OnOk r P → OnOk r Q → (P
 both_ok (Ok x) p q on = on p q
 both_ok (Err e) p q on = tt
 
+all_ok : {A E P Q R S : Type 0} (r : Result A E) → OnOk r P → OnOk r Q → OnOk r R → (P → Q → R → S) → OnOk r S
+all_ok (Ok x) p q r on = on p q r
+all_ok (Err e) p q r on = tt
+
+ok_then : {A E P Q : Type 0} (r : Result A E) → OnOk r P → (P → Q) → OnOk r Q
+ok_then (Ok x) p on = on p
+ok_then (Err e) p on = tt
+
 module _ {A E : Type 0} (roster : List ℕ) (old new : State) (r : Result A E) (kept : IsUp old → IsKept old.now) (was_up : IsUp new → IsUp old) where
   pub today_becomes : (up : IsUp new) → IsDeskDatabase new.now → OnOk r (content_of new.now ≡ with_roster roster (content_of old.now)) → OnOk r (Spares old.now new.now) → OnOk r (Becomes roster old.now new.now)
   today_becomes up desk content spares =
       let was = kept (was_up up) in
       both_ok r content spares (λ c s. record { desk = record { desk = desk; unmarked = unmarked_still old.now new.now was.desk.tidy.desk s was.unmarked }; content = c })
+
+  pub today_beside : IsUp new → OnOk r (Spares old.now new.now) → OnOk r (KeepsBeside old.now new.now)
+  today_beside up spares = ok_then r spares (spared_beside old.now new.now (kept (was_up up)).desk.tidy.desk)
 
   pub today_survives : IsUp old → Survives old new (ChangesAt roster old.now) → Survives old new (BecomesAt roster old.now)
   today_survives up lives =
@@ -96,9 +116,41 @@ module _ {A E : Type 0} (roster : List ℕ) (old new : State) (r : Result A E) (
 
 -- ---- a desk of an older form
 
+module _ (old new : Database) (was : IsOldDesk old) (is : IsKept new) (grown : GainsVerdicts old new) (kept : KeepsOthers old new) where
+  abbrev more : List Table
+  more = verdicts_at grown.0 ∷ []
+
+  -- a part that was there is found still, and `verdicts` has a tree of its own
+  other_still_all : (t : Table) → Has old.schema.tables t → IsOther old.schema t.tree → IsOther new.schema t.tree
+  other_still_all t there other part.Desk = other_still old.schema new.schema more grown.1 part.Desk t.tree was.tables.common.desk (other part.Desk)
+  other_still_all t there other part.Messages = other_still old.schema new.schema more grown.1 part.Messages t.tree was.tables.common.messages (other part.Messages)
+  other_still_all t there other part.Names = other_still old.schema new.schema more grown.1 part.Names t.tree was.tables.common.names (other part.Names)
+  other_still_all t there other part.Parked = other_still old.schema new.schema more grown.1 part.Parked t.tree was.tables.common.parked (other part.Parked)
+  other_still_all t there other part.Marks = other_still old.schema new.schema more grown.1 part.Marks t.tree was.tables.marks (other part.Marks)
+  other_still_all t there other part.Verdicts = other_new old.schema new.schema more grown.1 part.Verdicts t was.tables.verdicts.table (common_of new.schema is.desk.tidy.desk).1 there
+
+  stands_apart : (tree : ℕ) → IsOther old.schema tree → IsBeside old.schema tree
+  stands_apart tree other = record {
+    desk = other_apart old.schema part.Desk tree was.tables.common.desk (other part.Desk);
+    messages = other_apart old.schema part.Messages tree was.tables.common.messages (other part.Messages);
+    names = other_apart old.schema part.Names tree was.tables.common.names (other part.Names);
+    marks = other_apart old.schema part.Marks tree was.tables.marks (other part.Marks);
+    parked = other_apart old.schema part.Parked tree was.tables.common.parked (other part.Parked);
+  }
+
+  migrated_beside : KeepsBeside old new
+  migrated_beside it stands = record {
+    there = there_still old.schema new.schema more grown.1 it.table stands.there;
+    other = other_still_all it.table stands.there stands.other;
+    rows = kept it.table stands.there (stands_apart it.table.tree stands.other) ∙ stands.rows;
+  }
+
 module _ {A E : Type 0} (roster : List ℕ) (old new : State) (r : Result A E) where
   pub older_becomes : OnOk r (IsKept new.now) → OnOk r (content_of new.now ≡ with_roster roster (content_of old.now)) → OnOk r (Becomes roster old.now new.now)
   older_becomes kept content = both_ok r kept content (λ k c. record { desk = k; content = c })
+
+  pub older_beside : IsOldDesk old.now → OnOk r (IsKept new.now) → OnOk r (GainsVerdicts old.now new.now) → OnOk r (KeepsOthers old.now new.now) → OnOk r (KeepsBeside old.now new.now)
+  older_beside was kept grown others = all_ok r kept grown others (migrated_beside old.now new.now was)
 
   pub older_survives : Survives old new (MigratesAt roster old.now) → Survives old new (BecomesAt roster old.now)
   older_survives lives = survives_weaker old new (MigratesAt roster old.now) (BecomesAt roster old.now) (λ _ trees at db same sound. let it = at db same sound in record { desk = it.kept; content = it.content }) lives

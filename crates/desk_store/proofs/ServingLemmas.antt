@@ -1,5 +1,6 @@
 -- What storage does to calls, one after the other.
 use Rattle.std.proofs.Common.{◌≡◌, ◌⊎◌, ℕ, ◌≤◌, true, false, le_refl, inl, inr, arith}
+use Rattle.desk_schema.specs.Beside.{TableWithRows}
 use Rattle.desk_store.specs.Keeping.{HasFailed}
 use Rattle.desk_store.specs.Serving.{IsServed}
 
@@ -26,9 +27,9 @@ no_want (inr up) = up
 
 -- ---- calls one after the other
 
-module _ {K : Type 0} {is_up is_clean : K → Type 0} {failures : K → ℕ} where
+module _ {K : Type 0} {is_up is_clean : K → Type 0} {failures : K → ℕ} {beside : K → TableWithRows → Type 0} where
   -- nothing was called
-  pub served_by_none : (k : K) (Storage Want : Type 0) → (Storage → ⊥) → IsServed is_up is_clean failures k k Storage Want
+  pub served_by_none : (k : K) (Storage Want : Type 0) → (Storage → ⊥) → IsServed is_up is_clean failures beside k k Storage Want
   served_by_none k Storage Want other = record {
     was_up = λ up. up;
     was_clean = λ clean. clean;
@@ -36,10 +37,11 @@ module _ {K : Type 0} {is_up is_clean : K → Type 0} {failures : K → ℕ} whe
     counts = le_refl _;
     cause = λ storage. absurd (other storage);
     up = λ up _. inr up;
+    others = λ up it stands. stands;
   }
 
   -- the same call, told by another answer
-  pub served_as : {a b : K} {S W : Type 0} (S' W' : Type 0) → (S' → S) → (W → W') → IsServed is_up is_clean failures a b S W → IsServed is_up is_clean failures a b S' W'
+  pub served_as : {a b : K} {S W : Type 0} (S' W' : Type 0) → (S' → S) → (W → W') → IsServed is_up is_clean failures beside a b S W → IsServed is_up is_clean failures beside a b S' W'
   served_as S' W' storage want s = record {
     was_up = s.was_up;
     was_clean = s.was_clean;
@@ -47,11 +49,12 @@ module _ {K : Type 0} {is_up is_clean : K → Type 0} {failures : K → ℕ} whe
     counts = s.counts;
     cause = λ is. s.cause (storage is);
     up = λ up clean. elim (s.up up clean) [ inl is ↦ inl (want is) | inr still ↦ inr still ];
+    others = s.others;
   }
 
   -- two calls, one after the other
-  pub served_both : {a b c : K} {S W T V : Type 0} → IsServed is_up is_clean failures a b S W → IsServed is_up is_clean failures b c T V
-      → IsServed is_up is_clean failures a c (S ⊎ T) (W ⊎ V)
+  pub served_both : {a b c : K} {S W T V : Type 0} → IsServed is_up is_clean failures beside a b S W → IsServed is_up is_clean failures beside b c T V
+      → IsServed is_up is_clean failures beside a c (S ⊎ T) (W ⊎ V)
   served_both {a} {b} {c} {S} {W} {T} {V} first second = record {
     was_up = λ up. first.was_up (second.was_up up);
     was_clean = λ clean. first.was_clean (second.was_clean clean);
@@ -74,19 +77,20 @@ module _ {K : Type 0} {is_up is_clean : K → Type 0} {failures : K → ℕ} whe
         | inr still ↦ inr still
       ]
     ];
+    others = λ up it stands. second.others up it (first.others (second.was_up up) it stands);
   }
 
   -- two calls, of which the second gives the answer
-  pub served_then : {a b c : K} {S W T V : Type 0} → (W → V) → IsServed is_up is_clean failures a b S W → IsServed is_up is_clean failures b c T V
-      → IsServed is_up is_clean failures a c T V
+  pub served_then : {a b c : K} {S W T V : Type 0} → (W → V) → IsServed is_up is_clean failures beside a b S W → IsServed is_up is_clean failures beside b c T V
+      → IsServed is_up is_clean failures beside a c T V
   served_then {a} {b} {c} {S} {W} {T} {V} want first second =
       served_as T V (λ told. inr told) (λ told. elim told as (λ _. V) [ inl sooner ↦ want sooner | inr later ↦ later ]) (served_both first second)
 
   -- after a call that was answered by an Ok
-  pub served_after : {a b c : K} {S T V : Type 0} → IsServed is_up is_clean failures a b S (false ≡ true) → IsServed is_up is_clean failures b c T V
-      → IsServed is_up is_clean failures a c T V
+  pub served_after : {a b c : K} {S T V : Type 0} → IsServed is_up is_clean failures beside a b S (false ≡ true) → IsServed is_up is_clean failures beside b c T V
+      → IsServed is_up is_clean failures beside a c T V
   served_after first second = served_then (λ want. absurd cc) first second
 
   -- such a call, told by an answer that tells of nothing
-  pub served_at_ok : {a b : K} {S : Type 0} (Storage Want : Type 0) → (Storage → ⊥) → IsServed is_up is_clean failures a b S (false ≡ true) → IsServed is_up is_clean failures a b Storage Want
+  pub served_at_ok : {a b : K} {S : Type 0} (Storage Want : Type 0) → (Storage → ⊥) → IsServed is_up is_clean failures beside a b S (false ≡ true) → IsServed is_up is_clean failures beside a b Storage Want
   served_at_ok Storage Want other s = served_as Storage Want (λ is. absurd (other is)) (λ want. absurd cc) s

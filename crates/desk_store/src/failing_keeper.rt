@@ -82,6 +82,8 @@ impl<K: Keeper> Keeper for FailingKeeper<K> {
 
     ghost failures = { λ k. together (K.failures k.kept) k.refused };
 
+    ghost beside = { λ k. K.beside k.kept };
+
     ghost is_same = { λ a b. K.is_same a.kept b.kept };
 
     ghost may_leave = { λ k. K.may_leave k.kept };

@@ -5,8 +5,7 @@ ghost use Rattle.sqlite.specs.State.{HasCleanDisk};
 ghost use Rattle.sqlite.specs.Held.{state};
 ghost use Rattle.desk_tables.specs.Kept.{HoldsText};
 ghost use Rattle.desk_tables.specs.SqliteStates.{IsUp, Rests};
-ghost use Rattle.desk_opening.specs.Opened.{IsKept};
-ghost use Rattle.desk_opening.specs.private.Reading.{Reads};
+ghost use Rattle.desk_opening.specs.Opened.{IsKept, Reads};
 ghost use Rattle.desk_store.specs.Keeping.{IsKnownOf};
 
 use desk_opening::shown_of;

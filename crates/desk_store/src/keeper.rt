@@ -3,6 +3,7 @@
 ghost use Rattle.std.specs.Prelude.{◌≡◌, ℕ, ◌≤◌, ◌⊎◌, List, length, IfOk, IsErr, OnOk, OnErr, Err};
 ghost use Rattle.messages.specs.Wire.{IsMessage, wire};
 ghost use Rattle.messages.specs.declared.message.Message.{Message as AnyMessage};
+ghost use Rattle.desk_schema.specs.Beside.{TableWithRows};
 ghost use Rattle.desk_tables.specs.Sets.{IsNothing, SameSet, IsWith, Lists, With};
 ghost use Rattle.desk_store.specs.Keeping.{IsKnownOf, Tells};
 ghost use Rattle.desk_store.specs.Left.{Left, IsAsKept, IsDeskOf, IsNothingOrFresh, IsReplacedOrNot, IsWithOrWithout, LeavesOnly};
@@ -19,7 +20,7 @@ use messages::Message;
 /// before. A clause of what is kept holds where the keeper is up as the call ends: its storage has been honest, and no
 /// failure has shut it. A keeper in memory is always up. `Storage` is answered only where the count of failures rose in
 /// that call, or stands at the greatest number of 64 bits. A clause `served` says this of each call, with whether the keeper
-/// is up then.
+/// is up then, and that what else its storage keeps stays as it was.
 ///
 /// A clause `crash` holds at each exit of its call, also after a failure, as long as the storage has been honest: what a
 /// crash may leave then, for the next opening, is all that was kept as the call began, or all that the call was to commit.
@@ -50,6 +51,9 @@ pub trait Keeper {
     /// How many failures were counted.
     ghost failures: { Self → ℕ };
 
+    /// The table is kept too, with these rows, and is none of a desk's.
+    ghost beside: { Self → TableWithRows → Type 0 };
+
     /// The second keeps what the first does.
     ghost is_same: { Self → Self → Type 0 };
 
@@ -60,7 +64,7 @@ pub trait Keeper {
     fn look(&mut self) -> Result<Found, KeeperError>
         ensures found { is_up self.new → IfOk result (Tells (is_empty self.old) (is_desk self.old) (is_old self.old) (roster self.old)) }
         ensures same { is_up self.new → is_same self.old self.new }
-        ensures served { IsServed is_up is_clean failures self.old self.new (result ≡ Err KeeperError.Storage) (IsErr result) }
+        ensures served { IsServed is_up is_clean failures beside self.old self.new (result ≡ Err KeeperError.Storage) (IsErr result) }
         ensures crash { is_up self.old → is_clean self.new → LeavesOnly (may_leave self.new) (IsAsKept (is_empty self.old) (is_desk self.old) (is_old self.old) (roster self.old) (holds self.old)) };
 
     /// Makes a desk of this roster text, without messages, in one commit.
@@ -70,7 +74,7 @@ pub trait Keeper {
         ensures recorded { is_up self.new → OnOk result (roster self.new ≡ text.now) }
         ensures nothing { is_up self.new → OnOk result (IsNothing (holds self.new)) }
         ensures unmade { is_up self.new → OnErr result (is_same self.old self.new) }
-        ensures served { IsServed is_up is_clean failures self.old self.new (result ≡ Err KeeperError.Storage) (IsErr result) }
+        ensures served { IsServed is_up is_clean failures beside self.old self.new (result ≡ Err KeeperError.Storage) (IsErr result) }
         ensures crash { is_up self.old → is_clean self.new → LeavesOnly (may_leave self.new) (IsNothingOrFresh text.now) }
         ensures lasting { is_up self.old → is_clean self.new → OnOk result (LeavesOnly (may_leave self.new) (IsDeskOf text.now (λ _. ⊥))) }
         ensures durable { is_up self.new → LeavesOnly (may_leave self.new) (IsAsKept (is_empty self.new) (is_desk self.new) (is_old self.new) (roster self.new) (holds self.new)) };
@@ -86,7 +90,7 @@ pub trait Keeper {
         ensures unchanged { is_up self.new → OnErr result (is_same self.old self.new) }
         ensures desk { is_up self.new → is_desk self.new }
         ensures roster { is_up self.new → roster self.new ≡ roster self.old }
-        ensures served { IsServed is_up is_clean failures self.old self.new (result ≡ Err KeeperError.Storage) (IsErr result) }
+        ensures served { IsServed is_up is_clean failures beside self.old self.new (result ≡ Err KeeperError.Storage) (IsErr result) }
         ensures crash { is_up self.old → is_clean self.new → LeavesOnly (may_leave self.new) (IsWithOrWithout (roster self.old) (holds self.old) message.now) }
         ensures lasting { is_up self.old → is_clean self.new → OnOk result (LeavesOnly (may_leave self.new) (IsDeskOf (roster self.old) (With (holds self.old) message.now))) }
         ensures durable { is_up self.new → LeavesOnly (may_leave self.new) (IsDeskOf (roster self.new) (holds self.new)) };
@@ -99,7 +103,7 @@ pub trait Keeper {
         ensures recorded { is_up self.new → OnOk result (roster self.new ≡ text.now) }
         ensures held { is_up self.new → OnOk result (SameSet (holds self.old) (holds self.new)) }
         ensures unchanged { is_up self.new → OnErr result (is_same self.old self.new) }
-        ensures served { IsServed is_up is_clean failures self.old self.new (result ≡ Err KeeperError.Storage) (IsErr result) }
+        ensures served { IsServed is_up is_clean failures beside self.old self.new (result ≡ Err KeeperError.Storage) (IsErr result) }
         ensures crash { is_up self.old → is_clean self.new
             → LeavesOnly (may_leave self.new) (IsReplacedOrNot (is_desk self.old) (is_old self.old) (roster self.old) text.now (holds self.old)) }
         ensures lasting { is_up self.old → is_clean self.new → OnOk result (LeavesOnly (may_leave self.new) (IsDeskOf text.now (holds self.old))) }
@@ -112,7 +116,7 @@ pub trait Keeper {
         requires { is_up self.old → is_desk self.old }
         ensures known { is_up self.new → IfOk result (IsKnownOf (holds self.old)) }
         ensures same { is_up self.new → is_same self.old self.new }
-        ensures served { IsServed is_up is_clean failures self.old self.new (result ≡ Err KeeperError.Storage) (IsErr result) }
+        ensures served { IsServed is_up is_clean failures beside self.old self.new (result ≡ Err KeeperError.Storage) (IsErr result) }
         ensures crash { is_up self.old → is_clean self.new → LeavesOnly (may_leave self.new) (IsDeskOf (roster self.old) (holds self.old)) };
 
     /// The desk's messages, in an order of the keeper's own. What is kept stays as it is.
@@ -120,7 +124,7 @@ pub trait Keeper {
         requires { is_up self.old → is_desk self.old }
         ensures listed { is_up self.new → IfOk result (λ list. Lists (holds self.old) list.items) }
         ensures same { is_up self.new → is_same self.old self.new }
-        ensures served { IsServed is_up is_clean failures self.old self.new (result ≡ Err KeeperError.Storage) (IsErr result) }
+        ensures served { IsServed is_up is_clean failures beside self.old self.new (result ≡ Err KeeperError.Storage) (IsErr result) }
         ensures crash { is_up self.old → is_clean self.new → LeavesOnly (may_leave self.new) (IsDeskOf (roster self.old) (holds self.old)) };
 
     /// How many failures it has counted, up to the greatest number of 64 bits.

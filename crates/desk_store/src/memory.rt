@@ -68,6 +68,8 @@ impl Keeper for MemoryKeeper {
 
     ghost failures = { λ k. 0 };
 
+    ghost beside = { λ k it. ⊥ };
+
     ghost is_same = { λ a b. b ≡ a };
 
     ghost may_leave = { LeavesContent };

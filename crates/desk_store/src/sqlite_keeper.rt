@@ -7,6 +7,7 @@ ghost use Rattle.desk_tables.specs.Kept.{HoldsText};
 ghost use Rattle.desk_tables.specs.Sets.{SameSet};
 ghost use Rattle.desk_tables.specs.SqliteStates.{IsUp, Rests};
 ghost use Rattle.desk_tables.specs.Stored.{content_of};
+ghost use Rattle.desk_schema.specs.Beside.{StandsBeside};
 ghost use Rattle.desk_schema.specs.Shapes.{IsVacant};
 ghost use Rattle.desk_opening.specs.Opened.{IsKept, IsOldDesk};
 ghost use Rattle.desk_store.specs.Crash.{MayLeave};
@@ -132,6 +133,8 @@ impl<S: Alter> Keeper for SqliteKeeper<S> {
     ghost is_clean = { λ k. HasCleanDisk (state S.Store k.conn) };
 
     ghost failures = { λ k. k.failed };
+
+    ghost beside = { λ k. StandsBeside (state S.Store k.conn).now };
 
     ghost is_same = { λ a b. (state S.Store b.conn).now ≡ (state S.Store a.conn).now };
 

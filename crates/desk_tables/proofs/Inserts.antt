@@ -18,7 +18,7 @@ use Rattle.sqlite_ast.specs.declared.Statement.TheVariants as written
 use Rattle.desk_tables.proofs.Layers.{compiled_is}
 use Rattle.desk_tables.proofs.QueriesOf.{Means, means}
 use Rattle.desk_tables.specs.Stored.{Finds}
-use Rattle.desk_tables.specs.DeskTables.{desk_at, names_at, verdicts_at, parked_at}
+use Rattle.desk_tables.specs.DeskTables.{desk_at, messages_at, names_at, verdicts_at, parked_at}
 
 -- a text that parses as an INSERT with no OR, no ON CONFLICT and no RETURNING
 pub record IsInsert (text : List ℕ) (table : Name) (columns : List Name) : Type 0 where
@@ -63,7 +63,10 @@ roster_parts = (record { p = _; rows = _; parsed = refl; statement = refl; forma
 pub roster_put : (s : Schema) (at tree : ℕ) → Finds s (codes "desk") at (desk_at tree) → Means s roster_text (command.Insert at (Values roster_terms 4))
 roster_put s at tree it = insert_is s roster_text (codes "desk") _ roster_parts.0 at (desk_at tree) (Values roster_terms 4) it.named it.has refl (roster_parts.1 s tree)
 
--- ---- the INSERTs of the three tables of rows
+-- ---- the INSERTs of the messages and of the three tables of rows
+
+abbrev pub text_insert : List ℕ
+text_insert = codes "INSERT INTO messages (body) VALUES (?1)"
 
 abbrev pub name_insert : List ℕ
 name_insert = codes "INSERT INTO names (asker, no, body, disputed) VALUES (?1, ?2, ?3, ?4)"
@@ -74,6 +77,9 @@ verdict_insert = codes "INSERT INTO verdicts (asker, no, person, kind, at) VALUE
 abbrev pub parked_insert : List ℕ
 parked_insert = codes "INSERT INTO parked (body, asker, no) VALUES (?1, ?2, ?3)"
 
+abbrev pub text_terms : List Term
+text_terms = lit Null ∷ col 0 0 ∷ []
+
 abbrev pub name_terms : List Term
 name_terms = lit Null ∷ col 0 0 ∷ col 0 1 ∷ col 0 2 ∷ col 0 3 ∷ []
 
@@ -83,6 +89,9 @@ verdict_terms = lit Null ∷ col 0 0 ∷ col 0 1 ∷ col 0 2 ∷ col 0 3 ∷ col
 abbrev pub parked_terms : List Term
 parked_terms = lit Null ∷ col 0 0 ∷ col 0 1 ∷ col 0 2 ∷ []
 
+abbrev text_columns : List Name
+text_columns = codes "body" ∷ []
+
 abbrev name_columns : List Name
 name_columns = codes "asker" ∷ codes "no" ∷ codes "body" ∷ codes "disputed" ∷ []
 
@@ -91,6 +100,10 @@ verdict_columns = codes "asker" ∷ codes "no" ∷ codes "person" ∷ codes "kin
 
 abbrev parked_columns : List Name
 parked_columns = codes "body" ∷ codes "asker" ∷ codes "no" ∷ []
+
+text_parts : (it : IsInsert text_insert (codes "messages") text_columns) × ((s : Schema) (tree : ℕ) → new_rows s (messages_at tree) (small it.p.names + 0) text_columns it.rows ≡ Ok (Values text_terms 2))
+unfolding everything
+text_parts = (record { p = _; rows = _; parsed = refl; statement = refl; formats = refl }, λ s tree. refl)
 
 name_parts : (it : IsInsert name_insert (codes "names") name_columns) × ((s : Schema) (tree : ℕ) → new_rows s (names_at tree) (small it.p.names + 0) name_columns it.rows ≡ Ok (Values name_terms 5))
 unfolding everything
@@ -103,6 +116,9 @@ verdict_parts = (record { p = _; rows = _; parsed = refl; statement = refl; form
 parked_parts : (it : IsInsert parked_insert (codes "parked") parked_columns) × ((s : Schema) (tree : ℕ) → new_rows s (parked_at tree) (small it.p.names + 0) parked_columns it.rows ≡ Ok (Values parked_terms 4))
 unfolding everything
 parked_parts = (record { p = _; rows = _; parsed = refl; statement = refl; formats = refl }, λ s tree. refl)
+
+pub text_put : (s : Schema) (at tree : ℕ) → Finds s (codes "messages") at (messages_at tree) → Means s text_insert (command.Insert at (Values text_terms 2))
+text_put s at tree it = insert_is s text_insert (codes "messages") _ text_parts.0 at (messages_at tree) (Values text_terms 2) it.named it.has refl (text_parts.1 s tree)
 
 pub name_put : (s : Schema) (at tree : ℕ) → Finds s (codes "names") at (names_at tree) → Means s name_insert (command.Insert at (Values name_terms 5))
 name_put s at tree it = insert_is s name_insert (codes "names") _ name_parts.0 at (names_at tree) (Values name_terms 5) it.named it.has refl (name_parts.1 s tree)

@@ -5,7 +5,6 @@ pub mod Exists
 pub mod Selects
 pub mod QueriesOf
 pub mod Inserts
-pub mod Missing
 pub mod Creates
 -- what they do
 pub mod TextSets

@@ -23,12 +23,12 @@ use Rattle.sqlite_rules.proofs.TableLemmas.{put_all_has, put_all_keeps, put_all_
 use Rattle.sqlite_schema.specs.declared.schema.Keys.TheVariants.{Enforced}
 use Rattle.sqlite.proofs.Callers.{one_step}
 use Rattle.sqlite_schema.specs.declared.schema.Column.{Column}
-use Rattle.desk_tables.specs.DeskTables.{keyed, names, verdicts, parked}
+use Rattle.desk_tables.specs.DeskTables.{keyed, messages, names, verdicts, parked}
 use Rattle.desk_tables.specs.Rows.{IsRow}
 use Rattle.desk_tables.specs.private.Changes.{Gains}
 use Rattle.desk_tables.proofs.Steps.{went, same_value, no_works, mode}
 use Rattle.desk_tables.proofs.AddLemmas.{cast_null, either}
-use Rattle.desk_tables.proofs.Inserts.{name_terms, verdict_terms, parked_terms}
+use Rattle.desk_tables.proofs.Inserts.{text_terms, name_terms, verdict_terms, parked_terms}
 
 pub cast_int : (n : ℤ) → cast Integer (Int n) ≡ Int n
 unfolding unary
@@ -98,7 +98,10 @@ module _ (name : List ℕ) (columns : List Column) (key : List ℕ) (tree : ℕ)
         ap (λ (p : Tally × Database). p.1.schema) last,
       )
 
--- ---- the three tables
+-- ---- the tables
+
+pub text_kept : (t : List ℕ) → AreKept (codes "messages") messages.columns messages.primary text_terms 2 (Text t ∷ []) (Text t ∷ [])
+text_kept t = rw cast_null refl
 
 pub name_kept : (a b : List ℕ) (n d : ℤ) → AreKept (codes "names") names.columns names.primary name_terms 5 (Text a ∷ Int n ∷ Text b ∷ Int d ∷ []) (Text a ∷ Int n ∷ Text b ∷ Int d ∷ [])
 name_kept a b n d = rw (cast_null, cast_int n, cast_int d) refl

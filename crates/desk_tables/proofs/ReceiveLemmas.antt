@@ -25,7 +25,7 @@ there_already texts text there = same_sets _ _ (λ q. set.contains-insert nat_li
     go q true same = let is = is_same q text same in rw (same, is, there) refl
     go q false other = rw other refl
 
-module _ (a b : Database) (text : List ℕ) (count : ℕ) (adds : AddsText text count a b) (is : IsDeskDatabase a) where
+module _ (a b : Database) (text : List ℕ) (adds : AddsText text a b) (is : IsDeskDatabase a) where
   abbrev texts : Texts
   texts = (content_of a).texts
 
@@ -106,12 +106,12 @@ again text told a b is finds = record {
   repeats = λ desk there. finds.same desk.tidy;
 }
 
-pub anew : (text : List ℕ) (told : Bool) (count : ℕ) (m : Message) (a z b c : State) → IsWritten text → text ≡ wire m → told ≡ false → FindsText text told a z → WroteText text count z b → Settled m b c → Received text a c
-anew text told count m a z b c written wired is finds wrote settled = record {
+pub anew : (text : List ℕ) (told : Bool) (m : Message) (a z b c : State) → IsWritten text → text ≡ wire m → told ≡ false → FindsText text told a z → WroteText text z b → Settled m b c → Received text a c
+anew text told m a z b c written wired is finds wrote settled = record {
   mode = settled.mode;
   receives = λ sound desk.
-      let adds = subst (λ d. AddsText text count d b.now) (finds.same desk.tidy) (wrote.adds (subst IsTidy (sym (finds.same desk.tidy)) desk.tidy)) in
-      received_new a.now b.now text count adds desk m c.now (settled.settles adds.tidy) written wired (missing desk);
+      let adds = subst (λ d. AddsText text d b.now) (finds.same desk.tidy) (wrote.adds (subst IsTidy (sym (finds.same desk.tidy)) desk.tidy)) in
+      received_new a.now b.now text adds desk m c.now (settled.settles adds.tidy) written wired (missing desk);
   repeats = λ desk there. absurd (true≢false (sym there ∙ missing desk));
 }
   where

@@ -1,5 +1,5 @@
 -- What each statement of a transaction does to a desk's tables.
-use Rattle.std.proofs.Common.{ne_eqb, not, length, ◌≡◌, ◌≢◌, ◌⊎◌, inl, inr, ℕ, suc, pos, List, [], ◌∷◌, codes, Bool, true, false, if◌then◌else◌, Some, unwrap_or, find, ◌==◌, slice_index_or, Ok, refl, sym, ap, subst, ◌∙◌, arith}
+use Rattle.std.proofs.Common.{ne_eqb, not, length, ◌≡◌, ◌≢◌, ◌⊎◌, inl, inr, ℕ, suc, pos, List, [], ◌∷◌, codes, Bool, true, false, if◌then◌else◌, Some, find, ◌==◌, slice_index_or, Ok, refl, sym, ap, subst, ◌∙◌, arith}
 use Rattle.std.specs.List.{list_any}
 use Rattle.sqlite.specs.declared.types.Value.{Value}
 use Rattle.sqlite.specs.declared.types.Value.TheVariants.{Null, Int, Text}
@@ -15,18 +15,16 @@ use Rattle.sqlite.specs.Listing.{understood}
 use Rattle.sqlite.specs.State.{State, Executes, Shown}
 use Rattle.sqlite.proofs.Callers.{statement_of, reads_as, runs_as}
 use Rattle.messages.specs.declared.request_name.RequestName.{RequestName}
-use Rattle.desk_tables.specs.DeskTables.{names, verdicts, parked, names_at, verdicts_at, parked_at}
+use Rattle.desk_tables.specs.DeskTables.{messages, names, verdicts, parked, names_at, verdicts_at, parked_at}
 use Rattle.desk_tables.specs.Rows.{RowSet, IsRow, OfName}
 use Rattle.desk_tables.specs.Stored.{Finds, HasDesk, is_stray, texts_of, tree_of}
 use Rattle.desk_tables.specs.Kept.{IsKeyed, IsNeat, IsNoReal, IsTidy, table_in}
 use Rattle.desk_tables.specs.private.Changes.{IsEmptied, Gains, Loses, Tells}
 use Rattle.desk_tables.specs.private.Stepping.{AddsText, Alters, KeepsBut, ShowsParked}
-use Rattle.desk_tables.proofs.AddLemmas.{added, all_at}
-use Rattle.desk_tables.proofs.Inserts.{name_insert, name_put, name_terms, parked_insert, parked_put, parked_terms, verdict_insert, verdict_put, verdict_terms}
-use Rattle.desk_tables.proofs.Missing.{insert_text, missing_means}
+use Rattle.desk_tables.proofs.AddLemmas.{all_at, text_more, typed_still}
+use Rattle.desk_tables.proofs.Inserts.{name_insert, name_put, name_terms, parked_insert, parked_put, parked_terms, text_insert, text_put, text_terms, verdict_insert, verdict_put, verdict_terms}
 use Rattle.desk_tables.proofs.NameLemmas.{answered, answers, given, keyed_more}
-use Rattle.desk_tables.proofs.Puts.{name_kept, one_more, parked_kept, puts, verdict_kept, Puts}
-use Rattle.desk_tables.proofs.Steps.{insertion, inserts}
+use Rattle.desk_tables.proofs.Puts.{name_kept, one_more, parked_kept, puts, text_kept, verdict_kept, Puts}
 use Rattle.desk_tables.proofs.Takes.{clears, takes}
 use Rattle.desk_tables.proofs.Where.{names_clear, names_clears, parked_clear, parked_clears, scanning, verdicts_clear, verdicts_clears, names_delete, names_deletes, names_select, names_selects, parked_delete, parked_deletes, parked_select, parked_selects, reading}
 use Rattle.sqlite_rules.specs.Lists.{Has}
@@ -195,22 +193,21 @@ parked_gone name old new count tidy ran =
 
 -- ---- the INSERT of a message
 
-pub text_added : (text : List ℕ) (old new : State) (count : ℕ) → IsTidy old.now → Executes insert_text (Text text ∷ []) old new (Ok count) → AddsText text count old.now new.now
-text_added text old new count tidy ran =
+pub text_wrote : (text : List ℕ) (old new : State) (count : ℕ) → IsTidy old.now → Executes text_insert (Text text ∷ []) old new (Ok count) → AddsText text old.now new.now
+text_wrote text old new count tidy ran =
     let s = old.now.schema in
     let db = old.now.trees in
     let tree = tree_of s (codes "messages") in
-    let means = missing_means s tidy.desk.m tree tidy.desk.messages in
-    let w = runs_as insert_text (Text text ∷ []) old new s refl (insertion tidy.desk.m tree) means.command means.plain count ran in
-    let it = inserts s tidy.desk.m tree tidy.desk.messages old.step_limit text (statement_of insert_text (understood s insert_text)) db new.now w.tally w.changed in
-    let a = added text s tidy.desk db new.now.trees w.tally it.0 in
+    let values = Text text ∷ [] in
+    let means = text_put s tidy.desk.m tree tidy.desk.messages in
+    let w = runs_as text_insert values old new s refl (command.Insert tidy.desk.m (Values text_terms 2)) means.command means.plain count ran in
+    let it = puts (codes "messages") messages.columns messages.primary tree s tidy.desk.m text_terms 2 values values (text_kept text) tidy.desk.messages.has old.step_limit (statement_of text_insert (understood s text_insert)) db new.now w.tally w.changed in
     let at = at_new old.now new.now tidy it.1 (codes "messages") in
     record {
       sound = w.sound;
       schema = it.1;
-      count_is = w.counted ∙ ap (λ o. unwrap_or o 0) a.count;
-      texts = ap texts_of at ∙ a.texts;
-      typed = λ was. ap (list_any is_stray) at ∙ a.typed was;
+      texts = ap texts_of at ∙ text_more it.0.n text (db tree) (new.now.trees tree) it.0.fresh it.0.rows;
+      typed = λ was. ap (list_any is_stray) at ∙ typed_still it.0.n text (db tree) (new.now.trees tree) it.0.fresh it.0.rows was;
       others = it.0.others;
       tidy = record {
         desk = desk_still old.now new.now it.1 tidy.desk;

@@ -22,17 +22,14 @@ pub(crate) fn has_text<S: Alter>(tx: &mut Transaction<'_, S>, text: &str) -> Res
     Ok(!rows.is_empty())
 }
 
-/// Puts the text of a message in where it is missing, and counts the rows that it put in.
+/// Puts the text of a message in, which the messages do not have.
 pub(crate) fn put_text<S: Alter>(tx: &mut Transaction<'_, S>, text: &str) -> Result<usize, Error>
     ensures same_reference { tx.new.conn.ghost_name ≡ tx.old.conn.ghost_name }
-    ensures wrote { InStep (state S.Store tx.old.conn.now) (state S.Store tx.new.conn.now) (λ a b. IfOk result (λ count. WroteText text.now count a b)) }
+    ensures wrote { InStep (state S.Store tx.old.conn.now) (state S.Store tx.new.conn.now) (λ a b. OnOk result (WroteText text.now a b)) }
     ensures kept { InStep (state S.Store tx.old.conn.now) (state S.Store tx.new.conn.now) KeepsCommit }
     ensures survives { Survives (state S.Store tx.old.conn.now) (state S.Store tx.new.conn.now) (λ _. ⊥) }
 {
-    tx.execute(
-        "INSERT INTO messages (body) SELECT ?1 WHERE NOT EXISTS (SELECT 1 FROM messages WHERE body = ?1)",
-        params![text],
-    )
+    tx.execute("INSERT INTO messages (body) VALUES (?1)", params![text])
 }
 
 /// Puts a name's row in.

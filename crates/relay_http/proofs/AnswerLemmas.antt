@@ -12,6 +12,7 @@ use Rattle.roster.specs.Fields.{RosterFields}
 use Rattle.roster.specs.Rules.{is_among}
 use Rattle.grants.specs.declared.denial.Denial.TheVariants as denials
 use Rattle.desk_outcomes.specs.HostFile.{Line, AreLines, IsHostFile, IsHostFileAfter, lines_after, with_lines}
+use Rattle.desk_schema.specs.Beside.{TableWithRows}
 use Rattle.desk_store.specs.Serving.{IsServed}
 use Rattle.desk_store.proofs.ServingLemmas.{served_as}
 use Rattle.desk.specs.Refusals.{IsWant}
@@ -70,9 +71,9 @@ text_cause (Ok s) same =
 text_cause (Err e) same = ap (λ (x : Refusal). Err x) (is_storage e same)
 
 -- nor one of a want
-pub text_served : {K : Type 0} {is_up is_clean : K → Type 0} {failures : K → ℕ} {a b : K} (r : Result (String Global) Refusal)
-    → IsServed is_up is_clean failures a b (r ≡ Err Storage) (IsErrAnd r IsWant)
-    → IsServed is_up is_clean failures a b (to_question r ≡ refusal Storage) (IsWanting (to_question r))
+pub text_served : {K : Type 0} {is_up is_clean : K → Type 0} {failures : K → ℕ} {beside : K → TableWithRows → Type 0} {a b : K} (r : Result (String Global) Refusal)
+    → IsServed is_up is_clean failures beside a b (r ≡ Err Storage) (IsErrAnd r IsWant)
+    → IsServed is_up is_clean failures beside a b (to_question r ≡ refusal Storage) (IsWanting (to_question r))
 text_served r served = served_as (to_question r ≡ refusal Storage) (IsWanting (to_question r)) (text_cause r) (text_want r) served
   where
     text_want : (r : Result (String Global) Refusal) → IsErrAnd r IsWant → IsWanting (to_question r)

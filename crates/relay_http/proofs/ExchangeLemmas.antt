@@ -10,6 +10,7 @@ use Rattle.sudo_words.specs.declared.cmnd.Cmnd.{Cmnd}
 use Rattle.sudo_policy.specs.declared.entry.Entry.{Entry}
 use Rattle.messages.specs.declared.message.Message.{Message}
 use Rattle.roster.specs.Fields.{RosterFields}
+use Rattle.desk_schema.specs.Beside.{TableWithRows}
 use Rattle.desk_store.specs.Keeping.{HasFailed}
 use Rattle.desk_store.specs.Serving.{IsServed}
 use Rattle.desk_store.proofs.ServingLemmas.{served_as}
@@ -160,8 +161,8 @@ module _ (f : RosterFields Cmnd) (base : List Entry) (IsUp : Type 0) (old new : 
 
 -- ---- what storage did
 
-pub exchange_served : {K : Type 0} {is_up is_clean : K → Type 0} {failures : K → ℕ} {a b : K} (f : RosterFields Cmnd) (base : List Entry) (IsUp : Type 0) (old new : Message → Type 0) (Same : Type 0)
-    (Wrote : List ℕ → Type 0) (request : Request ℕ) → IsExchange f base IsUp old new Same (IsServed is_up is_clean failures a b) Wrote request
-    → IsServed is_up is_clean failures a b ⊥ (WritesWant Wrote)
+pub exchange_served : {K : Type 0} {is_up is_clean : K → Type 0} {failures : K → ℕ} {beside : K → TableWithRows → Type 0} {a b : K} (f : RosterFields Cmnd) (base : List Entry) (IsUp : Type 0) (old new : Message → Type 0) (Same : Type 0)
+    (Wrote : List ℕ → Type 0) (request : Request ℕ) → IsExchange f base IsUp old new Same (IsServed is_up is_clean failures beside a b) Wrote request
+    → IsServed is_up is_clean failures beside a b ⊥ (WritesWant Wrote)
 exchange_served f base IsUp old new Same Wrote request x =
     served_as ⊥ (WritesWant Wrote) (λ none. absurd none) (λ want. (x.reply, request.with_body, want, x.wrote)) x.answered.served

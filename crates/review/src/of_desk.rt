@@ -24,7 +24,7 @@ pub fn report<K: Keeper>(desk: &mut Desk<K>, at: Moment) -> Result<String, Refus
     ensures unchanged { K.is_up desk.new.keeper → K.is_same desk.old.keeper desk.new.keeper }
     ensures roster { desk.new.roster ≡ desk.old.roster }
     ensures base { desk.new.base ≡ desk.old.base }
-    ensures served { IsServed K.is_up K.is_clean K.failures desk.old.keeper desk.new.keeper (result ≡ Err refusal.Storage) (IsErrAnd result IsWant) }
+    ensures served { IsServed K.is_up K.is_clean K.failures K.beside desk.old.keeper desk.new.keeper (result ≡ Err refusal.Storage) (IsErrAnd result IsWant) }
 {
     let Holdings { summaries, parked } = desk.holdings()?;
     let alloc = *summaries.allocator();

@@ -1,5 +1,5 @@
 -- What a job comes to before its answer is written. For private clauses.
-use Rattle.std.specs.Prelude.{◌≡◌, ℕ, false, List, Option, Result, IfErr, IfOk, string_bytes}
+use Rattle.std.specs.Prelude.{◌≡◌, ℕ, false, List, Option, Result, Err, Ok, IfErr, IfOk, string_bytes}
 use Rattle.std.specs.Io.KnownBytes.{Appends}
 use Rattle.messages.specs.declared.message.Message.{Message}
 use Rattle.sudo_words.specs.declared.cmnd.Cmnd.{Cmnd}
@@ -12,6 +12,7 @@ use Rattle.desk_commands.specs.Kept.{Kept}
 use Rattle.desk_commands.specs.Leaving.{KeepsAfterRefusal, TellsBefore}
 use Rattle.desk_commands.specs.Printing.{HasManyLines}
 use Rattle.desk_commands.specs.Taking.{MayFailTaking}
+use Rattle.desk_commands.specs.Wanting.{IsWanting, ShowsWant, TellsWant}
 use Rattle.desk_commands.specs.declared.answer.Answer.{Answer}
 use Rattle.desk_commands.specs.declared.refusal.Refusal.{Refusal}
 use Rattle.desk_commands.specs.declared.refusal.Refusal.TheVariants as reasons
@@ -28,6 +29,16 @@ pub record IsOutcome (job : Job) (files : List (List ℕ)) (k : Kept) (input : O
 pub record IsLeft (job : Job) (files : List (List ℕ)) (k : Kept) (Same : Type 0) (input err_before err_after : Option (List ℕ)) : Type 0 where
   pub kept : k.up → KeepsAfterRefusal job files k Same input
   pub told : TellsBefore job files input err_before err_after
+
+-- memory or the storage was wanting, by what `deliver` came to
+abbrev pub ShowsWantIn : Result Answer Refusal → Type 0
+ShowsWantIn (Ok a) = ShowsWant (string_bytes a.text)
+ShowsWantIn (Err reason) = IsWanting reason
+
+-- the same, by what any job came to
+abbrev pub WantsIn : Job → Result Answer Refusal → Type 0
+WantsIn job (Ok a) = TellsWant job (string_bytes a.text)
+WantsIn job (Err reason) = IsWanting reason
 
 -- the files hold no roster and base for this: so they make no desk, whatever is kept
 abbrev pub EndsParts : (roster_file base_file : List ℕ) → Refusal → Type 0

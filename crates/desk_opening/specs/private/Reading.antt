@@ -1,26 +1,14 @@
--- What the rows that are read say, and what a call that reads leaves as it is.
+-- What the rows that are read say.
 use Rattle.std.specs.Prelude.{◌≡◌, ◌≤◌, ◌&&◌, cond, List, [], ◌∷◌, ℕ, Contains, Option, None, length, map}
 use Rattle.sqlite.specs.declared.types.Value.{Value}
 use Rattle.sqlite.specs.declared.types.Value.TheVariants.{Text}
 use Rattle.sqlite.specs.Order.{Row, column}
-use Rattle.sqlite.specs.State.{HasCleanDisk, State, Survives}
 use Rattle.messages.specs.Wire.{wire, IsMessage}
 use Rattle.messages.specs.declared.message.Message.{Message}
 use Rattle.desk_tables.specs.Kept.{IsKeyed}
 use Rattle.desk_tables.specs.Rows.{AreRows, IsRow}
-use Rattle.desk_tables.specs.SqliteStates.{IsUp, Rests}
 use Rattle.desk_tables.specs.Stored.{IsWritten, text_at}
 use Rattle.desk_opening.specs.private.Compare.{is_number}
-
--- ---- calls that read
-
--- The database is as it was, and nothing is committed.
-pub record Reads (old new : State) : Type 0 where
-  pub rests : Rests new
-  pub was_up : IsUp new → IsUp old
-  pub was_clean : HasCleanDisk new → HasCleanDisk old
-  pub same : IsUp new → new.now ≡ old.now
-  pub survives : IsUp old → HasCleanDisk new → Survives old new (λ _. ⊥)
 
 -- ---- the desk's row
 

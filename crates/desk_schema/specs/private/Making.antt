@@ -15,6 +15,7 @@ use Rattle.desk_tables.specs.Stored.{Content, Finds, IsUnreferred, content_of}
 use Rattle.desk_tables.specs.private.Stepping.{IsInside}
 use Rattle.desk_schema.specs.declared.part.Part.{Part}
 use Rattle.desk_schema.specs.declared.part.Part.TheVariants.{Desk, Messages, Names, Marks, Verdicts, Parked}
+use Rattle.desk_schema.specs.Beside.{KeepsBeside}
 use Rattle.desk_schema.specs.Parts.{name_of, table_at}
 use Rattle.desk_schema.specs.Ready.{IsOpen, IsReady}
 use Rattle.desk_schema.specs.Shapes.{Lacks}
@@ -83,6 +84,7 @@ pub record Founds (roster : List ℕ) (old new : Database) : Type 0 where
 pub record Filled (roster : List ℕ) (old new : State) : Type 0 where
   pub mode : IsTrue new.in_transaction
   pub founds : IsReady old.now.schema → Founds roster old.now new.now
+  pub beside : IsReady old.now.schema → KeepsBeside old.now new.now
 
 -- Whatever database has these trees: it is a desk of the roster text, with no message, beside the tables that were there.
 abbrev pub FoundsAt : List ℕ → Database → Trees → Type 0

@@ -5,6 +5,7 @@ use Rattle.sqlite.specs.Effect.{Database, IsDatabase}
 use Rattle.sqlite.specs.State.{HasCleanDisk, State, Survives}
 use Rattle.desk_tables.specs.SqliteStates.{IsUp, Rests}
 use Rattle.desk_tables.specs.Stored.{content_of, with_roster}
+use Rattle.desk_schema.specs.Beside.{KeepsBeside}
 use Rattle.desk_opening.specs.Opened.{IsKept, IsOldDesk}
 
 -- a desk of either form
@@ -27,5 +28,6 @@ pub record Replaces {A E : Type 0} (roster : List ℕ) (old new : State) (result
   pub was_clean : HasCleanDisk new → HasCleanDisk old
   pub up : IsUp old → HasCleanDisk new → OnOk result (IsUp new)
   pub becomes : IsUp new → OnOk result (Becomes roster old.now new.now)
+  pub beside : IsUp new → OnOk result (KeepsBeside old.now new.now)
   pub unchanged : IsUp new → OnErr result (new.now ≡ old.now)
   pub survives : IsUp old → HasCleanDisk new → Survives old new (BecomesAt roster old.now)

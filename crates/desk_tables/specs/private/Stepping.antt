@@ -1,5 +1,5 @@
 -- What a statement of a transaction does to the rows of a desk's tables.
-use Rattle.std.specs.Prelude.{◌≡◌, ◌≢◌, Some, IsTrue, true, false, Bool, cond, if◌then◌else◌, ℕ, pos, List, [], ◌∷◌, codes}
+use Rattle.std.specs.Prelude.{◌≡◌, ◌≢◌, Some, IsTrue, true, false, Bool, if◌then◌else◌, ℕ, pos, List, [], ◌∷◌, codes}
 use Rattle.std.specs.List.{AllByRecursion, list_any}
 use Rattle.std.specs.FinSet as set
 use Rattle.sqlite.specs.Order.{Row, column}
@@ -46,19 +46,18 @@ pub record Wrote (name : List ℕ) (Rows : RowSet → RowSet → Type 0) (old ne
   pub inside : IsInside old new
   pub alters : IsTidy old.now → Alters name Rows old.now new.now
 
--- The text was put to the messages where it was missing, and the count tells whether it was.
-pub record AddsText (text : List ℕ) (count : ℕ) (old new : Database) : Type 0 where
+-- The text was put to the messages.
+pub record AddsText (text : List ℕ) (old new : Database) : Type 0 where
   pub sound : IsDatabase new
   pub schema : new.schema ≡ old.schema
-  pub count_is : count ≡ cond (set.contains (texts_of (table_in old (codes "messages"))) text) 0 1
   pub texts : texts_of (table_in new (codes "messages")) ≡ set.insert (texts_of (table_in old (codes "messages"))) text
   pub typed : list_any is_stray (table_in old (codes "messages")) ≡ false → list_any is_stray (table_in new (codes "messages")) ≡ false
   pub others : KeepsBut (codes "messages") old new
   pub tidy : IsTidy new
 
-pub record WroteText (text : List ℕ) (count : ℕ) (old new : State) : Type 0 where
+pub record WroteText (text : List ℕ) (old new : State) : Type 0 where
   pub inside : IsInside old new
-  pub adds : IsTidy old.now → AddsText text count old.now new.now
+  pub adds : IsTidy old.now → AddsText text old.now new.now
 
 -- ---- rows
 

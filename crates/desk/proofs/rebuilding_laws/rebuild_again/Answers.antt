@@ -23,7 +23,7 @@ returns-clause-held g c =
     (λ d keeps was up.
     rebuilt_again (K.is_empty k) (K.is_desk k) (K.is_old k) (K.holds old) (K.holds k) (K.holds d.keeper) (c.into_keeper.ensures.desk (was up)) same (keeps up))
     c.rebuild.ensures.keeps
-    (was_up_of _ _ _ _ c.rebuild.result c.rebuild.ensures.served)
+    (was_up_of _ _ _ _ _ c.rebuild.result c.rebuild.ensures.served)
 
 pub returns-clause-nothing_changes : goal.returns-clause-nothing_changes
 returns-clause-nothing_changes g c =
@@ -50,7 +50,7 @@ returns-clause-unchanged g c =
     (λ d. K.is_up d.keeper → K.is_up k)
     (λ r same was up. set_of_same k old c.into_keeper.ensures.same K.holds (K.holds r.1) (g.met.K.Keeper.stays_set k r.1 (same up) (c.into_keeper.ensures.desk (was up))))
     c.rebuild.ensures.unchanged
-    (was_up_of _ _ _ _ c.rebuild.result c.rebuild.ensures.served)
+    (was_up_of _ _ _ _ _ c.rebuild.result c.rebuild.ensures.served)
 
 pub returns-clause-refused : goal.returns-clause-refused
 returns-clause-refused g c =
@@ -64,4 +64,4 @@ returns-clause-refused g c =
     (λ d. K.is_up d.keeper → K.is_up k)
     (λ r refused was up. not_rebuilt_again Fits (K.is_empty k) (K.is_desk k) (K.is_old k) r.0 (c.into_keeper.ensures.desk (was up)) (refused up))
     c.rebuild.ensures.refused
-    (was_up_of _ _ _ _ c.rebuild.result c.rebuild.ensures.served)
+    (was_up_of _ _ _ _ _ c.rebuild.result c.rebuild.ensures.served)

@@ -25,7 +25,7 @@ returns-in-Ok-clause-keeps g c =
     rebuilt_twice (K.is_empty before) (K.is_desk before) (K.is_old before) (K.is_empty k) (K.is_desk k) (K.is_old k) (K.holds before) (K.holds between) (K.holds k) (K.holds d.keeper)
     (c.into_keeper.ensures.desk (was up)) (c.in-Ok.ensures.keeps there) same (keeps up))
     c.rebuild-in-Ok.ensures.keeps
-    (was_up_of _ _ _ _ c.rebuild-in-Ok.result c.rebuild-in-Ok.ensures.served)
+    (was_up_of _ _ _ _ _ c.rebuild-in-Ok.result c.rebuild-in-Ok.ensures.served)
 
 pub returns-in-Ok-clause-refused : goal.returns-in-Ok-clause-refused
 returns-in-Ok-clause-refused g c =
@@ -43,7 +43,7 @@ returns-in-Ok-clause-refused g c =
     (λ r refused was up. last_refused First Fits _ r.0 c.in-Ok.ensures.fits
     (not_rebuilt_again Fits (K.is_empty k) (K.is_desk k) (K.is_old k) r.0 (c.into_keeper.ensures.desk (was up)) (refused up)))
     c.rebuild-in-Ok.ensures.refused
-    (was_up_of _ _ _ _ c.rebuild-in-Ok.result c.rebuild-in-Ok.ensures.served)
+    (was_up_of _ _ _ _ _ c.rebuild-in-Ok.result c.rebuild-in-Ok.ensures.served)
 
 pub returns-in-Ok-clause-unchanged : goal.returns-in-Ok-clause-unchanged
 returns-in-Ok-clause-unchanged g c =
@@ -69,4 +69,4 @@ returns-in-Ok-clause-unchanged g c =
       rebuilt_still (K.is_empty before) (K.is_desk before) (K.is_old before) (K.holds before) (K.holds between) (K.holds r.1) (c.in-Ok.ensures.keeps there) of_k,
     ))
     c.rebuild-in-Ok.ensures.unchanged
-    (was_up_of _ _ _ _ c.rebuild-in-Ok.result c.rebuild-in-Ok.ensures.served)
+    (was_up_of _ _ _ _ _ c.rebuild-in-Ok.result c.rebuild-in-Ok.ensures.served)

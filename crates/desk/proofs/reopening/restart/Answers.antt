@@ -20,7 +20,7 @@ returns-clause-alike g c =
     (λ d opens was up. same_answers f (K.holds old) (K.holds d.keeper)
     (held_again (K.is_empty k) (K.is_desk k) (K.is_old k) (K.roster k) c.args.roster.text (K.holds old) (K.holds k) (K.holds d.keeper) (c.into_keeper.ensures.desk (was up)) same (opens up)))
     c.open.ensures.opens
-    (was_up_of _ _ _ _ c.open.result c.open.ensures.served)
+    (was_up_of _ _ _ _ _ c.open.result c.open.ensures.served)
 
 pub returns-clause-held : goal.returns-clause-held
 returns-clause-held g c =
@@ -36,7 +36,7 @@ returns-clause-held g c =
     (λ d opens was up.
     held_again (K.is_empty k) (K.is_desk k) (K.is_old k) (K.roster k) c.args.roster.text (K.holds old) (K.holds k) (K.holds d.keeper) (c.into_keeper.ensures.desk (was up)) same (opens up))
     c.open.ensures.opens
-    (was_up_of _ _ _ _ c.open.result c.open.ensures.served)
+    (was_up_of _ _ _ _ _ c.open.result c.open.ensures.served)
 
 pub returns-clause-roster : goal.returns-clause-roster
 returns-clause-roster g c =
@@ -50,7 +50,7 @@ returns-clause-roster g c =
     (λ d opens was up. sym (c.into_keeper.ensures.roster (was up))
     ∙ recorded_text (K.is_empty k) (K.is_desk k) (K.is_old k) (K.roster k) c.args.roster.text (K.holds k) (K.holds d.keeper) (c.into_keeper.ensures.desk (was up)) (opens up))
     c.open.ensures.opens
-    (was_up_of _ _ _ _ c.open.result c.open.ensures.served)
+    (was_up_of _ _ _ _ _ c.open.result c.open.ensures.served)
 
 pub returns-clause-unchanged : goal.returns-clause-unchanged
 returns-clause-unchanged g c =
@@ -64,4 +64,4 @@ returns-clause-unchanged g c =
     (λ d. K.is_up d.keeper → K.is_up k)
     (λ r same was up. set_of_same k old c.into_keeper.ensures.same K.holds (K.holds r.1) (g.met.K.Keeper.stays_set k r.1 (same up) (c.into_keeper.ensures.desk (was up))))
     c.open.ensures.unchanged
-    (was_up_of _ _ _ _ c.open.result c.open.ensures.served)
+    (was_up_of _ _ _ _ _ c.open.result c.open.ensures.served)

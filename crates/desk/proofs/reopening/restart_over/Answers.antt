@@ -32,7 +32,7 @@ returns-clause-held g c =
     let desk = c.renewed.ensures.desk.1 (c.into_keeper-keeper.ensures.desk (c.renewed.ensures.up.0 (was up))) in
     held_again (IsVacant k.now.schema) (IsKept k.now) (IsOldDesk k.now) (content_of k.now).roster c.args.roster.text (HoldsText old) (HoldsText k.now) (HoldsText (state S d.keeper.conn).now) desk same (opens up))
     c.open.ensures.opens
-    (was_up_of _ _ _ _ c.open.result c.open.ensures.served)
+    (was_up_of _ _ _ _ _ c.open.result c.open.ensures.served)
 
 pub returns-clause-alike : goal.returns-clause-alike
 returns-clause-alike g c =
@@ -61,7 +61,7 @@ returns-clause-roster g c =
     sym (c.into_keeper-keeper.ensures.roster given) ∙ sym c.renewed.ensures.roster
     ∙ recorded_text (IsVacant k.now.schema) (IsKept k.now) (IsOldDesk k.now) (content_of k.now).roster c.args.roster.text (HoldsText k.now) (HoldsText (state S d.keeper.conn).now) desk (opens up))
     c.open.ensures.opens
-    (was_up_of _ _ _ _ c.open.result c.open.ensures.served)
+    (was_up_of _ _ _ _ _ c.open.result c.open.ensures.served)
 
 pub returns-clause-unchanged : goal.returns-clause-unchanged
 returns-clause-unchanged g c =
@@ -92,4 +92,4 @@ returns-clause-refused g c =
     refused_again Fits (IsVacant k.now.schema) (IsKept k.now) (IsOldDesk k.now) (content_of k.now).roster said text r.0 desk
     (sym (c.into_keeper-keeper.ensures.roster given) ∙ sym c.renewed.ensures.roster) (refused up))
     c.open.ensures.refused
-    (was_up_of _ _ _ _ c.open.result c.open.ensures.served)
+    (was_up_of _ _ _ _ _ c.open.result c.open.ensures.served)

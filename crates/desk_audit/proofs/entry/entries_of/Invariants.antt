@@ -15,5 +15,5 @@ invariant-loop-name g l = record {
   same : g.K.Keeper.is_up l.desk.keeper → g.K.Keeper.is_same l.fn.desk.keeper l.desk.keeper;
   roster : l.desk.roster ≡ l.fn.desk.roster;
   base : l.desk.base ≡ l.fn.desk.base;
-  served : IsServed g.K.Keeper.is_up g.K.Keeper.is_clean g.K.Keeper.failures l.fn.desk.keeper l.desk.keeper ⊥ ⊥;
+  served : IsServed g.K.Keeper.is_up g.K.Keeper.is_clean g.K.Keeper.failures g.K.Keeper.beside l.fn.desk.keeper l.desk.keeper ⊥ ⊥;
 }

@@ -1,9 +1,8 @@
 use Rattle.std.proofs.Common.{◌≡◌, ◌∙◌, ◌∷◌, IfErr, ap, subst, sym}
-use Rattle.std.specs.Prelude.{⊤}
 use Rattle.desk_store.specs.Serving.{IsServed}
 use Rattle.desk_store.proofs.ServingLemmas.{served_then}
 use Rattle.desk_commands.specs.Kept.{kept}
-use Rattle.desk_commands.specs.private.Outcomes.{IsLeft, IsOutcome}
+use Rattle.desk_commands.specs.private.Outcomes.{IsLeft, IsOutcome, ShowsWantIn}
 use Rattle.desk_commands.proofs.OverLemmas.{delivered, undelivered}
 use Rattle.desk_jobs.specs.declared.task.Job.TheVariants.{Deliver}
 use Rattle.desk_commands.proofs.LeavingLemmas.{left_delivered}
@@ -31,8 +30,8 @@ pub returns-in-Ok-clause-served : goal.returns-in-Ok-clause-served
 returns-in-Ok-clause-served g c =
     let K = g.K.Keeper in
     let keeper = c.args.keeper in
-    subst (λ y. IsServed K.is_up K.is_clean K.failures keeper y ⊥ ⊤) (sym c.into_keeper.ensures.same)
-    (served_then (λ any. any) c.in-Ok.ensures.served c.deliver_to-answer.ensures.served)
+    subst (λ y. IsServed K.is_up K.is_clean K.failures K.beside keeper y ⊥ (ShowsWantIn c.deliver_to-answer.result)) (sym c.into_keeper.ensures.same)
+    (served_then (λ none. absurd none) c.in-Ok.ensures.served c.deliver_to-answer.ensures.served)
 
 pub returns-in-Err-clause-outcome : goal.returns-in-Err-clause-outcome
 returns-in-Err-clause-outcome g c places more err =

@@ -11,6 +11,8 @@ use Rattle.desk_commands.specs.private.Outcomes.{EndsFile}
 use Rattle.desk_commands.proofs.PrintLemmas.{ends_file, prints}
 use Rattle.desk_jobs.specs.declared.status.Status.TheVariants.{Done}
 use Rattle.desk_commands.proofs.LeavingLemmas.{says, taken_stay}
+use Rattle.desk_store.proofs.ServingLemmas.{served_as, served_then}
+use Rattle.desk_commands.proofs.WantLemmas.{wanting_still}
 use Rattle.desk_commands.proofs.printing.print_of.Goals as goal
 
 pub returns-in-Ok-clause-found : goal.returns-in-Ok-clause-found
@@ -61,7 +63,7 @@ returns-in-Err-clause-cause g c =
     (K.is_up new.keeper) (K.is_up new.keeper) (K.is_up mid.keeper) taking.0 taking.1 taken held c.args.host.now c.args.after (HasFailed (K.failures old.keeper) (K.failures new.keeper))
     c.file_of.result c.in-Err.refusal c.file_of.ensures.served.was_up c.in-Err.is c.file_of.ensures.unknown
     (λ set lines up lists are few. c.in-Err.ensures.few set lines up lists are few) c.in-Err.ensures.err
-    (λ storage. failed_later _ _ _ c.take_input.ensures.served.counts (c.file_of.ensures.cause (c.in-Err.is ∙ ap Err storage))))
+    (λ storage. failed_later _ _ _ c.take_input.ensures.served.counts (c.file_of.ensures.served.cause (c.in-Err.is ∙ ap Err storage))))
 
 pub returns-in-Ok-clause-left : goal.returns-in-Ok-clause-left
 returns-in-Ok-clause-left g c = λ up desk.
@@ -92,3 +94,17 @@ returns-in-Err-clause-said g c =
     let taking = c.in_ok-take_input.ensures.taken in
     says c.args.desk.now.roster.says (g.R.Read.remaining c.args.input.now) c.args.store.now taking.0 taking.1 (g.E.Write.contents c.args.err.now)
     (g.E.Write.contents c.take_input.new.err) taking.2 taking.3
+
+-- ---- what storage did
+
+pub returns-in_err-take_input-clause-served : goal.returns-in_err-take_input-clause-served
+returns-in_err-take_input-clause-served g c =
+    served_as ⊥ _ (λ none. none) (wanting_still c.in_err-take_input.field-0.0 c.take_input.result c.from_residual.result c.in_err-take_input.was c.from_residual.ensures.1) c.take_input.ensures.served
+
+pub returns-in-Ok-clause-served : goal.returns-in-Ok-clause-served
+returns-in-Ok-clause-served g c =
+    served_then (λ none. absurd none) c.in_ok-take_input.ensures.served (served_as ⊥ ⊥ (λ none. absurd none) (λ none. none) c.in-Ok.ensures.served)
+
+pub returns-in-Err-clause-served : goal.returns-in-Err-clause-served
+returns-in-Err-clause-served g c =
+    served_then (λ none. absurd none) c.in_ok-take_input.ensures.served (served_as ⊥ _ (λ none. absurd none) (λ want. want) c.in-Err.ensures.served)

@@ -1,5 +1,4 @@
 use Rattle.std.proofs.Common.{◌≡◌, ◌∙◌, ◌∷◌, Ok, subst, sym}
-use Rattle.std.specs.Prelude.{⊤}
 use Rattle.desk_store.specs.Serving.{IsServed}
 use Rattle.desk_commands.specs.Kept.{kept}
 use Rattle.desk_commands.specs.private.Outcomes.{IsOutcome}
@@ -25,7 +24,7 @@ pub returns-in-Ok-rebuild_over-clause-served : goal.returns-in-Ok-rebuild_over-c
 returns-in-Ok-rebuild_over-clause-served g c =
     let K = g.K.Keeper in
     let keeper = c.args.keeper in
-    subst (λ y. IsServed K.is_up K.is_clean K.failures keeper y ⊥ ⊤) (sym c.into_keeper.ensures.same)
+    subst (λ y. IsServed K.is_up K.is_clean K.failures K.beside keeper y ⊥ ⊥) (sym c.into_keeper.ensures.same)
     c.in-Ok-rebuild_over.ensures.served
 
 pub returns-in-Err-clause-outcome : goal.returns-in-Err-clause-outcome

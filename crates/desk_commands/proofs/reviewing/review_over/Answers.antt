@@ -1,8 +1,9 @@
 use Rattle.std.proofs.Common.{◌≡◌, ◌∙◌, ◌∷◌, IfErr, ap, subst, sym}
-use Rattle.std.specs.Prelude.{⊤}
+use Rattle.std.specs.Prelude.{IsErrAnd}
 use Rattle.desk_store.specs.Serving.{IsServed}
 use Rattle.desk_store.proofs.ServingLemmas.{served_then}
 use Rattle.desk_commands.specs.Kept.{kept}
+use Rattle.desk_commands.specs.Wanting.{IsWanting}
 use Rattle.desk_commands.specs.private.Outcomes.{IsLeft, IsOutcome}
 use Rattle.desk_commands.proofs.OverLemmas.{reviewed, unreviewed}
 use Rattle.desk_jobs.specs.declared.task.Job.TheVariants.{Review}
@@ -31,8 +32,8 @@ pub returns-in-Ok-clause-served : goal.returns-in-Ok-clause-served
 returns-in-Ok-clause-served g c =
     let K = g.K.Keeper in
     let keeper = c.args.keeper in
-    subst (λ y. IsServed K.is_up K.is_clean K.failures keeper y ⊥ ⊤) (sym c.into_keeper.ensures.same)
-    (served_then (λ any. any) c.in-Ok.ensures.served c.review_of-answer.ensures.served)
+    subst (λ y. IsServed K.is_up K.is_clean K.failures K.beside keeper y ⊥ (IsErrAnd c.review_of-answer.result IsWanting)) (sym c.into_keeper.ensures.same)
+    (served_then (λ none. absurd none) c.in-Ok.ensures.served c.review_of-answer.ensures.served)
 
 pub returns-in-Err-clause-outcome : goal.returns-in-Err-clause-outcome
 returns-in-Err-clause-outcome g c more =

@@ -4,6 +4,8 @@ use Rattle.desk_commands.specs.Answers.{IsOnDesk, ReadsInput}
 use Rattle.desk_jobs.specs.declared.task.Job.TheVariants.{Deliver}
 use Rattle.desk_commands.proofs.AnswerLemmas.{of_job, quietly}
 use Rattle.desk_commands.proofs.LeavingLemmas.{if_err, left_of_job, same_job}
+use Rattle.desk_store.proofs.ServingLemmas.{served_as}
+use Rattle.desk_commands.proofs.WantLemmas.{wants_delivered, wants_refused}
 use Rattle.desk_commands.proofs.running.answered.Goals as goal
 
 pub returns-in-Check-clause-outcome : goal.returns-in-Check-clause-outcome
@@ -110,3 +112,18 @@ returns-in-Rebuild-clause-left g c =
     let err = g.E.Write.contents c.args.err.now in
     left_of_job c.rebuild_desk.result.0 c.args.job.now _ (map (λ f. f.items) c.args.files.now) _ _ input err err c.in-Rebuild.is
     (c.rebuild_desk.ensures.left c.in-Rebuild.places input err)
+
+-- ---- what storage did
+
+pub returns-in-Deliver-clause-served : goal.returns-in-Deliver-clause-served
+returns-in-Deliver-clause-served g c =
+    served_as ⊥ _ (λ none. none) (wants_delivered c.args.job.now c.in-Deliver.places _ c.deliver_lines.result.0 c.in-Deliver.is) c.deliver_lines.ensures.served
+
+pub returns-in-Print-clause-served : goal.returns-in-Print-clause-served
+returns-in-Print-clause-served g c = served_as ⊥ _ (λ none. none) (wants_refused c.args.job.now c.print_host.result.0) c.print_host.ensures.served
+
+pub returns-in-Review-clause-served : goal.returns-in-Review-clause-served
+returns-in-Review-clause-served g c = served_as ⊥ _ (λ none. none) (wants_refused c.args.job.now c.review_desk.result.0) c.review_desk.ensures.served
+
+pub returns-in-Rebuild-clause-served : goal.returns-in-Rebuild-clause-served
+returns-in-Rebuild-clause-served g c = served_as ⊥ _ (λ none. none) (wants_refused c.args.job.now c.rebuild_desk.result.0) c.rebuild_desk.ensures.served

@@ -4,6 +4,11 @@ use Rattle.desk.specs.Delivery.{delivery_of}
 use Rattle.desk_commands.proofs.BroughtLemmas.{taken}
 use Rattle.desk_commands.proofs.LeavingLemmas.{if_err, none_taken, same_set, some_taken}
 use Rattle.desk_commands.proofs.OverLemmas.{nothing_said}
+use Rattle.desk_store.proofs.ServingLemmas.{served_as}
+use Rattle.desk.specs.Delivery.{WasWantingAmong}
+use Rattle.desk_commands.proofs.WantLemmas.{none_wanting, wanting_as}
+use Rattle.desk_commands.specs.Taking.{HadMemory}
+use Rattle.desk_commands.specs.declared.refusal.Refusal.TheVariants.{Desk}
 use Rattle.desk_commands.proofs.taking.take_lines.Goals as goal
 
 on_ok : {T E P Q : Type 0} (r : Result T E) → (P → Q) → OnOk r P → OnOk r Q
@@ -64,3 +69,19 @@ returns-clause-left g c = λ up.
     some_taken c.args.desk.now.roster.says (g.R.Read.remaining c.args.input.now) c.as_str.result.now (map delivery_of c.in_ok-lines.lines.items) _
     c.in_ok-answers.answers.items (K.holds c.args.desk.now.keeper) (K.holds c.deliver_all.new.self.keeper) c.in_ok-lines.ensures.read
     (ap (map delivery_of) c.as_slice.ensures.value) c.in_ok-answers.ensures.answers (c.in_ok-answers.ensures.held up)
+
+pub returns-in_err-answers-clause-served : goal.returns-in_err-answers-clause-served
+returns-in_err-answers-clause-served g c =
+    let told = c.from_residual-in_err-answers in
+    served_as ⊥ _ (λ none. absurd none) (λ _. wanting_as (Desk c.in_err-answers.field-0.0) told.result told.ensures.1 (inl c.in_err-answers.ensures.err)) c.deliver_all.ensures.served
+
+pub returns-in_err-said-clause-served : goal.returns-in_err-said-clause-served
+returns-in_err-said-clause-served g c =
+    let told = c.from_residual-in_err-said in
+    served_as ⊥ _ (λ none. absurd none) (λ _. wanting_as c.in_err-said.field-0.0 told.result told.ensures.1 c.in_err-said.ensures.wanting) c.deliver_all.ensures.served
+
+-- there is something to say: nothing was wanting at any line
+pub returns-clause-served : goal.returns-clause-served
+returns-clause-served g c =
+    let had = subst HadMemory c.as_slice-2.ensures.value c.in_ok-said.ensures.memory in
+    served_as ⊥ _ (λ none. absurd none) (λ want. absurd (none_wanting c.in_ok-answers.answers.items had want)) c.in_ok-answers.ensures.served

@@ -5,7 +5,7 @@ use Rattle.messages.specs.declared.message.Message.{Message}
 use Rattle.desk_tables.specs.Kept.{HoldsText}
 use Rattle.desk_tables.specs.Sets.{Lists}
 use Rattle.desk_store.proofs.EachOnce.{lists_same}
-use Rattle.desk_store.proofs.ReplacingLemmas.{nothing_came, nothing_done, older_becomes, older_survives}
+use Rattle.desk_store.proofs.ReplacingLemmas.{nothing_came, nothing_done, older_becomes, older_beside, older_survives}
 use Rattle.desk_store.proofs.replacing.replace_older.Goals as goal
 
 pub migrate-requires-clause-listed : goal.migrate-requires-clause-listed
@@ -30,6 +30,7 @@ returns g c =
       was_clean = c.migrate.ensures.was_clean;
       up = c.migrate.ensures.up;
       becomes = λ up. older_becomes c.args.roster.now old new c.migrate.result (c.migrate.ensures.kept up) (c.migrate.ensures.migrated up);
+      beside = λ up. older_beside c.args.roster.now old new c.migrate.result (c.requires.desk (c.migrate.ensures.was_up up)) (c.migrate.ensures.kept up) (c.migrate.ensures.grown up) (c.migrate.ensures.others up);
       unchanged = c.migrate.ensures.unchanged;
       survives = λ up clean. older_survives c.args.roster.now old new c.migrate.result (c.migrate.ensures.survives up);
     }

@@ -5,7 +5,7 @@ use Rattle.messages.specs.declared.message.Message.{Message}
 use Rattle.desk_tables.specs.Kept.{HoldsText}
 use Rattle.desk_tables.specs.Sets.{Lists}
 use Rattle.desk_store.proofs.EachOnce.{lists_same}
-use Rattle.desk_store.proofs.ReplacingLemmas.{nothing_came, nothing_done, today_becomes, today_survives}
+use Rattle.desk_store.proofs.ReplacingLemmas.{nothing_came, nothing_done, today_becomes, today_beside, today_survives}
 use Rattle.desk_store.proofs.replacing.replace_today.Goals as goal
 
 pub replace-requires-clause-desk : goal.replace-requires-clause-desk
@@ -33,6 +33,7 @@ returns g c =
       was_clean = c.replace.ensures.was_clean;
       up = c.replace.ensures.up;
       becomes = λ up. today_becomes c.args.roster.now old new c.replace.result c.requires.desk c.replace.ensures.was_up up (c.replace.ensures.desk up) (c.replace.ensures.replaced up) (c.replace.ensures.others up);
+      beside = λ up. today_beside c.args.roster.now old new c.replace.result c.requires.desk c.replace.ensures.was_up up (c.replace.ensures.others up);
       unchanged = c.replace.ensures.unchanged;
       survives = λ up clean. today_survives c.args.roster.now old new c.replace.result c.requires.desk c.replace.ensures.was_up up (c.replace.ensures.survives up);
     }

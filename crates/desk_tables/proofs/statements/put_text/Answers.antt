@@ -1,15 +1,15 @@
-use Rattle.std.proofs.Common.{ℕ, List, [], ◌∷◌, Result, Ok, Err, IfOk}
+use Rattle.std.proofs.Common.{ℕ, List, [], ◌∷◌, Result, Ok, Err, OnOk}
 use Rattle.sqlite.specs.declared.types.Value.TheVariants.{Text}
 use Rattle.sqlite.specs.declared.error.Error.{Error}
 use Rattle.sqlite.specs.State.{State, ExecutesInside}
 use Rattle.sqlite.specs.Held.{state}
 use Rattle.desk_tables.specs.private.Stepping.{WroteText}
-use Rattle.desk_tables.proofs.Missing.{insert_text}
-use Rattle.desk_tables.proofs.StepLemmas.{text_added}
+use Rattle.desk_tables.proofs.Inserts.{text_insert}
+use Rattle.desk_tables.proofs.StepLemmas.{text_wrote}
 use Rattle.desk_tables.proofs.statements.put_text.Goals as goal
 
-step : (text : List ℕ) (old new : State) (r : Result ℕ Error) → ExecutesInside 0 insert_text (Text text ∷ []) old new r → IfOk r (λ count. WroteText text count old new)
-step text old new (Ok count) h = record { inside = h.1; adds = λ tidy. text_added text old new count tidy h.0 }
+step : (text : List ℕ) (old new : State) (r : Result ℕ Error) → ExecutesInside 0 text_insert (Text text ∷ []) old new r → OnOk r (WroteText text old new)
+step text old new (Ok count) h = record { inside = h.1; adds = λ tidy. text_wrote text old new count tidy h.0 }
 step text old new (Err e) h = tt
 
 pub returns-clause-wrote : goal.returns-clause-wrote

@@ -63,7 +63,7 @@ loop-relay-preserved g c =
     let P' : List (Result Ack Refusal) → Type 0 = λ as'. AreAnswers old.roster.says (map delivery_of (take (i + 1) list)) as' in
     let Q : List Delivery → Type 0 = λ ds. HeldAfterAll (K.holds old.keeper) ds (answers ++ result ∷ []) (K.holds new.keeper) in
     let Q' : List (Result Ack Refusal) → Type 0 = λ as'. HeldAfterAll (K.holds old.keeper) (map delivery_of (take (i + 1) list)) as' (K.holds new.keeper) in
-    let U : List (Result Ack Refusal) → Type 0 = λ as'. IsServed K.is_up K.is_clean K.failures old.keeper new.keeper (Contains as' (Err Storage)) (WasWantingAmong as') in
+    let U : List (Result Ack Refusal) → Type 0 = λ as'. IsServed K.is_up K.is_clean K.failures K.beside old.keeper new.keeper (Contains as' (Err Storage)) (WasWantingAmong as') in
     let H : List (Result Ack Refusal) → Type 0 = λ as'. HaveFailed (storage_failures as') (K.failures old.keeper) (K.failures new.keeper) in
     let N : ℕ → Type 0 = λ n. HaveFailed n (K.failures old.keeper) (K.failures new.keeper) in
     record {

@@ -6,6 +6,7 @@ use Rattle.desk_tables.specs.Stored.{Content, content_of}
 use Rattle.desk_tables.specs.private.Survival.{ArrivesAt}
 use Rattle.desk_store.proofs.ArrivalLemmas.{arrival_keeps, content_wired, held_wired}
 use Rattle.desk_store.proofs.FoundLemmas.{arrival_lasts, up_left, with_message, with_or_without}
+use Rattle.desk_schema.proofs.BesideLemmas.{same_beside, spared_beside}
 use Rattle.desk_store.proofs.OutcomeLemmas.{ok_no_err}
 use Rattle.desk_store.proofs.sqlite_keeper.SqliteKeeperKeeper.add.Goals as goal
 
@@ -38,6 +39,7 @@ returns-then-not-is_autocommit-clause-served g c = record {
   counts = c.storage.ensures.counts;
   cause = λ is. c.storage.ensures.failed;
   up = λ up clean. inl refl;
+  others = λ up it stands. stands;
 }
 
 pub returns-then-not-is_autocommit-clause-crash : goal.returns-then-not-is_autocommit-clause-crash
@@ -72,6 +74,7 @@ returns-in-Ok-clause-served g c = record {
   counts = le_refl _;
   cause = λ is. ok_no_err _ _ is;
   up = λ up clean. inr (c.in-Ok.ensures.up up clean);
+  others = λ up. spared_beside _ _ (c.requires.desk (c.arrive-arrived.ensures.was_up up)).desk.tidy.desk (c.in-Ok.ensures.others up);
 }
 
 pub returns-in-Ok-clause-crash : goal.returns-in-Ok-clause-crash
@@ -106,6 +109,7 @@ returns-in-Err-clause-served g c = record {
   counts = c.told.ensures.counts;
   cause = λ is. c.told.ensures.failed;
   up = λ up clean. inl refl;
+  others = λ up. same_beside _ _ (c.in-Err.ensures.unchanged up);
 }
 
 pub returns-in-Err-clause-crash : goal.returns-in-Err-clause-crash

@@ -1,6 +1,7 @@
 use Rattle.std.proofs.Common.{inl, inr, le_refl, refl}
 use Rattle.sqlite.specs.Held.{state}
 use Rattle.desk_store.proofs.FoundLemmas.{as_kept}
+use Rattle.desk_schema.proofs.BesideLemmas.{same_beside}
 use Rattle.desk_store.proofs.OutcomeLemmas.{ok_no_err}
 use Rattle.desk_store.proofs.TellLemmas.{told}
 use Rattle.desk_store.proofs.sqlite_keeper.SqliteKeeperKeeper.look.Goals as goal
@@ -19,6 +20,7 @@ returns-in-Ok-clause-served g c = record {
   counts = le_refl _;
   cause = λ is. ok_no_err _ _ is;
   up = λ up clean. inr (c.in-Ok.ensures.up up clean);
+  others = λ up. same_beside _ _ (c.look.ensures.reads.same up);
 }
 
 pub returns-in-Ok-clause-crash : goal.returns-in-Ok-clause-crash
@@ -38,6 +40,7 @@ returns-in-Err-clause-served g c = record {
   counts = c.told.ensures.counts;
   cause = λ is. c.told.ensures.failed;
   up = λ up clean. inl refl;
+  others = λ up. same_beside _ _ (c.look.ensures.reads.same up);
 }
 
 pub returns-in-Err-clause-crash : goal.returns-in-Err-clause-crash

@@ -2,6 +2,7 @@ use Rattle.std.proofs.Common.{ap, inl, inr, le_refl, refl}
 use Rattle.sqlite.specs.Held.{state}
 use Rattle.desk_tables.specs.Stored.{Content}
 use Rattle.desk_store.proofs.FoundLemmas.{holds_nothing, made_kept, made_lasts, nothing_or_made, up_left}
+use Rattle.desk_schema.proofs.BesideLemmas.{same_beside}
 use Rattle.desk_store.proofs.OutcomeLemmas.{ok_no_err}
 use Rattle.desk_store.proofs.sqlite_keeper.SqliteKeeperKeeper.make.Goals as goal
 
@@ -25,6 +26,7 @@ returns-then-not-is_autocommit-clause-served g c = record {
   counts = c.storage.ensures.counts;
   cause = λ is. c.storage.ensures.failed;
   up = λ up clean. inl refl;
+  others = λ up it stands. stands;
 }
 
 pub returns-then-not-is_autocommit-clause-crash : goal.returns-then-not-is_autocommit-clause-crash
@@ -56,6 +58,7 @@ returns-in-Ok-clause-served g c = record {
   counts = le_refl _;
   cause = λ is. ok_no_err _ _ is;
   up = λ up clean. inr (c.in-Ok.ensures.up up clean);
+  others = λ up. c.in-Ok.ensures.beside up;
 }
 
 pub returns-in-Ok-clause-crash : goal.returns-in-Ok-clause-crash
@@ -87,6 +90,7 @@ returns-in-Err-clause-served g c = record {
   counts = c.told.ensures.counts;
   cause = λ is. c.told.ensures.failed;
   up = λ up clean. inl refl;
+  others = λ up. same_beside _ _ (c.in-Err.ensures.unmade up);
 }
 
 pub returns-in-Err-clause-crash : goal.returns-in-Err-clause-crash

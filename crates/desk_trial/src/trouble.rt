@@ -6,7 +6,7 @@ use sudo_words::NoMemory;
 
 /// Why the program ends early. None of it comes where memory is ample and the program is right.
 #[derive(Clone, Copy)]
-pub(crate) enum Trouble {
+pub enum Trouble {
     /// Memory ran out.
     NoMemory,
     /// A text of the program's own is not what it should be.

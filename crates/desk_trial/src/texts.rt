@@ -10,16 +10,16 @@ const ROSTER: &str =
     "relays = [\"web\"]\nhosts = [\"db1\"]\nduties = [\"approve-db\", \"audit\", \"operate-db\"]\nconflicts = [[\"approve-db\", \"audit\"]]\n[people]\nann = [\"operate-db\"]\nbob = [\"approve-db\"]\ncarol = [\"approve-db\", \"audit\"]\ndave = [\"approve-db\"]\n[ceilings.db-root]\nask = \"operate-db\"\napprove = \"approve-db\"\nneeds = 1\nhosts = [\"db1\"]\nrunas = [\"root\"]\ncommands = [\"/bin/\"]\n";
 
 /// A request for two hours.
-pub(crate) const REQUEST: &str =
+pub const REQUEST: &str =
     "{\"at\":\"20260105060000Z\",\"by\":\"ann\",\"ceiling\":\"db-root\",\"cmnds\":[\"/bin/ls\"],\"from\":\"20260105090000Z\",\"hosts\":[\"db1\"],\"kind\":\"request\",\"no\":7,\"runas\":\"root\",\"until\":\"20260105110000Z\"}";
 
 /// An approval of it.
-pub(crate) const APPROVAL: &str =
+pub const APPROVAL: &str =
     "{\"at\":\"20260105083000Z\",\"by\":\"bob\",\"kind\":\"approve\",\"no\":7,\"of\":\"ann\"}";
 
 /// Which roster.
 #[derive(Clone, Copy, PartialEq, Eq)]
-pub(crate) enum Rules {
+pub enum Rules {
     /// The one under which the request is admitted: its longest time is two hours.
     Full,
     /// One whose longest time is a second shorter, so that the request is not admitted.
@@ -35,14 +35,14 @@ fn longest(rules: Rules) -> &'static str {
 }
 
 /// The roster's text.
-pub(crate) fn roster_text(alloc: Global, rules: Rules) -> Result<String, Trouble> {
+pub fn roster_text(alloc: Global, rules: Rules) -> Result<String, Trouble> {
     let mut text = String::from_str(alloc, ROSTER)?;
     text.push_str(longest(rules))?;
     Ok(text)
 }
 
 /// Which of the rosters this is the text of.
-pub(crate) fn rules_of(text: &str) -> Option<Rules> {
+pub fn rules_of(text: &str) -> Option<Rules> {
     let rest = text.strip_prefix(ROSTER)?;
     if rest == longest(Rules::Full) {
         Some(Rules::Full)
@@ -70,7 +70,7 @@ fn base(alloc: Global) -> Result<Policy, Trouble> {
 }
 
 /// The roster and the base.
-pub(crate) fn parts(alloc: Global, rules: Rules) -> Result<(Roster, Policy), Trouble> {
+pub fn parts(alloc: Global, rules: Rules) -> Result<(Roster, Policy), Trouble> {
     let text = roster_text(alloc, rules)?;
     let roster = read_roster(alloc, text.as_str())?;
     match base(alloc) {

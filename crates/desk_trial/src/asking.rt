@@ -1,17 +1,18 @@
 //! What a desk answers, as text.
 
 use crate::states::{State, state_of};
-use crate::texts::{APPROVAL, Rules, rules_of};
+use crate::texts::{APPROVAL, REQUEST, Rules, rules_of};
 use crate::trouble::Trouble;
-use desk::{Desk, Keeper, RequestName};
+use desk::{Desk, Keeper, Refusal, RequestName};
 use desk_outcomes::Live;
-use grants::{Status, Summary};
+use grants::{Status, Summary, rules_of as rules_given};
+use roster::Roster;
 use std::alloc::Global;
 use std::fmt::Write as _;
 use sudo_words::{HostName, Moment, Name};
 
 /// Adds what a request came to.
-pub(crate) fn say_status(said: &mut String, status: Option<Status>) -> Result<(), Trouble> {
+pub fn say_status(said: &mut String, status: Option<Status>) -> Result<(), Trouble> {
     let word = match status {
         None => "nobody asks",
         Some(Status::Disputed) => "Disputed",
@@ -29,7 +30,7 @@ pub(crate) fn say_status(said: &mut String, status: Option<Status>) -> Result<()
 }
 
 /// Asks for the status of ann's request of this number, and adds it.
-pub(crate) fn ask_status<K: Keeper>(
+pub fn ask_status<K: Keeper>(
     alloc: Global,
     said: &mut String,
     desk: &mut Desk<K>,
@@ -70,11 +71,7 @@ fn say_live(said: &mut String, list: &[Live]) -> Result<(), Trouble> {
 }
 
 /// Asks for the grants in force at the moment, and adds them.
-pub(crate) fn ask_live<K: Keeper>(
-    said: &mut String,
-    desk: &mut Desk<K>,
-    at: &str,
-) -> Result<(), Trouble> {
+pub fn ask_live<K: Keeper>(said: &mut String, desk: &mut Desk<K>, at: &str) -> Result<(), Trouble> {
     let Some(at) = Moment::read(at) else {
         return Err(Trouble::BadText);
     };
@@ -104,7 +101,7 @@ fn say_parked(said: &mut String, texts: &[String]) -> Result<(), Trouble> {
 }
 
 /// Asks for the verdicts that wait, and adds them.
-pub(crate) fn ask_parked<K: Keeper>(said: &mut String, desk: &mut Desk<K>) -> Result<(), Trouble> {
+pub fn ask_parked<K: Keeper>(said: &mut String, desk: &mut Desk<K>) -> Result<(), Trouble> {
     match desk.parked() {
         Ok(texts) => {
             let done = say_parked(said, texts.as_slice());
@@ -134,17 +131,8 @@ fn say_lines(said: &mut String, file: &str) -> Result<(), Trouble> {
     Ok(())
 }
 
-/// Asks for the host's file, and adds it.
-fn ask_file<K: Keeper>(
-    alloc: Global,
-    said: &mut String,
-    desk: &mut Desk<K>,
-) -> Result<(), Trouble> {
-    let Ok(host) = HostName::read(alloc, "db1") else {
-        return Err(Trouble::BadText);
-    };
-    let answer = desk.host_file(&host);
-    drop(host);
+/// Adds the file that was asked for.
+fn say_file(said: &mut String, answer: Result<String, Refusal>) -> Result<(), Trouble> {
     match answer {
         Ok(file) => {
             let done = say_lines(said, file.as_str());
@@ -156,6 +144,38 @@ fn ask_file<K: Keeper>(
             Ok(())
         }
     }
+}
+
+/// Asks for the host's file, and adds it.
+fn ask_file<K: Keeper>(
+    alloc: Global,
+    said: &mut String,
+    desk: &mut Desk<K>,
+) -> Result<(), Trouble> {
+    let Ok(host) = HostName::read(alloc, "db1") else {
+        return Err(Trouble::BadText);
+    };
+    let answer = desk.host_file(&host);
+    drop(host);
+    say_file(said, answer)
+}
+
+/// Asks for the host's file without the lines that end before the moment, and adds it.
+pub fn ask_file_after<K: Keeper>(
+    alloc: Global,
+    said: &mut String,
+    desk: &mut Desk<K>,
+    at: &str,
+) -> Result<(), Trouble> {
+    let Some(at) = Moment::read(at) else {
+        return Err(Trouble::BadText);
+    };
+    let Ok(host) = HostName::read(alloc, "db1") else {
+        return Err(Trouble::BadText);
+    };
+    let answer = desk.host_file_after(&host, at);
+    drop(host);
+    say_file(said, answer)
 }
 
 /// Adds which roster the desk has, by its longest time.
@@ -170,7 +190,7 @@ fn say_roster(said: &mut String, text: &str) -> Result<(), Trouble> {
 
 /// What the desk answers to each question: which roster it has, what request 7 came to, which grants are in force within its window, what waits, and the host's
 /// file.
-pub(crate) fn say_all<K: Keeper>(
+pub fn say_all<K: Keeper>(
     alloc: Global,
     said: &mut String,
     desk: &mut Desk<K>,
@@ -183,7 +203,7 @@ pub(crate) fn say_all<K: Keeper>(
 }
 
 /// The state of the desk, by all that it answers.
-pub(crate) fn state_at<K: Keeper>(alloc: Global, desk: &mut Desk<K>) -> Result<State, Trouble> {
+pub fn state_at<K: Keeper>(alloc: Global, desk: &mut Desk<K>) -> Result<State, Trouble> {
     let mut said = String::new(alloc);
     let done = say_all(alloc, &mut said, desk);
     let state = state_of(said.as_str());
@@ -211,10 +231,7 @@ fn say_summaries(said: &mut String, summaries: &[Summary]) -> Result<(), Trouble
 }
 
 /// Asks for the summaries, and adds how many there are.
-pub(crate) fn ask_summaries<K: Keeper>(
-    said: &mut String,
-    desk: &mut Desk<K>,
-) -> Result<(), Trouble> {
+pub fn ask_summaries<K: Keeper>(said: &mut String, desk: &mut Desk<K>) -> Result<(), Trouble> {
     match desk.summaries() {
         Ok(list) => {
             let done = say_summaries(said, list.as_slice());
@@ -228,13 +245,54 @@ pub(crate) fn ask_summaries<K: Keeper>(
     }
 }
 
-/// Asks for the texts of all messages, and adds how many there are.
-pub(crate) fn ask_texts<K: Keeper>(said: &mut String, desk: &mut Desk<K>) -> Result<(), Trouble> {
-    match desk.texts() {
-        Ok(texts) => {
-            let count = texts.len();
-            drop(texts);
-            write!(said, ", messages {count}")?;
+/// Adds how many rules each of the summaries gives the host under the roster.
+fn say_rules(
+    alloc: Global,
+    said: &mut String,
+    roster: &Roster,
+    summaries: &[Summary],
+    host: &HostName,
+) -> Result<(), Trouble> {
+    for summary in summaries {
+        let Ok(rules) = rules_given(alloc, roster, summary, host) else {
+            return Err(Trouble::NoMemory);
+        };
+        let many = rules.len();
+        drop(rules);
+        write!(said, ", rules {many}")?;
+    }
+    Ok(())
+}
+
+/// Adds how many rules the desk's messages give db1.
+pub fn ask_rules<K: Keeper>(
+    alloc: Global,
+    said: &mut String,
+    desk: &mut Desk<K>,
+) -> Result<(), Trouble> {
+    let Ok(host) = HostName::read(alloc, "db1") else {
+        return Err(Trouble::NoMemory);
+    };
+    match desk.summaries() {
+        Ok(list) => {
+            let done = say_rules(alloc, said, desk.roster(), list.as_slice(), &host);
+            drop(list);
+            done
+        }
+        Err(refusal) => {
+            write!(said, ", {refusal}")?;
+            Ok(())
+        }
+    }
+}
+
+/// Asks for the summaries and the verdicts that wait, at once, and adds how many there are.
+pub fn ask_holdings<K: Keeper>(said: &mut String, desk: &mut Desk<K>) -> Result<(), Trouble> {
+    match desk.holdings() {
+        Ok(held) => {
+            let (summaries, parked) = (held.summaries.len(), held.parked.len());
+            drop(held);
+            write!(said, ", holdings {summaries} and {parked}")?;
             Ok(())
         }
         Err(refusal) => {
@@ -242,4 +300,55 @@ pub(crate) fn ask_texts<K: Keeper>(said: &mut String, desk: &mut Desk<K>) -> Res
             Ok(())
         }
     }
+}
+
+/// Adds which messages these are the texts of.
+fn say_texts(said: &mut String, texts: &[String]) -> Result<(), Trouble> {
+    for text in texts {
+        said.push_str(if text.as_str() == APPROVAL {
+            ", the approval"
+        } else if text.as_str() == REQUEST {
+            ", the request"
+        } else {
+            ", another message"
+        })?;
+    }
+    Ok(())
+}
+
+/// Asks for the texts of all messages, and adds which they are.
+pub fn ask_texts<K: Keeper>(said: &mut String, desk: &mut Desk<K>) -> Result<(), Trouble> {
+    match desk.texts() {
+        Ok(texts) => {
+            let done = say_texts(said, texts.as_slice());
+            drop(texts);
+            done
+        }
+        Err(refusal) => {
+            write!(said, ", {refusal}")?;
+            Ok(())
+        }
+    }
+}
+
+/// Whether the texts of all messages are those of a desk in the state.
+fn has_texts<K: Keeper>(alloc: Global, state: State, desk: &mut Desk<K>) -> Result<bool, Trouble> {
+    let mut said = String::new(alloc);
+    let done = ask_texts(&mut said, desk);
+    let is_so = said.as_str() == state.texts();
+    drop(said);
+    match done {
+        Ok(()) => Ok(is_so),
+        Err(trouble) => Err(trouble),
+    }
+}
+
+/// The state of the desk, by all that it answers and by the texts of all its messages.
+pub fn state_kept<K: Keeper>(alloc: Global, desk: &mut Desk<K>) -> Result<State, Trouble> {
+    let state = state_at(alloc, desk)?;
+    Ok(if has_texts(alloc, state, desk)? {
+        state
+    } else {
+        State::Other
+    })
 }

@@ -1,6 +1,6 @@
 //! The calls that are made while storage fails, and what is found after them.
 
-use crate::asking::state_at;
+use crate::asking::state_kept;
 use crate::states::State;
 use crate::texts::{APPROVAL, REQUEST, Rules, parts, rules_of};
 use crate::trouble::Trouble;
@@ -13,20 +13,22 @@ use sudo_syntax::Policy;
 
 /// A call of a desk.
 #[derive(Clone, Copy)]
-pub(crate) enum Call {
+pub enum Call {
     /// The desk is opened.
     Open,
     /// It is opened, and the request is delivered.
     Request,
     /// It is opened, and the approval is delivered.
     Approval,
+    /// It is opened, and the approval is delivered, and then the request.
+    Both,
     /// It is rebuilt with this roster.
     Rebuild(Rules),
 }
 
 /// How a call ended.
 #[derive(Clone, Copy, PartialEq, Eq)]
-pub(crate) enum Answer {
+pub enum Answer {
     Done,
     Refused(Refusal),
     /// The database was not opened.
@@ -44,31 +46,33 @@ impl fmt::Display for Answer {
 }
 
 /// Delivers the body through the relay of the roster.
-pub(crate) fn deliver<K: Keeper>(desk: &mut Desk<K>, body: &str) -> Answer {
+pub fn deliver<K: Keeper>(desk: &mut Desk<K>, body: &str) -> Answer {
     match desk.deliver("web", body.as_bytes()) {
         Ok(_) => Answer::Done,
         Err(refusal) => Answer::Refused(refusal),
     }
 }
 
-/// Delivers the body, if there is one, and gives the keeper up.
-fn delivered<K: Keeper>(mut desk: Desk<K>, body: Option<&str>) -> (Answer, K) {
-    let answer = match body {
-        Some(body) => deliver(&mut desk, body),
-        None => Answer::Done,
-    };
+/// Delivers the bodies in order, each once the one before it was acknowledged, and gives the keeper up.
+fn delivered<K: Keeper>(mut desk: Desk<K>, bodies: &[&str]) -> (Answer, K) {
+    let mut answer = Answer::Done;
+    for body in bodies {
+        if answer == Answer::Done {
+            answer = deliver(&mut desk, body);
+        }
+    }
     (answer, desk.into_keeper())
 }
 
-/// Opens a desk over the keeper, and delivers the body, if there is one.
+/// Opens a desk over the keeper, and delivers the bodies.
 fn opened<K: Keeper>(
     alloc: Global,
     parts: (Roster, Policy),
-    body: Option<&str>,
+    bodies: &[&str],
     keeper: K,
 ) -> (Answer, K) {
     match Desk::open(alloc, parts.0, parts.1, keeper) {
-        Ok(desk) => delivered(desk, body),
+        Ok(desk) => delivered(desk, bodies),
         Err((refusal, keeper)) => (Answer::Refused(refusal), keeper),
     }
 }
@@ -89,22 +93,19 @@ fn made<K: Keeper>(
     keeper: K,
 ) -> (Result<Answer, Trouble>, K) {
     let (answer, keeper) = match call {
-        Call::Open => opened(alloc, parts, None, keeper),
-        Call::Request => opened(alloc, parts, Some(REQUEST), keeper),
-        Call::Approval => opened(alloc, parts, Some(APPROVAL), keeper),
+        Call::Open => opened(alloc, parts, &[], keeper),
+        Call::Request => opened(alloc, parts, &[REQUEST], keeper),
+        Call::Approval => opened(alloc, parts, &[APPROVAL], keeper),
+        Call::Both => opened(alloc, parts, &[APPROVAL, REQUEST], keeper),
         Call::Rebuild(_) => rebuilt(alloc, parts, keeper),
     };
     (Ok(answer), keeper)
 }
 
 /// Makes the call over what the keeper keeps, and hands the keeper on.
-pub(crate) fn make_call<K: Keeper>(
-    alloc: Global,
-    call: Call,
-    keeper: K,
-) -> (Result<Answer, Trouble>, K) {
+pub fn make_call<K: Keeper>(alloc: Global, call: Call, keeper: K) -> (Result<Answer, Trouble>, K) {
     let rules = match call {
-        Call::Open | Call::Request | Call::Approval => Rules::Full,
+        Call::Open | Call::Request | Call::Approval | Call::Both => Rules::Full,
         Call::Rebuild(rules) => rules,
     };
     match parts(alloc, rules) {
@@ -147,7 +148,7 @@ fn asked<K: Keeper>(
 ) -> (Result<State, Trouble>, K) {
     match Desk::open(alloc, parts.0, parts.1, keeper) {
         Ok(mut desk) => {
-            let state = state_at(alloc, &mut desk);
+            let state = state_kept(alloc, &mut desk);
             (state, desk.into_keeper())
         }
         Err((_, keeper)) => (Ok(State::Other), keeper),
@@ -163,7 +164,7 @@ fn desk_at<K: Keeper>(alloc: Global, rules: Rules, keeper: K) -> (Result<State, 
 }
 
 /// The state of what the keeper keeps. The keeper is one without faults.
-pub(crate) fn kept_at<K: Keeper>(alloc: Global, mut keeper: K) -> (Result<State, Trouble>, K) {
+pub fn kept_at<K: Keeper>(alloc: Global, mut keeper: K) -> (Result<State, Trouble>, K) {
     match thing_of(keeper.look()) {
         Thing::Desk(rules) => desk_at(alloc, rules, keeper),
         Thing::State(state) => (Ok(state), keeper),

@@ -4,7 +4,7 @@ use std::fmt;
 
 /// What a desk answers to every question, or what is found where there is none.
 #[derive(Clone, Copy, PartialEq, Eq)]
-pub(crate) enum State {
+pub enum State {
     /// There is nothing of a desk's.
     Nothing,
     /// There is a desk of an older form.
@@ -26,7 +26,7 @@ pub(crate) enum State {
 }
 
 /// The states of which each has a text.
-pub(crate) const KNOWN: [State; 6] = [
+pub const KNOWN: [State; 6] = [
     State::Fresh,
     State::Parked,
     State::Waiting,
@@ -37,7 +37,7 @@ pub(crate) const KNOWN: [State; 6] = [
 
 impl State {
     /// All that a desk in this state answers: which roster it has, what the request came to, which grants are in force, what waits, and the host's file.
-    pub(crate) fn text(self) -> &'static str {
+    pub fn text(self) -> &'static str {
         match self {
             State::Fresh => "7200 seconds, nobody asks, file: bob db1 = (root) ALL",
             State::Parked => {
@@ -50,6 +50,16 @@ impl State {
             State::Lapsed => "7199 seconds, Lapsed, file: bob db1 = (root) ALL",
             State::Silent => "7200 seconds, K4 Storage, K4 Storage, K4 Storage, K4 Storage",
             State::Nothing | State::Older | State::Other => "",
+        }
+    }
+
+    /// The messages whose texts a desk in this state has.
+    pub fn texts(self) -> &'static str {
+        match self {
+            State::Parked => ", the approval",
+            State::Waiting => ", the request",
+            State::Granted | State::Lapsed => ", the request, the approval",
+            _ => "",
         }
     }
 }
@@ -71,7 +81,7 @@ impl fmt::Display for State {
 }
 
 /// The state of a desk that answers this.
-pub(crate) fn state_of(text: &str) -> State {
+pub fn state_of(text: &str) -> State {
     for state in KNOWN {
         if state.text() == text {
             return state;

@@ -1,8 +1,9 @@
 //! A store of an older form.
 
-use crate::files::{Pair, empty, filled};
-use crate::texts::{APPROVAL, REQUEST, Rules, roster_text};
-use crate::trouble::Trouble;
+use crate::left::filled;
+use desk_trial::files::{Pair, empty};
+use desk_trial::texts::{APPROVAL, REQUEST, Rules, roster_text};
+use desk_trial::trouble::Trouble;
 use std::alloc::Global;
 
 /// The statements that make the tables of schema 1, and fill them.

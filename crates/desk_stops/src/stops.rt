@@ -1,14 +1,14 @@
 //! A stop at each call of a store's files.
 
-use crate::calls::{Answer, Call, kept_at, make_call};
-use crate::files::{
-    Fused, Fuses, Pair, Stopping, WHOLE, are_same, are_whole, closed_at, files_at, opened,
-    opened_whole, synced_in, written_in,
-};
-use crate::states::State;
-use crate::trouble::Trouble;
-use desk::{Keeper, Refusal};
+use crate::left::{are_whole, closed_at, files_at, synced_in, written_in};
+use desk::Refusal;
 use desk_store::SqliteKeeper;
+use desk_trial::calls::{Answer, Call, make_call};
+use desk_trial::deliveries::{Both, are_delivered, are_well, make_both, may_be_found};
+use desk_trial::files::{Fused, Fuses, Pair, Stopping, WHOLE, are_same, opened, opened_whole};
+use desk_trial::seeing::{Seen, seen_over};
+use desk_trial::states::State;
+use desk_trial::trouble::Trouble;
 use sqlite::Alter;
 use sqlite_disk::{Disk, Files};
 use sqlite_store::FileStore;
@@ -18,13 +18,15 @@ use std::fmt::Write as _;
 /// More calls of a file than any call here makes.
 const MOST: u64 = 1_024;
 
-/// A call, and the two states in which the next opening may find the store.
+/// A call, and the states in which the next opening may find the store.
 #[derive(Clone, Copy)]
 pub(crate) struct Case {
     pub(crate) call: Call,
     /// The state before the call.
     pub(crate) first: State,
-    /// The state after it.
+    /// The state after its first commit.
+    pub(crate) committed: State,
+    /// The state after all of it.
     pub(crate) second: State,
 }
 
@@ -35,18 +37,19 @@ enum Side {
     Database,
 }
 
-/// What is found in a store, and after the same call once more, without a stop.
+/// How a call ended whose file may have stopped.
 #[derive(Clone, Copy, PartialEq, Eq)]
-struct Seen {
-    found: State,
-    again: Answer,
-    then: State,
+enum Made {
+    /// One call, or the opening before it.
+    Called(Answer),
+    /// Two deliveries to one desk.
+    Delivered(Both),
 }
 
 /// What one stop came to.
 #[derive(Clone, Copy, PartialEq, Eq)]
 struct Outcome {
-    answer: Answer,
+    made: Made,
     /// The call ended before the fuse was blown.
     is_whole: bool,
     /// What is found in all that was written: the process ended.
@@ -66,7 +69,7 @@ struct Row {
 /// How a call ended whose file may have stopped, and what is left.
 #[derive(Drop)]
 struct Stop {
-    answer: Answer,
+    made: Made,
     is_whole: bool,
     killed: Pair,
     cut: Pair,
@@ -98,13 +101,13 @@ fn fuses(side: Side, calls: u64) -> Fuses {
 }
 
 /// How the call ended, and what the files have.
-fn stop_of(alloc: Global, answer: Answer, mut files: Files<Fused>) -> Result<Stop, Trouble> {
+fn stop_of(alloc: Global, made: Made, mut files: Files<Fused>) -> Result<Stop, Trouble> {
     let is_whole = are_whole(&mut files);
     let written = written_in(alloc, &files);
     let synced = synced_in(alloc, files);
     match (written, synced) {
         (Ok(killed), Ok(cut)) => Ok(Stop {
-            answer,
+            made,
             is_whole,
             killed,
             cut,
@@ -117,21 +120,52 @@ fn stop_of(alloc: Global, answer: Answer, mut files: Files<Fused>) -> Result<Sto
     }
 }
 
+/// Makes both deliveries over the keeper.
+fn both_over<S: Alter>(
+    alloc: Global,
+    keeper: SqliteKeeper<S>,
+) -> (Result<Made, Trouble>, SqliteKeeper<S>) {
+    let (both, keeper) = make_both(alloc, keeper);
+    let made = match both {
+        Ok(Ok(both)) => Ok(Made::Delivered(both)),
+        Ok(Err(refusal)) => Ok(Made::Called(Answer::Refused(refusal))),
+        Err(trouble) => Err(trouble),
+    };
+    (made, keeper)
+}
+
+/// Makes one call over the keeper.
+fn one_over<S: Alter>(
+    alloc: Global,
+    keeper: SqliteKeeper<S>,
+    call: Call,
+) -> (Result<Made, Trouble>, SqliteKeeper<S>) {
+    let (answer, keeper) = make_call(alloc, call, keeper);
+    let made = match answer {
+        Ok(answer) => Ok(Made::Called(answer)),
+        Err(trouble) => Err(trouble),
+    };
+    (made, keeper)
+}
+
 /// Makes the call over the keeper, and gives its files up.
 fn called<D: Disk + Drop>(
     alloc: Global,
     keeper: SqliteKeeper<FileStore<D>>,
     call: Call,
-) -> (Result<Answer, Trouble>, Files<D>) {
-    let (answer, keeper) = make_call(alloc, call, keeper);
-    (answer, files_at(keeper))
+) -> (Result<Made, Trouble>, Files<D>) {
+    let (made, keeper) = match call {
+        Call::Both => both_over(alloc, keeper),
+        _ => one_over(alloc, keeper, call),
+    };
+    (made, files_at(keeper))
 }
 
 /// Makes the call over the keeper, and ends there.
 fn call_over(alloc: Global, keeper: Stopping, call: Call) -> Result<Stop, Trouble> {
-    let (answer, files) = called(alloc, keeper, call);
-    match answer {
-        Ok(answer) => stop_of(alloc, answer, files),
+    let (made, files) = called(alloc, keeper, call);
+    match made {
+        Ok(made) => stop_of(alloc, made, files),
         Err(trouble) => {
             drop(files);
             Err(trouble)
@@ -143,21 +177,8 @@ fn call_over(alloc: Global, keeper: Stopping, call: Call) -> Result<Stop, Troubl
 fn stopped(alloc: Global, start: &Pair, call: Call, fuses: Fuses) -> Result<Stop, Trouble> {
     match opened(alloc, start, fuses)? {
         Ok(keeper) => call_over(alloc, keeper, call),
-        Err(files) => stop_of(alloc, Answer::NotOpened, files),
+        Err(files) => stop_of(alloc, Made::Called(Answer::NotOpened), files),
     }
-}
-
-/// What the keeper keeps, before and after the call is made without a stop.
-fn seen_over<K: Keeper + Drop>(alloc: Global, keeper: K, call: Call) -> Result<Seen, Trouble> {
-    let (found, keeper) = kept_at(alloc, keeper);
-    let (again, keeper) = make_call(alloc, call, keeper);
-    let (then, keeper) = kept_at(alloc, keeper);
-    drop(keeper);
-    Ok(Seen {
-        found: found?,
-        again: again?,
-        then: then?,
-    })
 }
 
 /// What a keeper over a database keeps, before and after the call: one function over any store.
@@ -205,7 +226,7 @@ fn stop_once(
     lasts: &mut Lasts,
 ) -> Result<Outcome, Trouble> {
     let Stop {
-        answer,
+        made,
         is_whole,
         killed,
         cut,
@@ -213,7 +234,7 @@ fn stop_once(
     let killed = looked_at(alloc, &mut lasts.killed, killed, call);
     let cut = looked_at(alloc, &mut lasts.cut, cut, call);
     Ok(Outcome {
-        answer,
+        made,
         is_whole,
         killed: killed?,
         cut: cut?,
@@ -255,36 +276,64 @@ fn add_stops(
     Ok(())
 }
 
-/// Whether this is one of the two states, and the same call once more is acknowledged and leads to the second.
-fn is_seen_right(seen: Seen, case: Case) -> bool {
-    (seen.found == case.first || seen.found == case.second)
-        && seen.again == Answer::Done
-        && seen.then == case.second
+/// Whether the next opening may find this after what was made: where a call was refused, the state before it or after its first commit; after two deliveries
+/// one that goes with their answers.
+fn may_find(made: Made, found: State, case: Case) -> bool {
+    match made {
+        Made::Called(Answer::Done) => found == case.second,
+        Made::Called(Answer::NotOpened) => found == case.first,
+        Made::Called(Answer::Refused(Refusal::Storage)) => {
+            found == case.first || found == case.committed
+        }
+        Made::Called(Answer::Refused(_)) => false,
+        Made::Delivered(both) => may_be_found(both, found),
+    }
 }
 
-/// Whether what was found may be found after the answer: where the call was acknowledged, the second state alone.
+/// Whether what was found may be found, and the same call once more is acknowledged and leads to the second state.
+fn is_seen_right(made: Made, seen: Seen, case: Case) -> bool {
+    may_find(made, seen.found, case) && seen.again == Answer::Done && seen.then == case.second
+}
+
+/// Whether the call ended as it may; where it ended untouched, as without a fuse.
+fn is_made_right(made: Made, is_whole: bool) -> bool {
+    match made {
+        Made::Called(answer) => !is_whole || answer == Answer::Done,
+        Made::Delivered(both) => are_delivered(both) && (!is_whole || are_well(both)),
+    }
+}
+
+/// Whether the call ended as it may, and so is what was found.
 fn is_right(outcome: Outcome, case: Case) -> bool {
-    let has_second = outcome.killed.found == case.second && outcome.cut.found == case.second;
-    let is_answer_right = match outcome.answer {
-        Answer::Done => has_second,
-        Answer::NotOpened | Answer::Refused(Refusal::Storage) => true,
-        Answer::Refused(_) => false,
-    };
-    is_answer_right && is_seen_right(outcome.killed, case) && is_seen_right(outcome.cut, case)
+    let made = outcome.made;
+    is_made_right(made, outcome.is_whole)
+        && is_seen_right(made, outcome.killed, case)
+        && is_seen_right(made, outcome.cut, case)
+}
+
+/// Adds how the call ended.
+fn say_made(said: &mut String, made: Made) -> Result<(), Trouble> {
+    match made {
+        Made::Called(answer) => write!(said, "{answer}")?,
+        Made::Delivered(both) => write!(said, "{both}")?,
+    }
+    Ok(())
 }
 
 /// Adds a row.
 fn say_row(said: &mut String, row: Row, case: Case) -> Result<(), Trouble> {
     let Outcome {
-        answer,
+        made,
         is_whole,
         killed,
         cut,
     } = row.outcome;
+    write!(said, "    {} to {}: ", row.from, row.to)?;
+    say_made(said, made)?;
     write!(
         said,
-        "    {} to {}: {answer}; killed: {}; power cut: {}; once more: {}, {}",
-        row.from, row.to, killed.found, cut.found, killed.again, killed.then
+        "; killed: {}; power cut: {}; once more: {}, {}",
+        killed.found, cut.found, killed.again, killed.then
     )?;
     if is_whole {
         said.push_str("; untouched")?;
@@ -360,7 +409,9 @@ pub(crate) fn say_stops(
     case: Case,
 ) -> Result<(), Trouble> {
     let seen = seen_in(alloc, start, case.call)?;
-    let is_right = seen.found == case.first && is_seen_right(seen, case);
+    let is_right = seen.found == case.first
+        && seen.again == Answer::Done
+        && seen.then == case.second;
     let mark = if is_right { "" } else { "; OTHERWISE" };
     write!(
         said,

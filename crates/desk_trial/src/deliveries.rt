@@ -1,0 +1,140 @@
+//! Two deliveries to one desk, one after the other: the approval, and then the request.
+
+use crate::asking::state_at;
+use crate::calls::{Answer, deliver};
+use crate::states::State;
+use crate::texts::{APPROVAL, REQUEST, Rules, parts};
+use crate::trouble::Trouble;
+use desk::{Desk, Keeper, Refusal};
+use roster::Roster;
+use std::alloc::Global;
+use std::fmt;
+use sudo_syntax::Policy;
+
+/// How a delivery ended, and what the desk answers then.
+#[derive(Clone, Copy, PartialEq, Eq)]
+pub struct Delivered {
+    pub answer: Answer,
+    pub then: State,
+}
+
+/// How both deliveries ended.
+#[derive(Clone, Copy, PartialEq, Eq)]
+pub struct Both {
+    pub approval: Delivered,
+    pub request: Delivered,
+}
+
+impl fmt::Display for Both {
+    fn fmt<W: fmt::Write>(&self, f: &mut fmt::Formatter<W>) -> fmt::Result {
+        let Both { approval, request } = *self;
+        write!(
+            f,
+            "the approval {}, then {}; the request {}, then {}",
+            approval.answer, approval.then, request.answer, request.then
+        )
+    }
+}
+
+/// Delivers the body, and asks every question then.
+fn deliver_and_ask<K: Keeper>(
+    alloc: Global,
+    desk: &mut Desk<K>,
+    body: &str,
+) -> Result<Delivered, Trouble> {
+    let answer = deliver(desk, body);
+    Ok(Delivered {
+        answer,
+        then: state_at(alloc, desk)?,
+    })
+}
+
+/// Delivers the approval and then the request.
+fn deliver_both<K: Keeper>(alloc: Global, desk: &mut Desk<K>) -> Result<Both, Trouble> {
+    let approval = deliver_and_ask(alloc, desk, APPROVAL)?;
+    let request = deliver_and_ask(alloc, desk, REQUEST)?;
+    Ok(Both { approval, request })
+}
+
+/// Opens a desk of these parts over the keeper, and delivers both to it.
+fn open_and_deliver<K: Keeper>(
+    alloc: Global,
+    parts: (Roster, Policy),
+    keeper: K,
+) -> (Result<Result<Both, Refusal>, Trouble>, K) {
+    match Desk::open(alloc, parts.0, parts.1, keeper) {
+        Ok(mut desk) => {
+            let both = deliver_both(alloc, &mut desk);
+            let made = match both {
+                Ok(both) => Ok(Ok(both)),
+                Err(trouble) => Err(trouble),
+            };
+            (made, desk.into_keeper())
+        }
+        Err((refusal, keeper)) => (Ok(Err(refusal)), keeper),
+    }
+}
+
+/// Opens a desk over the keeper, and delivers both to it: how they ended, or how the opening was refused.
+pub fn make_both<K: Keeper>(
+    alloc: Global,
+    keeper: K,
+) -> (Result<Result<Both, Refusal>, Trouble>, K) {
+    match parts(alloc, Rules::Full) {
+        Ok(parts) => open_and_deliver(alloc, parts, keeper),
+        Err(trouble) => (Err(trouble), keeper),
+    }
+}
+
+/// Whether a delivery over a desk in the state `before` ended as it may: acknowledged, and it leads to `after`; or refused over the storage, and nothing changed.
+/// A question after it is answered so, or refused over the storage.
+fn is_delivered(delivered: Delivered, before: State, after: State) -> bool {
+    let (is_known, state) = match delivered.answer {
+        Answer::Done => (true, after),
+        Answer::Refused(Refusal::Storage) => (true, before),
+        Answer::Refused(_) | Answer::NotOpened => (false, before),
+    };
+    is_known && (delivered.then == state || delivered.then == State::Silent)
+}
+
+/// Whether both deliveries ended as they may.
+pub fn are_delivered(both: Both) -> bool {
+    let Both { approval, request } = both;
+    let is_second_right = if approval.answer == Answer::Done {
+        is_delivered(request, State::Parked, State::Granted)
+    } else {
+        is_delivered(request, State::Fresh, State::Waiting)
+    };
+    is_delivered(approval, State::Fresh, State::Parked) && is_second_right
+}
+
+/// Whether both were acknowledged, and each question after each was answered.
+pub fn are_well(both: Both) -> bool {
+    let Both { approval, request } = both;
+    approval.answer == Answer::Done
+        && approval.then == State::Parked
+        && request.answer == Answer::Done
+        && request.then == State::Granted
+}
+
+/// Whether the next opening may find the message there, or may not, after its delivery. What was acknowledged is there. What was refused is not there where the
+/// desk went on to answer, and else it may be.
+fn may_be(delivered: Delivered, is_there: bool) -> bool {
+    if delivered.answer == Answer::Done {
+        is_there
+    } else {
+        !is_there || delivered.then == State::Silent
+    }
+}
+
+/// Whether the next opening may find the desk in this state after both.
+pub fn may_be_found(both: Both, found: State) -> bool {
+    let (has_approval, has_request) = match found {
+        State::Fresh => (false, false),
+        State::Parked => (true, false),
+        State::Waiting => (false, true),
+        State::Granted => (true, true),
+        _ => return false,
+    };
+    may_be(both.approval, has_approval) && may_be(both.request, has_request)
+}
