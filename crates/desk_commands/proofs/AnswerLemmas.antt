@@ -8,9 +8,9 @@ use Rattle.desk_commands.specs.declared.refusal.Refusal.{Refusal as Reason}
 use Rattle.desk_commands.specs.Wanting.{TellsWant}
 use Rattle.desk_commands.specs.private.Outcomes.{IsOutcome, WantsIn}
 use Rattle.desk_commands.proofs.OverLemmas.{nothing_said}
-use Rattle.desk_jobs.specs.declared.status.Status.{Status}
-use Rattle.desk_jobs.specs.declared.status.Status.TheVariants.{Refused}
-use Rattle.desk_jobs.specs.declared.task.Job.{Job}
+use Rattle.desk_args.specs.declared.status.Status.{Status}
+use Rattle.desk_args.specs.declared.status.Status.TheVariants.{Refused}
+use Rattle.desk_args.specs.declared.task.Job.{Job}
 
 -- what is answered to this job, of which nothing is said
 pub quietly : (r : Result Answer Reason) (job own : Job) (files : List (List ℕ)) (k : Kept) (input err : Option (List ℕ)) → job ≡ own

@@ -19,9 +19,9 @@ use Rattle.sudo_decide.specs.declared.invocation.Invocation.{Invocation}
 use Rattle.sudo_beyond.specs.Beyond.{IsInvocation, LiesBeyond, SomethingBeyond}
 use Rattle.sudo_decide.specs.declared.scope.Scope.{Scope}
 use Rattle.desk_commands.specs.Comparing.{ComparesFiles, IsShown, case_text}
-use Rattle.desk_jobs.specs.declared.status.Status.{Status}
-use Rattle.desk_jobs.specs.declared.status.Status.TheVariants.{Done, Found}
-use Rattle.desk_jobs.proofs.Runs.{same_run}
+use Rattle.desk_args.specs.declared.status.Status.{Status}
+use Rattle.desk_args.specs.declared.status.Status.TheVariants.{Done, Found}
+use Rattle.desk_args.proofs.Runs.{same_run}
 
 -- ---- no space stands in what a case says
 

@@ -25,12 +25,12 @@ use Rattle.desk_commands.specs.private.Outcomes.{IsLeft, IsOutcome, WantsIn}
 use Rattle.desk_commands.proofs.BroughtLemmas.{admitted_of, further, here, right_answer}
 use Rattle.desk_commands.proofs.OverLemmas.{nothing_said, set_on, with_more}
 use Rattle.desk_commands.proofs.TellingLemmas.{whole_front}
-use Rattle.desk_jobs.specs.declared.status.Status.{Status}
-use Rattle.desk_jobs.specs.declared.task.Job.{Job}
-use Rattle.desk_jobs.specs.declared.task.Job.TheVariants.{Beyond, Check, Decide, Deliver, Print, Rebuild, Review, Serve}
-use Rattle.desk_jobs.specs.declared.task.Places.{Places}
-use Rattle.desk_jobs.specs.declared.task.Store.{Store}
-use Rattle.desk_jobs.specs.declared.task.Store.TheVariants.{File, Memory}
+use Rattle.desk_args.specs.declared.status.Status.{Status}
+use Rattle.desk_args.specs.declared.task.Job.{Job}
+use Rattle.desk_args.specs.declared.task.Job.TheVariants.{Beyond, Check, Decide, Deliver, Print, Rebuild, Review, Serve}
+use Rattle.desk_args.specs.declared.task.Places.{Places}
+use Rattle.desk_args.specs.declared.task.Store.{Store}
+use Rattle.desk_args.specs.declared.task.Store.TheVariants.{File, Memory}
 
 -- what holds in any case holds of a refusal
 pub if_err : {T E P : Type 0} (r : Result T E) → P → IfErr r (λ _. P)

@@ -18,8 +18,8 @@ use Rattle.desk_commands.specs.declared.refusal.Refusal.{Refusal as Reason}
 use Rattle.desk_commands.specs.declared.refusal.Refusal.TheVariants as reasons
 use Rattle.desk_commands.specs.private.Outcomes.{EndsFile, EndsInput, EndsReport}
 use Rattle.desk_commands.proofs.OverLemmas.{listed, set_on}
-use Rattle.desk_jobs.specs.declared.status.Status.TheVariants.{Done}
-use Rattle.desk_jobs.specs.declared.task.Store.{Store}
+use Rattle.desk_args.specs.declared.status.Status.TheVariants.{Done}
+use Rattle.desk_args.specs.declared.task.Store.{Store}
 
 -- the host is known where its being unknown is not the answer
 known_where : {P : Type 0} (known : Bool) → (P ↔ (known ≡ false)) → (P → ⊥) → known ≡ true

@@ -10,9 +10,9 @@ use Rattle.desk_commands.specs.declared.answer.Answer.{Answer}
 use Rattle.desk_commands.specs.declared.refusal.Refusal.{Refusal as Reason}
 use Rattle.desk_commands.specs.declared.refusal.Refusal.TheVariants as reasons
 use Rattle.desk_commands.specs.private.Outcomes.{ShowsWantIn, WantsIn}
-use Rattle.desk_jobs.specs.declared.task.Job.{Job}
-use Rattle.desk_jobs.specs.declared.task.Job.TheVariants.{Deliver}
-use Rattle.desk_jobs.specs.declared.task.Places.{Places}
+use Rattle.desk_args.specs.declared.task.Job.{Job}
+use Rattle.desk_args.specs.declared.task.Job.TheVariants.{Deliver}
+use Rattle.desk_args.specs.declared.task.Places.{Places}
 
 -- ---- a refusal that is passed on
 

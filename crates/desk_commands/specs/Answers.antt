@@ -16,11 +16,11 @@ use Rattle.desk_commands.specs.Rebuilding.{EndsRebuilding, RebuildsDesk}
 use Rattle.desk_commands.specs.Reviewing.{EndsReviewing, ReviewsDesk}
 use Rattle.desk_commands.specs.declared.refusal.Refusal.{Refusal as Reason}
 use Rattle.desk_commands.specs.declared.refusal.Refusal.TheVariants.{BadWord, Beyond as Compared, Desk, FileFailed, NoMemory, Policy, Roster}
-use Rattle.desk_jobs.specs.declared.status.Status.{Status}
-use Rattle.desk_jobs.specs.declared.status.Status.TheVariants.{Denied, Done}
-use Rattle.desk_jobs.specs.declared.task.Store.TheVariants.{Memory}
-use Rattle.desk_jobs.specs.declared.task.Job.{Job}
-use Rattle.desk_jobs.specs.declared.task.Job.TheVariants.{Beyond, Check, Decide, Deliver, Print, Rebuild, Review, Serve}
+use Rattle.desk_args.specs.declared.status.Status.{Status}
+use Rattle.desk_args.specs.declared.status.Status.TheVariants.{Denied, Done}
+use Rattle.desk_args.specs.declared.task.Store.TheVariants.{Memory}
+use Rattle.desk_args.specs.declared.task.Job.{Job}
+use Rattle.desk_args.specs.declared.task.Job.TheVariants.{Beyond, Check, Decide, Deliver, Print, Rebuild, Review, Serve}
 
 -- how the program ends after it
 abbrev pub status_of : Decision → Status

@@ -14,8 +14,8 @@ use Rattle.desk_commands.specs.Kept.{Kept}
 use Rattle.desk_commands.specs.Lines.{from_relay, input_lines}
 use Rattle.desk_commands.specs.declared.refusal.Refusal.{Refusal as Reason}
 use Rattle.desk_commands.specs.declared.refusal.Refusal.TheVariants as reasons
-use Rattle.desk_jobs.specs.declared.status.Status.{Status}
-use Rattle.desk_jobs.specs.declared.status.Status.TheVariants.{Done, LinesRefused}
+use Rattle.desk_args.specs.declared.status.Status.{Status}
+use Rattle.desk_args.specs.declared.status.Status.TheVariants.{Done, LinesRefused}
 
 -- `ack`, or the refusal's code and name; and a newline
 abbrev pub answer_line : Result Ack Refusal → List ℕ

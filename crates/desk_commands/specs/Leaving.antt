@@ -18,11 +18,11 @@ use Rattle.desk_commands.specs.Telling.{AppendsFront, refusal_line}
 use Rattle.desk_commands.specs.Wanting.{IsWanting, TellsWant}
 use Rattle.desk_commands.specs.declared.refusal.Refusal.{Refusal as Reason}
 use Rattle.desk_commands.specs.declared.refusal.Refusal.TheVariants.{FileFailed}
-use Rattle.desk_jobs.specs.declared.status.Status.{Status}
-use Rattle.desk_jobs.specs.declared.task.Job.{Job}
-use Rattle.desk_jobs.specs.declared.task.Job.TheVariants.{Deliver, Print, Review}
-use Rattle.desk_jobs.specs.declared.task.Store.{Store}
-use Rattle.desk_jobs.specs.declared.task.Store.TheVariants.{File, Memory}
+use Rattle.desk_args.specs.declared.status.Status.{Status}
+use Rattle.desk_args.specs.declared.task.Job.{Job}
+use Rattle.desk_args.specs.declared.task.Job.TheVariants.{Deliver, Print, Review}
+use Rattle.desk_args.specs.declared.task.Store.{Store}
+use Rattle.desk_args.specs.declared.task.Store.TheVariants.{File, Memory}
 
 -- ---- at the keeper
 

@@ -14,9 +14,9 @@ use Rattle.desk_commands.specs.Kept.{Kept, held}
 use Rattle.desk_commands.specs.Taking.{HeldWith, MayFailTaking, Takes}
 use Rattle.desk_commands.specs.declared.refusal.Refusal.{Refusal as Reason}
 use Rattle.desk_commands.specs.declared.refusal.Refusal.TheVariants as reasons
-use Rattle.desk_jobs.specs.declared.status.Status.{Status}
-use Rattle.desk_jobs.specs.declared.status.Status.TheVariants.{Done}
-use Rattle.desk_jobs.specs.declared.task.Store.{Store}
+use Rattle.desk_args.specs.declared.status.Status.{Status}
+use Rattle.desk_args.specs.declared.status.Status.TheVariants.{Done}
+use Rattle.desk_args.specs.declared.task.Store.{Store}
 
 -- the text of the host's file: the whole of it, or without the lines that end before a moment
 abbrev pub IsPrinted : RosterFields Cmnd → List Entry → List Message → List ℕ → Option ℕ → List ℕ → Type 0

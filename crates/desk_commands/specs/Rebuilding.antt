@@ -5,8 +5,8 @@ use Rattle.desk_store.specs.Sets.{SameSet}
 use Rattle.desk_commands.specs.Files.{EndsReplacing, EndsWith}
 use Rattle.desk_commands.specs.Kept.{Kept}
 use Rattle.desk_commands.specs.declared.refusal.Refusal.{Refusal as Reason}
-use Rattle.desk_jobs.specs.declared.status.Status.{Status}
-use Rattle.desk_jobs.specs.declared.status.Status.TheVariants.{Done}
+use Rattle.desk_args.specs.declared.status.Status.{Status}
+use Rattle.desk_args.specs.declared.status.Status.TheVariants.{Done}
 
 -- `rebuild` answers `ok`. What was held is held, also what the new roster does not admit.
 pub record RebuildsDesk (old new : Message → Type 0) (Up : Type 0) (status : Status) (text : List ℕ) : Type 0 where

@@ -10,8 +10,8 @@ use Rattle.desk.specs.Refusals.{refusal_text}
 use Rattle.desk.specs.declared.ack.Ack.{Ack}
 use Rattle.desk.specs.declared.refusal.Refusal.{Refusal}
 use Rattle.desk_commands.specs.Lines.{AreBrought, IsBrought, from_relay, input_lines}
-use Rattle.desk_jobs.specs.declared.task.Store.{Store}
-use Rattle.desk_jobs.specs.declared.task.Store.TheVariants.{File, Memory}
+use Rattle.desk_args.specs.declared.task.Store.{Store}
+use Rattle.desk_args.specs.declared.task.Store.TheVariants.{File, Memory}
 
 -- `line 3: M2 NotCanonical` and a newline
 abbrev pub complaint : ℕ → Refusal → List ℕ

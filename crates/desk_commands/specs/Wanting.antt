@@ -7,8 +7,8 @@ use Rattle.desk.specs.declared.refusal.Refusal.{Refusal}
 use Rattle.desk_commands.specs.Delivering.{answer_lines}
 use Rattle.desk_commands.specs.declared.refusal.Refusal.{Refusal as Reason}
 use Rattle.desk_commands.specs.declared.refusal.Refusal.TheVariants as reasons
-use Rattle.desk_jobs.specs.declared.task.Job.{Job}
-use Rattle.desk_jobs.specs.declared.task.Job.TheVariants.{Deliver}
+use Rattle.desk_args.specs.declared.task.Job.{Job}
+use Rattle.desk_args.specs.declared.task.Job.TheVariants.{Deliver}
 
 -- the refusal is one of want: of memory, or of the storage
 abbrev pub IsWanting : Reason → Type 0

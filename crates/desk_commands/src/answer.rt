@@ -1,6 +1,6 @@
 //! Answers of jobs.
 
-use desk_jobs::Status;
+use desk_args::Status;
 
 /// What a job answers.
 #[derive(Drop)]

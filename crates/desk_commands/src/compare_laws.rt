@@ -7,8 +7,8 @@ ghost use Rattle.sudo_decide.specs.declared.invocation.Invocation.{Invocation};
 ghost use Rattle.sudo_beyond.specs.Beyond.{IsInvocation, SomethingBeyond};
 ghost use Rattle.sudo_decide.specs.declared.scope.Scope.{Scope};
 ghost use Rattle.desk_commands.specs.Comparing.{ComparesFiles, case_text};
-ghost use Rattle.desk_jobs.specs.declared.status.Status.{Status};
-ghost use Rattle.desk_jobs.specs.declared.status.Status.TheVariants.{Done};
+ghost use Rattle.desk_args.specs.declared.status.Status.{Status};
+ghost use Rattle.desk_args.specs.declared.status.Status.TheVariants.{Done};
 
 /// Two cases with one line are one, and no case has the line `none`.
 pub fn case_tells()

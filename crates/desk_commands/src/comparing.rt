@@ -6,7 +6,7 @@ ghost use Rattle.desk_commands.specs.Comparing.{ComparesFiles, EndsComparing, Is
 
 use crate::answer::Answer;
 use crate::refusal::Refusal;
-use desk_jobs::Status;
+use desk_args::Status;
 use review::{Scope, beyond};
 use std::alloc::{AllocError, Global};
 use std::fmt::Write as _;

@@ -10,15 +10,15 @@ ghost use Rattle.desk_commands.specs.Kept.{kept};
 ghost use Rattle.desk_commands.specs.Leaving.{LeavesDelivered};
 ghost use Rattle.desk_commands.specs.declared.refusal.Refusal.TheVariants as reasons;
 ghost use Rattle.desk_commands.specs.private.Outcomes.{IsLeft, IsOutcome, ShowsWantIn};
-ghost use Rattle.desk_jobs.specs.declared.task.Job.TheVariants as jobs;
-ghost use Rattle.desk_jobs.specs.declared.task.Places.{Places as Parts};
+ghost use Rattle.desk_args.specs.declared.task.Job.TheVariants as jobs;
+ghost use Rattle.desk_args.specs.declared.task.Places.{Places as Parts};
 
 use crate::answer::Answer;
 use crate::lines::read_lines;
 use crate::opening::open_over;
 use crate::refusal::Refusal;
 use desk::{Ack, Desk, Keeper};
-use desk_jobs::Status;
+use desk_args::Status;
 use std::alloc::{AllocError, AllocFailed, Global};
 use std::fmt::Write as _;
 use std::io::Read;

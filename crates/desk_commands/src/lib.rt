@@ -16,7 +16,7 @@ mod taking;
 mod telling;
 
 pub use compare_laws::{case_tells, none_tells};
-pub use desk_jobs::{
+pub use desk_args::{
     Job, JobFault, Places, Status, Store, Text, by_place, code, compares, decides_with_flag, job,
     no_fault_is_complete, show,
 };

@@ -15,15 +15,15 @@ ghost use Rattle.desk_commands.specs.Leaving.{LeavesTaken, SaysTaking};
 ghost use Rattle.desk_commands.specs.Printing.{HasRights, IsPrinted, PrintsHost, lines_printed};
 ghost use Rattle.desk_commands.specs.Wanting.{IsWanting};
 ghost use Rattle.desk_commands.specs.private.Outcomes.{EndsFile, IsLeft, IsOutcome};
-ghost use Rattle.desk_jobs.specs.declared.task.Job.TheVariants as jobs;
-ghost use Rattle.desk_jobs.specs.declared.task.Store.TheVariants as stores;
+ghost use Rattle.desk_args.specs.declared.task.Job.TheVariants as jobs;
+ghost use Rattle.desk_args.specs.declared.task.Store.TheVariants as stores;
 
 use crate::answer::Answer;
 use crate::opening::open_over;
 use crate::refusal::Refusal;
 use crate::taking::take_input;
 use desk::{Desk, Keeper};
-use desk_jobs::{Places, Status, Store};
+use desk_args::{Places, Status, Store};
 use std::alloc::Global;
 use std::io::{Read, Write};
 use sudo_words::{HostName, Moment};

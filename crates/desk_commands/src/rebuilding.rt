@@ -5,15 +5,15 @@ ghost use Rattle.desk_store.specs.Serving.{IsServed};
 ghost use Rattle.desk_commands.specs.Kept.{kept};
 ghost use Rattle.desk_commands.specs.Wanting.{IsWanting};
 ghost use Rattle.desk_commands.specs.private.Outcomes.{IsLeft, IsOutcome};
-ghost use Rattle.desk_jobs.specs.declared.status.Status.TheVariants.{Done};
-ghost use Rattle.desk_jobs.specs.declared.task.Job.TheVariants as jobs;
-ghost use Rattle.desk_jobs.specs.declared.task.Places.{Places as Parts};
+ghost use Rattle.desk_args.specs.declared.status.Status.TheVariants.{Done};
+ghost use Rattle.desk_args.specs.declared.task.Job.TheVariants as jobs;
+ghost use Rattle.desk_args.specs.declared.task.Places.{Places as Parts};
 
 use crate::answer::Answer;
 use crate::opening::rebuild_over;
 use crate::refusal::Refusal;
 use desk::Keeper;
-use desk_jobs::Status;
+use desk_args::Status;
 use std::alloc::{AllocError, Global};
 
 /// What is answered where it is done.

@@ -9,15 +9,15 @@ ghost use Rattle.desk_commands.specs.Leaving.{LeavesTaken, SaysTaking};
 ghost use Rattle.desk_commands.specs.Reviewing.{ReviewsDesk};
 ghost use Rattle.desk_commands.specs.Wanting.{IsWanting};
 ghost use Rattle.desk_commands.specs.private.Outcomes.{EndsReport, IsLeft, IsOutcome};
-ghost use Rattle.desk_jobs.specs.declared.task.Job.TheVariants as jobs;
-ghost use Rattle.desk_jobs.specs.declared.task.Store.TheVariants as stores;
+ghost use Rattle.desk_args.specs.declared.task.Job.TheVariants as jobs;
+ghost use Rattle.desk_args.specs.declared.task.Store.TheVariants as stores;
 
 use crate::answer::Answer;
 use crate::opening::open_over;
 use crate::refusal::Refusal;
 use crate::taking::take_input;
 use desk::{Desk, Keeper};
-use desk_jobs::{Places, Status, Store};
+use desk_args::{Places, Status, Store};
 use review::report;
 use std::alloc::Global;
 use std::io::{Read, Write};

@@ -24,7 +24,7 @@ use crate::refusal::Refusal;
 use crate::reviewing::review_desk;
 use crate::telling::refuse;
 use desk::Keeper;
-use desk_jobs::{Job, Status};
+use desk_args::{Job, Status};
 use review::Scope;
 use std::alloc::{AllocError, Global};
 use std::io::{BufWriter, Read, Write};

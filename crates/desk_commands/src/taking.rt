@@ -12,13 +12,13 @@ ghost use Rattle.desk_commands.specs.Telling.{AppendsFront};
 ghost use Rattle.desk_commands.specs.Taking.{AreTaken, HadMemory, HeldWith, Takes, complaint, complaints};
 ghost use Rattle.desk_commands.specs.Wanting.{IsWanting};
 ghost use Rattle.desk_commands.specs.private.Outcomes.{EndsInput, EndsTaking};
-ghost use Rattle.desk_jobs.specs.declared.task.Store.TheVariants as stores;
+ghost use Rattle.desk_args.specs.declared.task.Store.TheVariants as stores;
 
 use crate::lines::read_lines;
 use crate::refusal::Refusal;
 use crate::telling::write_front;
 use desk::{Ack, Desk, Keeper};
-use desk_jobs::Store;
+use desk_args::Store;
 use std::alloc::{AllocError, Global};
 use std::fmt::Write as _;
 use std::io::{Read, Write};

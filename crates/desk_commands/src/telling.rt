@@ -6,7 +6,7 @@ ghost use Rattle.std.specs.Io.KnownBytes.{Appends};
 ghost use Rattle.desk_commands.specs.Telling.{AppendsFront, refusal_line};
 
 use crate::refusal::Refusal;
-use desk_jobs::Status;
+use desk_args::Status;
 use std::fmt::{InlineText, Write as _};
 use std::io::{ErrorKind, Write};
 use std::{fmt, io};

@@ -16,8 +16,8 @@ use Rattle.desk_commands.specs.Wanting.{IsWanting, ShowsWant, TellsWant}
 use Rattle.desk_commands.specs.declared.answer.Answer.{Answer}
 use Rattle.desk_commands.specs.declared.refusal.Refusal.{Refusal}
 use Rattle.desk_commands.specs.declared.refusal.Refusal.TheVariants as reasons
-use Rattle.desk_jobs.specs.declared.task.Job.{Job}
-use Rattle.desk_jobs.specs.declared.task.Store.{Store}
+use Rattle.desk_args.specs.declared.task.Job.{Job}
+use Rattle.desk_args.specs.declared.task.Store.{Store}
 
 -- It has an answer, and what is to be said beside it stands on the standard error; or it is refused for a reason that it may be refused for.
 pub record IsOutcome (job : Job) (files : List (List ℕ)) (k : Kept) (input : Option (List ℕ)) (result : Result Answer Refusal)

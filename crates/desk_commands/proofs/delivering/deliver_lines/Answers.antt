@@ -2,7 +2,7 @@ use Rattle.std.proofs.Common.{IfErr, arith}
 use Rattle.desk_commands.specs.Kept.{kept}
 use Rattle.desk_commands.specs.private.Outcomes.{IsLeft, IsOutcome}
 use Rattle.desk_commands.proofs.OverLemmas.{of_two}
-use Rattle.desk_jobs.specs.declared.task.Job.TheVariants.{Deliver}
+use Rattle.desk_args.specs.declared.task.Job.TheVariants.{Deliver}
 use Rattle.desk_commands.proofs.delivering.deliver_lines.Goals as goal
 
 pub returns-in-len2-up-clause-outcome : goal.returns-in-len2-up-clause-outcome

@@ -4,7 +4,7 @@ use Rattle.desk_store.proofs.ServingLemmas.{served_then}
 use Rattle.desk_commands.specs.Kept.{kept}
 use Rattle.desk_commands.specs.private.Outcomes.{IsLeft, IsOutcome, ShowsWantIn}
 use Rattle.desk_commands.proofs.OverLemmas.{delivered, undelivered}
-use Rattle.desk_jobs.specs.declared.task.Job.TheVariants.{Deliver}
+use Rattle.desk_args.specs.declared.task.Job.TheVariants.{Deliver}
 use Rattle.desk_commands.proofs.LeavingLemmas.{left_delivered}
 use Rattle.desk_commands.proofs.delivering.deliver_over.Goals as goal
 

@@ -6,7 +6,7 @@ use Rattle.desk_commands.specs.Kept.{kept}
 use Rattle.desk_commands.specs.Wanting.{IsWanting}
 use Rattle.desk_commands.specs.private.Outcomes.{IsLeft, IsOutcome}
 use Rattle.desk_commands.proofs.OverLemmas.{printed, unprinted}
-use Rattle.desk_jobs.specs.declared.task.Job.TheVariants.{Print}
+use Rattle.desk_args.specs.declared.task.Job.TheVariants.{Print}
 use Rattle.desk_commands.proofs.LeavingLemmas.{left_printed}
 use Rattle.desk_commands.proofs.printing.print_over.Goals as goal
 

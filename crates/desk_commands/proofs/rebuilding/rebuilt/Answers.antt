@@ -3,7 +3,7 @@ use Rattle.desk_store.specs.Serving.{IsServed}
 use Rattle.desk_commands.specs.Kept.{kept}
 use Rattle.desk_commands.specs.private.Outcomes.{IsOutcome}
 use Rattle.desk_commands.proofs.OverLemmas.{rebuilt, unrebuilt}
-use Rattle.desk_jobs.specs.declared.task.Job.TheVariants.{Rebuild}
+use Rattle.desk_args.specs.declared.task.Job.TheVariants.{Rebuild}
 use Rattle.desk_commands.proofs.rebuilding.rebuilt.Goals as goal
 
 pub returns-in-Ok-rebuild_over-clause-outcome : goal.returns-in-Ok-rebuild_over-clause-outcome

@@ -6,7 +6,7 @@ use Rattle.desk_commands.specs.Kept.{kept}
 use Rattle.desk_commands.specs.Wanting.{IsWanting}
 use Rattle.desk_commands.specs.private.Outcomes.{IsLeft, IsOutcome}
 use Rattle.desk_commands.proofs.OverLemmas.{reviewed, unreviewed}
-use Rattle.desk_jobs.specs.declared.task.Job.TheVariants.{Review}
+use Rattle.desk_args.specs.declared.task.Job.TheVariants.{Review}
 use Rattle.desk_commands.proofs.LeavingLemmas.{left_reviewed}
 use Rattle.desk_commands.proofs.reviewing.review_over.Goals as goal
 

@@ -1,7 +1,7 @@
 use Rattle.std.proofs.Common.{◌≡◌, ◌∙◌, ap, map, refl, subst, sym}
 use Rattle.std.proofs.lemmas.Result.{IfOk-weaker}
 use Rattle.desk_commands.specs.Answers.{IsOnDesk, ReadsInput}
-use Rattle.desk_jobs.specs.declared.task.Job.TheVariants.{Deliver}
+use Rattle.desk_args.specs.declared.task.Job.TheVariants.{Deliver}
 use Rattle.desk_commands.proofs.AnswerLemmas.{of_job, quietly}
 use Rattle.desk_commands.proofs.LeavingLemmas.{if_err, left_of_job, same_job}
 use Rattle.desk_store.proofs.ServingLemmas.{served_as}

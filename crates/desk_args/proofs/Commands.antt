@@ -1,0 +1,13 @@
+-- What clap's rules say of the program's commands, whatever the words are.
+use Rattle.std.proofs.Common.{◌≡◌, true, refl}
+use Rattle.clap.specs.Words.{is_simple, is_simple_and_free}
+use Rattle.clap.proofs.OnLiterals.{clap_on_literals}
+use Rattle.desk_args.specs.CommandLine.{desk}
+
+pub desk_simple : is_simple desk ≡ true
+unfolding clap_on_literals
+desk_simple = refl
+
+pub desk_free : is_simple_and_free desk ≡ true
+unfolding clap_on_literals
+desk_free = refl

@@ -1,0 +1,4 @@
+use Rattle.desk_args.proofs.command.serve.Goals as goal
+
+pub returns : goal.returns
+returns c = c.on_desk.ensures

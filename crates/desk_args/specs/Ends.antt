@@ -1,0 +1,12 @@
+-- How the program ends.
+use Rattle.std.specs.Prelude.{ℕ}
+use Rattle.desk_args.specs.declared.status.Status.{Status}
+use Rattle.desk_args.specs.declared.status.Status.TheVariants.{Denied, Done, Found, LinesRefused, Refused}
+
+-- the program's exit status
+abbrev pub exit_status : Status → ℕ
+exit_status Done = 0
+exit_status Denied = 1
+exit_status Found = 1
+exit_status LinesRefused = 2
+exit_status Refused = 2

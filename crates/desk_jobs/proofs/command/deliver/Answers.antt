@@ -1,4 +1,0 @@
-use Rattle.desk_jobs.proofs.command.deliver.Goals as goal
-
-pub returns : goal.returns
-returns c = c.on_desk.ensures
