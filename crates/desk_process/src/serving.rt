@@ -1,5 +1,6 @@
 //! The command `serve`.
 
+use crate::listener::serve_at;
 use desk::Keeper;
 use desk_commands::{Refusal, Status, open_over};
 use sha2::{Digest, Sha256};
@@ -42,7 +43,7 @@ pub(crate) fn serve<K: Keeper>(
     };
     match open_over(rt.alloc(), roster.as_slice(), base.as_slice(), keeper) {
         Ok(mut desk) => {
-            let served = desk_server::serve(rt, &mut desk, digest.as_str(), addr, requests);
+            let served = serve_at(rt, &mut desk, digest.as_str(), addr, requests);
             (status_of(served), desk.into_keeper())
         }
         Err((refusal, keeper)) => (Err(refusal), keeper),

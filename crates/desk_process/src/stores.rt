@@ -22,7 +22,8 @@ fn store_of(job: &Job) -> Option<&Store> {
     }
 }
 
-/// What the database of this path keeps. Where its files open and the disk then refuses them a read or a write, as a full disk does, it is the storage that failed.
+/// What the database of this path keeps. Where its files open and the disk then refuses them a read or a write, as a full disk does, it is the storage that
+/// failed.
 fn keeper(rt: &HostRuntime, path: &Text) -> Result<Stored, Refusal> {
     match Connection::open_from(rt, path.as_str(), false, Unknown) {
         Ok(conn) => Ok(SqliteKeeper::new(rt.alloc(), conn)),

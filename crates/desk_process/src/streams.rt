@@ -7,8 +7,8 @@ use std::os::fd::{AsRawFd, IntoRawFd};
 /// The last descriptor of a standard stream.
 const LAST_STREAM: i32 = 2;
 
-/// Opens the next descriptor that is free over nothing. A standard input that is missing is opened to write, and an output to read, so that using one fails as it
-/// would have without it.
+/// Opens the next descriptor that is free over nothing. A standard input that is missing is opened to write, and an output to read, so that using one fails as
+/// it would have without it.
 fn open_next(rt: &HostRuntime) -> io::Result<File> {
     let file = File::open(rt, "/dev/null")?;
     if file.as_raw_fd() != 0 {
