@@ -1,14 +1,15 @@
 //! A desk.
 
-ghost use Rattle.std.specs.Prelude.{◌≡◌, ◌≢◌, ◌⊎◌, ◌↔◌, ◌≤◌, [], length, map, vec_capacity, Contains, IfOk, IsOkAnd, IsErrAnd, IfErr, OnOk, OnErr, MatchResult, Err};
+ghost use Rattle.std.specs.Prelude.{◌≡◌, ◌≢◌, ◌⊎◌, ◌↔◌, ◌≤◌, [], length, map, vec_capacity, Contains, IfOk, IsOkAnd, IfErr, OnOk, OnErr, MatchResult, Err};
 ghost use Rattle.messages.specs.declared.message.Message.{Message as AnyMessage};
 ghost use Rattle.grants.specs.Bases.{FitsBase};
 ghost use Rattle.desk_store.specs.Left.{IsDeskOf, LeavesOnly};
-ghost use Rattle.desk_store.specs.Serving.{IsServed};
+ghost use Rattle.desk_store.specs.Serves.{Serves};
 ghost use Rattle.desk.specs.Crash.{IsLeftByDelivery, IsLeftByOpening};
 ghost use Rattle.desk.specs.Delivery.{Acknowledges, AreAnswers, HaveFailed, HeldAfter, HeldAfterAll, IsBodyOf, IsDeliveryAnswer, WasWantingAmong, delivery_of, storage_failures};
 ghost use Rattle.desk.specs.Opening.{Opens, Refuses};
 ghost use Rattle.desk.specs.Refusals.{IsWant};
+ghost use Rattle.desk.specs.Serving.{ServesAs};
 ghost use Rattle.desk.specs.declared.refusal.Refusal.TheVariants as refusal;
 
 use crate::ack::Ack;
@@ -76,8 +77,7 @@ impl<K: Keeper> Desk<K> {
         ensures refused { IfErr result (λ r. K.is_up r.1
             → IsWant r.0 ⊎ Refuses (FitsBase base) (K.is_empty keeper) (K.is_desk keeper) (K.is_old keeper) (K.roster keeper) roster.text r.0) }
         ensures unchanged { IfErr result (λ r. K.is_up r.1 → K.is_same keeper r.1) }
-        ensures served { MatchResult result (λ d. IsServed K.is_up K.is_clean K.failures K.beside keeper d.keeper ⊥ ⊥)
-            (λ r. IsServed K.is_up K.is_clean K.failures K.beside keeper r.1 (r.0 ≡ refusal.Storage) (IsWant r.0)) }
+        ensures served { MatchResult result (λ d. Serves K.Keeper keeper d.keeper ⊥ ⊥) (λ r. Serves K.Keeper keeper r.1 (r.0 ≡ refusal.Storage) (IsWant r.0)) }
         // A base past the limits is refused before the keeper is asked.
         ensures unasked { IfErr result (λ r. r.0 ≡ refusal.BaseTooLarge → r.1 ≡ keeper) }
         ensures crash { K.is_up keeper → MatchResult result
@@ -132,7 +132,7 @@ impl<K: Keeper> Desk<K> {
         ensures unchanged { K.is_up self.new.keeper → OnErr result (K.is_same self.old.keeper self.new.keeper) }
         ensures roster { self.new.roster ≡ self.old.roster }
         ensures base { self.new.base ≡ self.old.base }
-        ensures served { IsServed K.is_up K.is_clean K.failures K.beside self.old.keeper self.new.keeper (result ≡ Err refusal.Storage) (IsErrAnd result IsWant) }
+        ensures served { ServesAs K.Keeper self.old.keeper self.new.keeper result }
         ensures crash { K.is_up self.old.keeper → K.is_clean self.new.keeper → LeavesOnly (K.may_leave self.new.keeper)
             (IsLeftByDelivery self.old.roster.says self.old.roster.text (K.holds self.old.keeper) (record { relay = relay.now; body = body.now })) }
         ensures lasting { K.is_up self.old.keeper → K.is_clean self.new.keeper → OnOk result (LeavesOnly (K.may_leave self.new.keeper)
@@ -168,7 +168,7 @@ impl<K: Keeper> Desk<K> {
         ensures err { IfErr result (λ e. e ≡ refusal.NoMemory) }
         ensures roster { self.new.roster ≡ self.old.roster }
         ensures base { self.new.base ≡ self.old.base }
-        ensures served { IsServed K.is_up K.is_clean K.failures K.beside self.old.keeper self.new.keeper
+        ensures served { Serves K.Keeper self.old.keeper self.new.keeper
             (IsOkAnd result (λ answers. Contains answers.items (Err refusal.Storage))) (IsOkAnd result (λ answers. WasWantingAmong answers.items)) }
         ensures causes { IfOk result (λ answers.
             HaveFailed (storage_failures answers.items) (K.failures self.old.keeper) (K.failures self.new.keeper)) }
@@ -196,7 +196,8 @@ impl<K: Keeper> Desk<K> {
             → HeldAfterAll (K.holds self.old.keeper) (map delivery_of list.now) answers.new.items (K.holds self.new.keeper) }
         ensures roster { self.new.roster ≡ self.old.roster }
         ensures base { self.new.base ≡ self.old.base }
-        ensures served { IsServed K.is_up K.is_clean K.failures K.beside self.old.keeper self.new.keeper (Contains answers.new.items (Err refusal.Storage)) (WasWantingAmong answers.new.items) }
+        ensures served { Serves K.Keeper self.old.keeper self.new.keeper
+            (Contains answers.new.items (Err refusal.Storage)) (WasWantingAmong answers.new.items) }
         ensures causes { HaveFailed (storage_failures answers.new.items) (K.failures self.old.keeper) (K.failures self.new.keeper) }
     {
         for (relay, body) in list {

@@ -7,7 +7,7 @@ ghost use Rattle.desk.specs.private.Known.{IsKnown};
 ghost use Rattle.desk.specs.Refusals.{IsWant};
 ghost use Rattle.desk.specs.declared.refusal.Refusal.TheVariants as refusal;
 ghost use Rattle.desk_store.specs.Left.{IsDeskOf, LeavesOnly};
-ghost use Rattle.desk_store.specs.Serving.{IsServed};
+ghost use Rattle.desk_store.specs.Serves.{Serves};
 ghost use Rattle.desk_tables.specs.Sets.{Lists, SameSet};
 
 use crate::refusal::Refusal;
@@ -28,7 +28,7 @@ pub(crate) fn listed<K: Keeper>(
     ensures same { K.is_up keeper.new → K.is_same keeper.old keeper.new }
     ensures desk { K.is_up keeper.new → K.is_desk keeper.new }
     ensures roster { K.is_up keeper.new → K.roster keeper.new ≡ K.roster keeper.old }
-    ensures served { IsServed K.is_up K.is_clean K.failures K.beside keeper.old keeper.new (result ≡ Err KeeperError.Storage) (IsErr result) }
+    ensures served { Serves K.Keeper keeper.old keeper.new (result ≡ Err KeeperError.Storage) (IsErr result) }
     ensures durable { K.is_up keeper.new → LeavesOnly (K.may_leave keeper.new) (IsDeskOf (K.roster keeper.new) (K.holds keeper.new)) }
 {
     keeper.messages()
@@ -50,7 +50,7 @@ pub(crate) fn known_of<K: Keeper>(
     ensures set { K.is_up keeper.new → SameSet (K.holds keeper.old) (K.holds keeper.new) }
     ensures desk { K.is_up keeper.new → K.is_desk keeper.new }
     ensures roster { K.is_up keeper.new → K.roster keeper.new ≡ K.roster keeper.old }
-    ensures served { IsServed K.is_up K.is_clean K.failures K.beside keeper.old keeper.new (result ≡ Err refusal.Storage) (IsErr result) }
+    ensures served { Serves K.Keeper keeper.old keeper.new (result ≡ Err refusal.Storage) (IsErr result) }
     ensures durable { K.is_up keeper.new → LeavesOnly (K.may_leave keeper.new) (IsDeskOf (K.roster keeper.new) (K.holds keeper.new)) }
 {
     match known {

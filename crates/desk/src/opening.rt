@@ -1,13 +1,13 @@
 //! A desk found at its keeper's, or made there, and what is known of its messages at first.
 
-ghost use Rattle.std.specs.Prelude.{◌≡◌, ◌≢◌, ◌⊎◌, ⊤, IfOk, IsErrAnd, OnOk, OnErr, IfErr, Err};
+ghost use Rattle.std.specs.Prelude.{◌≡◌, ◌≢◌, ◌⊎◌, ⊤, IfOk, OnOk, OnErr, IfErr};
 ghost use Rattle.desk_store.specs.Left.{IsDeskOf, LeavesOnly};
-ghost use Rattle.desk_store.specs.Serving.{IsServed};
 ghost use Rattle.desk_tables.specs.Sets.{IsNothing};
 ghost use Rattle.desk.specs.Crash.{IsLeftByOpening};
 ghost use Rattle.desk.specs.private.Known.{IsKnownAtFirst};
 ghost use Rattle.desk.specs.Opening.{Opens, Refuses};
 ghost use Rattle.desk.specs.Refusals.{IsWant};
+ghost use Rattle.desk.specs.Serving.{ServesAs};
 ghost use Rattle.desk.specs.declared.opening.Origin.TheVariants as origins;
 ghost use Rattle.desk.specs.declared.refusal.Refusal.TheVariants as refusal;
 
@@ -46,7 +46,7 @@ pub(crate) fn find_or_make<K: Keeper>(keeper: &mut K, text: &str) -> Result<Orig
         (λ e. IsWant e ⊎ Refuses ⊤ (K.is_empty keeper.old) (K.is_desk keeper.old) (K.is_old keeper.old) (K.roster keeper.old) text.now e) }
     ensures fits { IfErr result (λ e. e ≢ refusal.BaseTooLarge) }
     ensures unchanged { K.is_up keeper.new → OnErr result (K.is_same keeper.old keeper.new) }
-    ensures served { IsServed K.is_up K.is_clean K.failures K.beside keeper.old keeper.new (result ≡ Err refusal.Storage) (IsErrAnd result IsWant) }
+    ensures served { ServesAs K.Keeper keeper.old keeper.new result }
     ensures crash { K.is_up keeper.old → K.is_clean keeper.new → LeavesOnly (K.may_leave keeper.new)
         (IsLeftByOpening (K.is_empty keeper.old) (K.is_desk keeper.old) (K.is_old keeper.old) (K.roster keeper.old) text.now (K.holds keeper.old)) }
     ensures durable { K.is_up keeper.new → OnOk result (LeavesOnly (K.may_leave keeper.new) (IsDeskOf (K.roster keeper.new) (K.holds keeper.new))) }

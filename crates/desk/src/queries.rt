@@ -1,15 +1,15 @@
 //! What is asked of a desk. An answer is that of the set of messages that it holds, and nothing of the desk changes.
 
-ghost use Rattle.std.specs.Prelude.{◌≡◌, ◌⊎◌, ◌↔◌, ◌<◌, ◌≤◌, List, false, map, length, IfOk, IsErrAnd, IfErr, MatchResult, Err, string_bytes};
+ghost use Rattle.std.specs.Prelude.{◌≡◌, ◌⊎◌, ◌↔◌, ◌<◌, ◌≤◌, List, false, map, length, IfOk, IfErr, MatchResult, Err, string_bytes};
 ghost use Rattle.messages.specs.declared.message.Message.{Message as AnyMessage};
 ghost use Rattle.roster.specs.Rules.{is_among};
-ghost use Rattle.desk_store.specs.Serving.{IsServed};
 ghost use Rattle.desk_tables.specs.Sets.{Lists, SameSet};
 ghost use Rattle.desk_outcomes.specs.HostFile.{Line, AreLines, IsHostFile, IsHostFileAfter, lines_after};
 ghost use Rattle.desk_outcomes.specs.LinesLeft as left;
 ghost use Rattle.desk_outcomes.specs.Outcomes.{AreLive, ComesTo};
 ghost use Rattle.desk_outcomes.specs.Parked.{AreParked};
 ghost use Rattle.desk.specs.Refusals.{IsWant};
+ghost use Rattle.desk.specs.Serving.{ServesAs};
 ghost use Rattle.desk_outcomes.specs.Rights.{GivesRights, GivesRightsAfter};
 ghost use Rattle.desk_outcomes.specs.Summaries.{AreSummaries};
 ghost use Rattle.desk.specs.declared.refusal.Refusal.TheVariants as refusal;
@@ -32,7 +32,7 @@ impl<K: Keeper> Desk<K> {
         ensures unchanged { K.is_up self.new.keeper → K.is_same self.old.keeper self.new.keeper }
         ensures roster { self.new.roster ≡ self.old.roster }
         ensures base { self.new.base ≡ self.old.base }
-        ensures served { IsServed K.is_up K.is_clean K.failures K.beside self.old.keeper self.new.keeper (result ≡ Err refusal.Storage) (IsErrAnd result IsWant) }
+        ensures served { ServesAs K.Keeper self.old.keeper self.new.keeper result }
     {
         let known = known_of(self.known.take(), &mut self.keeper)?;
         let status = status_in(&self.roster, &known, name);
@@ -48,7 +48,7 @@ impl<K: Keeper> Desk<K> {
         ensures unchanged { K.is_up self.new.keeper → K.is_same self.old.keeper self.new.keeper }
         ensures roster { self.new.roster ≡ self.old.roster }
         ensures base { self.new.base ≡ self.old.base }
-        ensures served { IsServed K.is_up K.is_clean K.failures K.beside self.old.keeper self.new.keeper (result ≡ Err refusal.Storage) (IsErrAnd result IsWant) }
+        ensures served { ServesAs K.Keeper self.old.keeper self.new.keeper result }
     {
         let known = known_of(self.known.take(), &mut self.keeper)?;
         let list = live_in(self.alloc, &self.roster, &known, at);
@@ -64,7 +64,7 @@ impl<K: Keeper> Desk<K> {
         ensures unchanged { K.is_up self.new.keeper → K.is_same self.old.keeper self.new.keeper }
         ensures roster { self.new.roster ≡ self.old.roster }
         ensures base { self.new.base ≡ self.old.base }
-        ensures served { IsServed K.is_up K.is_clean K.failures K.beside self.old.keeper self.new.keeper (result ≡ Err refusal.Storage) (IsErrAnd result IsWant) }
+        ensures served { ServesAs K.Keeper self.old.keeper self.new.keeper result }
     {
         let known = known_of(self.known.take(), &mut self.keeper)?;
         let texts = parked_in(self.alloc, &known);
@@ -81,7 +81,7 @@ impl<K: Keeper> Desk<K> {
         ensures unchanged { K.is_up self.new.keeper → K.is_same self.old.keeper self.new.keeper }
         ensures roster { self.new.roster ≡ self.old.roster }
         ensures base { self.new.base ≡ self.old.base }
-        ensures served { IsServed K.is_up K.is_clean K.failures K.beside self.old.keeper self.new.keeper (result ≡ Err refusal.Storage) (IsErrAnd result IsWant) }
+        ensures served { ServesAs K.Keeper self.old.keeper self.new.keeper result }
     {
         let known = known_of(self.known.take(), &mut self.keeper)?;
         let list = summaries_in(self.alloc, &known);
@@ -99,7 +99,7 @@ impl<K: Keeper> Desk<K> {
         ensures unchanged { K.is_up self.new.keeper → K.is_same self.old.keeper self.new.keeper }
         ensures roster { self.new.roster ≡ self.old.roster }
         ensures base { self.new.base ≡ self.old.base }
-        ensures served { IsServed K.is_up K.is_clean K.failures K.beside self.old.keeper self.new.keeper (result ≡ Err refusal.Storage) (IsErrAnd result IsWant) }
+        ensures served { ServesAs K.Keeper self.old.keeper self.new.keeper result }
     {
         let known = known_of(self.known.take(), &mut self.keeper)?;
         let held = holdings_in(self.alloc, &known);
@@ -130,7 +130,7 @@ impl<K: Keeper> Desk<K> {
         ensures unchanged { K.is_up self.new.keeper → K.is_same self.old.keeper self.new.keeper }
         ensures roster { self.new.roster ≡ self.old.roster }
         ensures base { self.new.base ≡ self.old.base }
-        ensures served { IsServed K.is_up K.is_clean K.failures K.beside self.old.keeper self.new.keeper (result ≡ Err refusal.Storage) (IsErrAnd result IsWant) }
+        ensures served { ServesAs K.Keeper self.old.keeper self.new.keeper result }
     {
         self.file_of(host, None)
     }
@@ -157,7 +157,7 @@ impl<K: Keeper> Desk<K> {
         ensures unchanged { K.is_up self.new.keeper → K.is_same self.old.keeper self.new.keeper }
         ensures roster { self.new.roster ≡ self.old.roster }
         ensures base { self.new.base ≡ self.old.base }
-        ensures served { IsServed K.is_up K.is_clean K.failures K.beside self.old.keeper self.new.keeper (result ≡ Err refusal.Storage) (IsErrAnd result IsWant) }
+        ensures served { ServesAs K.Keeper self.old.keeper self.new.keeper result }
     {
         self.file_of(host, Some(moment))
     }
@@ -177,7 +177,7 @@ impl<K: Keeper> Desk<K> {
         ensures unchanged { K.is_up self.new.keeper → K.is_same self.old.keeper self.new.keeper }
         ensures roster { self.new.roster ≡ self.old.roster }
         ensures base { self.new.base ≡ self.old.base }
-        ensures served { IsServed K.is_up K.is_clean K.failures K.beside self.old.keeper self.new.keeper (result ≡ Err refusal.Storage) (IsErrAnd result IsWant) }
+        ensures served { ServesAs K.Keeper self.old.keeper self.new.keeper result }
     {
         if !self.roster.has_host(host) {
             return Err(Refusal::UnknownHost);

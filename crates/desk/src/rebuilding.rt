@@ -1,12 +1,13 @@
 //! A desk that is given another roster.
 
-ghost use Rattle.std.specs.Prelude.{◌≡◌, ◌≢◌, ◌⊎◌, ◌↔◌, ⊤, IfOk, IsErrAnd, IfErr, OnOk, OnErr, MatchResult, Err};
+ghost use Rattle.std.specs.Prelude.{◌≡◌, ◌≢◌, ◌⊎◌, ◌↔◌, ⊤, IfOk, IfErr, OnOk, OnErr, MatchResult};
 ghost use Rattle.grants.specs.Bases.{FitsBase};
 ghost use Rattle.desk_store.specs.Left.{IsDeskOf, LeavesOnly};
-ghost use Rattle.desk_store.specs.Serving.{IsServed};
+ghost use Rattle.desk_store.specs.Serves.{Serves};
 ghost use Rattle.desk.specs.Crash.{IsLeftByRebuilding};
 ghost use Rattle.desk.specs.Rebuilding.{Rebuilds, RefusesToRebuild};
 ghost use Rattle.desk.specs.Refusals.{IsWant};
+ghost use Rattle.desk.specs.Serving.{ServesAs};
 ghost use Rattle.desk.specs.declared.refusal.Refusal.TheVariants as refusal;
 
 use crate::desk::Desk;
@@ -28,7 +29,7 @@ pub(crate) fn make_or_replace<K: Keeper>(keeper: &mut K, text: &str) -> Result<(
     ensures err { IfErr result (λ e. IsWant e ⊎ (e ≡ refusal.NotADesk)) }
     ensures fits { IfErr result (λ e. e ≢ refusal.BaseTooLarge) }
     ensures unchanged { K.is_up keeper.new → OnErr result (K.is_same keeper.old keeper.new) }
-    ensures served { IsServed K.is_up K.is_clean K.failures K.beside keeper.old keeper.new (result ≡ Err refusal.Storage) (IsErrAnd result IsWant) }
+    ensures served { ServesAs K.Keeper keeper.old keeper.new result }
     ensures crash { K.is_up keeper.old → K.is_clean keeper.new → LeavesOnly (K.may_leave keeper.new)
         (IsLeftByRebuilding (K.is_empty keeper.old) (K.is_desk keeper.old) (K.is_old keeper.old) (K.roster keeper.old) text.now (K.holds keeper.old)) }
     ensures durable { K.is_up keeper.new → OnOk result (LeavesOnly (K.may_leave keeper.new) (IsDeskOf (K.roster keeper.new) (K.holds keeper.new))) }
@@ -79,8 +80,7 @@ impl<K: Keeper> Desk<K> {
         // So no other roster's text is refused, and no older form.
         ensures err { IfErr result (λ r. IsWant r.0 ⊎ (r.0 ≡ refusal.NotADesk) ⊎ (r.0 ≡ refusal.BaseTooLarge)) }
         ensures unchanged { IfErr result (λ r. K.is_up r.1 → K.is_same keeper r.1) }
-        ensures served { MatchResult result (λ d. IsServed K.is_up K.is_clean K.failures K.beside keeper d.keeper ⊥ ⊥)
-            (λ r. IsServed K.is_up K.is_clean K.failures K.beside keeper r.1 (r.0 ≡ refusal.Storage) (IsWant r.0)) }
+        ensures served { MatchResult result (λ d. Serves K.Keeper keeper d.keeper ⊥ ⊥) (λ r. Serves K.Keeper keeper r.1 (r.0 ≡ refusal.Storage) (IsWant r.0)) }
         // A base past the limits is refused before the keeper is asked.
         ensures unasked { IfErr result (λ r. r.0 ≡ refusal.BaseTooLarge → r.1 ≡ keeper) }
         ensures crash { K.is_up keeper → MatchResult result

@@ -1,14 +1,13 @@
 //! All messages of a desk, as their texts.
 
-ghost use Rattle.std.specs.Prelude.{◌≡◌, ℕ, List, map, Contains, IfOk, IsErrAnd, IfErr, Err, string_bytes};
+ghost use Rattle.std.specs.Prelude.{◌≡◌, ℕ, List, map, Contains, IfOk, IfErr, string_bytes};
 ghost use Rattle.messages.specs.Names.{SameMessages};
 ghost use Rattle.messages.specs.Wire.{IsMessage, wire};
 ghost use Rattle.messages.specs.declared.message.Message.{Message as AnyMessage};
-ghost use Rattle.desk_store.specs.Serving.{IsServed};
 ghost use Rattle.desk_tables.specs.Sets.{Lists};
 ghost use Rattle.desk.specs.Refusals.{IsWant};
+ghost use Rattle.desk.specs.Serving.{ServesAs};
 ghost use Rattle.desk.specs.Texts.{AreTexts};
-ghost use Rattle.desk.specs.declared.refusal.Refusal.TheVariants as refusal;
 
 use crate::desk::Desk;
 use crate::loading::listed;
@@ -27,7 +26,7 @@ impl<K: Keeper> Desk<K> {
         ensures unchanged { K.is_up self.new.keeper → K.is_same self.old.keeper self.new.keeper }
         ensures roster { self.new.roster ≡ self.old.roster }
         ensures base { self.new.base ≡ self.old.base }
-        ensures served { IsServed K.is_up K.is_clean K.failures K.beside self.old.keeper self.new.keeper (result ≡ Err refusal.Storage) (IsErrAnd result IsWant) }
+        ensures served { ServesAs K.Keeper self.old.keeper self.new.keeper result }
     {
         let set = listed(&mut self.keeper, &self.known)?;
         Ok(texts_in(self.alloc, set.as_slice())?)

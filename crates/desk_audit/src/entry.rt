@@ -1,11 +1,12 @@
 //! What is said of each name.
 
-ghost use Rattle.std.specs.Prelude.{◌≡◌, ◌⊎◌, List, IfOk, IsErr, IsErrAnd, IfErr, Err};
+ghost use Rattle.std.specs.Prelude.{◌≡◌, ◌⊎◌, List, IfOk, IsErr, IfErr, Err};
 ghost use Rattle.messages.specs.declared.message.Message.{Message as AnyMessage};
-ghost use Rattle.desk_store.specs.Serving.{IsServed};
+ghost use Rattle.desk_store.specs.Serves.{Serves};
 ghost use Rattle.desk_store.specs.Sets.{Lists};
 ghost use Rattle.desk_outcomes.specs.Outcomes.{ComesTo};
 ghost use Rattle.desk.specs.Refusals.{IsWant};
+ghost use Rattle.desk.specs.Serving.{ServesAs};
 ghost use Rattle.desk.specs.declared.refusal.Refusal.TheVariants as refusal;
 ghost use Rattle.desk_audit.specs.Audit.{IsAudit};
 ghost use Rattle.desk_audit.specs.Told.{IsTooLong};
@@ -44,7 +45,7 @@ fn entry_of<K: Keeper>(
     ensures unchanged { K.is_up desk.new.keeper → K.is_same desk.old.keeper desk.new.keeper }
     ensures roster { desk.new.roster ≡ desk.old.roster }
     ensures base { desk.new.base ≡ desk.old.base }
-    ensures served { IsServed K.is_up K.is_clean K.failures K.beside desk.old.keeper desk.new.keeper (result ≡ Err refusal.Storage) (IsErr result) }
+    ensures served { Serves K.Keeper desk.old.keeper desk.new.keeper (result ≡ Err refusal.Storage) (IsErr result) }
 {
     let status = desk.status_of(&name)?;
     Ok(Entry {
@@ -66,7 +67,7 @@ fn entries_of<K: Keeper>(
     ensures unchanged { K.is_up desk.new.keeper → K.is_same desk.old.keeper desk.new.keeper }
     ensures roster { desk.new.roster ≡ desk.old.roster }
     ensures base { desk.new.base ≡ desk.old.base }
-    ensures served { IsServed K.is_up K.is_clean K.failures K.beside desk.old.keeper desk.new.keeper (result ≡ Err refusal.Storage) (IsErr result) }
+    ensures served { Serves K.Keeper desk.old.keeper desk.new.keeper (result ≡ Err refusal.Storage) (IsErr result) }
 {
     let mut entries = Vec::new(alloc);
     for (name, about) in all {
@@ -88,7 +89,7 @@ pub fn audit<K: Keeper>(desk: &mut Desk<K>) -> Result<Vec<Entry>, Refusal>
     ensures unchanged { K.is_up desk.new.keeper → K.is_same desk.old.keeper desk.new.keeper }
     ensures roster { desk.new.roster ≡ desk.old.roster }
     ensures base { desk.new.base ≡ desk.old.base }
-    ensures served { IsServed K.is_up K.is_clean K.failures K.beside desk.old.keeper desk.new.keeper (result ≡ Err refusal.Storage) (IsErrAnd result IsWant) }
+    ensures served { ServesAs K.Keeper desk.old.keeper desk.new.keeper result }
 {
     let texts = desk.texts()?;
     let alloc = *texts.allocator();

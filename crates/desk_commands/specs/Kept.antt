@@ -2,6 +2,7 @@
 use Rattle.std.specs.Prelude.{◌⊎◌, ℕ, List}
 use Rattle.messages.specs.declared.message.Message.{Message}
 use Rattle.desk_store.specs.Keeping.{HasFailed}
+use Rattle.desk_store.specs.declared.keeper.Keeper.{Ghosts}
 
 -- What a keeper keeps: nothing of a desk's, a desk of this roster's text, a desk of an older form, or something else; and a desk's messages.
 pub record Keeps : Type 1 where
@@ -32,6 +33,13 @@ kept is_up is_empty is_desk is_old roster holds failures before after = record {
   up = is_up after;
   failed = HasFailed (failures before) (failures after);
 }
+
+-- the two at a bound `K: Keeper`
+abbrev pub keeps_by : {K : Type 0} → Ghosts K → (keeper : K) → Keeps
+keeps_by g = keeps g.is_empty g.is_desk g.is_old g.roster g.holds
+
+abbrev pub kept_by : {K : Type 0} → Ghosts K → (before after : K) → Kept
+kept_by g = kept g.is_up g.is_empty g.is_desk g.is_old g.roster g.holds g.failures
 
 -- the messages of a desk, of either form, if one is kept: none, where none is
 abbrev pub held_in : (Desk Old : Type 0) → (holds : Message → Type 0) → Message → Type 0

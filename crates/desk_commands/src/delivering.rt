@@ -4,9 +4,9 @@ ghost use Rattle.std.specs.Prelude.{◌≡◌, ◌⊎◌, ◌++◌, ◌∷◌, �
 ghost use Rattle.std.specs.List.{list_all};
 ghost use Rattle.desk.specs.declared.refusal.Refusal.TheVariants as refusal;
 ghost use Rattle.desk_store.specs.Keeping.{HasFailed};
-ghost use Rattle.desk_store.specs.Serving.{IsServed};
+ghost use Rattle.desk_store.specs.Serves.{Serves};
 ghost use Rattle.desk_commands.specs.Delivering.{DeliversLines, answer_line, answer_lines, status_after};
-ghost use Rattle.desk_commands.specs.Kept.{kept};
+ghost use Rattle.desk_commands.specs.Kept.{kept_by};
 ghost use Rattle.desk_commands.specs.Leaving.{LeavesDelivered};
 ghost use Rattle.desk_commands.specs.declared.refusal.Refusal.TheVariants as reasons;
 ghost use Rattle.desk_commands.specs.private.Outcomes.{IsLeft, IsOutcome, ShowsWantIn};
@@ -79,7 +79,7 @@ pub fn deliver_to<K: Keeper, R: Read>(
     ensures left { K.is_up desk.new.keeper → IfErr result
         (λ _. LeavesDelivered desk.old.roster.says relay.now (R.remaining input.old) (K.holds desk.old.keeper) (K.holds desk.new.keeper)) }
     ensures roster { desk.new.roster ≡ desk.old.roster }
-    ensures served { IsServed K.is_up K.is_clean K.failures K.beside desk.old.keeper desk.new.keeper ⊥ (ShowsWantIn result) }
+    ensures served { Serves K.Keeper desk.old.keeper desk.new.keeper ⊥ (ShowsWantIn result) }
 {
     let lines = read_lines(alloc, relay, input)?;
     let answers = desk.deliver_all(lines.as_slice())?;
@@ -99,11 +99,10 @@ fn deliver_over<K: Keeper, R: Read>(
     input: &mut R,
 ) -> (Result<Answer, Refusal>, K)
     ensures outcome { (places : Parts) (more : List (List ℕ)) (err : Option (List ℕ)) → IsOutcome (jobs.Deliver places relay.now) (roster.now ∷ base.now ∷ more)
-        (kept K.is_up K.is_empty K.is_desk K.is_old K.roster K.holds K.failures keeper result.1) (R.remaining input.old) result.0 err err }
+        (kept_by K.Keeper keeper result.1) (R.remaining input.old) result.0 err err }
     ensures left { (places : Parts) (more : List (List ℕ)) (err : Option (List ℕ)) → IfErr result.0 (λ _. IsLeft (jobs.Deliver places relay.now) (roster.now ∷ base.now ∷ more)
-        (kept K.is_up K.is_empty K.is_desk K.is_old K.roster K.holds K.failures keeper result.1)
-        (K.is_same keeper result.1) (R.remaining input.old) err err) }
-    ensures served { IsServed K.is_up K.is_clean K.failures K.beside keeper result.1 ⊥ (ShowsWantIn result.0) }
+        (kept_by K.Keeper keeper result.1) (K.is_same keeper result.1) (R.remaining input.old) err err) }
+    ensures served { Serves K.Keeper keeper result.1 ⊥ (ShowsWantIn result.0) }
 {
     match open_over(alloc, roster, base, keeper) {
         Ok(mut desk) => {
@@ -123,11 +122,10 @@ pub fn deliver_lines<K: Keeper, R: Read>(
     input: &mut R,
 ) -> (Result<Answer, Refusal>, K)
     ensures outcome { (places : Parts) (err : Option (List ℕ)) → IsOutcome (jobs.Deliver places relay.now) (map (λ f. f.items) files.now)
-        (kept K.is_up K.is_empty K.is_desk K.is_old K.roster K.holds K.failures keeper result.1) (R.remaining input.old) result.0 err err }
+        (kept_by K.Keeper keeper result.1) (R.remaining input.old) result.0 err err }
     ensures left { (places : Parts) (err : Option (List ℕ)) → IfErr result.0 (λ _. IsLeft (jobs.Deliver places relay.now) (map (λ f. f.items) files.now)
-        (kept K.is_up K.is_empty K.is_desk K.is_old K.roster K.holds K.failures keeper result.1)
-        (K.is_same keeper result.1) (R.remaining input.old) err err) }
-    ensures served { IsServed K.is_up K.is_clean K.failures K.beside keeper result.1 ⊥ (ShowsWantIn result.0) }
+        (kept_by K.Keeper keeper result.1) (K.is_same keeper result.1) (R.remaining input.old) err err) }
+    ensures served { Serves K.Keeper keeper result.1 ⊥ (ShowsWantIn result.0) }
 {
     match files {
         [roster, base, ..] => deliver_over(

@@ -2,10 +2,10 @@
 
 ghost use Rattle.std.specs.Prelude.{◌≡◌, ◌≤◌, IfErr, IfOk, MatchResult};
 ghost use Rattle.sudo_policy.specs.Spelling.{Spells};
-ghost use Rattle.desk_store.specs.Serving.{IsServed};
+ghost use Rattle.desk_store.specs.Serves.{Serves};
 ghost use Rattle.desk_store.specs.Sets.{SameSet};
 ghost use Rattle.desk_commands.specs.Files.{EndsMaking, IsDeskOf, IsRosterFile, IsRosterFault};
-ghost use Rattle.desk_commands.specs.Kept.{held_in, keeps, kept};
+ghost use Rattle.desk_commands.specs.Kept.{held_in, keeps_by, kept_by};
 ghost use Rattle.desk_commands.specs.Leaving.{WasOpened};
 ghost use Rattle.desk_commands.specs.Rebuilding.{EndsRebuilding};
 ghost use Rattle.desk_commands.specs.Wanting.{IsWanting};
@@ -53,13 +53,10 @@ pub fn open_over<K: Keeper>(
     ensures found { IfOk result (λ d. IsDeskOf roster.now base.now d.roster.says d.base) }
     ensures recorded { IfOk result (λ d. d.roster.text ≡ roster.now) }
     ensures opens { IfOk result (λ d. K.is_up d.keeper → SameSet (held_in (K.is_desk keeper) (K.is_old keeper) (K.holds keeper)) (K.holds d.keeper)) }
-    ensures was { IfOk result (λ d. K.is_up d.keeper → WasOpened roster.now (keeps K.is_empty K.is_desk K.is_old K.roster K.holds keeper)) }
-    ensures err { IfErr result (λ r. EndsMaking roster.now base.now
-        (kept K.is_up K.is_empty K.is_desk K.is_old K.roster K.holds K.failures keeper r.1) r.0) }
+    ensures was { IfOk result (λ d. K.is_up d.keeper → WasOpened roster.now (keeps_by K.Keeper keeper)) }
+    ensures err { IfErr result (λ r. EndsMaking roster.now base.now (kept_by K.Keeper keeper r.1) r.0) }
     ensures unchanged { IfErr result (λ r. K.is_up r.1 → K.is_same keeper r.1) }
-    ensures served { MatchResult result
-        (λ d. IsServed K.is_up K.is_clean K.failures K.beside keeper d.keeper ⊥ ⊥)
-        (λ r. IsServed K.is_up K.is_clean K.failures K.beside keeper r.1 ⊥ (IsWanting r.0)) }
+    ensures served { MatchResult result (λ d. Serves K.Keeper keeper d.keeper ⊥ ⊥) (λ r. Serves K.Keeper keeper r.1 ⊥ (IsWanting r.0)) }
 {
     match parts(alloc, roster, base) {
         Ok((roster, base)) => match Desk::open(alloc, roster, base, keeper) {
@@ -82,12 +79,9 @@ pub fn rebuild_over<K: Keeper>(
     ensures found { IfOk result (λ d. IsDeskOf roster.now base.now d.roster.says d.base) }
     ensures recorded { IfOk result (λ d. d.roster.text ≡ roster.now) }
     ensures keeps { IfOk result (λ d. K.is_up d.keeper → SameSet (held_in (K.is_desk keeper) (K.is_old keeper) (K.holds keeper)) (K.holds d.keeper)) }
-    ensures err { IfErr result (λ r. EndsRebuilding roster.now base.now
-        (kept K.is_up K.is_empty K.is_desk K.is_old K.roster K.holds K.failures keeper r.1) r.0) }
+    ensures err { IfErr result (λ r. EndsRebuilding roster.now base.now (kept_by K.Keeper keeper r.1) r.0) }
     ensures unchanged { IfErr result (λ r. K.is_up r.1 → K.is_same keeper r.1) }
-    ensures served { MatchResult result
-        (λ d. IsServed K.is_up K.is_clean K.failures K.beside keeper d.keeper ⊥ ⊥)
-        (λ r. IsServed K.is_up K.is_clean K.failures K.beside keeper r.1 ⊥ (IsWanting r.0)) }
+    ensures served { MatchResult result (λ d. Serves K.Keeper keeper d.keeper ⊥ ⊥) (λ r. Serves K.Keeper keeper r.1 ⊥ (IsWanting r.0)) }
 {
     match parts(alloc, roster, base) {
         Ok((roster, base)) => match Desk::rebuild(alloc, roster, base, keeper) {

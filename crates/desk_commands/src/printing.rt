@@ -5,12 +5,13 @@ ghost use Rattle.std.specs.Io.KnownBytes.{Appends};
 ghost use Rattle.messages.specs.declared.message.Message.{Message};
 ghost use Rattle.roster.specs.Rules.{is_among};
 ghost use Rattle.desk_store.specs.Keeping.{HasFailed};
-ghost use Rattle.desk_store.specs.Serving.{IsServed};
+ghost use Rattle.desk_store.specs.Serves.{Serves};
 ghost use Rattle.desk_store.specs.Sets.{Lists, SameSet};
 ghost use Rattle.desk_outcomes.specs.HostFile.{AreLines, Line};
 ghost use Rattle.desk.specs.Refusals.{IsWant};
+ghost use Rattle.desk.specs.Serving.{ServesAs};
 ghost use Rattle.desk.specs.declared.refusal.Refusal.TheVariants as refusal;
-ghost use Rattle.desk_commands.specs.Kept.{kept};
+ghost use Rattle.desk_commands.specs.Kept.{kept_by};
 ghost use Rattle.desk_commands.specs.Leaving.{LeavesTaken, SaysTaking};
 ghost use Rattle.desk_commands.specs.Printing.{HasRights, IsPrinted, PrintsHost, lines_printed};
 ghost use Rattle.desk_commands.specs.Wanting.{IsWanting};
@@ -40,7 +41,7 @@ fn file_of<K: Keeper>(
         → IfOk result (λ s. HasRights desk.old.roster.says desk.old.base set host.now after (string_bytes s)) }
     ensures same { K.is_up desk.new.keeper → K.is_same desk.old.keeper desk.new.keeper }
     ensures roster { desk.new.roster ≡ desk.old.roster }
-    ensures served { IsServed K.is_up K.is_clean K.failures K.beside desk.old.keeper desk.new.keeper (result ≡ Err refusal.Storage) (IsErrAnd result IsWant) }
+    ensures served { ServesAs K.Keeper desk.old.keeper desk.new.keeper result }
     ensures unknown { (result ≡ Err refusal.UnknownHost) ↔ (is_among desk.old.roster.says.hosts host.now ≡ false) }
     ensures few { (set : List Message) (lines : List Line) → K.is_up desk.new.keeper → Lists (K.holds desk.old.keeper) set → AreLines desk.old.roster.says set host.now lines
         → length (lines_printed after lines) ≤ 8_192 → IfErr result (λ e. (e ≡ refusal.UnknownHost) ⊎ IsWant e) }
@@ -72,7 +73,7 @@ fn print_of<K: Keeper, R: Read, E: Write>(
         → LeavesTaken store.now desk.old.roster.says (R.remaining input.old) (K.holds desk.old.keeper) (K.holds desk.new.keeper) }
     ensures unread { (store.now ≡ stores.Memory → ⊥) → input.new ≡ input.old }
     ensures roster { desk.new.roster ≡ desk.old.roster }
-    ensures served { IsServed K.is_up K.is_clean K.failures K.beside desk.old.keeper desk.new.keeper ⊥ (IsErrAnd result IsWanting) }
+    ensures served { Serves K.Keeper desk.old.keeper desk.new.keeper ⊥ (IsErrAnd result IsWanting) }
 {
     take_input(alloc, store, desk, input, err)?;
     match file_of(desk, host, after) {
@@ -97,12 +98,11 @@ fn print_over<K: Keeper, R: Read, E: Write>(
     err: &mut E,
 ) -> (Result<Answer, Refusal>, K)
     ensures outcome { (more : List (List ℕ)) → IsOutcome (jobs.Print places.now host.now after) (roster.now ∷ base.now ∷ more)
-        (kept K.is_up K.is_empty K.is_desk K.is_old K.roster K.holds K.failures keeper result.1) (R.remaining input.old) result.0 (E.contents err.old) (E.contents err.new) }
+        (kept_by K.Keeper keeper result.1) (R.remaining input.old) result.0 (E.contents err.old) (E.contents err.new) }
     ensures left { (more : List (List ℕ)) → IfErr result.0 (λ _. IsLeft (jobs.Print places.now host.now after) (roster.now ∷ base.now ∷ more)
-        (kept K.is_up K.is_empty K.is_desk K.is_old K.roster K.holds K.failures keeper result.1)
-        (K.is_same keeper result.1) (R.remaining input.old) (E.contents err.old) (E.contents err.new)) }
+        (kept_by K.Keeper keeper result.1) (K.is_same keeper result.1) (R.remaining input.old) (E.contents err.old) (E.contents err.new)) }
     ensures unread { (places.now.store ≡ stores.Memory → ⊥) → input.new ≡ input.old }
-    ensures served { IsServed K.is_up K.is_clean K.failures K.beside keeper result.1 ⊥ (IsErrAnd result.0 IsWanting) }
+    ensures served { Serves K.Keeper keeper result.1 ⊥ (IsErrAnd result.0 IsWanting) }
 {
     match open_over(alloc, roster, base, keeper) {
         Ok(mut desk) => {
@@ -129,12 +129,11 @@ pub fn print_host<K: Keeper, R: Read, E: Write>(
     err: &mut E,
 ) -> (Result<Answer, Refusal>, K)
     ensures outcome { IsOutcome (jobs.Print places.now host.now after) (map (λ f. f.items) files.now)
-        (kept K.is_up K.is_empty K.is_desk K.is_old K.roster K.holds K.failures keeper result.1) (R.remaining input.old) result.0 (E.contents err.old) (E.contents err.new) }
+        (kept_by K.Keeper keeper result.1) (R.remaining input.old) result.0 (E.contents err.old) (E.contents err.new) }
     ensures left { IfErr result.0 (λ _. IsLeft (jobs.Print places.now host.now after) (map (λ f. f.items) files.now)
-        (kept K.is_up K.is_empty K.is_desk K.is_old K.roster K.holds K.failures keeper result.1)
-        (K.is_same keeper result.1) (R.remaining input.old) (E.contents err.old) (E.contents err.new)) }
+        (kept_by K.Keeper keeper result.1) (K.is_same keeper result.1) (R.remaining input.old) (E.contents err.old) (E.contents err.new)) }
     ensures unread { (places.now.store ≡ stores.Memory → ⊥) → input.new ≡ input.old }
-    ensures served { IsServed K.is_up K.is_clean K.failures K.beside keeper result.1 ⊥ (IsErrAnd result.0 IsWanting) }
+    ensures served { Serves K.Keeper keeper result.1 ⊥ (IsErrAnd result.0 IsWanting) }
 {
     match files {
         [roster, base, ..] => print_over(

@@ -1,8 +1,8 @@
 //! Giving a desk another roster.
 
 ghost use Rattle.std.specs.Prelude.{◌≡◌, ◌∷◌, ℕ, List, Option, IfOk, codes, map, string_bytes, IfErr, IsErrAnd};
-ghost use Rattle.desk_store.specs.Serving.{IsServed};
-ghost use Rattle.desk_commands.specs.Kept.{kept};
+ghost use Rattle.desk_store.specs.Serves.{Serves};
+ghost use Rattle.desk_commands.specs.Kept.{kept_by};
 ghost use Rattle.desk_commands.specs.Wanting.{IsWanting};
 ghost use Rattle.desk_commands.specs.private.Outcomes.{IsLeft, IsOutcome};
 ghost use Rattle.desk_args.specs.declared.status.Status.TheVariants.{Done};
@@ -35,11 +35,10 @@ fn rebuilt<K: Keeper>(
     keeper: K,
 ) -> (Result<Answer, Refusal>, K)
     ensures outcome { (places : Parts) (more : List (List ℕ)) (input err : Option (List ℕ)) → IsOutcome (jobs.Rebuild places) (roster.now ∷ base.now ∷ more)
-        (kept K.is_up K.is_empty K.is_desk K.is_old K.roster K.holds K.failures keeper result.1) input result.0 err err }
+        (kept_by K.Keeper keeper result.1) input result.0 err err }
     ensures left { (places : Parts) (more : List (List ℕ)) (input err : Option (List ℕ)) → IfErr result.0 (λ _. IsLeft (jobs.Rebuild places) (roster.now ∷ base.now ∷ more)
-        (kept K.is_up K.is_empty K.is_desk K.is_old K.roster K.holds K.failures keeper result.1)
-        (K.is_same keeper result.1) input err err) }
-    ensures served { IsServed K.is_up K.is_clean K.failures K.beside keeper result.1 ⊥ (IsErrAnd result.0 IsWanting) }
+        (kept_by K.Keeper keeper result.1) (K.is_same keeper result.1) input err err) }
+    ensures served { Serves K.Keeper keeper result.1 ⊥ (IsErrAnd result.0 IsWanting) }
 {
     let Ok(answer) = ok(alloc) else {
         return (Err(Refusal::NoMemory), keeper);
@@ -57,11 +56,10 @@ pub fn rebuild_desk<K: Keeper>(
     keeper: K,
 ) -> (Result<Answer, Refusal>, K)
     ensures outcome { (places : Parts) (input err : Option (List ℕ)) → IsOutcome (jobs.Rebuild places) (map (λ f. f.items) files.now)
-        (kept K.is_up K.is_empty K.is_desk K.is_old K.roster K.holds K.failures keeper result.1) input result.0 err err }
+        (kept_by K.Keeper keeper result.1) input result.0 err err }
     ensures left { (places : Parts) (input err : Option (List ℕ)) → IfErr result.0 (λ _. IsLeft (jobs.Rebuild places) (map (λ f. f.items) files.now)
-        (kept K.is_up K.is_empty K.is_desk K.is_old K.roster K.holds K.failures keeper result.1)
-        (K.is_same keeper result.1) input err err) }
-    ensures served { IsServed K.is_up K.is_clean K.failures K.beside keeper result.1 ⊥ (IsErrAnd result.0 IsWanting) }
+        (kept_by K.Keeper keeper result.1) (K.is_same keeper result.1) input err err) }
+    ensures served { Serves K.Keeper keeper result.1 ⊥ (IsErrAnd result.0 IsWanting) }
 {
     match files {
         [roster, base, ..] => rebuilt(alloc, roster.as_slice(), base.as_slice(), keeper),

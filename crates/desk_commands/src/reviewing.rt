@@ -3,8 +3,8 @@
 ghost use Rattle.std.specs.Prelude.{◌≡◌, ◌∷◌, ℕ, List, map, IfErr, IfOk, IsErrAnd, string_bytes};
 ghost use Rattle.std.specs.Io.KnownBytes.{Appends};
 ghost use Rattle.desk_store.specs.Keeping.{HasFailed};
-ghost use Rattle.desk_store.specs.Serving.{IsServed};
-ghost use Rattle.desk_commands.specs.Kept.{kept};
+ghost use Rattle.desk_store.specs.Serves.{Serves};
+ghost use Rattle.desk_commands.specs.Kept.{kept_by};
 ghost use Rattle.desk_commands.specs.Leaving.{LeavesTaken, SaysTaking};
 ghost use Rattle.desk_commands.specs.Reviewing.{ReviewsDesk};
 ghost use Rattle.desk_commands.specs.Wanting.{IsWanting};
@@ -41,7 +41,7 @@ fn review_of<K: Keeper, R: Read, E: Write>(
         → LeavesTaken store.now desk.old.roster.says (R.remaining input.old) (K.holds desk.old.keeper) (K.holds desk.new.keeper) }
     ensures unread { (store.now ≡ stores.Memory → ⊥) → input.new ≡ input.old }
     ensures roster { desk.new.roster ≡ desk.old.roster }
-    ensures served { IsServed K.is_up K.is_clean K.failures K.beside desk.old.keeper desk.new.keeper ⊥ (IsErrAnd result IsWanting) }
+    ensures served { Serves K.Keeper desk.old.keeper desk.new.keeper ⊥ (IsErrAnd result IsWanting) }
 {
     take_input(alloc, store, desk, input, err)?;
     match report(desk, at) {
@@ -65,12 +65,11 @@ fn review_over<K: Keeper, R: Read, E: Write>(
     err: &mut E,
 ) -> (Result<Answer, Refusal>, K)
     ensures outcome { (more : List (List ℕ)) → IsOutcome (jobs.Review places.now at) (roster.now ∷ base.now ∷ more)
-        (kept K.is_up K.is_empty K.is_desk K.is_old K.roster K.holds K.failures keeper result.1) (R.remaining input.old) result.0 (E.contents err.old) (E.contents err.new) }
+        (kept_by K.Keeper keeper result.1) (R.remaining input.old) result.0 (E.contents err.old) (E.contents err.new) }
     ensures left { (more : List (List ℕ)) → IfErr result.0 (λ _. IsLeft (jobs.Review places.now at) (roster.now ∷ base.now ∷ more)
-        (kept K.is_up K.is_empty K.is_desk K.is_old K.roster K.holds K.failures keeper result.1)
-        (K.is_same keeper result.1) (R.remaining input.old) (E.contents err.old) (E.contents err.new)) }
+        (kept_by K.Keeper keeper result.1) (K.is_same keeper result.1) (R.remaining input.old) (E.contents err.old) (E.contents err.new)) }
     ensures unread { (places.now.store ≡ stores.Memory → ⊥) → input.new ≡ input.old }
-    ensures served { IsServed K.is_up K.is_clean K.failures K.beside keeper result.1 ⊥ (IsErrAnd result.0 IsWanting) }
+    ensures served { Serves K.Keeper keeper result.1 ⊥ (IsErrAnd result.0 IsWanting) }
 {
     match open_over(alloc, roster, base, keeper) {
         Ok(mut desk) => {
@@ -95,12 +94,11 @@ pub fn review_desk<K: Keeper, R: Read, E: Write>(
     err: &mut E,
 ) -> (Result<Answer, Refusal>, K)
     ensures outcome { IsOutcome (jobs.Review places.now at) (map (λ f. f.items) files.now)
-        (kept K.is_up K.is_empty K.is_desk K.is_old K.roster K.holds K.failures keeper result.1) (R.remaining input.old) result.0 (E.contents err.old) (E.contents err.new) }
+        (kept_by K.Keeper keeper result.1) (R.remaining input.old) result.0 (E.contents err.old) (E.contents err.new) }
     ensures left { IfErr result.0 (λ _. IsLeft (jobs.Review places.now at) (map (λ f. f.items) files.now)
-        (kept K.is_up K.is_empty K.is_desk K.is_old K.roster K.holds K.failures keeper result.1)
-        (K.is_same keeper result.1) (R.remaining input.old) (E.contents err.old) (E.contents err.new)) }
+        (kept_by K.Keeper keeper result.1) (K.is_same keeper result.1) (R.remaining input.old) (E.contents err.old) (E.contents err.new)) }
     ensures unread { (places.now.store ≡ stores.Memory → ⊥) → input.new ≡ input.old }
-    ensures served { IsServed K.is_up K.is_clean K.failures K.beside keeper result.1 ⊥ (IsErrAnd result.0 IsWanting) }
+    ensures served { Serves K.Keeper keeper result.1 ⊥ (IsErrAnd result.0 IsWanting) }
 {
     match files {
         [roster, base, ..] => review_over(

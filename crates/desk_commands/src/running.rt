@@ -5,10 +5,10 @@ ghost use Rattle.std.specs.Io.Buffered.{writer_buffer, writer_contents};
 ghost use Rattle.std.specs.Io.KnownBytes.{Appends, Keeps};
 ghost use Rattle.sudo_policy.specs.Spelling.{Spells};
 ghost use Rattle.sudo_decide.specs.Decision.{Decides};
-ghost use Rattle.desk_store.specs.Serving.{IsServed};
+ghost use Rattle.desk_store.specs.Serves.{Serves};
 ghost use Rattle.desk_commands.specs.Answers.{CauseOfFile, CauseOfFiles, ChecksFile, DecidesByFile, EndsReading, HasAnswer, HasCause, IsAnswer, IsDecided, IsOnDesk, OfFile, OfFiles, ReadsInput, status_of};
 ghost use Rattle.desk_commands.specs.Comparing.{ComparesFiles, EndsComparing};
-ghost use Rattle.desk_commands.specs.Kept.{kept};
+ghost use Rattle.desk_commands.specs.Kept.{kept_by};
 ghost use Rattle.desk_commands.specs.Leaving.{KeepsAfterRefusal, TellsRefusal};
 ghost use Rattle.desk_commands.specs.Telling.{AppendsFront, refusal_line};
 ghost use Rattle.desk_commands.specs.Wanting.{TellsWant};
@@ -134,13 +134,12 @@ fn answered<K: Keeper, R: Read, E: Write>(
     err: &mut E,
 ) -> (Result<Answer, Refusal>, K)
     ensures outcome { IsOutcome job.now (map (λ f. f.items) files.old)
-        (kept K.is_up K.is_empty K.is_desk K.is_old K.roster K.holds K.failures keeper result.1) (R.remaining input.old) result.0 (E.contents err.old) (E.contents err.new) }
+        (kept_by K.Keeper keeper result.1) (R.remaining input.old) result.0 (E.contents err.old) (E.contents err.new) }
     ensures left { IfErr result.0 (λ _. IsLeft job.now (map (λ f. f.items) files.old)
-        (kept K.is_up K.is_empty K.is_desk K.is_old K.roster K.holds K.failures keeper result.1)
-        (K.is_same keeper result.1) (R.remaining input.old) (E.contents err.old) (E.contents err.new)) }
+        (kept_by K.Keeper keeper result.1) (K.is_same keeper result.1) (R.remaining input.old) (E.contents err.old) (E.contents err.new)) }
     ensures unasked { (IsOnDesk job.now → ⊥) → result.1 ≡ keeper }
     ensures unread { (ReadsInput job.now → ⊥) → input.new ≡ input.old }
-    ensures served { IsServed K.is_up K.is_clean K.failures K.beside keeper result.1 ⊥ (WantsIn job.now result.0) }
+    ensures served { Serves K.Keeper keeper result.1 ⊥ (WantsIn job.now result.0) }
 {
     match job {
         Job::Check { .. } => (check_first(alloc, files), keeper),
@@ -200,24 +199,24 @@ pub fn run<K: Keeper, R: Read, W: Write, E: Write>(
     err: &mut E,
 ) -> (Status, K)
     ensures answered { result.0 ≢ Status.Refused → (text : List ℕ) × (said : List ℕ)
-        × IsAnswer job.now (map (λ f. f.items) files.old) (kept K.is_up K.is_empty K.is_desk K.is_old K.roster K.holds K.failures keeper result.1) (R.remaining input.old) result.0 text said
+        × IsAnswer job.now (map (λ f. f.items) files.old) (kept_by K.Keeper keeper result.1) (R.remaining input.old) result.0 text said
         × Appends (W.contents out.old) (W.contents out.new) text
         × Appends (E.contents err.old) (E.contents err.new) said
         × (K.is_up keeper → K.is_clean result.1 → TellsWant job.now text ⊎ K.is_up result.1) }
     // A job that is refused leaves what stood on `out`, and there is a reason for it; or it has an answer, which could not be written.
     ensures refused { result.0 ≡ Status.Refused → ((W.contents out.new ≡ W.contents out.old)
-        × HasCause job.now (map (λ f. f.items) files.old) (kept K.is_up K.is_empty K.is_desk K.is_old K.roster K.holds K.failures keeper result.1) (R.remaining input.old))
-        ⊎ HasAnswer job.now (map (λ f. f.items) files.old) (kept K.is_up K.is_empty K.is_desk K.is_old K.roster K.holds K.failures keeper result.1) (R.remaining input.old) }
+        × HasCause job.now (map (λ f. f.items) files.old) (kept_by K.Keeper keeper result.1) (R.remaining input.old))
+        ⊎ HasAnswer job.now (map (λ f. f.items) files.old) (kept_by K.Keeper keeper result.1) (R.remaining input.old) }
     // What a refused job leaves at the keeper, and what it says on `err`.
     ensures kept { result.0 ≡ Status.Refused → K.is_up result.1
-        → KeepsAfterRefusal job.now (map (λ f. f.items) files.old) (kept K.is_up K.is_empty K.is_desk K.is_old K.roster K.holds K.failures keeper result.1) (K.is_same keeper result.1) (R.remaining input.old)
-        ⊎ HasAnswer job.now (map (λ f. f.items) files.old) (kept K.is_up K.is_empty K.is_desk K.is_old K.roster K.holds K.failures keeper result.1) (R.remaining input.old) }
-    ensures told { result.0 ≡ Status.Refused → TellsRefusal job.now (map (λ f. f.items) files.old) (kept K.is_up K.is_empty K.is_desk K.is_old K.roster K.holds K.failures keeper result.1)
+        → KeepsAfterRefusal job.now (map (λ f. f.items) files.old) (kept_by K.Keeper keeper result.1) (K.is_same keeper result.1) (R.remaining input.old)
+        ⊎ HasAnswer job.now (map (λ f. f.items) files.old) (kept_by K.Keeper keeper result.1) (R.remaining input.old) }
+    ensures told { result.0 ≡ Status.Refused → TellsRefusal job.now (map (λ f. f.items) files.old) (kept_by K.Keeper keeper result.1)
         (K.is_up keeper × K.is_clean result.1) (R.remaining input.old) (E.contents err.old) (E.contents err.new) }
     // Only a job on a desk asks the keeper, and only one that takes lines reads the input.
     ensures unasked { (IsOnDesk job.now → ⊥) → result.1 ≡ keeper }
     ensures unread { (ReadsInput job.now → ⊥) → input.new ≡ input.old }
-    ensures served { IsServed K.is_up K.is_clean K.failures K.beside keeper result.1 ⊥ ⊤ }
+    ensures served { Serves K.Keeper keeper result.1 ⊥ ⊤ }
 {
     let (answer, keeper) = answered(alloc, job, files, keeper, input, err);
     (conclude(answer, out, err), keeper)

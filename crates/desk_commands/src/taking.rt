@@ -5,7 +5,7 @@ ghost use Rattle.std.specs.Io.KnownBytes.{Appends};
 ghost use Rattle.desk.specs.Refusals.{IsWant};
 ghost use Rattle.desk.specs.declared.refusal.Refusal.TheVariants as refusals;
 ghost use Rattle.desk_store.specs.Keeping.{HasFailed};
-ghost use Rattle.desk_store.specs.Serving.{IsServed};
+ghost use Rattle.desk_store.specs.Serves.{Serves};
 ghost use Rattle.desk_store.specs.Sets.{SameSet};
 ghost use Rattle.desk_commands.specs.Leaving.{AreSomeTaken, LeavesTaken, SaysTaking};
 ghost use Rattle.desk_commands.specs.Telling.{AppendsFront};
@@ -99,7 +99,7 @@ fn take_lines<K: Keeper, R: Read, E: Write>(
     ensures left { K.is_up desk.new.keeper → AreSomeTaken desk.old.roster.says (R.remaining input.old) (K.holds desk.old.keeper) (K.holds desk.new.keeper) }
     ensures roster { desk.new.roster ≡ desk.old.roster }
     ensures base { desk.new.base ≡ desk.old.base }
-    ensures served { IsServed K.is_up K.is_clean K.failures K.beside desk.old.keeper desk.new.keeper ⊥ (IsErrAnd result IsWanting) }
+    ensures served { Serves K.Keeper desk.old.keeper desk.new.keeper ⊥ (IsErrAnd result IsWanting) }
 {
     let lines = read_lines(alloc, desk.roster().first_relay().as_str(), input)?;
     let answers = desk.deliver_all(lines.as_slice())?;
@@ -126,7 +126,7 @@ pub fn take_input<K: Keeper, R: Read, E: Write>(
     ensures unread { (store.now ≡ stores.Memory → ⊥) → input.new ≡ input.old }
     ensures roster { desk.new.roster ≡ desk.old.roster }
     ensures base { desk.new.base ≡ desk.old.base }
-    ensures served { IsServed K.is_up K.is_clean K.failures K.beside desk.old.keeper desk.new.keeper ⊥ (IsErrAnd result IsWanting) }
+    ensures served { Serves K.Keeper desk.old.keeper desk.new.keeper ⊥ (IsErrAnd result IsWanting) }
 {
     match store {
         Store::Memory => take_lines(alloc, desk, input, err),

@@ -2,6 +2,7 @@
 pub use Rattle.desk_tables.specs.Sets
 pub mod Keeping
 pub mod Serving
+pub mod Serves
 pub mod Faults
 -- a keeper in memory
 pub mod Memory

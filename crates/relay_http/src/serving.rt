@@ -3,7 +3,7 @@
 ghost use Rattle.std.specs.Prelude.{◌≡◌, ◌≢◌, ◌⊎◌, ℕ, Err, IfSome, MatchResult, OnOk, codes};
 ghost use Rattle.httparse.specs.Grammar.{RequestHead};
 ghost use Rattle.desk_store.specs.Keeping.{HasFailed};
-ghost use Rattle.desk_store.specs.Serving.{IsServed};
+ghost use Rattle.desk_store.specs.Serves.{Serves};
 ghost use Rattle.relay_http.specs.Asked.{Request};
 ghost use Rattle.relay_http.specs.Counting.{one_failure};
 ghost use Rattle.relay_http.specs.Exchange.{HasReplied, IsAcknowledged, IsExchange, WritesWant};
@@ -62,7 +62,7 @@ fn reply_to<K: Keeper, W: Write>(
 ) -> Result<(), sending::WriteFailed>
     ensures exchange { (request : Request ℕ) × Asks bytes.now request
         × IsExchange desk.old.roster.says desk.old.base (K.is_up desk.new.keeper) (K.holds desk.old.keeper) (K.holds desk.new.keeper)
-        (K.is_same desk.old.keeper desk.new.keeper) (IsServed K.is_up K.is_clean K.failures K.beside desk.old.keeper desk.new.keeper)
+        (K.is_same desk.old.keeper desk.new.keeper) (Serves K.Keeper desk.old.keeper desk.new.keeper)
         (λ reply. Sends (W.contents writer.old.inner) (W.contents writer.new.inner) result reply) request }
     ensures counted { MatchResult result (λ _. writer.new.failures ≡ writer.old.failures) (λ _. writer.new.failures ≡ one_failure writer.old.failures) }
     ensures roster { desk.new.roster ≡ desk.old.roster }
@@ -92,7 +92,7 @@ pub fn serve_in<K: Keeper, R: Read, W: Write>(
     // The bytes that the reader has left ask for one thing. The desk's reply to it was written, or where a write failed a beginning of it.
     ensures exchange { HasReplied result → IfSome (R.remaining reader.old.inner) (λ all. (request : Request ℕ) → Asks all request
         → IsExchange desk.old.roster.says desk.old.base (K.is_up desk.new.keeper) (K.holds desk.old.keeper) (K.holds desk.new.keeper)
-        (K.is_same desk.old.keeper desk.new.keeper) (IsServed K.is_up K.is_clean K.failures K.beside desk.old.keeper desk.new.keeper)
+        (K.is_same desk.old.keeper desk.new.keeper) (Serves K.Keeper desk.old.keeper desk.new.keeper)
         (λ bytes. Sends (W.contents writer.old.inner) (W.contents writer.new.inner) result bytes) request) }
     // A GET or HEAD leaves all as it was, and so does each exchange but that of a POST to a relay's messages with the status 200.
     ensures queries { HasReplied result → K.is_up desk.new.keeper → IfSome (R.remaining reader.old.inner) (λ all. (head : RequestHead) → HasHead all head
@@ -108,7 +108,7 @@ pub fn serve_in<K: Keeper, R: Read, W: Write>(
     ensures roster { desk.new.roster ≡ desk.old.roster }
     ensures base { desk.new.base ≡ desk.old.base }
     // The keeper is up then, unless a reply of K4 or K5 was written, or a beginning of it.
-    ensures served { IsServed K.is_up K.is_clean K.failures K.beside desk.old.keeper desk.new.keeper ⊥
+    ensures served { Serves K.Keeper desk.old.keeper desk.new.keeper ⊥
         (WritesWant (λ bytes. Sends (W.contents writer.old.inner) (W.contents writer.new.inner) result bytes)) }
 {
     let Ok(kept) = room.kept(alloc) else {
@@ -136,7 +136,7 @@ pub fn serve_one<K: Keeper, R: Read, W: Write>(
     // The bytes that the reader has left ask for one thing. The desk's reply to it was written, or where a write failed a beginning of it.
     ensures exchange { HasReplied result → IfSome (R.remaining reader.old.inner) (λ all. (request : Request ℕ) → Asks all request
         → IsExchange desk.old.roster.says desk.old.base (K.is_up desk.new.keeper) (K.holds desk.old.keeper) (K.holds desk.new.keeper)
-        (K.is_same desk.old.keeper desk.new.keeper) (IsServed K.is_up K.is_clean K.failures K.beside desk.old.keeper desk.new.keeper)
+        (K.is_same desk.old.keeper desk.new.keeper) (Serves K.Keeper desk.old.keeper desk.new.keeper)
         (λ bytes. Sends (W.contents writer.old.inner) (W.contents writer.new.inner) result bytes) request) }
     // A GET or HEAD leaves all as it was, and so does each exchange but that of a POST to a relay's messages with the status 200.
     ensures queries { HasReplied result → K.is_up desk.new.keeper → IfSome (R.remaining reader.old.inner) (λ all. (head : RequestHead) → HasHead all head
@@ -152,7 +152,7 @@ pub fn serve_one<K: Keeper, R: Read, W: Write>(
     ensures roster { desk.new.roster ≡ desk.old.roster }
     ensures base { desk.new.base ≡ desk.old.base }
     // The keeper is up then, unless a reply of K4 or K5 was written, or a beginning of it.
-    ensures served { IsServed K.is_up K.is_clean K.failures K.beside desk.old.keeper desk.new.keeper ⊥
+    ensures served { Serves K.Keeper desk.old.keeper desk.new.keeper ⊥
         (WritesWant (λ bytes. Sends (W.contents writer.old.inner) (W.contents writer.new.inner) result bytes)) }
 {
     let mut room = Room::new();

@@ -1,11 +1,10 @@
 //! The report of a desk.
 
-ghost use Rattle.std.specs.Prelude.{◌≡◌, List, IfOk, IsErrAnd, IfErr, Err, string_bytes};
+ghost use Rattle.std.specs.Prelude.{◌≡◌, List, IfOk, IfErr, string_bytes};
 ghost use Rattle.messages.specs.declared.message.Message.{Message as AnyMessage};
-ghost use Rattle.desk_store.specs.Serving.{IsServed};
 ghost use Rattle.desk_store.specs.Sets.{Lists};
 ghost use Rattle.desk.specs.Refusals.{IsWant};
-ghost use Rattle.desk.specs.declared.refusal.Refusal.TheVariants as refusal;
+ghost use Rattle.desk.specs.Serving.{ServesAs};
 ghost use Rattle.review.specs.Report.{IsReport};
 
 use crate::reporting::report_of;
@@ -24,7 +23,7 @@ pub fn report<K: Keeper>(desk: &mut Desk<K>, at: Moment) -> Result<String, Refus
     ensures unchanged { K.is_up desk.new.keeper → K.is_same desk.old.keeper desk.new.keeper }
     ensures roster { desk.new.roster ≡ desk.old.roster }
     ensures base { desk.new.base ≡ desk.old.base }
-    ensures served { IsServed K.is_up K.is_clean K.failures K.beside desk.old.keeper desk.new.keeper (result ≡ Err refusal.Storage) (IsErrAnd result IsWant) }
+    ensures served { ServesAs K.Keeper desk.old.keeper desk.new.keeper result }
 {
     let Holdings { summaries, parked } = desk.holdings()?;
     let alloc = *summaries.allocator();
