@@ -42,17 +42,17 @@ import store_files
 DELIVERED, HELD, MORE, GRANTS, RUNS, ROUNDS = 10_000, 100_000, 10_000, 8_000, 3, 5
 SIZES = (1_000, 100_000, 1_000_000)
 POSTS = (500, 1_500)
+READS = ("*desk_opening*rows_beside*", "*messages*read_message*")
 NOBODY = 'relays = ["chat"]\nhosts = ["db1"]\nduties = []\nconflicts = []\n[people]\n[ceilings]\n'
 ASKED = desk.asked(b"GET", b"/v1/grants/20260105093000Z")
 NOWHERE = desk.asked(b"GET", b"/none")
 
 
 class Cost(NamedTuple):
-    """Seconds of wall time, seconds of processor time, and the peak memory in bytes."""
+    """Seconds of wall time, and seconds of processor time."""
 
     wall: float
     busy: float
-    peak: int
 
 
 def bodies(first: int, count: int) -> list[str]:
@@ -79,7 +79,7 @@ def ended(process: subprocess.Popen[bytes], begun: float, status: int) -> Cost:
     process.returncode = os.waitstatus_to_exitcode(how)
     if process.returncode != status:
         sys.exit(f"bench_store: {process.args!r} ends with {process.returncode}")
-    return Cost(wall, used.ru_utime + used.ru_stime, used.ru_maxrss * 1024)
+    return Cost(wall, used.ru_utime + used.ru_stime)
 
 
 def run(words: Sequence[str], given: str = os.devnull, status: int = 0) -> Cost:
@@ -91,9 +91,9 @@ def run(words: Sequence[str], given: str = os.devnull, status: int = 0) -> Cost:
 
 
 def best(measure: Callable[[], Cost]) -> Cost:
-    """The least times of a few runs, and the greatest memory."""
+    """The least times of a few runs."""
     runs = [measure() for _ in range(RUNS)]
-    return Cost(*(min(cost[n] for cost in runs) for n in (0, 1)), max(cost.peak for cost in runs))
+    return Cost(*(min(cost[n] for cost in runs) for n in (0, 1)))
 
 
 def judged(what: str, ratio: float, most: float) -> bool:
@@ -169,8 +169,7 @@ def on_disk() -> int:
     walls = [cost.wall for cost in costs]
     print(
         f"deliver of {DELIVERED:,} messages to files, {ROUNDS} rounds: {sum(walls):.2f} s, of which"
-        f" {sum(cost.busy for cost in costs):.2f} s of the processor;"
-        f" {max(cost.peak for cost in costs) / 2**20:.0f} MiB"
+        f" {sum(cost.busy for cost in costs):.2f} s of the processor"
     )
     print(
         f"C SQLite {sqlite3.sqlite_version}, the same commits: {sum(theirs):.2f} s; fdatasync"
@@ -208,23 +207,31 @@ def used_by(pid: int) -> int:
         return int(file.read().split()[0])
 
 
-def once_open(store: str, messages: list[str]) -> Cost:
-    """What it takes to deliver messages to a desk that is open: the program reads its input then,
-    and is given it once it uses no more of the processor."""
-    process = subprocess.Popen(
-        delivering(store), stdin=subprocess.PIPE, stdout=subprocess.DEVNULL
-    )
-    assert process.stdin is not None
+def opened_by(process: subprocess.Popen[bytes]) -> int:
+    """Waits until a desk is open: it reads its input then, and uses no more of the processor. The
+    nanoseconds that it used."""
     before, idle = -1, 0
     while idle < 5:
         time.sleep(0.05)
         now = used_by(process.pid)
         idle, before = (idle + 1 if now == before else 0), now
+    return before
+
+
+def once_open(store: str, messages: list[str]) -> tuple[Cost, int]:
+    """What it takes to deliver messages to a desk that is open, and the most memory, in bytes, that
+    it had once it was open."""
+    process = subprocess.Popen(
+        delivering(store), stdin=subprocess.PIPE, stdout=subprocess.DEVNULL
+    )
+    assert process.stdin is not None
+    before = opened_by(process)
+    peak = desk.memory_of(process.pid)[1] * 1024
     begun = time.perf_counter()
     process.stdin.write(lines_of(messages).encode())
     process.stdin.close()
     cost = ended(process, begun, 0)
-    return cost._replace(busy=cost.busy - before / 1e9)
+    return cost._replace(busy=cost.busy - before / 1e9), peak
 
 
 def deliveries(folder: str) -> int:
@@ -232,7 +239,7 @@ def deliveries(folder: str) -> int:
     each = {}
     for count in SIZES:
         store = held(folder, count)
-        cost = best(lambda: once_open(copy_of(store), bodies(count, MORE)))
+        cost = best(lambda: once_open(copy_of(store), bodies(count, MORE))[0])
         each[count] = cost.busy / MORE
         print(f"a delivery over {count:,} messages: {each[count] * 1e6:.0f} us", flush=True)
         if count > HELD:
@@ -251,24 +258,30 @@ def opening(folder: str) -> int:
     store = held(folder, HELD)
     reading, opens = delivering("-", nobody), delivering(store)
     read, opened = best(lambda: run(reading, given, 2)), best(lambda: run(opens))
-    print(f"reading {HELD:,} messages alone: {read.busy:.3f} s, {read.peak / 2**20:.0f} MiB")
-    print(f"opening a file of them: {opened.busy:.3f} s, {opened.peak / 2**20:.0f} MiB")
-    counts = desk.instructions(opens), desk.instructions(reading, given)
+    _, peak = once_open(store, [])
+    print(f"reading {HELD:,} messages alone: {read.busy:.3f} s")
+    print(f"opening a file of them: {opened.busy:.3f} s, {peak / 2**20:.0f} MiB")
+    counts = [
+        desk.instructions(opens),
+        desk.instructions(reading, given),
+        desk.instructions(opens, inside="*desk_opening*look_within*"),
+    ]
     if 0 in counts:
         ratio = opened.busy / read.busy
     else:
         ratio = counts[0] / counts[1]
         print(
-            f"in millions of instructions: opening {counts[0] / 1e6:,.0f}, reading"
+            f"in millions of instructions: opening {counts[0] / 1e6:,.0f}, of which the desk"
+            f" {counts[2] / 1e6:,.0f} and the library that opens the database the rest; reading"
             f" {counts[1] / 1e6:,.0f}"
         )
     wrong = judged(f"opening {HELD:,} messages, beside reading them", ratio, 2)
-    wrong += judged("opening, bytes of memory a message", opened.peak / HELD, 1_000)
+    wrong += judged("opening, bytes of memory a message", peak / HELD, 1_000)
     other = desk.write(folder, "other.toml", desk.read(desk.ROSTER) + "# another roster\n")
     rebuilt = best(
         lambda: run([*desk.named(), "rebuild", other, desk.BASE, copy_of(store)])
     )
-    print(f"rebuild of {HELD:,} messages: {rebuilt.busy:.3f} s, {rebuilt.peak / 2**20:.0f} MiB")
+    print(f"rebuild of {HELD:,} messages: {rebuilt.busy:.3f} s")
     return wrong + judged(
         f"rebuild of {HELD:,} messages, beside opening them", rebuilt.busy / opened.busy, 6
     )
@@ -277,9 +290,7 @@ def opening(folder: str) -> int:
 def served(store: str, requests: list[bytes], inside: str = "") -> int:
     """The instructions of a server that answers these requests, one a connection; or those of the
     functions alone that this pattern names."""
-    words = ["valgrind", "--tool=callgrind", "--callgrind-out-file=/dev/null"]
-    if inside:
-        words += ["--collect-atstart=no", f"--toggle-collect={inside}"]
+    words = desk.counting(inside)
     with desk.Server(
         store,
         "--requests",
@@ -299,15 +310,20 @@ def served(store: str, requests: list[bytes], inside: str = "") -> int:
 
 
 def questions(folder: str) -> int:
-    """The first question over a file beside a later one; 1 where that does not hold."""
+    """The first question over a file beside a later one; 1 where that does not hold.
+
+    The rows are read by functions that open the store too, so what these cost before a question is
+    taken off.
+    """
     if not desk.found("valgrind"):
         return 0
     store = held(folder, 2 * GRANTS)
     none, one, two = (served(store, asked) for asked in ([NOWHERE], [ASKED], [ASKED, ASKED]))
-    rows = served(store, [ASKED], "*desk_opening*shown_of*")
-    first, later = one - none, two - one
-    if 0 in (none, one, two, rows):
-        return 0
+    read = [served(store, [ASKED], name) - served(store, [NOWHERE], name) for name in READS]
+    if min(none, one, two, *read) <= 0:
+        print("the first question: valgrind found no such function: FAILS")
+        return 1
+    first, later, rows = one - none, two - one, sum(read)
     print(
         f"in millions of instructions, over {GRANTS:,} grants: the first question"
         f" {first / 1e6:,.0f}, a later one {later / 1e6:,.0f}, the reading of the rows"

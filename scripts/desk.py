@@ -83,17 +83,26 @@ def run(words: Sequence[str], given: str | None = None, seconds: float | None = 
     )
 
 
-def instructions(words: Sequence[str], given: str = os.devnull) -> int:
-    """How many instructions one run executes over a file's input; 0 where valgrind is missing.
+def counting(inside: str = "") -> list[str]:
+    """The words that have valgrind count a program's instructions: all of them, or those of the
+    functions alone that this pattern names."""
+    words = ["valgrind", "--tool=callgrind", "--callgrind-out-file=/dev/null"]
+    if inside:
+        words += ["--collect-atstart=no", f"--toggle-collect={inside}"]
+    return words
+
+
+def instructions(words: Sequence[str], given: str = os.devnull, inside: str = "") -> int:
+    """How many instructions one run executes over a file's input, or the functions of it that a
+    pattern names; 0 where valgrind is missing.
 
     They do not depend on how busy the machine is.
     """
     if not found("valgrind"):
         return 0
-    counting = ["valgrind", "--tool=callgrind", "--callgrind-out-file=/dev/null", *words]
     with open(given, "rb") as source:
         done = subprocess.run(
-            counting,
+            [*counting(inside), *words],
             stdin=source,
             stdout=subprocess.DEVNULL,
             stderr=subprocess.PIPE,
@@ -102,6 +111,13 @@ def instructions(words: Sequence[str], given: str = os.devnull) -> int:
         )
     counted = re.search(r"Collected : (\d+)", done.stderr)
     return int(counted[1]) if counted else 0
+
+
+def memory_of(pid: int) -> tuple[int, int]:
+    """What a process has in memory, in KiB, and the most that it had."""
+    with open(f"/proc/{pid}/status", encoding="utf-8") as status:
+        sizes = dict(re.findall(r"(VmRSS|VmHWM):\s+(\d+)", status.read()))
+    return int(sizes["VmRSS"]), int(sizes["VmHWM"])
 
 
 # ---- the program, served
@@ -164,9 +180,7 @@ class Server:
 
     def memory(self) -> tuple[int, int]:
         """What the process has in memory, in KiB, and the most that it had."""
-        with open(f"/proc/{self.process.pid}/status", encoding="utf-8") as status:
-            sizes = dict(re.findall(r"(VmRSS|VmHWM):\s+(\d+)", status.read()))
-        return int(sizes["VmRSS"]), int(sizes["VmHWM"])
+        return memory_of(self.process.pid)
 
     def connect(self, room: int | None = None, seconds: float = 60) -> socket.socket:
         """A peer's socket; with `room`, of which the kernel keeps so few bytes."""
