@@ -34,7 +34,7 @@ def files() -> dict[str, str]:
 def rows(page: str, columns: int) -> Iterator[list[str]]:
     """The rows of so many columns in a page's tables."""
     for line in desk.read("docs", f"{page}.md").splitlines():
-        cells = [cell.strip() for cell in line.strip("| ").split(" | ")]
+        cells = [cell.strip() for cell in make_docs.cells_of(line)[1:-1]]
         if line.startswith("| ") and len(cells) == columns:
             yield cells
 
