@@ -1,6 +1,5 @@
 -- What only private clauses and proofs cite: no public contract of the desk speaks of it.
--- the tokens of a line
-pub mod Tokens
+-- where a line is cut
 pub mod Cuts
 -- what is kept beside a policy's entries
 pub mod Measures

@@ -13,7 +13,6 @@ mod laws;
 mod lengths;
 mod policy;
 mod printing;
-mod token;
 mod tree;
 
 pub use alias_laws::alias_weighs_its_list;
@@ -26,5 +25,4 @@ pub use laws::{canon_is_one, canon_spells, one_policy};
 pub use lengths::MOST_TEXT_BYTES;
 pub use policy::Policy;
 pub use printing::{print_owned, print_policy, push_command, push_moment};
-pub use token::{Mark, Token, TokenKind, cut_text, is_blank, is_text, tokens};
 pub use tree::{CmndSpec, Definition, Line, Part, Settings};

@@ -11,8 +11,8 @@ use Rattle.sudo_policy.specs.declared.tree.CmndSpec.{CmndSpec}
 use Rattle.sudo_policy.specs.declared.tree.Part.{Part}
 use Rattle.sudo_policy.specs.declared.tree.Settings.{Settings}
 use Rattle.sudo_policy.specs.declared.tree.Line.{Line}
-use Rattle.sudo_policy.specs.declared.token.Token.{Token}
-use Rattle.sudo_policy.specs.private.Tokens.{toks}
+use Rattle.sudo_syntax.specs.declared.token.Token.{Token}
+use Rattle.sudo_syntax.specs.private.Tokens.{toks}
 use Rattle.sudo_policy.specs.Grammar.{SpellsTree}
 use Rattle.sudo_policy.specs.Spelling.{SpellsEntries}
 use Rattle.sudo_policy.specs.Inheritance.{first_settings, with_spec, rule_with, rules_of, part_rules}

@@ -7,7 +7,8 @@ use Rattle.sudo_policy.specs.private.Cuts.{IsCut}
 use Rattle.sudo_policy.specs.Lex.{is_blank}
 use Rattle.sudo_policy.specs.Lines.{is_no_hash, last_passes, may_go_on, is_before_comment, IsBody, IsContinued, Joined}
 use Rattle.sudo_syntax.specs.Alike.{SpellAlike, DifferIn, MayHaveNote, GoesOnWith}
-use Rattle.sudo_policy.proofs.Spans.{cut_is, one_cut}
+use Rattle.sudo_policy.proofs.Spans.{one_cut}
+use Rattle.sudo_syntax.proofs.CutLemmas.{cut_is}
 use Rattle.sudo_policy.proofs.LineTexts.{is_backslash, last_passes_last, backslash_last, last_split, one_front, each_append, IsNote, cut_of, body_of, body_one, body_or_front, front_one}
 
 -- ---- texts that are joined alike

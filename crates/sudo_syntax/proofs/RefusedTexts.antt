@@ -19,13 +19,14 @@ use Rattle.sudo_policy.specs.declared.tree.Part.{Part}
 use Rattle.sudo_policy.specs.declared.tree.CmndSpec.{CmndSpec}
 use Rattle.sudo_policy.specs.Policy.{IsCmndItem, IsPolicy}
 use Rattle.sudo_policy.specs.Lex.{Tok, word, mark, Lexes}
-use Rattle.sudo_policy.specs.private.Tokens.{NoLexing}
+use Rattle.sudo_syntax.specs.private.Tokens.{NoLexing}
 use Rattle.sudo_policy.specs.Lines.{is_no_hash, ends_in_backslash, lines_of, Joined}
 use Rattle.sudo_policy.specs.Grammar.{Listed, More, SpellsItem, SpellsCmnd, SpellsRunas, SpellsDates, SpellsTags, SpellsCmndSpec, SpellsPart, SpellsUserSpec, SpellsTree, Date, head_of, args_of, rule_toks}
 use Rattle.sudo_policy.specs.Inheritance.{entries_of}
 use Rattle.sudo_policy.specs.Spelling.{Spells, SpellsEntries, SpellsLine, SpellsLines}
 use Rattle.sudo_syntax.specs.Worked.{SpellsNone}
-use Rattle.sudo_policy.proofs.Lexing.{lex_none, lex_one}
+use Rattle.sudo_policy.proofs.Lexing.{lex_one}
+use Rattle.sudo_syntax.proofs.TokenLemmas.{lex_none}
 use Rattle.sudo_policy.proofs.LineTexts.{joined_one, backslash_no_body, bad_front}
 use Rattle.sudo_policy.proofs.One.{lines_one}
 use Rattle.sudo_syntax.proofs.Deriving.{each_of, lexed, item, cmnd, cmnd_is, only, only_spelled}

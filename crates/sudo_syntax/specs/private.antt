@@ -1,4 +1,8 @@
 -- What only private clauses and proofs cite: no public contract speaks of it.
+-- the tokens of a line, and what stands at their front
+pub mod Tokens
+pub mod Fronts
+pub mod Low
 -- lines as the reader goes over them
 pub mod Pieces
 pub mod Pending

@@ -1,10 +1,18 @@
-//! Policies' texts, read: lines, comments and continuations, and what commands inherit. What policies are, and how they are printed, stands in `sudo_policy`, which is given on; a line is read in `sudo_grammar`.
+//! Policies' texts, read: lines, comments and continuations, and what commands inherit. What policies are, and how they are printed, stands in `sudo_policy`, which is given on.
 #![tactic(auto)]
 
+mod commands;
+mod definitions;
+mod fronts;
+mod items;
 mod line_entries;
 mod line_laws;
+mod misplaced;
 mod pieces;
 mod read;
+mod spec;
+mod token;
+mod tree_reading;
 mod worked_laws;
 
 pub use line_laws::{

@@ -8,7 +8,8 @@ ghost use Rattle.sudo_syntax.specs.private.Pieces.{IsPiece};
 ghost use Rattle.sudo_policy.specs.Span.{Each};
 ghost use Rattle.sudo_policy.specs.private.Cuts.{IsCut};
 
-use sudo_policy::{LineFault, is_blank};
+use crate::token::is_blank;
+use sudo_policy::LineFault;
 
 /// What a line of the text says.
 #[derive(Clone, Copy)]

@@ -18,11 +18,10 @@ ghost use Rattle.sudo_policy.specs.Lines.{lines_of};
 
 use crate::line_entries::add_line;
 use crate::pieces::{Piece, piece_of};
+use crate::token::{cut_text, is_text, tokens};
+use crate::tree_reading::tree_of;
 use std::alloc::Global;
-use sudo_grammar::tree_of;
-use sudo_policy::{
-    Draft, FaultKind, LineFault, MOST_TEXT_BYTES, Policy, ReadFault, cut_text, is_text, tokens,
-};
+use sudo_policy::{Draft, FaultKind, LineFault, MOST_TEXT_BYTES, Policy, ReadFault};
 
 /// How many newlines the bytes have.
 fn newlines(bytes: &[u8]) -> usize

@@ -1,5 +1,5 @@
 use Rattle.sudo_policy.specs.Lines.{is_no_hash}
-use Rattle.sudo_policy.proofs.Spans.{cut_is}
+use Rattle.sudo_syntax.proofs.CutLemmas.{cut_is}
 use Rattle.sudo_syntax.proofs.pieces.cut_body.Goals as goal
 
 pub returns : goal.returns

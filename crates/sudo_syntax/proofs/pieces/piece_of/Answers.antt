@@ -1,8 +1,8 @@
 use Rattle.std.proofs.Common.{ℕ, List, sym, subst, ◌∙◌}
 use Rattle.std.proofs.lemmas.Bool.{false≢true}
 use Rattle.sudo_policy.specs.Lines.{is_no_hash, IsBody}
-use Rattle.sudo_policy.proofs.Lexing.{first_is}
-use Rattle.sudo_policy.proofs.Spans.{cut_all}
+use Rattle.sudo_syntax.proofs.TokenLemmas.{first_is}
+use Rattle.sudo_syntax.proofs.CutLemmas.{cut_all}
 use Rattle.sudo_policy.proofs.LineTexts.{hash_bad, hash_no_front}
 use Rattle.sudo_syntax.proofs.pieces.piece_of.Goals as goal
 use Rattle.sudo_syntax.proofs.pieces.piece_of.Goals.{else-is_before_comment-via-then-is_before_comment+else-is_comment, else-is_before_comment-via-else-is_before_comment}

@@ -2,7 +2,7 @@ use Rattle.std.proofs.Common.{◌≡◌, [], List, length, refl, sym, ap, subst,
 use Rattle.std.proofs.lemmas.List.{append-nil, nil_from_length}
 use Rattle.std.proofs.lemmas.Result.{err_from_is_err_and}
 use Rattle.sudo_policy.specs.Lex.{Tok, Lexes}
-use Rattle.sudo_policy.specs.private.Tokens.{toks}
+use Rattle.sudo_syntax.specs.private.Tokens.{toks}
 use Rattle.sudo_policy.specs.Spelling.{SpellsEntries}
 use Rattle.sudo_syntax.proofs.EntryLemmas.{tree_from}
 use Rattle.sudo_syntax.proofs.TreeForms.{tree_entries}

@@ -1,2 +1,0 @@
--- The grammar itself stands in `sudo_policy`.
-pub mod private

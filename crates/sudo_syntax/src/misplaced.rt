@@ -1,0 +1,111 @@
+//! The fault that fits words and marks which the grammar has not.
+
+use crate::token::{Mark, Token, TokenKind};
+use sudo_policy::LineFault;
+use sudo_words::{AliasForm, Form, is_keyword, is_sudoedit};
+
+/// Whether the word begins a line that sudoers has and the desk leaves out.
+fn begins_left_out(text: &str) -> bool {
+    text.starts_with("Defaults") || text.starts_with('@') || text == "Cmd_Alias"
+}
+
+/// Whether the word is one of an address: digits, dots and slashes.
+fn is_address(text: &[u8]) -> bool {
+    text.iter()
+        .all(|b| b.is_ascii_digit() || *b == b'.' || *b == b'/')
+}
+
+/// Whether the word is a group, a netgroup, an address or a domain name.
+fn is_left_out(text: &[u8]) -> bool {
+    match text {
+        [b'%' | b'+', ..] => true,
+        [b'/', ..] => false,
+        [first, ..] if first.is_ascii_digit() => is_address(text),
+        _ => text.contains(&b'.'),
+    }
+}
+
+/// Whether the word has the shape of an alias's name.
+fn is_alias_shape(text: &[u8]) -> bool {
+    let begins_upper = match text {
+        [] => false,
+        [first, ..] => first.is_ascii_uppercase(),
+    };
+    begins_upper
+        && text.len() <= 32
+        && text.iter().all(|b| b.is_ascii_uppercase() || b.is_ascii_digit() || *b == b'_')
+}
+
+/// Whether sudoers keeps the word for itself: it has the shape of an alias's name and is none.
+fn is_reserved(text: &[u8]) -> bool {
+    is_alias_shape(text) && !AliasForm::test(text)
+}
+
+/// What is wrong with a word that is not of the form that its place asks for.
+pub(crate) fn bad_word(text: &str) -> LineFault {
+    let bytes = text.as_bytes();
+    if is_reserved(bytes) {
+        LineFault::Reserved
+    } else if begins_left_out(text) || is_left_out(bytes) || is_keyword(bytes) {
+        LineFault::LeftOut
+    } else {
+        LineFault::BadWord
+    }
+}
+
+/// The options and tags that the desk has.
+const KNOWN: [&str; 4] = ["NOTBEFORE", "NOTAFTER", "PASSWD", "NOPASSWD"];
+
+/// Whether the word is no command that the desk has: it begins a digest, or names one of sudo's own commands, alone or as a path does.
+fn is_no_file(text: &str) -> bool {
+    let bytes = text.as_bytes();
+    is_keyword(bytes) || is_sudoedit(bytes) || text == "list"
+}
+
+/// What is wrong with a word that begins no command.
+pub(crate) fn bad_cmnd(text: &str) -> LineFault {
+    if KNOWN.contains(&text) {
+        LineFault::Unexpected
+    } else if is_no_file(text) || (is_reserved(text.as_bytes()) && text != "ALL") {
+        LineFault::LeftOut
+    } else {
+        LineFault::BadWord
+    }
+}
+
+/// What is wrong with an option that is none of the two dates, or given twice.
+pub(crate) fn bad_option(name: &str) -> LineFault {
+    if KNOWN.contains(&name) || !is_reserved(name.as_bytes()) {
+        LineFault::Unexpected
+    } else {
+        LineFault::LeftOut
+    }
+}
+
+/// What is wrong with tokens that the grammar has not in their place: quoted words are left out.
+pub(crate) fn misplaced(tokens: &[Token<'_>]) -> LineFault {
+    match tokens {
+        [
+            Token {
+                kind: TokenKind::Mark(Mark::Quote),
+                ..
+            },
+            ..
+        ] => LineFault::LeftOut,
+        _ => LineFault::Unexpected,
+    }
+}
+
+/// What is wrong with tokens after targets, where no `)` stands: a group after `:` is left out.
+pub(crate) fn unclosed(tokens: &[Token<'_>]) -> LineFault {
+    match tokens {
+        [
+            Token {
+                kind: TokenKind::Mark(Mark::Colon),
+                ..
+            },
+            ..
+        ] => LineFault::LeftOut,
+        _ => misplaced(tokens),
+    }
+}
