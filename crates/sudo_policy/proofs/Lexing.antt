@@ -8,7 +8,7 @@ use Rattle.sudo_policy.specs.Span.{Each}
 use Rattle.sudo_policy.specs.private.Cuts.{is_bang, Stops, IsCut, IsFirst}
 use Rattle.sudo_policy.specs.Lex.{is_blank, is_mark, is_word_byte, is_word_text, goes_on, bangs, is_some_blank, is_spaced, Tok, word, mark, text_of, IsTok, Lexes}
 use Rattle.sudo_policy.proofs.Spans.{one_cut}
-use Rattle.sudo_policy.proofs.WordTexts.{begins, text_goes_on, one_word}
+use Rattle.sudo_policy.proofs.WordTexts.{begins, one_word}
 
 -- ---- bytes
 

@@ -1,5 +1,5 @@
 -- The tokens that the reader keeps, and how it takes one after the other from a line.
-use Rattle.std.specs.Prelude.{◌≡◌, ℕ, ◌<◌, Bool, true, false, List, [], ◌∷◌, ◌++◌, length, map}
+use Rattle.std.specs.Prelude.{◌≡◌, ℕ, ◌<◌, Bool, true, false, List, [], ◌++◌, length, map}
 use Rattle.sudo_words.specs.Bytes.{equals, comma, colon, opening, closing, quote}
 use Rattle.sudo_policy.specs.Lex.{Tok, word, mark, Lexes, is_word_text, goes_on}
 use Rattle.sudo_syntax.specs.declared.token.Token.{Token}
