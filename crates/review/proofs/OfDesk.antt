@@ -16,9 +16,9 @@ use Rattle.grants.specs.Summaries.{Kept, StandsFor}
 use Rattle.desk_outcomes.specs.Order.{AllAfter, AreInOrder, NamePrecedes, TextPrecedes}
 use Rattle.desk_outcomes.specs.Parked.{AreParked}
 use Rattle.desk_outcomes.specs.Summaries.{AreSummaries as AreLent, SummaryPrecedes}
-use Rattle.sudo_beyond.specs.Cases.{text_order}
-use Rattle.sudo_beyond.proofs.Lists.{contains_head, contains_map}
-use Rattle.sudo_beyond.proofs.OneList.{cons_cases, no_element}
+use Rattle.sorting.specs.Lists.{text_order}
+use Rattle.sorting.proofs.Lists.{contains_head, contains_map}
+use Rattle.sorting.proofs.OneSorted.{cons_cases, no_element}
 use Rattle.review.specs.Report.{AreAll, AreSummaries, IsParkedText, name_order}
 
 below : (o : Ordering) → is_lt o ≡ true → o ≡ Less

@@ -16,7 +16,7 @@ use Rattle.roster.proofs.RightLemmas.{against_alike, agree_turned, eligible_unti
 use Rattle.grants.specs.Past.{AreMadeBy}
 use Rattle.grants.specs.declared.outcome.Window.{Window}
 use Rattle.grants.proofs.PastLaws.{judge_alike, status}
-use Rattle.sudo_beyond.specs.Cases.{AreParts, IsEachOnce}
+use Rattle.sorting.specs.Lists.{AreParts, IsEachOnce}
 use Rattle.review.specs.declared.reason.Reason.{Reason}
 use Rattle.review.specs.declared.reason.Reason.TheVariants.{Asker, Duty, Conflict}
 use Rattle.review.specs.Barred.{AreBarredLines, HasApprovedAt, IsWhy, approval, reason}

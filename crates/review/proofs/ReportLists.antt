@@ -4,10 +4,10 @@ use Rattle.std.specs.List.{AllByRecursion, flat_map}
 use Rattle.std.specs.Prelude.{codes}
 use Rattle.std.proofs.lemmas.Grind.{flat_map-append}
 use Rattle.std.proofs.lemmas.List.{append-nil, map-append, take_all}
-use Rattle.sudo_beyond.specs.Cases.{AreParts}
+use Rattle.sorting.specs.Lists.{AreParts}
 use Rattle.review.specs.Columns.{lines_text}
 use Rattle.review.specs.private.Reporting.{AddsLines}
-use Rattle.sudo_beyond.proofs.Lists.{parts_more, take_next}
+use Rattle.sorting.proofs.Lists.{parts_more, take_next}
 
 pub lines_both : (xs ys : List (List ℕ)) → lines_text (xs ++ ys) ≡ lines_text xs ++ lines_text ys
 lines_both xs ys = flat_map-append (λ (line : List ℕ). line ++ codes "\n") xs ys

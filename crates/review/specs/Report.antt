@@ -26,7 +26,7 @@ use Rattle.grants.specs.declared.outcome.Status.TheVariants.{Disputed, Lapsed, R
 use Rattle.grants.specs.declared.outcome.Window.{Window}
 use Rattle.review.specs.declared.need.Need.{Need}
 use Rattle.review.specs.Barred.{AreBarredLines, HasApproved}
-use Rattle.sudo_beyond.specs.Cases.{AreParts, IsEachOnce, text_order}
+use Rattle.sorting.specs.Lists.{AreParts, IsEachOnce, text_order}
 use Rattle.review.specs.Columns.{left, name_columns, lines_text}
 use Rattle.review.specs.Needs.{IsNeed, need_text}
 

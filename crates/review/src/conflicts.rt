@@ -7,8 +7,8 @@ ghost use Rattle.review.specs.Report as report;
 
 use crate::columns::push_left;
 use roster::Roster;
+use sorting::in_order;
 use std::alloc::Global;
-use sudo_beyond::in_order;
 use sudo_words::{Label, Moment, Name, NoMemory};
 
 /// The two duties, the lesser first.

@@ -3,7 +3,7 @@
 ghost use Rattle.std.specs.Prelude.{◌≡◌, List, ◌++◌, IfOk, OnOk, codes, map, string_bytes};
 ghost use Rattle.sudo_words.specs.Moment.{stamp};
 ghost use Rattle.messages.specs.declared.message.Message.{Message as AnyMessage};
-ghost use Rattle.sudo_beyond.specs.Cases.{text_order};
+ghost use Rattle.sorting.specs.Lists.{text_order};
 ghost use Rattle.review.specs.Columns.{lines_text};
 ghost use Rattle.review.specs.Report.{AreAll, AreSummaries, IsParkedText, IsReport};
 

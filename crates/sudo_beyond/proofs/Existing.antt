@@ -30,7 +30,8 @@ use Rattle.sudo_beyond.specs.declared.cases.Cases.{Cases}
 use Rattle.sudo_beyond.specs.declared.run.Run.{Run}
 use Rattle.sudo_beyond.specs.declared.size.Size.{Size}
 use Rattle.sudo_beyond.specs.Standing.{users, hosts, runas, commands}
-use Rattle.sudo_beyond.specs.Cases.{text_order, args_order, IsEachOnce, AreNameCases, run_of, path_in, paths, dir_in, dirs, listed_args, args_in, args_with, ArePathCases, IsFreshFile, AreParts, AreCommandCases, turns_of, turns, AreMomentCases, AreCases, product}
+use Rattle.sorting.specs.Lists.{text_order, args_order, IsEachOnce, AreParts}
+use Rattle.sudo_beyond.specs.Cases.{AreNameCases, run_of, path_in, paths, dir_in, dirs, listed_args, args_in, args_with, ArePathCases, IsFreshFile, AreCommandCases, turns_of, turns, AreMomentCases, AreCases, product}
 use Rattle.sudo_beyond.specs.Answer.{AreFew, most_cases}
 use Rattle.sudo_beyond.specs.private.Gathering.{listing_in, listings}
 use Rattle.sudo_beyond.specs.private.Baselines.{FixesNames, IsReady, IsSize, most_of}
@@ -38,8 +39,8 @@ use Rattle.sudo_beyond.proofs.AlikeLemmas.{all_weaker}
 use Rattle.sudo_beyond.proofs.CmndCases.{args_decides, args_few, paths_few}
 use Rattle.sudo_beyond.proofs.Counting.{flat_long, is_counted}
 use Rattle.sudo_beyond.proofs.Fresh.{found_other}
-use Rattle.sudo_beyond.proofs.Lists.{contains_head}
-use Rattle.sudo_beyond.proofs.OneList.{no_element, cons_cases}
+use Rattle.sorting.proofs.Lists.{contains_head}
+use Rattle.sorting.proofs.OneSorted.{cons_cases}
 
 -- ---- lists of at most so many elements
 

@@ -8,12 +8,10 @@ pub mod Counting
 pub mod Everywhere
 pub mod PolicyForms
 pub mod KeywordLemmas
-pub mod Lists
 pub mod Others
 pub mod DecisionLemmas
 pub mod CompiledGaps
 pub mod RunLemmas
-pub mod Halving
 pub mod Listings
 pub mod Products
 pub mod Gaps

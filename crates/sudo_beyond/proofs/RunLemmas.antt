@@ -1,5 +1,5 @@
 -- The list of paths with their arguments, put together from its parts.
-use Rattle.std.proofs.Common.{◌≡◌, ℕ, Bool, List, [], ◌∷◌, ◌++◌, map, ap, ◌∙◌, subst, append_assoc}
+use Rattle.std.proofs.Common.{◌≡◌, ℕ, ◌+◌, ◌<◌, Bool, List, [], ◌∷◌, ◌++◌, length, map, take, get_or, sym, ap, ◌∙◌, subst, append_assoc}
 use Rattle.std.specs.Prelude.{codes}
 use Rattle.std.specs.List.{All, Contains, list_any}
 use Rattle.std.specs.Str.{bytes_eq}
@@ -9,10 +9,11 @@ use Rattle.std.proofs.lemmas.List.Elements.{All-weaker, All-contains, All-contai
 use Rattle.std.proofs.lemmas.Slice.Eq.{bytes_eq-Decides}
 use Rattle.sudo_words.specs.declared.cmnd.Cmnd.{Cmnd}
 use Rattle.sudo_beyond.specs.declared.run.Run.{Run}
-use Rattle.sudo_beyond.specs.Cases.{text_order, args_order, IsEachOnce, IsFirstOther, has, run_of, paths, dirs, args_with, has_args, ArePathCases, IsFreshFile, AreParts, AreCommandCases}
+use Rattle.sorting.specs.Lists.{text_order, args_order, IsEachOnce, AreParts}
+use Rattle.sudo_beyond.specs.Cases.{IsFirstOther, has, run_of, paths, dirs, args_with, has_args, ArePathCases, IsFreshFile, AreCommandCases}
 use Rattle.sudo_beyond.specs.private.Gathering.{IsFreeFile, IsFreeArgs, Adds}
 use Rattle.sudo_beyond.proofs.CmndCases.{args_decides}
-use Rattle.sudo_beyond.proofs.Lists.{any_once, parts_weaker}
+use Rattle.sorting.proofs.Lists.{any_once, take_next, parts_more, parts_weaker}
 
 -- two lists of arguments are compared either way
 pub args_either_way : (lists : List (List (List ℕ))) (args : List (List ℕ)) → list_any (λ wanted. pointwise bytes_eq wanted args) lists ≡ has_args lists args
@@ -80,3 +81,14 @@ command_cases cmnds files directories none one two new once_files once_directori
 pub all_listed : {X : Type 0} (P : X → Type 0) (order : _) (standing listed : List X) → IsEachOnce order standing listed → All P standing → All P listed
 all_listed P order standing listed once all =
     All-weaker (Contains listed) P (λ x there. All-contains P standing x all (once.only x there)) listed (All-contains_itself listed)
+
+-- ---- parts that are added one after the other
+
+pub adds_more : {X Y : Type 0} (IsPart : X → List Y → Type 0) (xs : List X) (k : ℕ) (x : X) (old mid new : List Y) → k < length xs → x ≡ get_or xs k x
+    → Adds (AreParts IsPart (take k xs)) old mid → Adds (IsPart x) mid new → Adds (AreParts IsPart (take (k + 1) xs)) old new
+adds_more {X} {Y} IsPart xs k x old mid new below is before adds =
+    subst (λ (zs : List X). Adds (AreParts IsPart zs) old new) (sym (take_next xs k x below is)) (
+      before.0 ++ adds.0,
+      adds.1 ∙ ap (λ (zs : List Y). zs ++ adds.0) before.1 ∙ append_assoc old before.0 adds.0,
+      parts_more IsPart (take k xs) x before.0 adds.0 before.2 adds.2,
+    )

@@ -1,13 +1,12 @@
 -- The cases that stand for all invocations: a list of users, one of hosts, of targets, of paths with arguments, and of moments.
 use Rattle.std.specs.Prelude.{◌≡◌, ℕ, ◌+◌, ◌*◌, ◌<◌, Bool, true, false, nat_le, if◌then◌else◌, List, [], ◌∷◌, ◌++◌, length, map, Option, Some, None, codes}
-use Rattle.std.specs.List.{Contains, flat_map, list_any}
-use Rattle.std.specs.List.Sorted.{IsStrictlySortedBy}
+use Rattle.std.specs.List.{flat_map, list_any}
 use Rattle.std.specs.Option.{option_to_list}
 use Rattle.std.specs.Ordering.{nat_cmp}
-use Rattle.std.specs.declared.cmp.Ordering.{Ordering}
 use Rattle.std.specs.Str.{bytes_eq}
-use Rattle.std.specs.Cmp.Lexicographic.{pointwise, slice_cmp}
+use Rattle.std.specs.Cmp.Lexicographic.{pointwise}
 use Rattle.std.specs.Fmt.{decimal}
+use Rattle.sorting.specs.Lists.{text_order, args_order, IsEachOnce, AreParts}
 use Rattle.sudo_words.specs.declared.cmnd.Cmnd.{Cmnd}
 use Rattle.sudo_words.specs.declared.cmnd.Cmnd.TheVariants.{All, Path, Dir}
 use Rattle.sudo_words.specs.declared.cmnd.ArgRule.{ArgRule}
@@ -20,24 +19,6 @@ use Rattle.sudo_beyond.specs.declared.cases.Cases.{Cases}
 use Rattle.sudo_beyond.specs.declared.run.Run.{Run}
 use Rattle.sudo_decide.specs.declared.scope.Scope.{Scope}
 use Rattle.sudo_beyond.specs.Standing.{users, hosts, runas, commands}
-
--- ---- orders: texts in byte order, and lists of texts by the first that differs
-
-abbrev pub text_order : List ℕ → List ℕ → Ordering
-text_order = slice_cmp nat_cmp
-
-abbrev pub args_order : List (List ℕ) → List (List ℕ) → Ordering
-args_order = slice_cmp text_order
-
--- a test of two that holds of equal ones alone
-abbrev pub IsExact : {X : Type 0} → (X → X → Bool) → Type 0
-IsExact {X} same = (x y : X) → same x y ≡ true → x ≡ y
-
--- what stands is listed, each once, in order, and nothing else
-pub record IsEachOnce {X : Type 0} (order : X → X → Ordering) (standing listed : List X) : Type 0 where
-  pub in_order : IsStrictlySortedBy order listed
-  pub each : (x : X) → Contains standing x → Contains listed x
-  pub only : (x : X) → Contains listed x → Contains standing x
 
 -- ---- other words: `other0`, `other1` and so on
 
@@ -123,11 +104,6 @@ pub record IsFreshFile (taken : List (List ℕ)) (dir : List ℕ) (runs : List R
   pub name : List ℕ
   pub runs_are : runs ≡ run_of (dir ++ name) [] ∷ []
   pub name_is : IsFirstOther (λ word. has taken (dir ++ word)) name
-
--- one part for each element, in order
-abbrev pub AreParts : {X Y : Type 0} → (X → List Y → Type 0) → List X → List Y → Type 0
-AreParts IsPart [] ys = ys ≡ []
-AreParts {X} {Y} IsPart (x ∷ xs) ys = (part : List Y) × (rest : List Y) × (ys ≡ part ++ rest) × IsPart x part × AreParts IsPart xs rest
 
 -- for each path, for each directory, and for what is in neither: a file of the root, where no policy has a directory
 pub record AreCommandCases (cmnds : List Cmnd) (runs : List Run) : Type 0 where

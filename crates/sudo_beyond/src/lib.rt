@@ -11,7 +11,6 @@ mod fault;
 mod laws;
 mod moments;
 mod names;
-mod order;
 mod other;
 mod run;
 mod runs;
@@ -29,4 +28,3 @@ pub use laws::{
     each_target_has_a_case, each_user_has_a_case, nothing_beyond_a_third, nothing_beyond_itself,
     nothing_of_sudos_own, one_list_of_each, wider_scope, worked_beyond,
 };
-pub use order::in_order;

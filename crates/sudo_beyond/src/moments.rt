@@ -4,7 +4,7 @@ ghost use Rattle.std.specs.Prelude.{◌≡◌, ◌++◌, IfOk, OnOk};
 ghost use Rattle.sudo_decide.specs.Reach.{rule_in, rules_in};
 ghost use Rattle.sudo_beyond.specs.Cases.{AreMomentCases, moment_after, turns_of, turns};
 
-use crate::order::in_order;
+use sorting::in_order;
 use std::alloc::Global;
 use sudo_policy::{Entry, Policy, Rule};
 use sudo_words::{Items, Moment, NoMemory};

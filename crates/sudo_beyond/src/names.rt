@@ -4,8 +4,8 @@ ghost use Rattle.std.specs.Prelude.{◌≡◌, ◌∷◌, [], IfOk, IfSome, true
 ghost use Rattle.sudo_beyond.specs.Cases.{AreNameCases, AreNamesAndOther};
 ghost use Rattle.sudo_beyond.specs.private.Gathering.{IsFormOfOthers};
 
-use crate::order::in_order;
 use crate::other::first_other;
+use sorting::in_order;
 use std::alloc::Global;
 use sudo_words::{Form, Items, NoMemory, Word};
 

@@ -2,10 +2,11 @@
 
 ghost use Rattle.std.specs.Prelude.{◌≡◌, ℕ, ◌<◌, ◌^◌, true, IfOk};
 ghost use Rattle.std.specs.List.Sorted.{IsStrictlySortedBy};
-ghost use Rattle.sudo_beyond.specs.Cases.{other as word_of, IsFirstOther, has, text_order};
+ghost use Rattle.sorting.specs.Lists.{text_order};
+ghost use Rattle.sudo_beyond.specs.Cases.{other as word_of, IsFirstOther, has};
 ghost use Rattle.sudo_beyond.specs.private.Gathering.{IsFormOfOthers};
 
-use crate::order::is_among;
+use sorting::is_among;
 use std::alloc::Global;
 use sudo_words::{Form, NoMemory, Word};
 

@@ -5,13 +5,14 @@ ghost use Rattle.std.specs.List.{All};
 ghost use Rattle.std.specs.List.Sorted.{IsStrictlySortedBy};
 ghost use Rattle.sudo_words.specs.Word.{is_file_path};
 ghost use Rattle.sudo_words.specs.declared.cmnd.Cmnd.{Cmnd as AnyCmnd};
-ghost use Rattle.sudo_beyond.specs.Cases.{other as word_of, text_order, args_order, run_of, dirs as dirs_of, IsEachOnce, ArePathCases, IsFreshFile, AreParts, AreCommandCases};
+ghost use Rattle.sorting.specs.Lists.{text_order, args_order, IsEachOnce, AreParts};
+ghost use Rattle.sudo_beyond.specs.Cases.{other as word_of, run_of, dirs as dirs_of, ArePathCases, IsFreshFile, AreCommandCases};
 ghost use Rattle.sudo_beyond.specs.private.Gathering.{IsLawfulDir, IsFreeFile, IsFreeArgs, Adds, run_order, listing_in, listings as listings_of, args_at, AreListings};
 
 use crate::commands::{dirs, paths};
-use crate::order::{in_order, is_among};
 use crate::other::other;
 use crate::run::{Args, Run};
+use sorting::{in_order, is_among};
 use std::alloc::Global;
 use sudo_words::{Arg, ArgRule, Cmnd, DirPath, FilePath, Items, NoMemory};
 

@@ -7,7 +7,7 @@ use Rattle.review.specs.Barred.{barred_for, reason}
 use Rattle.review.specs.Report.{AreBarred}
 use Rattle.review.specs.private.Reporting.{AddsLines, kept_name}
 use Rattle.review.specs.private.Whys.{whys, with_lines}
-use Rattle.sudo_beyond.proofs.Lists.{on_ok}
+use Rattle.std.proofs.lemmas.Result.{on_ok_weaker}
 use Rattle.review.proofs.Approvers.{approvers_are, barred_are}
 use Rattle.review.proofs.ReportParts.{none_barred, some_barred}
 use Rattle.review.proofs.barred.push_barred.Goals as goal
@@ -30,7 +30,7 @@ returns c = λ set is.
     let found = c.in-Some.ensures set is in
     let are : AreApprovals set q list = subst (λ (p : RequestFields). AreApprovals set p list) (sym found.4) (c.in_ok-approvals.ensures set is.stands) in
     let ws = whys (reason f ceiling q.by) list in
-    on_ok c.push_barred_people.result _ (AddsLines (AreBarred f set name) old new)
+    on_ok_weaker {Q = AddsLines (AreBarred f set name) old new} c.push_barred_people.result
     (λ adds. some_barred f set name old new found.0 q (flat_map (λ (w : List ℕ × Option Reason). barred_for q w.0 w.1) ws) found.1 found.2 found.3
     (record {
       ceiling = ceiling;

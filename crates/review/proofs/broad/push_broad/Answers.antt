@@ -2,7 +2,7 @@ use Rattle.std.proofs.Common.{string_bytes, refl}
 use Rattle.std.specs.List.{flat_map}
 use Rattle.review.specs.Report.{AreBroadLines, AreInForce, broad_for}
 use Rattle.review.specs.private.Reporting.{AddsLines, kept_name}
-use Rattle.sudo_beyond.proofs.Lists.{on_ok}
+use Rattle.std.proofs.lemmas.Result.{on_ok_weaker}
 use Rattle.review.proofs.ReportParts.{none_in_force, one_in_force}
 use Rattle.review.proofs.broad.push_broad.Goals as goal
 
@@ -19,6 +19,6 @@ returns c = λ f set is.
     let q = c.in-Some.grant.request.now in
     let old = string_bytes c.args.out.now in
     let new = string_bytes c.push_broad_lines.new.out in
-    on_ok c.push_broad_lines.result _ (AddsLines (AreInForce f set c.args.at AreBroadLines name) old new)
+    on_ok_weaker {Q = AddsLines (AreInForce f set c.args.at AreBroadLines name) old new} c.push_broad_lines.result
     (λ adds. one_in_force f set name old new c.args.at AreBroadLines found.0 c.in-Some.grant.window q (flat_map (broad_for q) q.cmnds) found.1 found.2 found.3 refl adds)
     c.push_broad_lines.ensures

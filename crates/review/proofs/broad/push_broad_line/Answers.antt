@@ -4,7 +4,7 @@ use Rattle.std.proofs.lemmas.List.{append-nil}
 use Rattle.messages.specs.Names.{name_of}
 use Rattle.review.specs.Columns.{lines_text, name_columns}
 use Rattle.review.specs.Report.{broad_for}
-use Rattle.sudo_beyond.proofs.Lists.{on_ok}
+use Rattle.std.proofs.lemmas.Result.{on_ok_weaker}
 use Rattle.review.proofs.ReportLists.{one_line}
 use Rattle.review.proofs.broad.push_broad_line.Goals as goal
 
@@ -14,7 +14,7 @@ returns-in-All c =
     let old = string_bytes c.args.out.now in
     let new = string_bytes c.push_broad_text.new.out in
     let is = ap (λ x. lines_text (broad_for q x)) c.in-All.is in
-    on_ok c.push_broad_text.result _ (new ≡ old ++ lines_text (broad_for q c.args.cmnd.now))
+    on_ok_weaker {Q = new ≡ old ++ lines_text (broad_for q c.args.cmnd.now)} c.push_broad_text.result
     (λ adds. one_line old (name_columns (name_of q) ++ codes " " ++ codes "ALL") new adds ∙ ap (λ (t : List ℕ). old ++ t) (sym is))
     c.push_broad_text.ensures
 
@@ -26,7 +26,7 @@ returns-in-Dir c =
     let dir = c.as_str.result.now in
     let is = ap (λ x. lines_text (broad_for q x)) c.in-Dir.is in
     let same : dir ++ [] ≡ c.in-Dir.dir ++ [] = ap (λ (t : List ℕ). t ++ []) c.as_str.ensures.value in
-    on_ok c.push_broad_text-in-Dir.result _ (new ≡ old ++ lines_text (broad_for q c.args.cmnd.now))
+    on_ok_weaker {Q = new ≡ old ++ lines_text (broad_for q c.args.cmnd.now)} c.push_broad_text-in-Dir.result
     (λ adds. one_line old (name_columns (name_of q) ++ codes " " ++ dir) new adds
     ∙ ap (λ (t : List ℕ). old ++ lines_text ((name_columns (name_of q) ++ codes " " ++ t) ∷ [])) (sym (append-nil dir) ∙ same)
     ∙ ap (λ (t : List ℕ). old ++ t) (sym is))

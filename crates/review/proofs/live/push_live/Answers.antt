@@ -2,7 +2,7 @@ use Rattle.std.proofs.Common.{◌≡◌, ◌++◌, string_bytes, refl, [], ◌�
 use Rattle.std.specs.Prelude.{codes}
 use Rattle.review.specs.Report.{AreInForce, IsLiveLine, live_line}
 use Rattle.review.specs.private.Reporting.{AddsLines, kept_name}
-use Rattle.sudo_beyond.proofs.Lists.{on_ok}
+use Rattle.std.proofs.lemmas.Result.{on_ok_weaker}
 use Rattle.review.proofs.ReportLists.{one_line}
 use Rattle.review.proofs.ReportParts.{none_in_force, one_in_force}
 use Rattle.review.proofs.live.push_live.Goals as goal
@@ -23,6 +23,6 @@ returns c = λ f set is.
     let new = string_bytes c.push_live_line.new.out in
     let need = c.in_ok-need.need in
     let line = live_line q w need in
-    on_ok c.push_live_line.result (new ≡ old ++ line ++ codes "\n") (AddsLines (AreInForce f set c.args.at (IsLiveLine c.args.base.now) name) old new)
+    on_ok_weaker {P = new ≡ old ++ line ++ codes "\n"} {Q = AddsLines (AreInForce f set c.args.at (IsLiveLine c.args.base.now) name) old new} c.push_live_line.result
     (λ adds. one_in_force f set name old new c.args.at (IsLiveLine c.args.base.now) found.0 w q (line ∷ []) found.1 found.2 found.3 (need, c.in_ok-need.ensures, refl) (one_line old line new adds))
     c.push_live_line.ensures

@@ -1,5 +1,5 @@
 use Rattle.std.proofs.Common.{◌∙◌, map, string_bytes, subst, sym}
-use Rattle.sudo_beyond.specs.Cases.{text_order}
+use Rattle.sorting.specs.Lists.{text_order}
 use Rattle.review.specs.Report.{AreAll, AreSummaries, IsParkedText, IsReport}
 use Rattle.review.proofs.OfDesk.{lent_parked, lent_summaries}
 use Rattle.review.proofs.of_desk.report.Goals as goal

@@ -5,7 +5,7 @@ use Rattle.std.proofs.lemmas.Bool.{cases_order}
 use Rattle.sudo_beyond.specs.Cases.{other, has_args}
 use Rattle.sudo_beyond.specs.private.Gathering.{IsFreeArgs}
 use Rattle.sudo_beyond.proofs.CmndCases.{args_decides}
-use Rattle.sudo_beyond.proofs.Lists.{ok_weaker}
+use Rattle.std.proofs.lemmas.Result.{IfOk-weaker}
 use Rattle.sudo_beyond.proofs.Others.{last_free}
 use Rattle.sudo_beyond.proofs.RunLemmas.{args_either_way}
 use Rattle.sudo_beyond.proofs.runs.free_args.Goals as goal
@@ -45,7 +45,7 @@ returns c =
     let lists : List (List (List ℕ)) = c.args.lists.now in
     let n : ℕ = length lists in
     let small : n < 2 ^ 64 = omega arith in
-    ok_weaker c.one_other-2.result (λ args. args ≡ other n ∷ []) (λ args. IsFreeArgs lists args)
+    IfOk-weaker c.one_other-2.result (λ args. args ≡ other n ∷ []) (λ args. IsFreeArgs lists args)
     (λ args is. (
       other n,
       is,

@@ -4,7 +4,7 @@ use Rattle.std.proofs.lemmas.List.{append_cancel_left}
 use Rattle.std.proofs.lemmas.Slice.Eq.{bytes_eq-Decides}
 use Rattle.sudo_beyond.specs.Cases.{other}
 use Rattle.sudo_beyond.specs.private.Gathering.{IsFreeFile}
-use Rattle.sudo_beyond.proofs.Lists.{ok_weaker}
+use Rattle.std.proofs.lemmas.Result.{IfOk-weaker}
 use Rattle.sudo_beyond.proofs.Others.{last_free}
 use Rattle.sudo_beyond.proofs.runs.free_file.Goals as goal
 
@@ -14,7 +14,7 @@ returns c =
     let taken : List (List ℕ) = c.args.files.now in
     let n : ℕ = length taken in
     let small : n < 2 ^ 64 = omega arith in
-    ok_weaker c.other_file-2.result (λ p. p ≡ dir ++ other n) (λ p. IsFreeFile taken dir p)
+    IfOk-weaker c.other_file-2.result (λ p. p ≡ dir ++ other n) (λ p. IsFreeFile taken dir p)
     (λ p is. (
       other n,
       is,

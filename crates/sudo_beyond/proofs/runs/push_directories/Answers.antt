@@ -1,5 +1,5 @@
 use Rattle.sudo_beyond.specs.Cases.{IsFreshFile}
-use Rattle.sudo_beyond.proofs.Lists.{adds_more}
+use Rattle.sudo_beyond.proofs.RunLemmas.{adds_more}
 use Rattle.sudo_beyond.proofs.runs.push_directories.Goals as goal
 
 pub loop-dir-preserved : goal.loop-dir-preserved

@@ -1,10 +1,11 @@
 use Rattle.std.proofs.Common.{◌≡◌, List, ℕ, [], ◌∷◌, ◌++◌, ap, ◌∙◌, sym, subst}
 use Rattle.std.specs.List.Sorted.{IsStrictlySortedBy}
 use Rattle.sudo_beyond.specs.declared.run.Run.{Run}
-use Rattle.sudo_beyond.specs.Cases.{args_order, run_of, IsEachOnce, ArePathCases}
+use Rattle.sorting.specs.Lists.{args_order, IsEachOnce}
+use Rattle.sudo_beyond.specs.Cases.{run_of, ArePathCases}
 use Rattle.sudo_beyond.specs.private.Gathering.{IsFreeArgs, Adds}
 use Rattle.sudo_beyond.proofs.CmndCases.{args_decides}
-use Rattle.sudo_beyond.proofs.Lists.{on_ok}
+use Rattle.std.proofs.lemmas.Result.{on_ok_weaker}
 use Rattle.sudo_beyond.proofs.Listings.{listed_once}
 use Rattle.sudo_beyond.proofs.RunLemmas.{path_cases}
 use Rattle.sudo_beyond.proofs.runs.push_path.Goals as goal
@@ -25,7 +26,7 @@ returns c = λ cmnds table.
     let free = subst (λ (xs : List (List (List ℕ))). IsFreeArgs xs c.in_ok-others.others) c.deref.ensures.value c.in_ok-others.ensures in
     let one : c.push_run.new.runs.items ≡ old ++ run_of path [] ∷ [] =
     c.in_ok-push_run.ensures ∙ ap (λ (args : List (List ℕ)). old ++ run_of path args ∷ []) (c.new-2.ensures ∙ c.new.ensures.items) in
-    on_ok c.push_run-2.result (c.push_run-2.new.runs.items ≡ c.push_each.new.runs.items ++ run_of path c.in_ok-others.others ∷ [])
-    (Adds (ArePathCases cmnds path) old c.push_run-2.new.runs.items)
+    on_ok_weaker {P = c.push_run-2.new.runs.items ≡ c.push_each.new.runs.items ++ run_of path c.in_ok-others.others ∷ []}
+    {Q = Adds (ArePathCases cmnds path) old c.push_run-2.new.runs.items} c.push_run-2.result
     (path_cases cmnds path lists c.in_ok-others.others old c.push_run.new.runs.items c.push_each.new.runs.items c.push_run-2.new.runs.items once free one c.in_ok-push_each.ensures)
     c.push_run-2.ensures

@@ -1,8 +1,9 @@
 use Rattle.std.proofs.Common.{List, ℕ, subst, arith}
 use Rattle.std.proofs.lemmas.List.{take_all}
-use Rattle.sudo_beyond.specs.Cases.{ArePathCases, AreParts}
+use Rattle.sorting.specs.Lists.{AreParts}
+use Rattle.sudo_beyond.specs.Cases.{ArePathCases}
 use Rattle.sudo_beyond.specs.private.Gathering.{Adds}
-use Rattle.sudo_beyond.proofs.Lists.{adds_more}
+use Rattle.sudo_beyond.proofs.RunLemmas.{adds_more}
 use Rattle.sudo_beyond.proofs.runs.push_paths.Goals as goal
 
 pub loop-file-preserved : goal.loop-file-preserved

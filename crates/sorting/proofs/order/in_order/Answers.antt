@@ -1,5 +1,5 @@
-use Rattle.sudo_beyond.proofs.Lists.{each_once}
-use Rattle.sudo_beyond.proofs.order.in_order.Goals as goal
+use Rattle.sorting.proofs.Lists.{each_once}
+use Rattle.sorting.proofs.order.in_order.Goals as goal
 
 pub returns : goal.returns
 returns g c =

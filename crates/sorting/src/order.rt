@@ -3,7 +3,7 @@
 ghost use Rattle.std.specs.Prelude.{◌≡◌};
 ghost use Rattle.std.specs.List.{list_any};
 ghost use Rattle.std.specs.List.Sorted.{IsStrictlySortedBy};
-ghost use Rattle.sudo_beyond.specs.Cases.{IsEachOnce, IsExact};
+ghost use Rattle.sorting.specs.Lists.{IsEachOnce, IsExact};
 
 /// The elements, each once, in order.
 pub fn in_order<T: Ord + Drop>(mut elements: Vec<T>) -> Vec<T>

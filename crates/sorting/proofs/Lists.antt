@@ -1,5 +1,5 @@
 -- Lists: what they contain, and what is added to them part by part.
-use Rattle.std.proofs.Common.{Result, Ok, Err, IfOk, OnOk, ◌≡◌, ℕ, ◌+◌, ◌<◌, Bool, true, List, [], ◌∷◌, ◌++◌, length, map, take, get_or, refl, sym, ap, ◌∙◌, subst, inl, inr, arith, append_assoc}
+use Rattle.std.proofs.Common.{◌≡◌, ℕ, ◌+◌, ◌<◌, Bool, true, List, [], ◌∷◌, ◌++◌, length, map, take, get_or, refl, sym, ap, ◌∙◌, subst, inl, inr, arith, append_assoc}
 use Rattle.std.specs.Bool.{Decides}
 use Rattle.std.specs.List.{Contains, list_any}
 use Rattle.std.specs.List.Retain.{IsFiltered, DiffersFromLast}
@@ -15,18 +15,7 @@ use Rattle.std.proofs.lemmas.List.Filters.{dedup_is}
 use Rattle.std.proofs.lemmas.List.Folds.{list_any_at}
 use Rattle.std.proofs.lemmas.List.Kept.{Contains-dedup, Contains-from_dedup, IsStrictlySortedBy-dedup}
 use Rattle.std.proofs.lemmas.List.Sorted.{Contains-permutation, IsPermutation-sym}
-use Rattle.sudo_beyond.specs.Cases.{IsEachOnce, IsExact, AreParts}
-use Rattle.sudo_beyond.specs.private.Gathering.{Adds}
-
--- ---- results
-
-pub ok_weaker : {X E : Type 0} (r : Result X E) (P Q : X → Type 0) → ((x : X) → P x → Q x) → IfOk r P → IfOk r Q
-ok_weaker (Ok x) P Q f p = f x p
-ok_weaker (Err e) P Q f p = tt
-
-pub on_ok : {X E : Type 0} (r : Result X E) (P Q : Type 0) → (P → Q) → OnOk r P → OnOk r Q
-on_ok (Ok x) P Q f p = f p
-on_ok (Err e) P Q f p = tt
+use Rattle.sorting.specs.Lists.{IsEachOnce, IsExact, AreParts}
 
 -- ---- what is contained
 
@@ -83,16 +72,16 @@ parts_more {X} {Y} IsPart (y ∷ xs) x ys part are is = (
   parts_more IsPart xs x are.1 part are.4 is,
 )
 
-pub adds_more : {X Y : Type 0} (IsPart : X → List Y → Type 0) (xs : List X) (k : ℕ) (x : X) (old mid new : List Y) → k < length xs → x ≡ get_or xs k x
-    → Adds (AreParts IsPart (take k xs)) old mid → Adds (IsPart x) mid new → Adds (AreParts IsPart (take (k + 1) xs)) old new
-adds_more {X} {Y} IsPart xs k x old mid new below is before adds =
-    subst (λ (zs : List X). Adds (AreParts IsPart zs) old new) (sym (take_next xs k x below is)) (
-      before.0 ++ adds.0,
-      adds.1 ∙ ap (λ (zs : List Y). zs ++ adds.0) before.1 ∙ append_assoc old before.0 adds.0,
-      parts_more IsPart (take k xs) x before.0 adds.0 before.2 adds.2,
-    )
-
 pub parts_weaker : {X Y : Type 0} (IsPart IsAlso : X → List Y → Type 0) → ((x : X) (part : List Y) → IsPart x part → IsAlso x part)
     → (xs : List X) (ys : List Y) → AreParts IsPart xs ys → AreParts IsAlso xs ys
 parts_weaker IsPart IsAlso also [] ys are = are
 parts_weaker IsPart IsAlso also (x ∷ xs) ys are = (are.0, are.1, are.2, also x are.0 are.3, parts_weaker IsPart IsAlso also xs are.1 are.4)
+
+pub one_parts : {X Y : Type 0} (IsPart : X → List Y → Type 0) → ((x : X) (ys zs : List Y) → IsPart x ys → IsPart x zs → ys ≡ zs) → (xs : List X) (ys zs : List Y)
+    → AreParts IsPart xs ys → AreParts IsPart xs zs → ys ≡ zs
+one_parts IsPart one [] ys zs are also = are ∙ sym also
+one_parts {X} {Y} IsPart one (x ∷ xs) ys zs are also =
+    are.2
+    ∙ ap (λ (part : List Y). part ++ are.1) (one x are.0 also.0 are.3 also.3)
+    ∙ ap (λ (rest : List Y). also.0 ++ rest) (one_parts IsPart one xs are.1 also.1 are.4 also.4)
+    ∙ sym also.2

@@ -1,6 +1,6 @@
 use Rattle.std.proofs.Common.{◌∙◌}
-use Rattle.sudo_beyond.proofs.Halving.{among}
-use Rattle.sudo_beyond.proofs.order.is_among.Goals as goal
+use Rattle.sorting.proofs.Halving.{among}
+use Rattle.sorting.proofs.order.is_among.Goals as goal
 
 pub returns : goal.returns
 returns g c =
