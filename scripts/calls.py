@@ -4,8 +4,10 @@
 A public call is a `pub fn` that lib.rt re-exports, or one of a type that it re-exports, or one of a
 trait that it re-exports. Each that may refuse has a row: what a refusal leaves, and what says when
 each refusal comes. A clause that a row names must be a clause of that call. Laws, whose bodies do
-nothing, and calls that never refuse are listed by their names. With `--skeleton` it prints the
-document's tables as they would begin: rows that are there keep what they say.
+nothing, and calls that never refuse are listed by their names. The laws, and nothing else, are
+public in the module `laws` of their crate, and their names say so: `laws::one_policy`. No lib.rt
+re-exports one. With `--skeleton` it prints the document's tables as they would begin: rows that are
+there keep what they say.
 """
 
 from __future__ import annotations
@@ -14,8 +16,10 @@ import glob
 import os
 import re
 import sys
+from collections.abc import Iterator
 from typing import NamedTuple
 
+import contracts
 import desk
 import make_docs
 
@@ -28,6 +32,7 @@ BLOCK = re.compile(
     rf"(pub )?(impl|trait)\b(?:<[^{{]*?>)? *(?:({NAME})(?:<[^{{]*?>)? for )?({NAME})"
 )
 CALL = re.compile(rf"( *)(pub )?fn ({NAME})")
+EXPORT = rf"^pub use (?:crate::)?({NAME})::([^;]+);"
 # what a clause says of a refusal
 OF_REFUSAL = re.compile(
     r"\b(IfErr|OnErr|MatchResult|IfNone|OnNone|MatchOption|Err|None|none|nothing)\b"
@@ -65,10 +70,19 @@ def exported(crate: str) -> set[str]:
     text = desk.read("crates", crate, "src", "lib.rt")
     modules = set(re.findall(rf"^(?:pub )?mod ({NAME});", text, re.MULTILINE))
     found: set[str] = set()
-    for path, names in re.findall(rf"^pub use (?:crate::)?({NAME})::([^;]+);", text, re.MULTILINE):
+    for path, names in re.findall(EXPORT, text, re.MULTILINE):
         if path in modules:
             found |= set(re.findall(NAME, re.sub(rf"{NAME} as ", "", names)))
     return found
+
+
+def laws_at_root(crate: str) -> Iterator[str]:
+    """The laws, of this crate or another, that lib.rt re-exports."""
+    text = desk.read("crates", crate, "src", "lib.rt")
+    for path, names in re.findall(EXPORT, text, re.MULTILINE):
+        owner = path if path in make_docs.crates() else crate
+        laws = {name for _, name in contracts.laws(desk.ROOT, owner)}
+        yield from sorted(laws & set(re.findall(NAME, names)))
 
 
 def clauses(head: str) -> dict[str, str]:
@@ -82,11 +96,11 @@ def clauses(head: str) -> dict[str, str]:
 
 
 def calls_of(crate: str) -> list[Call]:
-    names, found = exported(crate), []
-    for path in sorted(
-        glob.glob(os.path.join(desk.ROOT, "crates", crate, "src", "**", "*.rt"), recursive=True)
-    ):
+    names, laws, found = exported(crate), contracts.laws(desk.ROOT, crate), []
+    source = os.path.join(desk.ROOT, "crates", crate, "src")
+    for path in sorted(glob.glob(os.path.join(source, "**", "*.rt"), recursive=True)):
         owner, is_trait = "", False
+        module = os.path.relpath(path, source).removesuffix(".rt")
         lines = desk.read(path).split("\n")
         for number, line in enumerate(lines):
             if line and not line[0].isspace() and (block := BLOCK.match(line)):
@@ -99,10 +113,12 @@ def calls_of(crate: str) -> list[Call]:
                 continue
             if not (call[2] or (is_trait and owner)) or (owner and of_trait):
                 continue
-            if (owner or call[3]) not in names:
+            is_in_laws = not owner and (module, call[3]) in laws
+            if (owner or call[3]) not in names and not is_in_laws:
                 continue
             head, is_law = head_of(lines, number, call[1])
-            title = f"{owner}::{call[3]}" if owner else call[3]
+            place = "laws" if is_in_laws else owner
+            title = f"{place}::{call[3]}" if place else call[3]
             found.append(Call(crate, title, head, clauses(head), is_law))
     return found
 
@@ -117,19 +133,28 @@ def head_of(lines: list[str], number: int, indent: str) -> tuple[str, bool]:
             f"{indent}fn "
         ):
             return "\n".join(head), line == f"{indent}{{}}"
-        if head[-1].endswith(" {") or head[-1].endswith(";"):
+        # within a clause, lines of a record end so too
+        has_clauses = any(contracts.CLAUSE.match(it) for it in head)
+        if head[-1].endswith(" {") and not has_clauses:
+            break
+        if head[-1].endswith(";") and contracts.is_closed(head):
             break
         head.append(line)
     return "\n".join(head), False
 
 
-def all_calls() -> list[Call]:
+def libraries() -> list[str]:
+    """The crates with a lib.rt, lowest first."""
+    root = os.path.join(desk.ROOT, "crates")
     return [
-        call
+        crate
         for crate in make_docs.crates()
-        if os.path.exists(os.path.join(desk.ROOT, "crates", crate, "src", "lib.rt"))
-        for call in calls_of(crate)
+        if os.path.exists(os.path.join(root, crate, "src", "lib.rt"))
     ]
+
+
+def all_calls() -> list[Call]:
+    return [call for crate in libraries() for call in calls_of(crate)]
 
 
 def on_refusal(call: Call) -> list[str]:
@@ -187,11 +212,17 @@ def told() -> (
 def faults() -> list[str]:
     """What the document and the crates say otherwise than each other."""
     rows, total, laws = told()
-    found = []
+    found = [
+        f"crates/{crate}/src/lib.rt: it re-exports the law {name}"
+        for crate in libraries()
+        for name in laws_at_root(crate)
+    ]
     called = {(call.crate, call.name): call for call in all_calls()}
     for place, call in called.items():
         wanted = laws if call.is_law else rows if call.may_refuse else total
         title = f"{call.crate}::{call.name}"
+        if call.is_law != call.name.startswith("laws::"):
+            found.append(f"{title}: the laws, and nothing else, are public in the module `laws`")
         if place not in wanted:
             kind = (
                 "a law"

@@ -1,6 +1,7 @@
 #!/usr/bin/env python3
 """Lists the contracts of the public functions: by function, and then by crate.
 
+A law stands in the module `laws` of its crate, and is listed with it, as `(sudo_decide::laws)`.
 Below each function stand its signature and its clauses, sorted, each on one line however it is
 wrapped in the source. So `diff` of the lists of two trees shows each clause that changed, also of a
 function that another crate has now. `contracts.py TREE` lists another tree than this one. All
@@ -21,8 +22,24 @@ FUNCTION = re.compile(r"( *)(pub )?(?:const |unsafe )*fn (\w+)")
 CLAUSE = re.compile(r" +(requires|ensures)\b")
 BODY = ("{", "{}")
 
-# A function's name, its crate, and the lines of its contract.
+# A function's name, its crate (and there the module of laws), and the lines of its contract.
 Contract = tuple[str, str, list[str]]
+
+
+def laws(tree: str, crate: str) -> set[tuple[str, str]]:
+    """What the crate's public module `laws` has: each law by the module it stands in, and its name.
+
+    Some stand in `laws.rt`, which re-exports the others from the crate's other modules.
+    """
+    place = os.path.join(tree, "crates", crate, "src")
+    text = desk.read(place, "lib.rt") if os.path.exists(os.path.join(place, "lib.rt")) else ""
+    if not re.search(r"^pub mod laws;$", text, re.MULTILINE):
+        return set()
+    text = desk.read(place, "laws.rt")
+    found = {("laws", name) for name in re.findall(r"^pub fn (\w+)", text, re.MULTILINE)}
+    for module, names in re.findall(r"^pub use crate::(\w+)::([^;]+);", text, re.MULTILINE):
+        found |= {(module, name) for name in re.findall(r"\w+", names)}
+    return found
 
 
 def folded(lines: list[str]) -> str:
@@ -76,7 +93,10 @@ def listed(tree: str) -> list[Contract]:
     for path in glob.glob(os.path.join(tree, "crates", "*", "src", "**", "*.rt"), recursive=True):
         crate, _, inner = os.path.relpath(path, os.path.join(tree, "crates")).partition("/src/")
         if not inner.startswith("tests"):
-            found += functions(crate, path)
+            module, named = inner.removesuffix(".rt"), laws(tree, crate)
+            for name, _, lines in functions(crate, path):
+                is_law = (module, name) in named
+                found.append((name, f"{crate}::laws" if is_law else crate, lines))
     return sorted(found)
 
 

@@ -7,6 +7,7 @@ mod answer_laws;
 mod delivery;
 mod desk;
 mod holdings;
+pub mod laws;
 mod loading;
 mod opening;
 mod queries;
@@ -19,18 +20,11 @@ mod stopping;
 mod texts;
 
 pub use ack::Ack;
-pub use answer_laws::runs_answer_alike;
 pub use desk::Desk;
-pub use desk_outcomes::{
-    Live, RequestName, disputed_gives_nothing, each_has_one, ended_lines_give_nothing,
-    file_gives_rights, one_of_each, order_free, parked_until_asked, refusal_in_time,
-    revocation_ends, who_changes_nothing,
-};
+pub use desk_outcomes::{Live, RequestName};
 pub use desk_store::{Keeper, MemoryKeeper};
 pub use holdings::Holdings;
 pub use rebuilding_laws::{rebuild_again, rebuild_twice};
 pub use refusal::Refusal;
 pub use reopening::{restart, restart_over};
-pub use run_laws::{one_answer, run_free};
 pub use stopping::open_after_stop;
-pub use texts::one_text_list;

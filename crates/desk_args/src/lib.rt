@@ -4,7 +4,7 @@
 mod command;
 mod command_line;
 mod fault;
-mod laws;
+pub mod laws;
 mod status;
 mod task;
 mod text;
@@ -12,7 +12,6 @@ mod values;
 
 pub use command_line::job;
 pub use fault::{JobFault, show};
-pub use laws::{by_place, compares, decides_with_flag, no_fault_is_complete};
 pub use status::{Status, code};
 pub use task::{Job, Places, Store};
 pub use text::Text;

@@ -2,9 +2,9 @@
 #![tactic(auto)]
 
 mod answer;
-mod compare_laws;
 mod comparing;
 mod delivering;
+pub mod laws;
 mod lines;
 mod opening;
 mod printing;
@@ -15,11 +15,7 @@ mod running;
 mod taking;
 mod telling;
 
-pub use compare_laws::{case_tells, none_tells};
-pub use desk_args::{
-    Job, JobFault, Places, Status, Store, Text, by_place, code, compares, decides_with_flag, job,
-    no_fault_is_complete, show,
-};
+pub use desk_args::{Job, JobFault, Places, Status, Store, Text, code, job, show};
 pub use opening::open_over;
 pub use refusal::Refusal;
 pub use running::{finish, run};

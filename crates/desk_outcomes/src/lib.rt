@@ -5,6 +5,7 @@
 mod gathering;
 mod grant_laws;
 mod host_file;
+pub mod laws;
 mod live;
 mod outcomes;
 mod parked;
@@ -13,15 +14,9 @@ mod summaries;
 mod worked;
 
 pub use gathering::Gathered;
-pub use grant_laws::{
-    disputed_gives_nothing, each_has_one, ended_lines_give_nothing, file_gives_rights, one_of_each,
-    order_free, parked_until_asked, refusal_in_time, revocation_ends, who_changes_nothing,
-};
 pub use host_file::host_file_in;
 pub use live::{Live, live_in};
 pub use messages::RequestName;
 pub use outcomes::status_in;
 pub use parked::parked_in;
-pub use past_laws::past_grants_stay;
 pub use summaries::summaries_in;
-pub use worked::worked_set;

@@ -2,19 +2,18 @@
 #![tactic(auto)]
 
 mod collected;
-mod crash_laws;
 mod error;
 mod failing;
 mod failing_keeper;
 mod found;
 mod gathering;
 mod keeper;
+pub mod laws;
 mod memory;
 mod replacing;
 mod settled;
 mod sqlite_keeper;
 
-pub use crash_laws::found_is_kept;
 pub use error::KeeperError;
 pub use failing_keeper::FailingKeeper;
 pub use found::Found;

@@ -1,4 +1,5 @@
-//! Laws of messages and their texts, each the contract of a function that does nothing.
+//! The laws, each the contract of a function that does nothing. Those of messages and their
+//! texts stand here.
 
 ghost use Rattle.std.specs.Prelude.{◌≡◌, ◌⊎◌, ◌↔◌};
 ghost use Rattle.std.specs.declared.cmp.Ordering.TheVariants.{Less};
@@ -8,6 +9,11 @@ ghost use Rattle.messages.specs.Wire.{wire, IsMessage};
 ghost use Rattle.messages.specs.declared.message.Message.{Message as AnyMessage};
 
 use crate::request_name::RequestName;
+
+// worked texts of messages
+pub use crate::wire_laws::worked_messages;
+// worked texts of JSON
+pub use crate::text_laws::{worked_canonical_json, worked_other_json};
 
 /// No text is that of two messages: messages are equal exactly where their texts are.
 pub fn one_message()

@@ -4,7 +4,7 @@
 mod canonical_json;
 mod fault;
 mod kind;
-mod laws;
+pub mod laws;
 mod lists;
 mod members;
 mod message;
@@ -22,13 +22,10 @@ mod write;
 
 pub use fault::MessageFault;
 pub use kind::VerdictKind;
-pub use laws::{names_in_order, one_message, wire_is_canonical};
 pub use message::Message;
 pub use name_row::NameRow;
 pub use read::read_message;
 pub use request::Request;
 pub use request_name::RequestName;
-pub use text_laws::{worked_canonical_json, worked_other_json};
 pub use verdict::Verdict;
-pub use wire_laws::worked_messages;
 pub use write::{text, verdict_text};

@@ -1,4 +1,5 @@
-//! Laws of the definitions, each the contract of a function that does nothing.
+//! The laws, each the contract of a function that does nothing. Those of requests and replies
+//! stand here.
 
 ghost use Rattle.std.specs.Prelude.{◌≡◌, ◌≤◌, ◌++◌, ℕ, List, [], Some, codes, false, length, take, true};
 ghost use Rattle.httparse.specs.Grammar.{ReadsRequest, RequestHead};
@@ -18,6 +19,9 @@ ghost use Rattle.relay_http.specs.declared.fault.RequestFault.TheVariants.{Short
 ghost use Rattle.relay_http.specs.declared.place.Place.{Place};
 ghost use Rattle.relay_http.specs.declared.place.Place.TheVariants.{Messages};
 ghost use Rattle.relay_http.specs.declared.status.Status.{Status};
+
+// worked requests and replies
+pub use crate::worked::{worked_refusals, worked_replies, worked_requests};
 
 /// Bytes ask for one thing.
 #[tactic(auto, using(crate::proofs::WantedLemmas::one_request))]

@@ -11,7 +11,7 @@ mod content;
 mod counted;
 mod fault;
 mod fields;
-mod laws;
+pub mod laws;
 mod line;
 mod methods;
 mod page;
@@ -32,10 +32,6 @@ mod worked;
 pub use asked::{Ask, Wanted};
 pub use counted::Counted;
 pub use fault::RequestFault;
-pub use laws::{
-    first_bytes_decide, head_is_get, one_head, one_reply, one_request, only_post_delivers,
-    rest_ignored,
-};
 pub use place::Methods;
 pub use reply::{refused, written};
 pub use request::{More, SoFar, wanted, wanted_so_far};
@@ -43,4 +39,3 @@ pub use room::Room;
 pub use routes::Routes;
 pub use serving::{ServeFault, serve_in, serve_one};
 pub use status::Status;
-pub use worked::{worked_refusals, worked_replies, worked_requests};

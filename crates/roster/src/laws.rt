@@ -1,4 +1,5 @@
-//! Laws of rosters, each the contract of a function that does nothing.
+//! The laws, each the contract of a function that does nothing. Those of rosters and their
+//! texts stand here.
 
 ghost use Rattle.std.specs.Prelude.{◌≡◌, ◌↔◌, ◌≤◌, ◌<◌, ◌⊎◌, ◌+◌, ◌*◌, ℕ, pos, List, [], true, false, codes};
 ghost use Rattle.sudo_words.specs.declared.cmnd.Cmnd.{Cmnd};
@@ -11,6 +12,12 @@ ghost use Rattle.roster.specs.Worked.{office, everything, shop, shop_text, small
 ghost use Rattle.roster.specs.declared.days.Days.TheVariants.{Between};
 ghost use Rattle.roster.specs.declared.fault.RosterFault.{RosterFault};
 ghost use Rattle.roster.specs.declared.fault.RosterFault.TheVariants.{BadName, NotToml, OutOfRange, SelfConflict, UnknownKey, UnknownName, WrongType};
+
+// the rights of a moment
+pub use crate::right_laws::{
+    always_is_every_day, cut_days_are_the_same, entries_are_a_set, later_days_agree,
+    same_duties_same_rights, same_rights_until, worked_agreement,
+};
 
 /// A text is at most one roster's.
 pub fn one_roster()

@@ -8,7 +8,7 @@ mod commands;
 mod compare;
 mod decided;
 mod fault;
-mod laws;
+pub mod laws;
 mod moments;
 mod names;
 mod other;
@@ -22,9 +22,3 @@ pub use against::is_anything_beyond;
 pub use baseline::Baseline;
 pub use compare::beyond;
 pub use fault::BeyondFault;
-pub use laws::{
-    alike_commands, alike_decide, alike_names, beyond_is_decided, cases_are_invocations,
-    cases_suffice, each_command_has_a_case, each_host_has_a_case, each_moment_has_a_case,
-    each_target_has_a_case, each_user_has_a_case, nothing_beyond_a_third, nothing_beyond_itself,
-    nothing_of_sudos_own, one_list_of_each, wider_scope, worked_beyond,
-};

@@ -1,4 +1,4 @@
-//! Laws of decisions, each the contract of a function that does nothing.
+//! The laws, each the contract of a function that does nothing: here those of decisions.
 
 ghost use Rattle.std.specs.Prelude.{◌≡◌, ℕ, ◌<◌, Bool, true, false, Option, List, [], ◌∷◌, ◌++◌, reverse, codes};
 ghost use Rattle.sudo_policy.specs.declared.entry.Rule.{Rule};
@@ -9,6 +9,13 @@ ghost use Rattle.sudo_decide.specs.declared.invocation.Invocation.{Invocation};
 ghost use Rattle.sudo_decide.specs.Decision.{signed_answer, names_say, takes_part, says, outcome, Decides};
 ghost use Rattle.sudo_decide.specs.Reach.{of_policy, rules_in, AllAnswerAlike};
 ghost use Rattle.sudo_decide.specs.Worked.{all_but_bob, only_not_bob, rule_for, asks};
+
+// a policy's rules and aliases
+pub use crate::policy_laws::{aliases_answer_their_lists, one_rule_decides};
+// an alias and its list
+pub use crate::alias_laws::{
+    alias_answers_its_list, alias_keeps_silence, worked_cmnd_aliases, worked_user_aliases,
+};
 
 /// A policy decides one thing of an invocation.
 pub fn one_decision()

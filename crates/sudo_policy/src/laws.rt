@@ -1,10 +1,13 @@
-//! Laws of policies' texts, each the contract of a function that does nothing.
+//! The laws, each the contract of a function that does nothing: here those of policies' texts.
 
 ghost use Rattle.std.specs.Prelude.{◌≡◌, ℕ, List};
 ghost use Rattle.sudo_policy.specs.declared.entry.Entry.{Entry as Entered};
 ghost use Rattle.sudo_policy.specs.Spelling.{Spells};
 ghost use Rattle.sudo_policy.specs.Policy.{IsPolicy};
 ghost use Rattle.sudo_policy.specs.Printing.{canon};
+
+// the weights and depths of aliases
+pub use crate::alias_laws::alias_weighs_its_list;
 
 /// No text spells two policies.
 pub fn one_policy()

@@ -1,4 +1,4 @@
-//! Laws of commands and their texts, each the contract of a function that does nothing.
+//! The laws, each the contract of a function that does nothing: here those of commands and their texts.
 
 ghost use Rattle.std.specs.Prelude.{◌≡◌, ◌↔◌, ◌++◌, ℕ, List, true, false, codes};
 ghost use Rattle.sudo_words.specs.Command.{IsLawful, cmnd_text, is_directly_in};
@@ -6,6 +6,9 @@ ghost use Rattle.sudo_words.specs.Word.{is_component, is_host_name, is_label, is
 ghost use Rattle.sudo_words.specs.declared.cmnd.ArgRule.{ArgRule as Ruled};
 ghost use Rattle.sudo_words.specs.declared.cmnd.Cmnd.TheVariants.{Dir, Path};
 ghost use Rattle.sudo_words.specs.declared.cmnd.Cmnd.{Cmnd as Command};
+
+// the texts of moments
+pub use crate::moment_laws::{one_moment, stamp_is_stamp, stamp_spells, worked_moments};
 
 /// No text is that of two commands.
 pub fn one_command()

@@ -1,5 +1,5 @@
 use Rattle.desk_commands.proofs.CaseLines.{case_is_not_none, one_case}
-use Rattle.desk_commands.proofs.compare_laws.case_tells.Goals as goal
+use Rattle.desk_commands.proofs.laws.case_tells.Goals as goal
 
 pub returns-clause-one : goal.returns-clause-one
 returns-clause-one c = one_case

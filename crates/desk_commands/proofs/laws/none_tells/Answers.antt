@@ -1,5 +1,5 @@
 use Rattle.desk_commands.proofs.CaseLines.{told}
-use Rattle.desk_commands.proofs.compare_laws.none_tells.Goals as goal
+use Rattle.desk_commands.proofs.laws.none_tells.Goals as goal
 
 pub returns-clause-text : goal.returns-clause-text
 returns-clause-text c = λ scope a_file b_file a b status text is of_a of_b. (told scope a_file b_file a b status text is of_a of_b).by_text
