@@ -1,8 +1,11 @@
-"""The names that the documents about the code give: files, crates, definitions and clauses.
+"""The names that the documents about the code give: files, crates, definitions, clauses and laws.
 
 A file of a crate that a page names is there; each crate of docs/ARCHITECTURE.md stands on the
 crates that crates.txt gives it; docs/DEFINITIONS.md names definitions that stand in the files that
-it names; a clause that docs/PROOFS.md names stands in its crate. `make quick` asks for all of it.
+it names; a clause that docs/PROOFS.md names stands in its crate. A law that a page names by its
+place, as `sudo_decide::laws::one_decision`, is there: `laws::one_decision` alone is one of the
+crate of its row in docs/PROOFS.md, and elsewhere of any crate. docs/PROMISES.md names each law with
+its crate. `make quick` asks for all of it.
 """
 
 import functools
@@ -11,12 +14,14 @@ import os
 import re
 from collections.abc import Iterator
 
+import contracts
 import desk
 import make_docs
 
 PAGES = ("ARCHITECTURE", "DEFINITIONS", "PROOFS", "STORE", "AUDIT", "AUDITING")
 QUOTED = re.compile(r"`([^`]+)`")
 FILE = re.compile(r"[\w/]+\.(?:rt|antt)")
+LAW = re.compile(r"(?:(\w+)::)?laws::(\w+)")
 CRATES = os.path.join(desk.ROOT, "crates")
 
 
@@ -100,8 +105,38 @@ def missing_clauses() -> Iterator[str]:
                     yield f"docs/PROOFS.md: {crate} has no clause {name}"
 
 
+@functools.cache
+def laws() -> dict[str, set[str]]:
+    """The laws of each crate."""
+    found = {crate: contracts.laws(desk.ROOT, crate) for crate in make_docs.crates()}
+    return {crate: {name for _, name in named} for crate, named in found.items()}
+
+
+def missing_laws() -> Iterator[str]:
+    """Laws that a page names and that are not there, or that it does not name with their crate."""
+    every = set[str]().union(*laws().values())
+    for path in sorted(glob.glob(os.path.join(desk.ROOT, "docs", "*.md"))):
+        page = os.path.relpath(path, desk.ROOT)
+        for name in dict.fromkeys(QUOTED.findall(desk.read(path))):
+            law = LAW.fullmatch(name)
+            if law and law[2] not in (laws().get(law[1], set()) if law[1] else every):
+                yield f"{page}: there is no law {name}"
+    for cells in rows("PROMISES", 5):
+        for name in QUOTED.findall(cells[1]):
+            if name.removeprefix("laws::") in every:
+                yield f"docs/PROMISES.md: it names the law {name} without its crate"
+    crate = ""
+    for cells in rows("PROOFS", 4):
+        crate = cells[0].strip("`") or crate
+        for name in QUOTED.findall(cells[1]) if crate in laws() else ():
+            law = LAW.fullmatch(name)
+            if law and not law[1] and law[2] not in laws()[crate]:
+                yield f"docs/PROOFS.md: {crate} has no law {law[2]}"
+
+
 def faults() -> Iterator[str]:
     yield from missing_files()
     yield from missing_crates()
     yield from missing_definitions()
     yield from missing_clauses()
+    yield from missing_laws()
