@@ -31,7 +31,7 @@ def laws(tree: str, crate: str) -> set[tuple[str, str]]:
 
     Some stand in `laws.rt`, which re-exports the others from the crate's other modules.
     """
-    place = os.path.join(tree, "crates", crate, "src")
+    place = os.path.abspath(os.path.join(tree, "crates", crate, "src"))
     text = desk.read(place, "lib.rt") if os.path.exists(os.path.join(place, "lib.rt")) else ""
     if not re.search(r"^pub mod laws;$", text, re.MULTILINE):
         return set()
