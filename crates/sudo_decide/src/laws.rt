@@ -1,4 +1,4 @@
-//! The laws, each the contract of a function that does nothing: here those of decisions.
+//! The laws, each the contract of a function that does nothing. Those of decisions stand here.
 
 ghost use Rattle.std.specs.Prelude.{◌≡◌, ℕ, ◌<◌, Bool, true, false, Option, List, [], ◌∷◌, ◌++◌, reverse, codes};
 ghost use Rattle.sudo_policy.specs.declared.entry.Rule.{Rule};

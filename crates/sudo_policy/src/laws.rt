@@ -1,4 +1,5 @@
-//! The laws, each the contract of a function that does nothing: here those of policies' texts.
+//! The laws, each the contract of a function that does nothing. Those of policies' texts stand
+//! here.
 
 ghost use Rattle.std.specs.Prelude.{◌≡◌, ℕ, List};
 ghost use Rattle.sudo_policy.specs.declared.entry.Entry.{Entry as Entered};

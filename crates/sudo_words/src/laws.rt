@@ -1,4 +1,5 @@
-//! The laws, each the contract of a function that does nothing: here those of commands and their texts.
+//! The laws, each the contract of a function that does nothing. Those of commands and their
+//! texts stand here.
 
 ghost use Rattle.std.specs.Prelude.{◌≡◌, ◌↔◌, ◌++◌, ℕ, List, true, false, codes};
 ghost use Rattle.sudo_words.specs.Command.{IsLawful, cmnd_text, is_directly_in};
