@@ -15,7 +15,7 @@ use crate::task::Store;
 use crate::text::Text;
 use clap::ArgMatches;
 use std::alloc::{AllocError, Global};
-use sudo_words::{Arg, Form, Items, Moment, Word};
+use sudo_words::{Arg, Form, Items, Moment, Word, decimal_of};
 
 /// The most digits of a count.
 const MOST_DIGITS: usize = 7;
@@ -78,17 +78,10 @@ pub fn word_if_given<F: Form>(
 fn number_of(value: &[u8]) -> Option<u64>
     ensures { result ≡ (if is_number value.now then Some (digits_value 10 value.now) else None) }
 {
-    if value.is_empty() || value.len() > MOST_DIGITS {
+    if value.len() > MOST_DIGITS {
         return None;
     }
-    let mut n: u64 = 0;
-    for b in value {
-        if !b.is_ascii_digit() {
-            return None;
-        }
-        n = n * 10 + u64::from(*b - b'0');
-    }
-    Some(n)
+    decimal_of(value)
 }
 
 /// The number that 1 to 7 digits write, from 1 to 1,000,000.

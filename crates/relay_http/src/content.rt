@@ -8,6 +8,7 @@ ghost use Rattle.relay_http.specs.Seen.{AreValues};
 
 use crate::fault::RequestFault;
 use crate::values::Values;
+use sudo_words::decimal_of;
 
 /// The longest message.
 const MOST_CONTENT: u64 = 16_384;
@@ -16,17 +17,7 @@ const MOST_CONTENT: u64 = 16_384;
 fn length_of(value: &[u8]) -> Option<u64>
     ensures { result ≡ (if is_length value.now then Some (digits_value 10 value.now) else None) }
 {
-    if value.is_empty() || value.len() > 9 {
-        return None;
-    }
-    let mut n: u64 = 0;
-    for b in value {
-        if !b.is_ascii_digit() {
-            return None;
-        }
-        n = n * 10 + u64::from(*b - b'0');
-    }
-    Some(n)
+    decimal_of(value)
 }
 
 /// The first `n` of the bytes that follow the head.

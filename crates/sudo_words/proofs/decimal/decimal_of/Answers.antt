@@ -8,8 +8,8 @@ use Rattle.std.proofs.lemmas.List.Folds.{list_all_more, list_all_at}
 use Rattle.std.proofs.lemmas.Bool.{and_right, and_from, lt-ltb, cond-true, cond-false}
 use Rattle.std.proofs.lemmas.Bool.Decides.{nat_tests}
 use Rattle.std.proofs.lemmas.Int.Digits.{digits_value_more}
-use Rattle.relay_http.specs.Content.{is_length}
-use Rattle.relay_http.proofs.content.length_of.Goals as goal
+use Rattle.sudo_words.specs.Decimal.{is_decimal}
+use Rattle.sudo_words.proofs.decimal.decimal_of.Goals as goal
 
 small : (i : ℕ) → i < 9 → 10 ^ i ≤ 100000000
 small zero h = omega arith
@@ -26,7 +26,7 @@ small (suc (suc (suc (suc (suc (suc (suc (suc (suc i))))))))) h = absurd (omega 
 pow_next : (i : ℕ) → 10 ^ (i + 1) ≡ 10 ^ i * 10
 pow_next i = ap (λ k. 10 ^ k) (add-one i) ∙ pow-suc 10 i
 
-no_number : (ds : List ℕ) → is_length ds ≡ false → None ≡ cond (is_length ds) (Some (digits_value 10 ds)) None
+no_number : (ds : List ℕ) → is_decimal ds ≡ false → None ≡ cond (is_decimal ds) (Some (digits_value 10 ds)) None
 no_number ds e = sym (cond-false _ _ _ e)
 
 pub overflow_mul-n : goal.overflow_mul-n
@@ -56,5 +56,5 @@ returns c =
     let value : c.loop-b.n ≡ digits_value 10 ds = c.loop-b.invariant.value ∙ ap (digits_value 10) all in
     let digits : list_all is_ascii_digit ds ≡ true = sym (ap (list_all is_ascii_digit) all) ∙ c.loop-b.invariant.digits in
     let some : 0 < length ds = grind (arith, nat_tests) in
-    let number : is_length ds ≡ true = and_from _ _ (lt-ltb _ _ some) (and_from _ _ (grind (arith, nat_tests)) digits) in
+    let number : is_decimal ds ≡ true = and_from _ _ (lt-ltb _ _ some) (and_from _ _ (grind (arith, nat_tests)) digits) in
     ap Some value ∙ sym (cond-true _ _ _ number)
