@@ -1,7 +1,6 @@
 //! Bodies read, and messages admitted.
 
-ghost use Rattle.std.specs.Prelude.{◌≡◌, ◌⊎◌, IfOk, IfErr, Err, true};
-ghost use Rattle.roster.specs.Rules.{is_among};
+ghost use Rattle.std.specs.Prelude.{◌≡◌, ◌⊎◌, IfOk, IfErr, Err};
 ghost use Rattle.grants.specs.Admission.{Admits};
 ghost use Rattle.desk.specs.Delivery.{AnswersBody, IsBodyOf};
 ghost use Rattle.desk.specs.declared.refusal.Refusal.TheVariants as refusal;

@@ -3,7 +3,6 @@
 ghost use Rattle.std.specs.Prelude.{◌≡◌, ◌≢◌, ◌⊎◌, ◌<◌, ◌++◌, ◌∷◌, [], List, map, Contains, IfOk, IfErr, OnOk, length, string_bytes};
 ghost use Rattle.messages.specs.Wire.{wire, IsMessage};
 ghost use Rattle.messages.specs.declared.message.Message.{Message as AnyMessage};
-ghost use Rattle.messages.specs.declared.request_name.RequestName.{RequestName as AnyName};
 ghost use Rattle.desk.specs.Refusals.{IsWant};
 ghost use Rattle.desk.specs.Texts.{AreTexts};
 ghost use Rattle.desk.specs.declared.refusal.Refusal.TheVariants as refusal;

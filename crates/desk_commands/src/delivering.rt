@@ -1,6 +1,6 @@
 //! Delivering the lines of the input, with an answer to each.
 
-ghost use Rattle.std.specs.Prelude.{◌≡◌, ◌⊎◌, ◌++◌, ◌∷◌, ℕ, List, Option, [], IfErr, IfOk, OnOk, is_ok, map, string_bytes};
+ghost use Rattle.std.specs.Prelude.{◌≡◌, ◌⊎◌, ◌++◌, ◌∷◌, ℕ, List, Option, IfErr, IfOk, OnOk, is_ok, map, string_bytes};
 ghost use Rattle.std.specs.List.{list_all};
 ghost use Rattle.desk.specs.declared.refusal.Refusal.TheVariants as refusal;
 ghost use Rattle.desk_store.specs.Keeping.{HasFailed};

@@ -1,6 +1,6 @@
 //! Opening a desk over the bytes of its files and what a keeper keeps.
 
-ghost use Rattle.std.specs.Prelude.{◌≡◌, ◌≤◌, IfErr, IfOk, MatchResult};
+ghost use Rattle.std.specs.Prelude.{◌≡◌, IfErr, IfOk, MatchResult};
 ghost use Rattle.sudo_policy.specs.Spelling.{Spells};
 ghost use Rattle.desk_store.specs.Serves.{Serves};
 ghost use Rattle.desk_store.specs.Sets.{SameSet};

@@ -3,7 +3,7 @@
 ghost use Rattle.std.specs.Prelude.{◌≡◌, ◌↔◌, IsTrue, true, codes};
 ghost use Rattle.sqlite_schema.specs.declared.schema.Kind.TheVariants as kind_of;
 ghost use Rattle.desk_tables.specs.DeskTables.{column_of, desk, messages, names, verdicts, parked};
-ghost use Rattle.desk_schema.specs.Parts.{marks, columns_of};
+ghost use Rattle.desk_schema.specs.Parts.{columns_of};
 
 use crate::part::Part;
 use sqlite_schema::schema::{Column, Kind};

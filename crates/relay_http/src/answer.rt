@@ -1,7 +1,6 @@
 //! Replies, before they are written.
 
 ghost use Rattle.std.specs.Prelude.{◌≡◌};
-ghost use Rattle.desk.specs.declared.refusal.Refusal.{Refusal as AnyRefusal};
 ghost use Rattle.relay_http.specs.Prepared.{body_bytes, reply_of, to_question};
 ghost use Rattle.relay_http.specs.Replies.{refusal, to_delivery};
 ghost use Rattle.relay_http.specs.Reply.{fault_line, status_of};

@@ -1,9 +1,7 @@
 //! The desk's answers to what requests ask.
 
-ghost use Rattle.std.specs.Prelude.{◌≡◌, ◌⊎◌, List, MatchResult, string_bytes};
-ghost use Rattle.messages.specs.declared.message.Message.{Message as AnyMessage};
+ghost use Rattle.std.specs.Prelude.{◌≡◌};
 ghost use Rattle.desk_store.specs.Serves.{Serves};
-ghost use Rattle.desk_store.specs.Sets.{Lists};
 ghost use Rattle.relay_http.specs.Asked.{all_messages, asked_of, deliver, grants, host_file, host_file_after, parked, report};
 ghost use Rattle.relay_http.specs.Exchange.{IsAnswered};
 ghost use Rattle.relay_http.specs.Prepared.{reply_of, to_question};

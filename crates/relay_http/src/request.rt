@@ -2,7 +2,7 @@
 
 ghost use Rattle.std.specs.Prelude.{◌≡◌, ◌≤◌, ◌++◌, ℕ, List, length, map, All, false};
 ghost use Rattle.httparse.specs.Spans.{IsHeaderWithin, header_bytes};
-ghost use Rattle.relay_http.specs.Asked.{Asked, Request, asked_of, grants, host_file_after, report, request_of};
+ghost use Rattle.relay_http.specs.Asked.{Request, asked_of, grants, host_file_after, report, request_of};
 ghost use Rattle.relay_http.specs.Content.{content_of};
 ghost use Rattle.relay_http.specs.Routes.{moment_parameter, parameter};
 ghost use Rattle.relay_http.specs.Settled.{is_short};

@@ -1,6 +1,6 @@
 //! The values of a head's fields.
 
-ghost use Rattle.std.specs.Prelude.{◌≡◌, List, length, map, All};
+ghost use Rattle.std.specs.Prelude.{◌≡◌, length, map, All};
 ghost use Rattle.std.specs.Str.{str_eq_ignore_ascii_case};
 ghost use Rattle.httparse.specs.Spans.{IsHeaderWithin, header_bytes};
 ghost use Rattle.relay_http.specs.Fields.{values};

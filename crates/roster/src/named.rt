@@ -3,7 +3,6 @@
 ghost use Rattle.std.specs.Prelude.{◌≡◌, All, map};
 ghost use Rattle.std.specs.List.{list_all};
 ghost use Rattle.sudo_words.specs.Command.{IsLawful, cmnd_text};
-ghost use Rattle.sudo_words.specs.Word.{is_label, is_name};
 ghost use Rattle.roster.specs.private.LookupOrders.{cmnd_order};
 ghost use Rattle.roster.specs.Fields.{entry_in_texts, in_texts};
 ghost use Rattle.roster.specs.private.LookupOrders.{IsInOrder};

@@ -1,7 +1,6 @@
 //! Laws of the rights of a moment, each the contract of a function that does nothing.
 
 ghost use Rattle.std.specs.Prelude.{◌≡◌, ◌↔◌, ◌≤◌, ◌<◌, ◌+◌, ℕ, List, ◌∷◌, ◌++◌, Contains, true};
-ghost use Rattle.std.specs.Map.{keys_of};
 ghost use Rattle.sudo_words.specs.declared.cmnd.Cmnd.{Cmnd};
 ghost use Rattle.sudo_words.specs.Moment.{day_of, IsMoment};
 ghost use Rattle.roster.specs.Agreement.{AgreeUntil};

@@ -2,7 +2,7 @@
 
 ghost use Rattle.std.specs.Prelude.{◌≡◌, Some, None, IfOk, MatchResult};
 ghost use Rattle.toml.specs.Data.{as_str, get_member, table as data_table};
-ghost use Rattle.toml.specs.View.{view, items_view, members_view, table_view};
+ghost use Rattle.toml.specs.View.{view, items_view, table_view};
 ghost use Rattle.roster.specs.Document as document;
 ghost use Rattle.roster.specs.Document.{each_item, each_member, as_pair, texts_of, pair_of, pairs_of, day_in, duty_entry, duty_entries, people_of, number_of, ceiling_of, ceilings_of, member_of, fields_of};
 ghost use Rattle.roster.specs.Relations.{AreRising, IsOrdered};

@@ -1,6 +1,6 @@
 //! Words that do not stand: `other0`, `other1` and so on.
 
-ghost use Rattle.std.specs.Prelude.{◌≡◌, ℕ, ◌<◌, ◌^◌, true, IfOk};
+ghost use Rattle.std.specs.Prelude.{◌≡◌, ◌<◌, true, IfOk};
 ghost use Rattle.std.specs.List.Sorted.{IsStrictlySortedBy};
 ghost use Rattle.sorting.specs.Lists.{text_order};
 ghost use Rattle.sudo_beyond.specs.Cases.{other as word_of, IsFirstOther, has};

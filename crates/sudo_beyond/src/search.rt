@@ -1,6 +1,6 @@
 //! The first of the cases that one policy allows and another refuses.
 
-ghost use Rattle.std.specs.Prelude.{◌≡◌, ◌+◌, if◌then◌else◌, Some, None, IfOk, OnOk};
+ghost use Rattle.std.specs.Prelude.{◌≡◌, if◌then◌else◌, Some, None, IfOk, OnOk};
 ghost use Rattle.sudo_beyond.specs.Beyond.{IsGap};
 ghost use Rattle.sudo_beyond.specs.Cases as specs;
 ghost use Rattle.sudo_beyond.specs.Answer.{FirstOf};

@@ -1,8 +1,7 @@
 //! Definitions of aliases read from tokens.
 
-ghost use Rattle.std.specs.Prelude.{◌≡◌, ◌<◌, List, ℕ, length, IfOk, MatchOption, MatchResult, Ok, Some, None};
+ghost use Rattle.std.specs.Prelude.{◌≡◌, ◌<◌, List, length, IfOk, MatchOption, MatchResult, Ok, Some, None};
 ghost use Rattle.sudo_words.specs.Bytes.{comma, colon};
-ghost use Rattle.sudo_policy.specs.declared.entry.Signed.{Signed as Sign};
 ghost use Rattle.sudo_policy.specs.declared.fault.LineFault.TheVariants.{NoMemory};
 ghost use Rattle.sudo_policy.specs.declared.tree.Definition.{Definition as Defined};
 ghost use Rattle.sudo_syntax.specs.private.Fronts.{Defines, EndsBy, NoKind};
