@@ -8,17 +8,17 @@ use Rattle.messages.specs.declared.message.Message.{Message}
 use Rattle.roster.specs.Fields.{RosterFields}
 use Rattle.grants.specs.Summaries.{Kept}
 use Rattle.grants.specs.declared.outcome.Status.{Status}
-use Rattle.desk_outcomes.specs.HostFile.{Line, AreLines, IsHostFile, IsHostFileAfter, lines_after}
-use Rattle.desk_outcomes.specs.Outcomes.{AreLive, ComesTo, LiveGrant}
-use Rattle.desk_outcomes.specs.Parked.{AreParked}
-use Rattle.desk_outcomes.specs.Summaries.{AllKeepTheSame, AreSummaries}
+use Rattle.outcomes.specs.HostFile.{Line, AreLines, IsHostFile, IsHostFileAfter, lines_after}
+use Rattle.outcomes.specs.Outcomes.{AreLive, ComesTo, LiveGrant}
+use Rattle.outcomes.specs.Parked.{AreParked}
+use Rattle.outcomes.specs.Summaries.{AllKeepTheSame, AreSummaries}
 use Rattle.desk.specs.Runs.{Event, IsRun, SameAcked}
 use Rattle.desk.specs.Texts.{AreTexts}
-use Rattle.desk_outcomes.proofs.FileLemmas.{one_file, one_file_after, one_lines}
-use Rattle.desk_outcomes.proofs.SummaryLemmas.{one_of_summaries, summaries_of_set}
+use Rattle.outcomes.proofs.FileLemmas.{one_file, one_file_after, one_lines}
+use Rattle.outcomes.proofs.SummaryLemmas.{one_of_summaries, summaries_of_set}
 use Rattle.desk.proofs.RunLemmas.{runs_agree}
 use Rattle.desk.proofs.TextLemmas.{one_texts}
-use Rattle.desk_outcomes.proofs.SetLemmas.{Alike, alike_sets, file_after_alike, file_alike, lines_alike, live_alike, one_live, one_outcome, one_parked, outcome_alike, parked_of_set}
+use Rattle.outcomes.proofs.SetLemmas.{Alike, alike_sets, file_after_alike, file_alike, lines_alike, live_alike, one_live, one_outcome, one_parked, outcome_alike, parked_of_set}
 
 module _ (f : RosterFields Cmnd) (old s t : List Message) (r u : List Event) (acked : SameAcked r u) (first : IsRun f old r s) (second : IsRun f old u t) where
   same_left : SameMessages s t

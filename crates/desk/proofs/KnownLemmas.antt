@@ -5,9 +5,9 @@ use Rattle.std.specs.Option.{IfSome}
 use Rattle.std.proofs.lemmas.List.Elements.{Contains-append_left, Contains-push, Contains-push_cases}
 use Rattle.messages.specs.declared.message.Message.{Message}
 use Rattle.desk_tables.specs.Sets.{IsNothing, IsWith, Lists, SameSet}
-use Rattle.desk_outcomes.specs.declared.gathering.Gathered.{Gathered}
-use Rattle.desk_outcomes.specs.Gathered.{AreGathered}
-use Rattle.desk_outcomes.proofs.Membership.{no_member}
+use Rattle.outcomes.specs.declared.gathering.Gathered.{Gathered}
+use Rattle.outcomes.specs.Gathered.{AreGathered}
+use Rattle.outcomes.proofs.Membership.{no_member}
 use Rattle.desk.specs.declared.opening.Origin.{Origin}
 use Rattle.desk.specs.declared.opening.Origin.TheVariants.{Made}
 use Rattle.desk.specs.private.Known.{IsKnown, IsKnownAtFirst}

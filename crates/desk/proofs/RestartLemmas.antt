@@ -14,8 +14,8 @@ use Rattle.desk.specs.Same.{AnswerAlike}
 use Rattle.desk.specs.State.{DeskState}
 use Rattle.desk.specs.declared.refusal.Refusal.{Refusal}
 use Rattle.desk.specs.declared.refusal.Refusal.TheVariants.{UnknownRelay, UnknownHost, TooLong, NotCanonical, BadField, Denied, TooManyRules, RosterChanged, NotADesk, OldSchema, Storage, NoMemory, BaseTooLarge}
-use Rattle.desk_outcomes.proofs.LawLemmas.{order_free}
-use Rattle.desk_outcomes.proofs.SetLemmas.{parked_of_set}
+use Rattle.outcomes.proofs.LawLemmas.{order_free}
+use Rattle.outcomes.proofs.SetLemmas.{parked_of_set}
 use Rattle.desk.proofs.TextLemmas.{texts_of_set}
 
 listed : (S T : Message → Type 0) → SameSet S T → (s t : List Message) → Lists S s → Lists T t → SameMessages s t

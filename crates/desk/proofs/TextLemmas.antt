@@ -17,9 +17,9 @@ use Rattle.messages.proofs.NameOrder.{texts_strict}
 use Rattle.messages.proofs.Uniqueness.{one_message}
 use Rattle.messages.specs.Order.{TextPrecedes}
 use Rattle.desk_tables.specs.Sets.{Lists, SameSet}
-use Rattle.desk_outcomes.proofs.Membership.{no_member, Contains-head, Contains-behind, Contains-cases}
-use Rattle.desk_outcomes.proofs.Orders.{same_lists}
-use Rattle.desk_outcomes.proofs.ParkedLemmas.{from_texts, in_texts, texts_in_order}
+use Rattle.outcomes.proofs.Membership.{no_member, Contains-head, Contains-behind, Contains-cases}
+use Rattle.outcomes.proofs.Orders.{same_lists}
+use Rattle.outcomes.proofs.ParkedLemmas.{from_texts, in_texts, texts_in_order}
 use Rattle.desk.specs.Texts.{AreTexts}
 
 -- ---- one more text

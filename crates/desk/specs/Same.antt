@@ -4,8 +4,8 @@ use Rattle.sudo_words.specs.declared.cmnd.Cmnd.{Cmnd}
 use Rattle.messages.specs.declared.message.Message.{Message}
 use Rattle.roster.specs.Fields.{RosterFields}
 use Rattle.desk_tables.specs.Sets.{Lists}
-use Rattle.desk_outcomes.specs.Parked.{AreParked}
-use Rattle.desk_outcomes.specs.Same.{GrantTheSame}
+use Rattle.outcomes.specs.Parked.{AreParked}
+use Rattle.outcomes.specs.Same.{GrantTheSame}
 use Rattle.desk.specs.Texts.{AreTexts}
 
 -- What holds the one set and what holds the other answer every question alike: lists of their messages grant the same, and have the same parked verdicts and

@@ -8,10 +8,10 @@ ghost use Rattle.messages.specs.declared.message.Message.{Message as AnyMessage}
 ghost use Rattle.roster.specs.Fields.{RosterFields};
 ghost use Rattle.grants.specs.Summaries.{Kept};
 ghost use Rattle.grants.specs.declared.outcome.Status.{Status as AnyStatus};
-ghost use Rattle.desk_outcomes.specs.HostFile.{Line, AreLines, IsHostFile, IsHostFileAfter, lines_after};
-ghost use Rattle.desk_outcomes.specs.Outcomes.{AreLive, ComesTo, LiveGrant};
-ghost use Rattle.desk_outcomes.specs.Parked.{AreParked};
-ghost use Rattle.desk_outcomes.specs.Summaries.{AllKeepTheSame, AreSummaries};
+ghost use Rattle.outcomes.specs.HostFile.{Line, AreLines, IsHostFile, IsHostFileAfter, lines_after};
+ghost use Rattle.outcomes.specs.Outcomes.{AreLive, ComesTo, LiveGrant};
+ghost use Rattle.outcomes.specs.Parked.{AreParked};
+ghost use Rattle.outcomes.specs.Summaries.{AllKeepTheSame, AreSummaries};
 ghost use Rattle.desk.specs.Runs.{Event, IsRun, SameAcked};
 ghost use Rattle.desk.specs.Texts.{AreTexts};
 

@@ -2,12 +2,12 @@
 
 ghost use Rattle.std.specs.Prelude.{List, IfOk, map, string_bytes};
 ghost use Rattle.messages.specs.declared.message.Message.{Message as AnyMessage};
-ghost use Rattle.desk_outcomes.specs.Gathered.{AreGathered};
-ghost use Rattle.desk_outcomes.specs.Parked.{AreParked};
-ghost use Rattle.desk_outcomes.specs.Summaries.{AreSummaries};
+ghost use Rattle.outcomes.specs.Gathered.{AreGathered};
+ghost use Rattle.outcomes.specs.Parked.{AreParked};
+ghost use Rattle.outcomes.specs.Summaries.{AreSummaries};
 
-use desk_outcomes::{Gathered, parked_in, summaries_in};
 use grants::Summary;
+use outcomes::{Gathered, parked_in, summaries_in};
 use std::alloc::Global;
 use sudo_words::NoMemory;
 

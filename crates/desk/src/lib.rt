@@ -21,9 +21,9 @@ mod texts;
 
 pub use ack::Ack;
 pub use desk::Desk;
-pub use desk_outcomes::{Live, RequestName};
 pub use desk_store::{Keeper, MemoryKeeper};
 pub use holdings::Holdings;
+pub use outcomes::{Live, RequestName};
 pub use rebuilding_laws::{rebuild_again, rebuild_twice};
 pub use refusal::Refusal;
 pub use reopening::{restart, restart_over};

@@ -2,7 +2,7 @@
 
 ghost use Rattle.std.specs.Prelude.{◌≡◌, List, [], ◌∷◌, ◌++◌, IfErr, IfOk, IsErr, IfSome, Err, None, Some};
 ghost use Rattle.messages.specs.declared.message.Message.{Message as AnyMessage};
-ghost use Rattle.desk_outcomes.specs.Gathered.{AreGathered};
+ghost use Rattle.outcomes.specs.Gathered.{AreGathered};
 ghost use Rattle.desk.specs.private.Known.{IsKnown};
 ghost use Rattle.desk.specs.Refusals.{IsWant};
 ghost use Rattle.desk.specs.declared.refusal.Refusal.TheVariants as refusal;
@@ -11,9 +11,9 @@ ghost use Rattle.desk_store.specs.Serves.{Serves};
 ghost use Rattle.desk_tables.specs.Sets.{Lists, SameSet};
 
 use crate::refusal::Refusal;
-use desk_outcomes::Gathered;
 use desk_store::{Keeper, KeeperError};
 use messages::Message;
+use outcomes::Gathered;
 
 /// The keeper's messages. The desk stays as it is, and so does what a crash leaves of it, and what is known of the messages, which is
 /// named for the proof alone.

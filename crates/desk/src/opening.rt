@@ -12,8 +12,8 @@ ghost use Rattle.desk.specs.declared.opening.Origin.TheVariants as origins;
 ghost use Rattle.desk.specs.declared.refusal.Refusal.TheVariants as refusal;
 
 use crate::refusal::Refusal;
-use desk_outcomes::Gathered;
 use desk_store::{Found, Keeper};
+use outcomes::Gathered;
 use std::alloc::Global;
 
 /// Where a desk comes from.

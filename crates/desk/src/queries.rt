@@ -4,23 +4,23 @@ ghost use Rattle.std.specs.Prelude.{◌≡◌, ◌⊎◌, ◌↔◌, ◌<◌, �
 ghost use Rattle.messages.specs.declared.message.Message.{Message as AnyMessage};
 ghost use Rattle.roster.specs.Rules.{is_among};
 ghost use Rattle.desk_tables.specs.Sets.{Lists, SameSet};
-ghost use Rattle.desk_outcomes.specs.HostFile.{Line, AreLines, IsHostFile, IsHostFileAfter, lines_after};
-ghost use Rattle.desk_outcomes.specs.LinesLeft as left;
-ghost use Rattle.desk_outcomes.specs.Outcomes.{AreLive, ComesTo};
-ghost use Rattle.desk_outcomes.specs.Parked.{AreParked};
+ghost use Rattle.outcomes.specs.HostFile.{Line, AreLines, IsHostFile, IsHostFileAfter, lines_after};
+ghost use Rattle.outcomes.specs.LinesLeft as left;
+ghost use Rattle.outcomes.specs.Outcomes.{AreLive, ComesTo};
+ghost use Rattle.outcomes.specs.Parked.{AreParked};
 ghost use Rattle.desk.specs.Refusals.{IsWant};
 ghost use Rattle.desk.specs.Serving.{ServesAs};
-ghost use Rattle.desk_outcomes.specs.Rights.{GivesRights, GivesRightsAfter};
-ghost use Rattle.desk_outcomes.specs.Summaries.{AreSummaries};
+ghost use Rattle.outcomes.specs.Rights.{GivesRights, GivesRightsAfter};
+ghost use Rattle.outcomes.specs.Summaries.{AreSummaries};
 ghost use Rattle.desk.specs.declared.refusal.Refusal.TheVariants as refusal;
 
 use crate::desk::Desk;
 use crate::holdings::{Holdings, holdings_in};
 use crate::loading::known_of;
 use crate::refusal::Refusal;
-use desk_outcomes::{Live, RequestName, host_file_in, live_in, parked_in, status_in, summaries_in};
 use desk_store::Keeper;
 use grants::{Status, Summary};
+use outcomes::{Live, RequestName, host_file_in, live_in, parked_in, status_in, summaries_in};
 use sudo_words::{HostName, Moment};
 
 impl<K: Keeper> Desk<K> {

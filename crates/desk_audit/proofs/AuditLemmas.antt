@@ -20,12 +20,12 @@ use Rattle.messages.specs.declared.request_name.RequestName.{RequestName}
 use Rattle.messages.proofs.NameOrder.{lower_from_less}
 use Rattle.roster.specs.Fields.{RosterFields}
 use Rattle.desk_store.specs.Sets.{Lists, SameSet}
-use Rattle.desk_outcomes.specs.Outcomes.{ComesTo}
-use Rattle.desk_outcomes.specs.private.ByName.{at_name}
-use Rattle.desk_outcomes.proofs.GivenLists.{turn_split}
-use Rattle.desk_outcomes.proofs.Membership.{no_member, Contains-cases}
-use Rattle.desk_outcomes.proofs.NameMaps.{at_entry, names_total}
-use Rattle.desk_outcomes.proofs.Orders.{behind_from_each}
+use Rattle.outcomes.specs.Outcomes.{ComesTo}
+use Rattle.outcomes.specs.private.ByName.{at_name}
+use Rattle.outcomes.proofs.GivenLists.{turn_split}
+use Rattle.outcomes.proofs.Membership.{no_member, Contains-cases}
+use Rattle.outcomes.proofs.NameMaps.{at_entry, names_total}
+use Rattle.outcomes.proofs.Orders.{behind_from_each}
 use Rattle.desk_audit.specs.Audit.{IsAudit, TellsName}
 use Rattle.desk_audit.specs.Told.{name_in}
 use Rattle.desk_audit.specs.declared.entry.Entry.{Entry}

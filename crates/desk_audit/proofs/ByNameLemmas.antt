@@ -7,9 +7,9 @@ use Rattle.std.proofs.lemmas.List.Elements.{Contains-append_left, Contains-push}
 use Rattle.messages.specs.Names.{name_cmp}
 use Rattle.messages.specs.declared.message.Message.{Message}
 use Rattle.messages.specs.declared.request_name.RequestName.{RequestName}
-use Rattle.desk_outcomes.specs.private.ByName.{at_name}
-use Rattle.desk_outcomes.proofs.Membership.{no_member}
-use Rattle.desk_outcomes.proofs.NameMaps.{SetsAt, at_none, same_cases}
+use Rattle.outcomes.specs.private.ByName.{at_name}
+use Rattle.outcomes.proofs.Membership.{no_member}
+use Rattle.outcomes.proofs.NameMaps.{SetsAt, at_none, same_cases}
 use Rattle.desk_audit.specs.Told.{TellsMessages, name_in}
 use Rattle.desk_audit.specs.declared.gathering.About.{About}
 use Rattle.desk_audit.specs.private.ByName.{Gathers, IsToldAt, NobodySpeaks}

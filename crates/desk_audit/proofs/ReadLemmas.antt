@@ -15,9 +15,9 @@ use Rattle.desk.specs.Refusals.{IsWant}
 use Rattle.desk.specs.Texts.{AreTexts}
 use Rattle.desk.specs.declared.refusal.Refusal.{Refusal}
 use Rattle.desk.specs.declared.refusal.Refusal.TheVariants.{TooLong}
-use Rattle.desk_outcomes.specs.private.ByName.{at_name}
-use Rattle.desk_outcomes.proofs.Membership.{no_member}
-use Rattle.desk_outcomes.proofs.Orders.{ordered_front}
+use Rattle.outcomes.specs.private.ByName.{at_name}
+use Rattle.outcomes.proofs.Membership.{no_member}
+use Rattle.outcomes.proofs.Orders.{ordered_front}
 use Rattle.desk_audit.specs.Told.{IsTooLong, TellsMessages, name_in}
 use Rattle.desk_audit.specs.declared.gathering.About.{About}
 use Rattle.desk_audit.specs.private.ByName.{Gathers, IsBehind, IsToldAt, NobodySpeaks}

@@ -10,7 +10,7 @@ use Rattle.messages.specs.Wire.{request_text, verdict_text}
 use Rattle.messages.specs.declared.message.Message.{Message}
 use Rattle.messages.specs.declared.message.Message.TheVariants.{Request, Verdict}
 use Rattle.messages.specs.declared.request_name.RequestName.{RequestName}
-use Rattle.desk_outcomes.proofs.Membership.{no_member}
+use Rattle.outcomes.proofs.Membership.{no_member}
 use Rattle.desk_audit.specs.Told.{TellsMessages, name_in}
 use Rattle.desk_audit.specs.declared.gathering.About.{About}
 use Rattle.desk_audit.specs.private.ByName.{IsBehind, NobodySpeaks}

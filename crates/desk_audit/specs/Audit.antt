@@ -5,7 +5,7 @@ use Rattle.messages.specs.Names.{NamePrecedes}
 use Rattle.messages.specs.Order.{AreInOrder}
 use Rattle.messages.specs.declared.message.Message.{Message}
 use Rattle.roster.specs.Fields.{RosterFields}
-use Rattle.desk_outcomes.specs.Outcomes.{ComesTo}
+use Rattle.outcomes.specs.Outcomes.{ComesTo}
 use Rattle.desk_audit.specs.Told.{TellsMessages, name_in}
 use Rattle.desk_audit.specs.declared.entry.Entry.{Entry}
 

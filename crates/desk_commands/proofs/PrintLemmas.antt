@@ -5,7 +5,7 @@ use Rattle.sudo_policy.specs.declared.entry.Entry.{Entry}
 use Rattle.messages.specs.declared.message.Message.{Message}
 use Rattle.roster.specs.Fields.{RosterFields}
 use Rattle.roster.specs.Rules.{is_among}
-use Rattle.desk_outcomes.specs.HostFile.{AreLines, Line}
+use Rattle.outcomes.specs.HostFile.{AreLines, Line}
 use Rattle.desk_store.specs.Sets.{Lists, SameSet}
 use Rattle.review.specs.Report.{IsReport}
 use Rattle.desk.specs.Refusals.{IsWant}

@@ -6,8 +6,8 @@ use Rattle.sudo_words.specs.declared.cmnd.Cmnd.{Cmnd}
 use Rattle.roster.specs.Fields.{RosterFields}
 use Rattle.roster.specs.Rules.{is_among}
 use Rattle.desk_store.specs.Sets.{Lists, SameSet}
-use Rattle.desk_outcomes.specs.HostFile.{AreLines, IsHostFile, IsHostFileAfter, Line, lines_after}
-use Rattle.desk_outcomes.specs.Rights.{GivesRights, GivesRightsAfter}
+use Rattle.outcomes.specs.HostFile.{AreLines, IsHostFile, IsHostFileAfter, Line, lines_after}
+use Rattle.outcomes.specs.Rights.{GivesRights, GivesRightsAfter}
 use Rattle.desk.specs.declared.refusal.Refusal.TheVariants as desk
 use Rattle.desk_commands.specs.Files.{EndsMaking, IsDeskOf}
 use Rattle.desk_commands.specs.Kept.{Kept, held}

@@ -7,7 +7,7 @@ ghost use Rattle.roster.specs.Rules.{is_among};
 ghost use Rattle.desk_store.specs.Keeping.{HasFailed};
 ghost use Rattle.desk_store.specs.Serves.{Serves};
 ghost use Rattle.desk_store.specs.Sets.{Lists};
-ghost use Rattle.desk_outcomes.specs.HostFile.{AreLines, Line};
+ghost use Rattle.outcomes.specs.HostFile.{AreLines, Line};
 ghost use Rattle.desk.specs.Refusals.{IsWant};
 ghost use Rattle.desk.specs.Serving.{ServesAs};
 ghost use Rattle.desk.specs.declared.refusal.Refusal.TheVariants as refusal;

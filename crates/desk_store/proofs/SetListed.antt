@@ -17,7 +17,7 @@ use Rattle.desk_opening.specs.Opened.{HasTexts}
 use Rattle.desk_opening.specs.private.Reading.{AreBodies, IsKeepable, body}
 use Rattle.desk_opening.specs.private.Selecting.{shown_of}
 use Rattle.desk_opening.proofs.TextsShown.{listed, row_has, text_of}
-use Rattle.desk_outcomes.proofs.Membership.{no_member, Contains-head, Contains-behind, Contains-cases}
+use Rattle.outcomes.proofs.Membership.{no_member, Contains-head, Contains-behind, Contains-cases}
 
 -- a message that the row's body is the text of
 abbrev IsSpelled : Row → Type 0

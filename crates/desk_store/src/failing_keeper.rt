@@ -8,8 +8,8 @@ use crate::error::KeeperError;
 use crate::failing::storage;
 use crate::found::Found;
 use crate::keeper::Keeper;
-use desk_outcomes::Gathered;
 use messages::Message;
+use outcomes::Gathered;
 
 /// Any keeper, of which so many calls succeed or fail as they would, and each later one is refused before it comes to it.
 ///

@@ -9,8 +9,8 @@ ghost use Rattle.desk_opening.specs.Opened.{IsKept, Reads};
 ghost use Rattle.desk_store.specs.Keeping.{IsKnownOf};
 
 use desk_opening::shown_of;
-use desk_outcomes::Gathered;
 use desk_tables::Fault;
+use outcomes::Gathered;
 use sqlite::{Alter, Connection};
 use std::alloc::Global;
 

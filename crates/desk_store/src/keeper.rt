@@ -11,8 +11,8 @@ ghost use Rattle.desk_store.specs.Serving.{IsServed};
 
 use crate::error::KeeperError;
 use crate::found::Found;
-use desk_outcomes::Gathered;
 use messages::Message;
+use outcomes::Gathered;
 
 /// What keeps a desk: nothing of a desk's, or a desk's roster text and the set of its messages, or what is no desk.
 ///

@@ -12,8 +12,8 @@ use crate::collected::Collected;
 use crate::error::KeeperError;
 use crate::found::Found;
 use crate::keeper::Keeper;
-use desk_outcomes::Gathered;
 use messages::Message;
+use outcomes::Gathered;
 use std::alloc::Global;
 use std::marker::Model;
 

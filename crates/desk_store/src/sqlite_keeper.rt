@@ -23,10 +23,10 @@ use crate::keeper::Keeper;
 use crate::replacing::replace_in;
 use crate::settled::settles;
 use desk_opening::{Contents, Found as InDatabase, look, messages_of};
-use desk_outcomes::Gathered;
 use desk_schema::{is_ready, make};
 use desk_tables::{Fault, arrive};
 use messages::Message;
+use outcomes::Gathered;
 use sqlite::{Alter, Connection};
 use std::alloc::Global;
 

@@ -5,12 +5,12 @@ use Rattle.sudo_policy.specs.Printing.{canon}
 use Rattle.sudo_policy.specs.declared.entry.Entry.{Entry}
 use Rattle.messages.specs.declared.message.Message.{Message}
 use Rattle.roster.specs.Fields.{RosterFields}
-use Rattle.desk_outcomes.specs.HostFile.{Line, lines_after, with_lines}
-use Rattle.desk_outcomes.specs.Outcomes.{LiveGrant}
+use Rattle.outcomes.specs.HostFile.{Line, lines_after, with_lines}
+use Rattle.outcomes.specs.Outcomes.{LiveGrant}
 use Rattle.desk.proofs.DeliveryLemmas.{one_answer}
 use Rattle.desk.proofs.TextLemmas.{one_texts}
-use Rattle.desk_outcomes.proofs.FileLemmas.{one_lines}
-use Rattle.desk_outcomes.proofs.SetLemmas.{one_live, one_parked}
+use Rattle.outcomes.proofs.FileLemmas.{one_lines}
+use Rattle.outcomes.proofs.SetLemmas.{one_live, one_parked}
 use Rattle.review.proofs.ReportOne.{one_report}
 use Rattle.relay_http.specs.Asked.{Asked, deliver, all_messages, grants, parked, host_file, host_file_after, report, refused}
 use Rattle.relay_http.specs.Replies.{IsFileReply, IsReply, Reply, delivery, done, is_known_host, each_on_a_line, live_line, to_delivery}

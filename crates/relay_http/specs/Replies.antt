@@ -13,9 +13,9 @@ use Rattle.roster.specs.Rules.{is_among}
 use Rattle.grants.specs.declared.outcome.Window.{Window}
 use Rattle.desk_store.specs.Sets.{SameSet}
 use Rattle.desk.specs.Delivery.{Answers, Delivery}
-use Rattle.desk_outcomes.specs.HostFile.{Line, AreLines, lines_after, with_lines}
-use Rattle.desk_outcomes.specs.Outcomes.{AreLive, LiveGrant}
-use Rattle.desk_outcomes.specs.Parked.{AreParked}
+use Rattle.outcomes.specs.HostFile.{Line, AreLines, lines_after, with_lines}
+use Rattle.outcomes.specs.Outcomes.{AreLive, LiveGrant}
+use Rattle.outcomes.specs.Parked.{AreParked}
 use Rattle.desk.specs.Refusals.{refusal_text}
 use Rattle.desk.specs.Texts.{AreTexts}
 use Rattle.desk.specs.declared.ack.Ack.{Ack}

@@ -13,9 +13,9 @@ use Rattle.messages.specs.Names.{name_of}
 use Rattle.messages.specs.declared.request_name.RequestName.{RequestName}
 use Rattle.messages.specs.declared.message.Message.{Message}
 use Rattle.grants.specs.Summaries.{Kept, StandsFor}
-use Rattle.desk_outcomes.specs.Order.{AllAfter, AreInOrder, NamePrecedes, TextPrecedes}
-use Rattle.desk_outcomes.specs.Parked.{AreParked}
-use Rattle.desk_outcomes.specs.Summaries.{AreSummaries as AreLent, SummaryPrecedes}
+use Rattle.outcomes.specs.Order.{AllAfter, AreInOrder, NamePrecedes, TextPrecedes}
+use Rattle.outcomes.specs.Parked.{AreParked}
+use Rattle.outcomes.specs.Summaries.{AreSummaries as AreLent, SummaryPrecedes}
 use Rattle.sorting.specs.Lists.{text_order}
 use Rattle.sorting.proofs.Lists.{contains_head, contains_map}
 use Rattle.sorting.proofs.OneSorted.{cons_cases, no_element}

@@ -1,8 +1,8 @@
 -- What is known of a desk's messages. For private clauses.
 use Rattle.std.specs.Prelude.{◌≡◌, List, [], Option, Some, None}
 use Rattle.messages.specs.declared.message.Message.{Message}
-use Rattle.desk_outcomes.specs.declared.gathering.Gathered.{Gathered}
-use Rattle.desk_outcomes.specs.Gathered.{AreGathered}
+use Rattle.outcomes.specs.declared.gathering.Gathered.{Gathered}
+use Rattle.outcomes.specs.Gathered.{AreGathered}
 use Rattle.desk_store.specs.Keeping.{IsKnownOf}
 use Rattle.desk.specs.declared.opening.Origin.{Origin}
 use Rattle.desk.specs.declared.opening.Origin.TheVariants.{Made}

@@ -6,7 +6,7 @@ use Rattle.messages.specs.Order.{TextPrecedes}
 use Rattle.messages.specs.Wire.{wire}
 use Rattle.messages.specs.declared.message.Message.{Message}
 use Rattle.messages.specs.declared.request_name.RequestName.{RequestName}
-use Rattle.desk_outcomes.specs.private.ByName.{at_name}
+use Rattle.outcomes.specs.private.ByName.{at_name}
 use Rattle.desk_audit.specs.Told.{TellsMessages, name_in}
 use Rattle.desk_audit.specs.declared.gathering.About.{About}
 

@@ -1,7 +1,7 @@
 use Rattle.std.proofs.Common.{Option, subst}
 use Rattle.std.specs.Option.{IfSome}
-use Rattle.desk_outcomes.specs.declared.gathering.Gathered.{Gathered}
-use Rattle.desk_outcomes.specs.Gathered.{AreGathered}
+use Rattle.outcomes.specs.declared.gathering.Gathered.{Gathered}
+use Rattle.outcomes.specs.Gathered.{AreGathered}
 use Rattle.desk.proofs.loading.with_message.Goals as goal
 
 pub returns-in-Ok-clause-more : goal.returns-in-Ok-clause-more

@@ -5,7 +5,7 @@ use Rattle.messages.specs.declared.request_name.RequestName.{RequestName}
 use Rattle.roster.specs.Fields.{Reading}
 use Rattle.desk_store.proofs.OutcomeLemmas.{ok_no_err}
 use Rattle.desk_store.proofs.ServingLemmas.{served_as, served_at_ok, served_by_none, served_then}
-use Rattle.desk_outcomes.specs.Outcomes.{ComesTo}
+use Rattle.outcomes.specs.Outcomes.{ComesTo}
 use Rattle.desk_audit.specs.declared.entry.Entry.{Entry}
 use Rattle.desk_audit.proofs.AuditLemmas.{is_audit, keyed, keyed_is, lists_same, one_status_more, split_ends, split_once_more}
 use Rattle.desk_audit.proofs.entry.entries_of.Goals as goal

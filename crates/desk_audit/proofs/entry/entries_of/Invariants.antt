@@ -3,7 +3,7 @@ use Rattle.std.specs.List.{AllByRecursion}
 use Rattle.messages.specs.declared.message.Message.{Message}
 use Rattle.desk_store.specs.Serving.{IsServed}
 use Rattle.desk_store.specs.Sets.{Lists}
-use Rattle.desk_outcomes.specs.Outcomes.{ComesTo}
+use Rattle.outcomes.specs.Outcomes.{ComesTo}
 use Rattle.desk_audit.proofs.AuditLemmas.{keyed}
 use Rattle.desk_audit.proofs.entry.entries_of.Given as goal
 

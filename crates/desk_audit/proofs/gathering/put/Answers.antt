@@ -1,7 +1,7 @@
 use Rattle.std.proofs.Common.{◌≡◌, None, Some, rules, subst, sym}
 use Rattle.messages.specs.declared.request_name.RequestName.{RequestName}
-use Rattle.desk_outcomes.specs.private.ByName.{at_name}
-use Rattle.desk_outcomes.proofs.NameMaps.{SetsAt, sets_from}
+use Rattle.outcomes.specs.private.ByName.{at_name}
+use Rattle.outcomes.proofs.NameMaps.{SetsAt, sets_from}
 use Rattle.desk_audit.specs.Told.{name_in}
 use Rattle.desk_audit.specs.private.ByName.{Gathers, IsToldAt, NobodySpeaks}
 use Rattle.desk_audit.proofs.ByNameLemmas.{IsAt, one_more}

@@ -5,7 +5,7 @@ use Rattle.messages.specs.NameRows.{ShowSet}
 use Rattle.messages.specs.declared.message.Message.{Message}
 use Rattle.desk_tables.specs.Kept.{HoldsText}
 use Rattle.desk_schema.proofs.ShapeLemmas.{common_of}
-use Rattle.desk_outcomes.specs.Gathered.{AreGathered}
+use Rattle.outcomes.specs.Gathered.{AreGathered}
 use Rattle.desk_store.specs.Keeping.{IsKnownOf}
 use Rattle.messages.proofs.SetsShown.{shown_too}
 use Rattle.desk_store.proofs.SetListed.{set_listed}

@@ -1,6 +1,6 @@
 use Rattle.std.proofs.Common.{◌≡◌, ◌⊎◌, ℕ, List, true, sym, subst}
 use Rattle.sudo_words.specs.Word.{is_host_name}
-use Rattle.desk_outcomes.specs.HostFile.{lines_after}
+use Rattle.outcomes.specs.HostFile.{lines_after}
 use Rattle.relay_http.proofs.AnswerLemmas.{file_right, left_after, text_served}
 use Rattle.relay_http.specs.Asked.{host_file_after}
 use Rattle.relay_http.specs.Prepared.{to_question}

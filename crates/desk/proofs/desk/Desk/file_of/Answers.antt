@@ -4,11 +4,11 @@ use Rattle.std.proofs.lemmas.Result.{err_from_is_err_and}
 use Rattle.messages.specs.declared.message.Message.{Message}
 use Rattle.desk_tables.specs.Sets.{Lists}
 use Rattle.desk.specs.declared.refusal.Refusal.TheVariants.{UnknownHost}
-use Rattle.desk_outcomes.specs.HostFile.{Line, AreLines}
-use Rattle.desk_outcomes.specs.LinesLeft.{IsFileLeft, lines_left}
+use Rattle.outcomes.specs.HostFile.{Line, AreLines}
+use Rattle.outcomes.specs.LinesLeft.{IsFileLeft, lines_left}
 use Rattle.desk.specs.Refusals.{IsWant}
 use Rattle.desk.proofs.QueryLemmas.{same_listed}
-use Rattle.desk_outcomes.proofs.SetLemmas.{alike_sets, left_alike, lines_alike, turned}
+use Rattle.outcomes.proofs.SetLemmas.{alike_sets, left_alike, lines_alike, turned}
 use Rattle.desk.proofs.desk.Desk.file_of.Goals as goal
 
 pub returns-in_err-file-clause-few : goal.returns-in_err-file-clause-few

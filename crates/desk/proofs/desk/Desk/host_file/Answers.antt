@@ -1,7 +1,7 @@
 use Rattle.std.proofs.Common.{◌≤◌, ◌<◌, subst, sym, ℕ}
 use Rattle.std.specs.Prelude.{string_bytes}
 use Rattle.std.proofs.lemmas.Result.{IfOk-weaker}
-use Rattle.desk_outcomes.proofs.FileLemmas.{whole_count, whole_file, whole_rights}
+use Rattle.outcomes.proofs.FileLemmas.{whole_count, whole_file, whole_rights}
 use Rattle.desk.proofs.desk.Desk.host_file.Goals as goal
 
 pub returns-clause-file : goal.returns-clause-file

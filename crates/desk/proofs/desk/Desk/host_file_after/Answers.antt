@@ -1,6 +1,6 @@
 use Rattle.std.specs.Prelude.{string_bytes}
 use Rattle.std.proofs.lemmas.Result.{IfOk-weaker}
-use Rattle.desk_outcomes.proofs.FileLemmas.{file_after, rights_after}
+use Rattle.outcomes.proofs.FileLemmas.{file_after, rights_after}
 use Rattle.desk.proofs.desk.Desk.host_file_after.Goals as goal
 
 pub returns-clause-file : goal.returns-clause-file

@@ -1,9 +1,9 @@
 use Rattle.std.proofs.Common.{List}
 use Rattle.messages.specs.declared.message.Message.{Message}
 use Rattle.desk_tables.specs.Sets.{Lists}
-use Rattle.desk_outcomes.specs.Outcomes.{AreLive}
+use Rattle.outcomes.specs.Outcomes.{AreLive}
 use Rattle.desk.proofs.QueryLemmas.{same_listed}
-use Rattle.desk_outcomes.proofs.SetLemmas.{alike_sets, live_alike}
+use Rattle.outcomes.proofs.SetLemmas.{alike_sets, live_alike}
 use Rattle.desk.proofs.desk.Desk.live_at.Goals as goal
 
 pub returns-clause-live : goal.returns-clause-live

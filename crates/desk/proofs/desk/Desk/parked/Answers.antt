@@ -2,9 +2,9 @@ use Rattle.std.proofs.Common.{List}
 use Rattle.messages.specs.declared.message.Message.{Message}
 use Rattle.desk_tables.specs.Sets.{Lists}
 use Rattle.std.specs.Prelude.{map, string_bytes}
-use Rattle.desk_outcomes.specs.Parked.{AreParked}
+use Rattle.outcomes.specs.Parked.{AreParked}
 use Rattle.desk.proofs.QueryLemmas.{same_listed}
-use Rattle.desk_outcomes.proofs.SetLemmas.{parked_of_set}
+use Rattle.outcomes.proofs.SetLemmas.{parked_of_set}
 use Rattle.desk.proofs.desk.Desk.parked.Goals as goal
 
 pub returns-clause-parked : goal.returns-clause-parked

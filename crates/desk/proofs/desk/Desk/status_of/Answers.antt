@@ -1,9 +1,9 @@
 use Rattle.std.proofs.Common.{List}
 use Rattle.messages.specs.declared.message.Message.{Message}
 use Rattle.desk_tables.specs.Sets.{Lists}
-use Rattle.desk_outcomes.specs.Outcomes.{ComesTo}
+use Rattle.outcomes.specs.Outcomes.{ComesTo}
 use Rattle.desk.proofs.QueryLemmas.{same_listed}
-use Rattle.desk_outcomes.proofs.SetLemmas.{alike_sets, outcome_alike}
+use Rattle.outcomes.proofs.SetLemmas.{alike_sets, outcome_alike}
 use Rattle.desk.proofs.desk.Desk.status_of.Goals as goal
 
 pub returns-clause-status : goal.returns-clause-status

@@ -1,9 +1,9 @@
 use Rattle.std.proofs.Common.{List}
 use Rattle.messages.specs.declared.message.Message.{Message}
 use Rattle.desk_tables.specs.Sets.{Lists}
-use Rattle.desk_outcomes.specs.Summaries.{AreSummaries}
+use Rattle.outcomes.specs.Summaries.{AreSummaries}
 use Rattle.desk.proofs.QueryLemmas.{same_listed}
-use Rattle.desk_outcomes.proofs.SummaryLemmas.{summaries_of_set}
+use Rattle.outcomes.proofs.SummaryLemmas.{summaries_of_set}
 use Rattle.desk.proofs.desk.Desk.summaries.Goals as goal
 
 pub returns-clause-summaries : goal.returns-clause-summaries

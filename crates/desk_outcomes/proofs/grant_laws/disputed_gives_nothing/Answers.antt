@@ -1,8 +1,0 @@
-use Rattle.desk_outcomes.proofs.LawLemmas.{disputed_status, disputed_windows}
-use Rattle.desk_outcomes.proofs.grant_laws.disputed_gives_nothing.Goals as goal
-
-pub returns-clause-status : goal.returns-clause-status
-returns-clause-status c = disputed_status
-
-pub returns-clause-window : goal.returns-clause-window
-returns-clause-window c = disputed_windows

@@ -1,5 +1,0 @@
-use Rattle.desk_outcomes.proofs.LawLemmas.{revoked_before}
-use Rattle.desk_outcomes.proofs.grant_laws.revocation_ends.Goals as goal
-
-pub returns : goal.returns
-returns c = revoked_before

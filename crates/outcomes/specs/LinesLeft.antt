@@ -1,0 +1,34 @@
+-- What is left of a host's lines: all of them, or those that end at a moment or later.
+use Rattle.std.specs.Prelude.{◌≡◌, ◌⊎◌, ℕ, ◌<◌, Bool, true, List, filter, length, Option, Some, None}
+use Rattle.sudo_words.specs.declared.cmnd.Cmnd.{Cmnd}
+use Rattle.sudo_policy.specs.declared.entry.Entry.{Entry}
+use Rattle.sudo_policy.specs.declared.entry.Rule.{Rule}
+use Rattle.sudo_policy.specs.Printing.{canon}
+use Rattle.sudo_policy.specs.Spelling.{Spells}
+use Rattle.sudo_decide.specs.Decision.{is_not_after}
+use Rattle.messages.specs.declared.message.Message.{Message}
+use Rattle.roster.specs.Fields.{RosterFields}
+use Rattle.grants.specs.declared.host_fault.HostFault.{HostFault}
+use Rattle.grants.specs.declared.host_fault.HostFault.TheVariants.{TooManyRules, NoMemory}
+use Rattle.outcomes.specs.HostFile.{Line, AreLines, with_lines}
+
+-- without a moment each rule stays
+abbrev pub stays : Option ℕ → Rule → Bool
+stays None rule = true
+stays (Some moment) rule = is_not_after rule.not_after moment
+
+-- of the host's lines
+abbrev pub lines_left : Option ℕ → List Line → List Line
+lines_left after lines = filter (λ line. stays after line.rule) lines
+
+-- the text of the base with the lines that are left, which spells just that
+pub record IsFileLeft (f : RosterFields Cmnd) (base : List Entry) (messages : List Message) (host : List ℕ) (after : Option ℕ) (text : List ℕ) : Type 0 where
+  pub lines : List Line
+  pub lines_are : AreLines f messages host lines
+  pub text_is : text ≡ canon (with_lines base (lines_left after lines))
+  pub spelled : Spells text (with_lines base (lines_left after lines))
+
+-- why there are no lines: want of memory, or too many are left
+abbrev pub IsPast : RosterFields Cmnd → List Message → List ℕ → Option ℕ → HostFault → Type 0
+IsPast f messages host after e =
+    (e ≡ NoMemory) ⊎ ((e ≡ TooManyRules) × ((lines : List Line) → AreLines f messages host lines → 8_192 < length (lines_left after lines)))

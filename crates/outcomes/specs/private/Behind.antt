@@ -1,0 +1,27 @@
+-- The lines that are left of a host's, as the summaries' requests give them in turn.
+use Rattle.std.specs.Prelude.{◌≡◌, ℕ, ◌≤◌, List, ◌++◌, filter, length, map, Option}
+use Rattle.std.specs.List.{AllByRecursion}
+use Rattle.sudo_words.specs.declared.cmnd.Cmnd.{Cmnd}
+use Rattle.sudo_policy.specs.declared.entry.Entry.TheVariants as entries
+use Rattle.sudo_policy.specs.declared.entry.Rule.{Rule}
+use Rattle.sudo_policy.specs.Printing.{canon}
+use Rattle.messages.specs.Fields.{RequestFields}
+use Rattle.messages.specs.declared.message.Message.{Message}
+use Rattle.roster.specs.Fields.{RosterFields}
+use Rattle.grants.specs.GrantRules.{IsGrantRule, rules_for}
+use Rattle.grants.specs.Summaries.{Kept}
+use Rattle.grants.specs.declared.outcome.Status.{Status}
+use Rattle.outcomes.specs.LinesLeft.{stays}
+use Rattle.outcomes.specs.private.InTurn.{Give}
+
+-- of the rules that a request gives the host
+abbrev pub rules_left : Option ℕ → List ℕ → RequestFields → Status → List Rule
+rules_left after host q status = filter (stays after) (rules_for host q status)
+
+-- After the text stand the lines that are left of the summaries' requests in turn: each is of a rule of a grant, and they are not too many.
+pub record AreBehind (f : RosterFields Cmnd) (messages : List Message) (host : List ℕ) (after : Option ℕ) (summaries : List Kept) (old new : List ℕ) : Type 0 where
+  pub rules : List Rule
+  pub given : Give f messages (rules_left after host) summaries rules
+  pub grants : AllByRecursion IsGrantRule rules
+  pub few : length rules ≤ 8_192
+  pub text_is : new ≡ old ++ canon (map entries.Rule rules)

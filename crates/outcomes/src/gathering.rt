@@ -1,0 +1,272 @@
+//! What is known of a set of messages, as one message after another joins it.
+
+ghost use Rattle.std.specs.Prelude.{◌≡◌, List, [], ◌∷◌, ◌++◌, map, Contains, IfOk, OnOk, OnErr, MatchResult, None};
+ghost use Rattle.std.specs.BTreeMap.{IsOrdered};
+ghost use Rattle.messages.specs.Fields.{VerdictFields};
+ghost use Rattle.messages.specs.Names.{IsAbout, name_cmp, name_of};
+ghost use Rattle.messages.specs.NameRows.{ShowSet};
+ghost use Rattle.messages.specs.declared.name_row.NameRow.{NameRow as AnyRow};
+ghost use Rattle.messages.specs.declared.request_name.RequestName.{RequestName as AnyName};
+ghost use Rattle.messages.specs.declared.message.Message.{Message as AnyMessage};
+ghost use Rattle.messages.specs.declared.message.Message.TheVariants as message_of;
+ghost use Rattle.grants.specs.Summaries.{StandsFor};
+ghost use Rattle.outcomes.specs.Gathered.{AreGathered};
+ghost use Rattle.outcomes.specs.private.ByName.{AreAlone, AreByName, Gathers, GathersRows, HasNoVerdict, IsByName, IsRowOf, at_name, verdicts_at};
+
+use grants::{Summary, apply, ask, ask_again, dispute};
+use messages::{Message, NameRow, Request, RequestName, Verdict};
+use std::alloc::Global;
+use std::collections::BTreeMap;
+use std::marker::Model;
+use sudo_words::NoMemory;
+
+/// What is known of a set of messages: a summary for each name that somebody asks under, and the verdicts that wait for their request.
+/// Both stand by name: a verdict is kept as it is until its request comes, and is part of the summary from then on.
+#[derive(Drop)]
+pub struct Gathered {
+    pub(crate) alloc: Global,
+    pub(crate) summaries: BTreeMap<RequestName, Summary>,
+    pub(crate) waiting: BTreeMap<RequestName, Vec<Verdict>>,
+}
+
+impl Model for Gathered {
+    ghost use Rattle.std.specs.BTreeMap.{values};
+    ghost use Rattle.outcomes.specs.Gathered.{Known};
+    ghost use Rattle.outcomes.specs.private.ByName.{IsByName, in_turn};
+
+    ghost Value = { Known };
+
+    ghost view = { λ g. record { summaries = values g.summaries; waiting = in_turn (values g.waiting) } };
+
+    ghost invariant = { λ g. IsByName g.summaries g.waiting };
+}
+
+/// The verdicts that wait under a name.
+fn waited<'a>(waiting: &'a BTreeMap<RequestName, Vec<Verdict>>, name: &RequestName) -> &'a [Verdict]
+    ensures { result.now ≡ verdicts_at waiting.now name.now }
+{
+    match waiting.get(name) {
+        Some(verdicts) => verdicts,
+        None => &[],
+    }
+}
+
+/// The summary of a request with the verdicts that waited for it.
+fn first_of(alloc: Global, request: &Request, verdicts: &[Verdict]) -> Result<Summary, NoMemory>
+    requires { (v : VerdictFields) → Contains verdicts.now v → IsAbout request.now v }
+    ensures stands { IfOk result (StandsFor (message_of.Request request.now ∷ map (λ v. message_of.Verdict v) verdicts.now)) }
+    ensures same_request { IfOk result (λ s. s.request ≡ request.now) }
+{
+    let mut summary = ask(alloc, request)?;
+    for verdict in verdicts {
+        apply(&mut summary, verdict)?;
+    }
+    Ok(summary)
+}
+
+/// Adds the first request of its name: what waited for it is part of its summary, and waits no longer.
+fn put_first(
+    alloc: Global,
+    summaries: &mut BTreeMap<RequestName, Summary>,
+    waiting: &mut BTreeMap<RequestName, Vec<Verdict>>,
+    name: RequestName,
+    request: &Request,
+) -> Result<(), NoMemory>
+    requires known { IsByName summaries.old waiting.old }
+    requires named { name ≡ name_of request.now }
+    requires first { at_name summaries.old name ≡ None }
+    ensures { (set : List AnyMessage) → AreByName set summaries.old waiting.old
+        → MatchResult result (λ _. AreByName (set ++ message_of.Request request.now ∷ []) summaries.new waiting.new) (λ _. AreByName set summaries.new waiting.new) }
+{
+    let summary = first_of(alloc, request, waited(waiting, &name))?;
+    let settled = name.clone()?;
+    summaries.insert(name, summary)?;
+    let _part_of_it = waiting.remove(&settled);
+    Ok(())
+}
+
+/// Adds a request: to the summary of its name, or as the first of it.
+fn put_request(
+    alloc: Global,
+    summaries: &mut BTreeMap<RequestName, Summary>,
+    waiting: &mut BTreeMap<RequestName, Vec<Verdict>>,
+    request: &Request,
+) -> Result<(), NoMemory>
+    requires { IsByName summaries.old waiting.old }
+    ensures { (set : List AnyMessage) → AreByName set summaries.old waiting.old
+        → MatchResult result (λ _. AreByName (set ++ message_of.Request request.now ∷ []) summaries.new waiting.new) (λ _. AreByName set summaries.new waiting.new) }
+{
+    let name = request.name()?;
+    match summaries.get_mut(&name) {
+        Some(summary) => {
+            ask_again(summary, request);
+            Ok(())
+        }
+        None => put_first(alloc, summaries, waiting, name, request),
+    }
+}
+
+/// Adds a verdict to those that wait under its name.
+fn wait(
+    alloc: Global,
+    waiting: &mut BTreeMap<RequestName, Vec<Verdict>>,
+    name: RequestName,
+    verdict: &Verdict,
+) -> Result<(), NoMemory>
+    ensures waits { OnOk result (verdicts_at waiting.new name ≡ verdicts_at waiting.old name ++ verdict.now ∷ []) }
+    ensures others { (other : AnyName) → (name ≡ other → ⊥) → verdicts_at waiting.new other ≡ verdicts_at waiting.old other }
+    ensures err { OnErr result (verdicts_at waiting.new name ≡ verdicts_at waiting.old name) }
+    ensures ordered { IsOrdered name_cmp waiting.old → IsOrdered name_cmp waiting.new }
+{
+    let copy = verdict.clone()?;
+    match waiting.get_mut(&name) {
+        Some(verdicts) => verdicts.push(copy)?,
+        None => {
+            let mut verdicts = Vec::new(alloc);
+            verdicts.push(copy)?;
+            waiting.insert(name, verdicts)?;
+        }
+    }
+    Ok(())
+}
+
+/// Adds a verdict: to the summary of its request, or to those that wait.
+fn put_verdict(
+    alloc: Global,
+    summaries: &mut BTreeMap<RequestName, Summary>,
+    waiting: &mut BTreeMap<RequestName, Vec<Verdict>>,
+    verdict: &Verdict,
+) -> Result<(), NoMemory>
+    requires { IsByName summaries.old waiting.old }
+    ensures { (set : List AnyMessage) → AreByName set summaries.old waiting.old
+        → MatchResult result (λ _. AreByName (set ++ message_of.Verdict verdict.now ∷ []) summaries.new waiting.new) (λ _. AreByName set summaries.new waiting.new) }
+{
+    let name = verdict.name_meant()?;
+    match summaries.get_mut(&name) {
+        Some(summary) => apply(summary, verdict),
+        None => wait(alloc, waiting, name, verdict),
+    }
+}
+
+/// The summary of the row's request, before any verdict.
+fn summary_of(alloc: Global, row: &NameRow) -> Result<Summary, NoMemory>
+    ensures stands { (set : List AnyMessage) → HasNoVerdict set → IsRowOf set row.now → IfOk result (StandsFor set) }
+    ensures same_request { IfOk result (λ s. s.request ≡ row.now.request) }
+{
+    let mut summary = ask(alloc, &row.request)?;
+    if !row.is_disputed {
+        return Ok(summary);
+    }
+    dispute(&mut summary);
+    Ok(summary)
+}
+
+/// Adds the summary of the row's request, where it is the first row of its name.
+fn put_row(
+    alloc: Global,
+    summaries: &mut BTreeMap<RequestName, Summary>,
+    row: &NameRow,
+) -> Result<(), NoMemory>
+    ensures alone { AreAlone summaries.old → OnOk result (AreAlone summaries.new) }
+    ensures rows { (set : List AnyMessage) (rows : List AnyRow) → HasNoVerdict set → IsRowOf set row.now → GathersRows set rows summaries.old
+        → OnOk result (GathersRows set (rows ++ row.now ∷ []) summaries.new) }
+{
+    let name = row.request.name()?;
+    match summaries.get(&name) {
+        Some(_) => Ok(()),
+        None => {
+            let summary = summary_of(alloc, row)?;
+            summaries.insert(name, summary)?;
+            Ok(())
+        }
+    }
+}
+
+/// A summary for each name that has a row, before any verdict.
+fn summaries_of(alloc: Global, rows: &[NameRow]) -> Result<BTreeMap<RequestName, Summary>, NoMemory>
+    ensures alone { IfOk result AreAlone }
+    ensures known { (set : List AnyMessage) → ShowSet (λ m. Contains set m) rows.now [] → IfOk result (Gathers set) }
+{
+    let mut summaries = BTreeMap::new(alloc);
+    for row in rows {
+        put_row(alloc, &mut summaries, row)?;
+    }
+    Ok(summaries)
+}
+
+impl Gathered {
+    /// What is known of no messages. It takes no memory.
+    pub fn new(alloc: Global) -> Gathered
+        ensures { AreGathered [] result }
+    {
+        Gathered {
+            alloc,
+            summaries: BTreeMap::new(alloc),
+            waiting: BTreeMap::new(alloc),
+        }
+    }
+
+    /// What is known of the requests of which these are the rows, before any verdict.
+    fn of_names(alloc: Global, names: &[NameRow]) -> Result<Gathered, NoMemory>
+        ensures { (set : List AnyMessage) → ShowSet (λ m. Contains set m) names.now [] → IfOk result (AreGathered set) }
+    {
+        let summaries = summaries_of(alloc, names)?;
+        Ok(Gathered {
+            alloc,
+            summaries,
+            waiting: BTreeMap::new(alloc),
+        })
+    }
+
+    /// Adds a verdict: what is known is then that of the set with the verdict. Where memory runs out, it is still that of the set.
+    fn hear(&mut self, verdict: &Verdict) -> Result<(), NoMemory>
+        ensures ok { (set : List AnyMessage) → AreGathered set self.old
+            → OnOk result (AreGathered (set ++ message_of.Verdict verdict.now ∷ []) self.new) }
+        ensures err { (set : List AnyMessage) → AreGathered set self.old → OnErr result (AreGathered set self.new) }
+    {
+        put_verdict(self.alloc, &mut self.summaries, &mut self.waiting, verdict)
+    }
+
+    /// Adds a message: what is known is then that of the set with the message. Where memory runs out, it is still that of the set.
+    pub fn take(&mut self, message: &Message) -> Result<(), NoMemory>
+        ensures ok { (set : List AnyMessage) → AreGathered set self.old
+            → OnOk result (AreGathered (set ++ message.now ∷ []) self.new) }
+        ensures err { (set : List AnyMessage) → AreGathered set self.old → OnErr result (AreGathered set self.new) }
+    {
+        match message {
+            Message::Request(request) => put_request(
+                self.alloc,
+                &mut self.summaries,
+                &mut self.waiting,
+                request,
+            ),
+            Message::Verdict(verdict) => self.hear(verdict),
+        }
+    }
+
+    /// What is known of these messages.
+    pub fn of(alloc: Global, set: &[Message]) -> Result<Gathered, NoMemory>
+        ensures { IfOk result (AreGathered set.now) }
+    {
+        let mut gathered = Gathered::new(alloc);
+        for message in set {
+            gathered.take(message)?;
+        }
+        Ok(gathered)
+    }
+
+    /// What is known of the set that the rows of names and the verdicts show, the verdicts that wait among them. No other message is read.
+    pub fn of_rows(
+        alloc: Global,
+        names: &[NameRow],
+        verdicts: &[Verdict],
+    ) -> Result<Gathered, NoMemory>
+        ensures { (set : List AnyMessage) → ShowSet (λ m. Contains set m) names.now verdicts.now → IfOk result (AreGathered set) }
+    {
+        let mut gathered = Gathered::of_names(alloc, names)?;
+        for verdict in verdicts {
+            gathered.hear(verdict)?;
+        }
+        Ok(gathered)
+    }
+}

@@ -1,0 +1,75 @@
+//! One host's file.
+
+ghost use Rattle.std.specs.Prelude.{◌≡◌, ◌⊎◌, ◌<◌, ◌≤◌, List, IfOk, IfErr, OnOk, MatchResult, length, string_bytes};
+ghost use Rattle.std.specs.BTreeMap.{values};
+ghost use Rattle.messages.specs.declared.message.Message.{Message as AnyMessage};
+ghost use Rattle.grants.specs.Bases.{FitsBase};
+ghost use Rattle.grants.specs.declared.host_fault.HostFault.TheVariants as fault;
+ghost use Rattle.outcomes.specs.Gathered.{AreGathered};
+ghost use Rattle.outcomes.specs.HostFile.{Line, AreLines};
+ghost use Rattle.outcomes.specs.LinesLeft as left;
+ghost use Rattle.outcomes.specs.private.Behind.{AreBehind};
+ghost use Rattle.outcomes.specs.private.ByName.{Gathers};
+
+use crate::gathering::Gathered;
+use grants::{HostFault, Summary, push_lines};
+use messages::RequestName;
+use roster::Roster;
+use std::alloc::Global;
+use std::collections::BTreeMap;
+use sudo_policy::{Policy, print_policy};
+use sudo_words::{HostName, Moment, NoMemory};
+
+/// The most lines of a host's file beside the base's.
+const MOST_LINES: usize = 8_192;
+
+/// Adds the lines that the summaries' requests give the host and that are left, in the order of their names: `TooManyRules` past 8,192.
+fn push_all(
+    alloc: Global,
+    text: &mut String,
+    roster: &Roster,
+    summaries: &BTreeMap<RequestName, Summary>,
+    host: &HostName,
+    after: &Option<Moment>,
+) -> Result<(), HostFault>
+    ensures ok { (set : List AnyMessage) → Gathers set summaries.now
+        → OnOk result (AreBehind roster.now.says set host.now after.now (values summaries.now) (string_bytes text.old) (string_bytes text.new)) }
+    ensures err { (set : List AnyMessage) → Gathers set summaries.now → IfErr result (left.IsPast roster.now.says set host.now after.now) }
+{
+    let mut count = 0;
+    for summary in summaries.values() {
+        let more = push_lines(alloc, text, roster, summary, host, *after)?;
+        if more > MOST_LINES - count {
+            return Err(HostFault::TooManyRules);
+        }
+        count += more;
+    }
+    Ok(())
+}
+
+/// The text of the host's sudoers file: the base's canonical text, and after it a line for each command of each request that is
+/// granted on the host, with the first and the last moment of its window. With a moment, the lines that end before it are left out.
+///
+/// `TooManyRules` comes exactly where the lines after the base are more than 8,192, and `NoMemory` where memory runs out.
+pub fn host_file_in(
+    alloc: Global,
+    roster: &Roster,
+    base: &Policy,
+    gathered: &Gathered,
+    host: &HostName,
+    after: Option<Moment>,
+) -> Result<String, HostFault>
+    requires { FitsBase base.now }
+    ensures file { (set : List AnyMessage) → AreGathered set gathered.now
+        → IfOk result (λ s. left.IsFileLeft roster.now.says base.now set host.now after (string_bytes s)) }
+    // Where the lines are few it comes, and where they are too many it is refused.
+    ensures few { (set : List AnyMessage) (ls : List Line) → AreGathered set gathered.now → AreLines roster.now.says set host.now ls
+        → length (left.lines_left after ls) ≤ 8_192 → IfErr result (λ e. e ≡ fault.NoMemory) }
+    ensures many { (set : List AnyMessage) (ls : List Line) → AreGathered set gathered.now → AreLines roster.now.says set host.now ls
+        → 8_192 < length (left.lines_left after ls) → MatchResult result (λ _. ⊥) (λ e. (e ≡ fault.TooManyRules) ⊎ (e ≡ fault.NoMemory)) }
+    ensures err { (set : List AnyMessage) → AreGathered set gathered.now → IfErr result (left.IsPast roster.now.says set host.now after) }
+{
+    let mut text = print_policy(alloc, base)?;
+    push_all(alloc, &mut text, roster, &gathered.summaries, host, &after)?;
+    Ok(text)
+}
