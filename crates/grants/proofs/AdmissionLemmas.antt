@@ -30,26 +30,14 @@ denial_at n =
 
 at_its_number : (d : Denial) → denial_at (number d) ≡ d
 at_its_number UnknownPerson = refl
-at_its_number UnknownCeiling = refl
-at_its_number NotAsker = refl
-at_its_number HostOutside = refl
-at_its_number RunasOutside = refl
-at_its_number CommandOutside = refl
-at_its_number WindowTooLong = refl
-at_its_number WindowBackwards = refl
+at_its_number _ = refl
 
 pub same_denial : (d e : Denial) → number d ≡ number e → d ≡ e
 same_denial d e same = sym (at_its_number d) ∙ ap denial_at same ∙ at_its_number e
 
 pub none_below_one : (d : Denial) → number d < 1 → ⊥
 none_below_one UnknownPerson l = omega arith
-none_below_one UnknownCeiling l = omega arith
-none_below_one NotAsker l = omega arith
-none_below_one HostOutside l = omega arith
-none_below_one RunasOutside l = omega arith
-none_below_one CommandOutside l = omega arith
-none_below_one WindowTooLong l = omega arith
-none_below_one WindowBackwards l = omega arith
+none_below_one _ l = omega arith
 
 -- what holds below a denial's number, and of it, holds below the next
 below_next : (P : Denial → Type 0) (d : Denial) → ((e : Denial) → number e < number d → P e) → P d → (e : Denial) → number e < number d + 1 → P e

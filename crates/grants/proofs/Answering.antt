@@ -35,13 +35,7 @@ no_denial_request f r WindowBackwards a (inr h) = omega (arith, h, a.in_time.for
 no_denial_verdict : (f : RosterFields Cmnd) (v : VerdictFields) (d : Denial) → AdmitsVerdict f v → ¬ DeniesVerdict f v d
 no_denial_verdict f v UnknownPerson a (inl h) = both_ways (has_person f v.by) h a.listed
 no_denial_verdict f v UnknownPerson a (inr h) = both_ways (has_person f v.of) h a.asker_listed
-no_denial_verdict f v UnknownCeiling a h = h
-no_denial_verdict f v NotAsker a h = h
-no_denial_verdict f v HostOutside a h = h
-no_denial_verdict f v RunasOutside a h = h
-no_denial_verdict f v CommandOutside a h = h
-no_denial_verdict f v WindowTooLong a h = h
-no_denial_verdict f v WindowBackwards a h = h
+no_denial_verdict f v _ a h = h
 
 pub no_denial : (f : RosterFields Cmnd) (m : Message) (d : Denial) → Admits f m → ¬ Denies f m d
 no_denial f (Request r) d a h = no_denial_request f r d a h

@@ -12,6 +12,7 @@ use Rattle.messages.specs.declared.message.Message.{Message}
 use Rattle.messages.specs.declared.message.Message.TheVariants.{Request, Verdict}
 use Rattle.messages.specs.declared.kind.VerdictKind.{VerdictKind}
 use Rattle.messages.specs.declared.kind.VerdictKind.TheVariants.{Approve, Refuse, Revoke}
+use Rattle.messages.proofs.OneMessage.{one_verdict}
 use Rattle.roster.specs.Fields.{CeilingFields, RosterFields}
 use Rattle.roster.specs.Relations.{conflicting, eligible, holds}
 use Rattle.roster.proofs.DutyLemmas.{not_who_asks, holds_duty, not_against}
@@ -20,9 +21,6 @@ use Rattle.grants.specs.Statuses.{IsStatus}
 use Rattle.grants.specs.Counting.{NeverCounts}
 use Rattle.grants.specs.declared.outcome.Status.{Status}
 use Rattle.grants.proofs.StatusLaws.{same_status}
-
-one_verdict : (v w : VerdictFields) → ◌≡◌ {A = Message} (Verdict v) (Verdict w) → v ≡ w
-one_verdict v w e = cc
 
 -- ---- a verdict that never counts
 

@@ -132,10 +132,6 @@ module _ (r : Rule) (g : IsGrantRule r) where
   grant_line_short =
       subst (λ (x : Rule). length (line_text (entries.Rule x)) ≤ 1_189) (sym g.rule_is) plain_short
 
-pub are_rules : (rules : List Rule) → AllByRecursion IsGrantRule rules → AllByRecursion IsRule rules
-are_rules [] each = tt
-are_rules (r ∷ rules) each = (grant_is_rule r each.0, are_rules rules each.1)
-
 -- ---- a base that fits, with few enough of them behind it, is a policy
 
 pub extended_policy : (base : List Entry) (rules : List Rule) → FitsBase base → length rules ≤ 8_192 → AllByRecursion IsGrantRule rules → IsPolicy (with_rules base rules)

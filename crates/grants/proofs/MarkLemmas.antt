@@ -14,6 +14,7 @@ use Rattle.messages.specs.declared.message.Message.{Message}
 use Rattle.messages.specs.declared.message.Message.TheVariants.{Verdict}
 use Rattle.messages.specs.declared.kind.VerdictKind.{VerdictKind}
 use Rattle.messages.specs.Names.{IsAbout}
+use Rattle.messages.proofs.OneMessage.{one_verdict}
 use Rattle.grants.specs.declared.marks.Mark.{Mark}
 use Rattle.grants.specs.Marks.{verdict_of, mark_cmp, Keep}
 use Rattle.grants.specs.private.Noting.{noted}
@@ -120,9 +121,6 @@ keep_other set m q kind marks other k = record {
   );
   once = k.once;
 }
-
-one_verdict : (v w : VerdictFields) → ◌≡◌ {A = Message} (Verdict v) (Verdict w) → v ≡ w
-one_verdict v w e = cc
 
 -- the mark of a verdict, and the verdict of a mark
 abbrev pub mark_of : VerdictFields → Mark

@@ -70,13 +70,7 @@ module _ (f g : RosterFields Cmnd) (moment : ℕ) (agree : AgreeUntil moment f g
   denies_verdict : (v : VerdictFields) (d : Denial) → DeniesVerdict f v d → DeniesVerdict g v d
   denies_verdict v UnknownPerson (inl x) = inl (sym (same_person f g moment agree v.by) ∙ x)
   denies_verdict v UnknownPerson (inr x) = inr (sym (same_person f g moment agree v.of) ∙ x)
-  denies_verdict v UnknownCeiling x = x
-  denies_verdict v NotAsker x = x
-  denies_verdict v HostOutside x = x
-  denies_verdict v RunasOutside x = x
-  denies_verdict v CommandOutside x = x
-  denies_verdict v WindowTooLong x = x
-  denies_verdict v WindowBackwards x = x
+  denies_verdict v _ x = x
 
   denies : (m : Message) (d : Denial) → made_at m ≤ moment → Denies f m d → Denies g m d
   denies (Request r) d early x = denies_request r d early x

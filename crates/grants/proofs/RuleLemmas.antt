@@ -20,7 +20,7 @@ use Rattle.grants.specs.Statuses.{InWindow, IsFirstMoment, IsLastMoment, IsStatu
 use Rattle.grants.specs.Summaries.{Kept, StandsFor}
 use Rattle.grants.specs.Verdicts.{StandsAlone}
 use Rattle.grants.specs.declared.outcome.Status.{Status}
-use Rattle.grants.specs.declared.outcome.Status.TheVariants.{Disputed, Lapsed, Refused, Waiting, Void, Granted}
+use Rattle.grants.specs.declared.outcome.Status.TheVariants.{Granted}
 use Rattle.grants.proofs.Members.{member, passes}
 use Rattle.grants.proofs.StatusLaws.{one_status}
 
@@ -49,31 +49,19 @@ module _ (f : RosterFields Cmnd) (set : List Message) (k : Kept) (stands : Stand
   unnamed lines false e other = refl
 
   other_host : (status : Status) → ¬ Contains k.request.hosts host → rules_for host k.request status ≡ []
-  other_host Disputed other = refl
-  other_host Lapsed other = refl
-  other_host Refused other = refl
-  other_host Waiting other = refl
-  other_host Void other = refl
   other_host (Granted w) other =
       unnamed (map (grant_rule host k.request w.start w.end) k.request.cmnds) (list_any (λ h. bytes_eq h host) k.request.hosts) refl other
+  other_host _ other = refl
 
   never : (status : Status) → IsStatus f set (name_of k.request) status → ((moment : ℕ) → ¬ InWindow f set k.request moment) → rules_for host k.request status ≡ []
-  never Disputed is none = refl
-  never Lapsed is none = refl
-  never Refused is none = refl
-  never Waiting is none = refl
-  never Void is none = refl
   never (Granted w) is none =
       absurd (none w.start (subst (λ (q : RequestFields). InWindow f set q w.start) (sym (own is.request is.named is.alone)) is.is.0.inside))
+  never _ is none = refl
 
   pub ends_in_time : (status : Status) → IsStatus f set (name_of k.request) status → EndsInTime k.request status
-  ends_in_time Disputed is = tt
-  ends_in_time Lapsed is = tt
-  ends_in_time Refused is = tt
-  ends_in_time Waiting is = tt
-  ends_in_time Void is = tt
   ends_in_time (Granted w) is =
       subst (λ (q : RequestFields). (w.start ≤ q.until) × (w.end ≤ q.until)) (sym (own is.request is.named is.alone)) (is.is.0.inside.until, is.is.1.inside.until)
+  ends_in_time _ is = tt
 
   pub are_rules_for : (status : Status) (rules : List Rule) → IsStatus f set (name_of k.request) status → rules ≡ rules_for host k.request status → AreRules f set k.request host rules
   are_rules_for status rules is e = record {

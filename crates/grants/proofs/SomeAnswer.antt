@@ -109,13 +109,7 @@ of_verdict f v =
 
 pub only_person : (f : RosterFields Cmnd) (v : VerdictFields) (d : Denial) → Denies f (Verdict v) d → d ≡ UnknownPerson
 only_person f v UnknownPerson h = refl
-only_person f v UnknownCeiling h = absurd h
-only_person f v NotAsker h = absurd h
-only_person f v HostOutside h = absurd h
-only_person f v RunasOutside h = absurd h
-only_person f v CommandOutside h = absurd h
-only_person f v WindowTooLong h = absurd h
-only_person f v WindowBackwards h = absurd h
+only_person f v _ h = absurd h
 
 pub some_answer : (text : List ℕ) (f : RosterFields Cmnd) (m : Message) → IsRosterText text f → IsMessage m → Answered f m
 some_answer text f (Request r) roster request = of_request f r request (λ c is. lawful_at f.ceilings r.ceiling c roster.names.ceilings is)

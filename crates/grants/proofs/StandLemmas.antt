@@ -9,6 +9,7 @@ use Rattle.messages.specs.declared.kind.VerdictKind.{VerdictKind}
 use Rattle.messages.specs.declared.kind.VerdictKind.TheVariants.{Approve, Refuse, Revoke}
 use Rattle.grants.specs.declared.marks.Mark.{Mark}
 use Rattle.messages.specs.Names.{SameName, IsAbout}
+use Rattle.messages.proofs.OneMessage.{one_request, one_verdict}
 use Rattle.grants.specs.Marks.{Keep}
 use Rattle.grants.specs.private.Noting.{noted}
 use Rattle.grants.specs.Summaries.{Kept, StandsFor}
@@ -16,12 +17,6 @@ use Rattle.grants.proofs.MarkLemmas.{keep_other, keep_noted}
 
 request_cases : (set : List Message) (m : Message) (p : RequestFields) → Contains (set ++ m ∷ []) (Request p) → Contains set (Request p) ⊎ (m ≡ Request p)
 request_cases set m p h = Contains-push_cases set m (Request p) h
-
-one_request : (p q : RequestFields) → ◌≡◌ {A = Message} (Request p) (Request q) → p ≡ q
-one_request p q e = cc
-
-one_verdict : (v w : VerdictFields) → ◌≡◌ {A = Message} (Verdict v) (Verdict w) → v ≡ w
-one_verdict v w e = cc
 
 -- ---- a verdict comes
 

@@ -10,6 +10,7 @@ use Rattle.messages.specs.declared.message.Message.{Message}
 use Rattle.messages.specs.declared.message.Message.TheVariants.{Request, Verdict}
 use Rattle.messages.specs.declared.kind.VerdictKind.{VerdictKind}
 use Rattle.messages.specs.declared.kind.VerdictKind.TheVariants.{Approve, Refuse, Revoke}
+use Rattle.messages.proofs.OneMessage.{one_request}
 use Rattle.roster.specs.Relations.{ceiling_at}
 use Rattle.grants.specs.Admission.{AdmitsRequest}
 use Rattle.grants.specs.private.Noting.{noted}
@@ -31,9 +32,6 @@ use Rattle.grants.proofs.StatusLemmas.{admitted_is, lapsed_is}
 
 abbrev fresh : RequestFields → Kept
 fresh q = record { request = q; is_disputed = false; approvals = []; refusals = []; revocations = [] }
-
-one_request : (p q : RequestFields) → ◌≡◌ {A = Message} (Request p) (Request q) → p ≡ q
-one_request p q e = cc
 
 stands_fresh : (q : RequestFields) → StandsFor (Request q ∷ []) (fresh q)
 stands_fresh q = record {

@@ -21,7 +21,7 @@ use Rattle.grants.specs.Summaries.{Kept, StandsFor}
 use Rattle.grants.specs.private.Given.{EndsInTime}
 use Rattle.grants.specs.private.Lines.{is_left, lines_text, may_have, names, when, who}
 use Rattle.grants.specs.declared.outcome.Status.{Status}
-use Rattle.grants.specs.declared.outcome.Status.TheVariants.{Disputed, Lapsed, Refused, Waiting, Void, Granted}
+use Rattle.grants.specs.declared.outcome.Status.TheVariants.{Granted}
 use Rattle.grants.specs.declared.outcome.Window.{Window}
 use Rattle.grants.proofs.RuleLemmas.{ends_in_time, request_grants}
 
@@ -108,25 +108,17 @@ module _ (host : List ℕ) (q : RequestFields) (after : Option ℕ) where
       ]
 
   pub none_of : (status : Status) → EndsInTime q status → may_have after host q ≡ false → rules_left after host q status ≡ []
-  none_of Disputed ends gone = refl
-  none_of Lapsed ends gone = refl
-  none_of Refused ends gone = refl
-  none_of Waiting ends gone = refl
-  none_of Void ends gone = refl
   none_of (Granted w) ends gone = none_granted w ends.1 gone
+  none_of _ ends gone = refl
 
   -- ---- they are rules of grants
 
   given_grants : IsRequest q → (status : Status) → EndsInTime q status → AllByRecursion IsGrantRule (rules_for host q status)
-  given_grants is Disputed ends = tt
-  given_grants is Lapsed ends = tt
-  given_grants is Refused ends = tt
-  given_grants is Waiting ends = tt
-  given_grants is Void ends = tt
   given_grants is (Granted w) ends =
       cond_both (names q host) (map (rule_of w) q.cmnds) [] (AllByRecursion IsGrantRule)
       (λ named. request_grants host q is w.start w.end ends.0 ends.1 named (map (rule_of w) q.cmnds) refl)
       (λ _. tt)
+  given_grants is _ ends = tt
 
   kept : (p : Rule → Bool) (rules : List Rule) → AllByRecursion IsGrantRule rules → AllByRecursion IsGrantRule (filter p rules)
   kept p [] each = tt

@@ -1,5 +1,5 @@
 -- The member `kind` tells requests and the kinds of verdicts apart.
-use Rattle.std.proofs.Common.{◌≡◌, ℕ, ◌∙◌, List, Bool, true, false, Some, not, bytes_eq, true≢false, refl, sym, ap}
+use Rattle.std.proofs.Common.{◌≡◌, ℕ, ◌∙◌, List, true, false, Some, bytes_eq, true≢false, refl, sym, ap}
 use Rattle.std.specs.Prelude.{codes}
 use Rattle.std.proofs.lemmas.Slice.Eq.{bytes_eq-Decides}
 use Rattle.serde_json.specs.Data.{Data, string}
@@ -69,15 +69,3 @@ asked_from (Verdict v) kind h k e = absurd (not_asked v.kind (same_name kind (co
 pub answered_from : (m : Message) (kind : List ℕ) → IsMessage m → kind ≡ kind_of m → bytes_eq kind (codes "request") ≡ false → IsAnswered m
 answered_from (Request r) kind h k e = absurd (unlike kind (codes "request") e k)
 answered_from (Verdict v) kind h k e = record { fields = v; valid = h; message = refl; value = refl; kind = refl }
-
-turned : (x : Bool) → false ≡ not x → x ≡ true
-turned true e = refl
-turned false e = absurd (true≢false (sym e))
-
--- texts that do not differ are equal
-pub no_change : (a b : List ℕ) → false ≡ not (bytes_eq a b) → a ≡ b
-no_change a b e = (bytes_eq-Decides a b).0 (turned (bytes_eq a b) e)
-
--- equal texts do not differ
-pub no_difference : (a b : List ℕ) → a ≡ b → true ≡ not (bytes_eq a b) → ⊥
-no_difference a b same differs = true≢false (differs ∙ ap not ((bytes_eq-Decides a b).1 same))

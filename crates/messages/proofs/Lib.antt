@@ -5,5 +5,6 @@ pub mod Uniqueness
 pub mod KindLemmas
 mod WorkedTexts
 pub mod NameOrder
+pub mod OneMessage
 pub mod SetsShown
 pub mod Passing

@@ -47,10 +47,6 @@ past_front {p} s (Some x) same = record {
   only = λ left e. ap Some (append_cancel_left p x.now left (sym same ∙ inside s.now (p ++ left) e));
 }
 
--- where a byte differed before, it differs still
-pub past_differed : {p : List ℕ} → IsPast p None None
-past_differed {p} = record { found = λ left e. absurd cc; only = λ left e. absurd cc }
-
 -- ---- escapes of a text are those of its parts
 
 pub escaped_append : (v w : List ℕ) → escaped (v ++ w) ≡ escaped v ++ escaped w

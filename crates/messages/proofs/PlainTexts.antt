@@ -36,18 +36,6 @@ is_plain_byte b = leb 32 b && ltb b 127 && not (eqb b 34) && not (eqb b 92)
 abbrev pub IsPlain : List ℕ → Type 0
 IsPlain w = AllByRecursion (λ b. is_plain_byte b ≡ true) w
 
-plain_not_quote : (b : ℕ) → is_plain_byte b ≡ true → b ≢ 34
-plain_not_quote b h = grind (arith, nat_tests)
-
-plain_not_backslash : (b : ℕ) → is_plain_byte b ≡ true → b ≢ 92
-plain_not_backslash b h = grind (arith, nat_tests)
-
-plain_printed : (b : ℕ) → is_plain_byte b ≡ true → 32 ≤ b
-plain_printed b h = grind (arith, nat_tests)
-
-plain_ascii : (b : ℕ) → is_plain_byte b ≡ true → b < 128
-plain_ascii b h = grind (arith, nat_tests)
-
 plain_kept : (b : ℕ) → is_plain_byte b ≡ true → (eqb b 34 || eqb b 92) ≡ false
 plain_kept b h = grind (arith, nat_tests)
 

@@ -1,5 +1,5 @@
 -- What shows a set shows each set of the same messages.
-use Rattle.std.proofs.Common.{◌≡◌, Bool, true, false, List}
+use Rattle.std.proofs.Common.{Bool, true, false, List}
 use Rattle.messages.specs.Fields.{RequestFields, VerdictFields}
 use Rattle.messages.specs.NameRows.{IsMarked, ShowSet}
 use Rattle.messages.specs.declared.name_row.NameRow.{NameRow}

@@ -1,14 +1,12 @@
 -- No text is that of two messages.
 use Rattle.std.proofs.Common.{◌≡◌, ℕ, ◌∙◌, List, [], ◌∷◌, Some, None, map, refl, sym, ap, ap₂}
-use Rattle.std.specs.Prelude.{codes, All}
-use Rattle.std.proofs.lemmas.List.Elements.{All-head, All-tail}
+use Rattle.std.specs.Prelude.{codes}
 use Rattle.serde_json.specs.Data.{string}
 use Rattle.serde_json.specs.Find.{get}
 use Rattle.serde_json.specs.Read.{read}
-use Rattle.sudo_words.specs.Command.{IsLawful, cmnd_text}
+use Rattle.sudo_words.specs.Command.{cmnd_text}
 use Rattle.sudo_words.specs.Moment.{IsMoment, Spells}
-use Rattle.sudo_words.specs.declared.cmnd.Cmnd.{Cmnd}
-use Rattle.sudo_words.proofs.CommandLemmas.{one_command}
+use Rattle.sudo_words.proofs.CommandLemmas.{one_cmnds}
 use Rattle.sudo_words.proofs.MomentTexts.{one_spelled}
 use Rattle.messages.specs.Fields.{RequestFields, VerdictFields, IsRequest, IsVerdict}
 use Rattle.messages.specs.private.Members.{strings, request_value, verdict_value, value_of}
@@ -32,16 +30,6 @@ one_list (v ∷ vs) (w ∷ ws) e =
     let first : v ≡ w = cc in
     let rest : strings vs ≡ strings ws = cc in
     ap₂ (λ (x : List ℕ) (xs : List (List ℕ)). x ∷ xs) first (one_list vs ws rest)
-
-pub one_cmnds : (cs ds : List Cmnd) → All IsLawful cs → All IsLawful ds → map cmnd_text cs ≡ map cmnd_text ds → cs ≡ ds
-one_cmnds [] [] a b e = refl
-one_cmnds [] (d ∷ ds) a b e = absurd cc
-one_cmnds (c ∷ cs) [] a b e = absurd cc
-one_cmnds (c ∷ cs) (d ∷ ds) a b e =
-    let first : cmnd_text c ≡ cmnd_text d = cc in
-    let rest : map cmnd_text cs ≡ map cmnd_text ds = cc in
-    ap₂ (λ (x : Cmnd) (xs : List Cmnd). x ∷ xs) (one_command c d (All-head IsLawful c cs a) (All-head IsLawful d ds b) first)
-    (one_cmnds cs ds (All-tail IsLawful c cs a) (All-tail IsLawful d ds b) rest)
 
 -- a value is one request's
 one_request : (r s : RequestFields) → IsRequest r → IsRequest s → request_value r ≡ request_value s → r ≡ s

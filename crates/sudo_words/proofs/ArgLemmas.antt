@@ -1,10 +1,8 @@
 -- Arguments and their texts: an argument's text is of that argument alone.
-use Rattle.std.proofs.Common.{◌≡◌, ℕ, ◌+◌, ◌<◌, ◌≤◌, ◌⊎◌, Bool, true, false, cond, leb, ◌&&◌, List, [], ◌∷◌, ◌++◌, length, count_by, get_or, take, refl, sym, ap, subst, ◌∙◌, inl, inr, append_assoc, length-append, arith}
+use Rattle.std.proofs.Common.{◌≡◌, ℕ, ◌+◌, ◌≤◌, ◌⊎◌, Bool, true, false, cond, leb, ◌&&◌, List, [], ◌∷◌, ◌++◌, length, count_by, refl, sym, ap, subst, ◌∙◌, inl, inr, append_assoc, length-append, arith}
 use Rattle.std.specs.List.{AllByRecursion, list_all}
 use Rattle.std.proofs.lemmas.Bool.{and_parts, cases_Bool, false≢true, leb-true}
-use Rattle.std.proofs.lemmas.Bool.Decides.{nat_tests}
-use Rattle.std.proofs.lemmas.List.{flat_map_more, take_more}
-use Rattle.std.proofs.lemmas.List.Sums.{sum_by-cons, count_by-le-length}
+use Rattle.std.proofs.lemmas.List.Sums.{sum_by-cons}
 use Rattle.sudo_words.specs.Word.{is_arg, is_arg_byte}
 use Rattle.sudo_words.specs.Command.{arg_text, escaped_byte, is_escaped}
 
@@ -74,9 +72,6 @@ arg_text_length (b ∷ a) =
 pub arg_text_some : (a : List ℕ) → is_arg a ≡ true → 1 ≤ length (arg_text a)
 arg_text_some a h = omega (arith, arg_text_length a, (arg_parts a h).some)
 
-pub arg_text_short : (a : List ℕ) → is_arg a ≡ true → length (arg_text a) ≤ 128
-arg_text_short a h = omega (arith, arg_text_length a, count_by-le-length is_escaped a, (arg_parts a h).short)
-
 empty_text : (c : ℕ) (w left : List ℕ) → [] ≡ (escaped_byte c ++ arg_text w) ++ left → ⊥
 empty_text c w left e =
     omega (arith, ap length e, length-append (escaped_byte c ++ arg_text w) left, length-append (escaped_byte c) (arg_text w), byte_length c)
@@ -123,11 +118,3 @@ arg_text_each P escape byte (b ∷ a) h =
       | inl p ↦ subst (λ (t : List ℕ). AllByRecursion P (t ++ arg_text a)) (sym p.1) (escape, (byte b both.0, more))
       | inr p ↦ subst (λ (t : List ℕ). AllByRecursion P (t ++ arg_text a)) (sym p.1) (byte b both.0, more)
     ]
-
-pub arg_byte_low : (b : ℕ) → is_arg_byte b ≡ true → b < 128
-arg_byte_low b h = grind (arith, nat_tests)
-
--- one more byte, as at a step of a loop
-pub arg_text_more : (old a : List ℕ) (i : ℕ) (d : ℕ) → i < length a → (old ++ arg_text (take i a)) ++ escaped_byte (get_or a i d) ≡ old ++ arg_text (take (i + 1) a)
-arg_text_more old a i d h =
-    flat_map_more escaped_byte old (take i a) (get_or a i d) ∙ ap (λ (t : List ℕ). old ++ arg_text t) (sym (take_more a i d h))

@@ -1,8 +1,9 @@
 -- A text is one command's, and so are a head and a rule.
-use Rattle.std.proofs.Common.{◌≡◌, ℕ, List, ◌∷◌, ◌++◌, true, false, eqb, refl, sym, ap, ◌∙◌}
-use Rattle.std.specs.Prelude.{codes}
+use Rattle.std.proofs.Common.{◌≡◌, ℕ, List, [], ◌∷◌, ◌++◌, true, false, eqb, map, refl, sym, ap, ap₂, ◌∙◌}
+use Rattle.std.specs.Prelude.{codes, All as AllOf}
 use Rattle.std.specs.List.{slice_split}
 use Rattle.std.proofs.lemmas.Bool.{false≢true}
+use Rattle.std.proofs.lemmas.List.Elements.{All-head, All-tail}
 use Rattle.sudo_words.specs.Word.{is_dir_path, is_file_path}
 use Rattle.sudo_words.specs.Command.{IsHead, IsLawful, cmnd_text, head_text, rule_of}
 use Rattle.sudo_words.specs.private.Pieces.{words_of}
@@ -68,3 +69,14 @@ one_command c d x y e =
     let heads : head_text c ≡ head_text d = cc in
     let others : words_of (rule_of c) ≡ words_of (rule_of d) = cc in
     same_command c d x y heads (one_rule (rule_of c) (rule_of d) x.args y.args others)
+
+-- a list of texts is one list of commands
+pub one_cmnds : (cs ds : List Cmnd) → AllOf IsLawful cs → AllOf IsLawful ds → map cmnd_text cs ≡ map cmnd_text ds → cs ≡ ds
+one_cmnds [] [] a b e = refl
+one_cmnds [] (d ∷ ds) a b e = absurd cc
+one_cmnds (c ∷ cs) [] a b e = absurd cc
+one_cmnds (c ∷ cs) (d ∷ ds) a b e =
+    let first : cmnd_text c ≡ cmnd_text d = cc in
+    let rest : map cmnd_text cs ≡ map cmnd_text ds = cc in
+    ap₂ (λ (x : Cmnd) (xs : List Cmnd). x ∷ xs) (one_command c d (All-head IsLawful c cs a) (All-head IsLawful d ds b) first)
+    (one_cmnds cs ds (All-tail IsLawful c cs a) (All-tail IsLawful d ds b) rest)

@@ -1,11 +1,10 @@
 -- `date_of` counts days as the calendar does.
-use Rattle.std.proofs.Common.{◌≡◌, ℕ, zero, suc, ◌+◌, ◌-◌, ◌<◌, ◌≤◌, ◌^◌, ◌∙◌, refl, sym, subst, ap, inl, inr, arith, pos, to_z, w8, w16}
+use Rattle.std.proofs.Common.{◌≡◌, ℕ, zero, suc, ◌+◌, ◌-◌, ◌<◌, ◌≤◌, ◌∙◌, refl, sym, subst, ap, inl, inr, arith, pos}
 use Rattle.std.specs.Int.{IsInRange}
 use Rattle.std.proofs.lemmas.Bool.{cases_lt, cond-true, cond-false, lt-ltb, le-ltb}
-use Rattle.std.proofs.lemmas.Int.{to_z_pos}
 use Rattle.jiff_core.specs.declared.civil.date.Date.{Date}
-use Rattle.jiff_core.specs.Date.{epoch_day, IsYmd}
-use Rattle.jiff_core.specs.Calendar.{IsYear, IsCivilDate, IsDate, day_count, day_of_year, days_from_civil, days_in_month, days_in_year, days_of_months}
+use Rattle.jiff_core.specs.Date.{epoch_day}
+use Rattle.jiff_core.specs.Calendar.{IsYear, IsCivilDate, day_count, day_of_year, days_from_civil, days_in_month, days_in_year, days_of_months}
 use Rattle.jiff_core.proofs.SignedLemmas.{signed_arith}
 use Rattle.jiff_core.proofs.MarchLemmas.{day_count-early}
 use Rattle.jiff_core.proofs.CalendarLemmas.{days_from_civil-day_count, day_count-epoch, day_count-next_year, day_count-day_of_year, days_in_month_bounds, days_of_months_more, days_of_months-zero, days_of_months_all}
@@ -152,29 +151,6 @@ date_of_only y m d day h civil number =
     let same = library_date_is known day h number in
     let year : pos y ≡ pos (date_of day).year = same.0 in
     (cc, same.1, same.2)
-
--- the library's date of these numbers, which it takes as signed ones
-pub numbers_are : (y m d : ℕ) (date : Date) → y < 2 ^ 15 → m < 2 ^ 7 → d < 2 ^ 7 → IsYmd (to_z w16 y) (to_z w8 m) (to_z w8 d) date → (date.year ≡ pos y) × (date.month ≡ m) × (date.day ≡ d)
-numbers_are y m d date years months days h =
-    let month : pos date.month ≡ pos m = h.1 ∙ to_z_pos w8 m months in
-    let day : pos date.day ≡ pos d = h.2 ∙ to_z_pos w8 d days in
-    (h.0 ∙ to_z_pos w16 y years, cc, cc)
-
--- so it is the calendar's date of these numbers, with its day number
-pub civil_is : (y m d : ℕ) (date : Date) → y < 10_000 → m < 100 → d < 100 → IsYmd (to_z w16 y) (to_z w8 m) (to_z w8 d) date → IsCivilDate (pos y) m d × (days_from_civil (pos y) m d ≡ epoch_day date)
-civil_is y m d date years months days h =
-    let are = numbers_are y m d date (omega arith) (omega arith) (omega arith) h in
-    let own : IsCivilDate date.year date.month date.day = (date.year_in, date.month_in, date.day_in) in
-    let civil : IsCivilDate (pos y) m d = rw (are.0, are.1, are.2) at own in
-    (civil, rw (are.0, are.1, are.2) refl)
-
--- and it has each date of so many digits
-pub date_known : (y m d : ℕ) → y < 10_000 → m < 100 → d < 100 → IsCivilDate (pos y) m d → IsDate (to_z w16 y) (to_z w8 m) (to_z w8 d)
-date_known y m d years months days civil =
-    let year = to_z_pos w16 y (omega arith) in
-    let month = to_z_pos w8 m (omega arith) in
-    let day = to_z_pos w8 d (omega arith) in
-    rw (year, month, day) (civil.0, (omega (arith, signed_arith, civil.1), omega (arith, signed_arith, civil.1)), (omega (arith, signed_arith, civil.2), omega (arith, signed_arith, civil.2)))
 
 -- a date with such a day number is within these bounds
 pub numbers_in : (y m d day : ℕ) → day ≤ 47_481 → IsCivilDate (pos y) m d → days_from_civil (pos y) m d ≡ pos day → IsInRange 1970 2099 y × (m ≤ 12) × (d ≤ 31)

@@ -1,6 +1,7 @@
 pub mod ArgLemmas
 pub mod CommandLemmas
 pub mod Days
+pub mod Exits
 pub mod MomentLemmas
 pub mod MomentTexts
 pub mod NameLemmas

@@ -1,7 +1,4 @@
-use Rattle.std.proofs.Common.{ap, sym, ◌∙◌}
-use Rattle.sudo_words.specs.Command.{rule_text}
-use Rattle.messages.specs.Wire.{escaped}
-use Rattle.messages.proofs.Passing.{past_none, past_same, empty_rule, escaped_none}
+use Rattle.messages.proofs.Passing.{past_none, empty_rule, escaped_none}
 use Rattle.messages.proofs.same_text.past_rule.Goals as goal
 
 pub returns-in-Any : goal.returns-in-Any

@@ -1,4 +1,4 @@
-use Rattle.std.proofs.Common.{◌≡◌, ℕ, ◌∙◌, List, [], ◌∷◌, length, refl, ap}
+use Rattle.std.proofs.Common.{◌≡◌, [], ◌∷◌, length, refl, ap}
 use Rattle.std.specs.Prelude.{codes}
 use Rattle.std.specs.Fmt.{digits}
 use Rattle.sudo_words.specs.Moment.{date_from_month, date_from_year, date_of}
@@ -19,17 +19,11 @@ two_commands : wire (Request (ann_asks_for (ls ∷ id ∷ []))) ≡ codes "{\"at
 unfolding moment_text quoted escaped list_text rest_text digits date_of date_from_year date_from_month
 two_commands = refl
 
-pub returns-clause-approval : goal.returns-clause-approval
-returns-clause-approval c = approval
-
-pub returns-clause-bytes_of_approval : goal.returns-clause-bytes_of_approval
-returns-clause-bytes_of_approval c = ap length approval
-
-pub returns-clause-request : goal.returns-clause-request
-returns-clause-request c = request
-
-pub returns-clause-bytes_of_request : goal.returns-clause-bytes_of_request
-returns-clause-bytes_of_request c = ap length request
-
-pub returns-clause-two_commands : goal.returns-clause-two_commands
-returns-clause-two_commands c = two_commands
+pub returns : goal.returns
+returns c = record {
+  approval = approval;
+  bytes_of_approval = ap length approval;
+  request = request;
+  bytes_of_request = ap length request;
+  two_commands = two_commands;
+}
