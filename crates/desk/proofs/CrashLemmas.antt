@@ -1,15 +1,10 @@
 -- What a crash leaves of a desk.
-use Rattle.std.proofs.Common.{◌≡◌, ◌⊎◌, inl, inr, ℕ, List, Ok, refl}
-use Rattle.sudo_words.specs.declared.cmnd.Cmnd.{Cmnd}
+use Rattle.std.proofs.Common.{◌≡◌, ◌⊎◌, inl, inr, ℕ, List, refl}
 use Rattle.messages.specs.declared.message.Message.{Message}
-use Rattle.roster.specs.Fields.{RosterFields}
-use Rattle.desk_tables.specs.Sets.{SameSet, With}
-use Rattle.desk_store.specs.Left.{Left, IsAsKept, IsDeskOf, IsNothingOrFresh, IsOldDeskOf, IsReplacedOrNot, IsWithOrWithout, LeavesOnly}
+use Rattle.desk_tables.specs.Sets.{SameSet}
+use Rattle.desk_store.specs.Left.{Left, IsAsKept, IsDeskOf, IsNothingOrFresh, IsOldDeskOf, IsReplacedOrNot, LeavesOnly}
 use Rattle.desk_store.proofs.SameLeft.{same_left, same_old_left}
-use Rattle.desk.specs.Crash.{IsAcceptable, IsLeftByDelivery, IsLeftByOpening, IsLeftByRebuilding}
-use Rattle.desk.specs.Delivery.{Acknowledges, Delivery, IsBodyOf}
-use Rattle.desk.specs.declared.ack.Ack.{Ack}
-use Rattle.desk.proofs.DeliveryLemmas.{held_at_ok}
+use Rattle.desk.specs.Crash.{IsLeftByOpening, IsLeftByRebuilding}
 
 -- ---- opening
 
@@ -55,16 +50,3 @@ leaves_same MayLeave r s S T roster set leaves left may = same_left r s S T left
 
 pub of_roster : (MayLeave : Left → Type 0) (r s : List ℕ) (S : Message → Type 0) → s ≡ r → LeavesOnly MayLeave (IsDeskOf s S) → LeavesOnly MayLeave (IsDeskOf r S)
 of_roster MayLeave r s S roster = leaves_same MayLeave r s S S roster (λ m. (λ h. h, λ h. h))
-
--- ---- delivery
-
--- where the message was put to the desk
-pub left_by_delivery : (f : RosterFields Cmnd) (r s : List ℕ) (S : Message → Type 0) (d : Delivery) (m : Message) (left : Left) → s ≡ r → IsAcceptable f d m → IsWithOrWithout s S m left → IsLeftByDelivery f r S d left
-left_by_delivery f r s S d m left roster is (inl without) = inl (same_left r s S S left roster (λ n. (λ h. h, λ h. h)) without)
-left_by_delivery f r s S d m left roster is (inr with_it) = inr (m, is, same_left r s (With S m) (With S m) left roster (λ n. (λ h. h, λ h. h)) with_it)
-
--- and acknowledged
-pub lasts_by_delivery : (MayLeave : Left → Type 0) (r s : List ℕ) (S : Message → Type 0) (d : Delivery) (ack : Ack) (m : Message) → s ≡ r → IsBodyOf d.body m
-    → LeavesOnly MayLeave (IsDeskOf s (With S m)) → LeavesOnly MayLeave (IsDeskOf r (λ n. S n ⊎ Acknowledges d (Ok ack) n))
-lasts_by_delivery MayLeave r s S d ack m roster body =
-    leaves_same MayLeave r s (λ n. S n ⊎ Acknowledges d (Ok ack) n) (With S m) roster (held_at_ok S (With S m) d ack m body (λ n. (λ h. h, λ h. h)))

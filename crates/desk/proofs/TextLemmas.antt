@@ -16,7 +16,6 @@ use Rattle.messages.specs.declared.message.Message.{Message}
 use Rattle.messages.proofs.NameOrder.{texts_strict}
 use Rattle.messages.proofs.Uniqueness.{one_message}
 use Rattle.messages.specs.Order.{TextPrecedes}
-use Rattle.desk_tables.specs.Sets.{Lists, SameSet}
 use Rattle.outcomes.proofs.Membership.{no_member, Contains-head, Contains-behind, Contains-cases}
 use Rattle.outcomes.proofs.Orders.{same_lists}
 use Rattle.outcomes.proofs.ParkedLemmas.{from_texts, in_texts, texts_in_order}

@@ -3,7 +3,6 @@ use Rattle.std.proofs.Common.{◌≡◌, ℕ, List, [], ◌∷◌, ◌++◌, map
 use Rattle.std.specs.List.{AllByRecursion, Contains}
 use Rattle.std.specs.List.Sorted.{IsStrictlySortedBy}
 use Rattle.std.specs.Map.{keys_of}
-use Rattle.std.specs.BTreeMap.{BTreeMap}
 use Rattle.std.specs.Cmp.Lexicographic.{slice_cmp}
 use Rattle.std.specs.Ordering.{nat_cmp}
 use Rattle.std.specs.declared.cmp.Ordering.TheVariants.{Equal, Less}
@@ -26,7 +25,7 @@ use Rattle.outcomes.proofs.GivenLists.{turn_split}
 use Rattle.outcomes.proofs.Membership.{no_member, Contains-cases}
 use Rattle.outcomes.proofs.NameMaps.{at_entry, names_total}
 use Rattle.outcomes.proofs.Orders.{behind_from_each}
-use Rattle.desk_audit.specs.Audit.{IsAudit, TellsName}
+use Rattle.desk_audit.specs.Audit.{IsAudit}
 use Rattle.desk_audit.specs.Told.{name_in}
 use Rattle.desk_audit.specs.declared.entry.Entry.{Entry}
 use Rattle.desk_audit.specs.declared.gathering.About.{About}

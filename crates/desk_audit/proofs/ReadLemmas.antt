@@ -5,7 +5,7 @@ use Rattle.std.specs.List.{Contains}
 use Rattle.std.proofs.lemmas.List.{map-append, take_more}
 use Rattle.std.proofs.lemmas.List.Elements.{Contains-get_or, Contains-push_cases}
 use Rattle.messages.specs.Names.{SameMessages}
-use Rattle.messages.specs.Order.{AllAfter, AreInOrder, TextPrecedes}
+use Rattle.messages.specs.Order.{AreInOrder, TextPrecedes}
 use Rattle.messages.specs.Wire.{IsMessage, wire}
 use Rattle.messages.specs.declared.message.Message.{Message}
 use Rattle.messages.specs.declared.message.Message.TheVariants.{Request, Verdict}
@@ -18,9 +18,9 @@ use Rattle.desk.specs.declared.refusal.Refusal.TheVariants.{TooLong}
 use Rattle.outcomes.specs.private.ByName.{at_name}
 use Rattle.outcomes.proofs.Membership.{no_member}
 use Rattle.outcomes.proofs.Orders.{ordered_front}
-use Rattle.desk_audit.specs.Told.{IsTooLong, TellsMessages, name_in}
+use Rattle.desk_audit.specs.Told.{IsTooLong, TellsMessages}
 use Rattle.desk_audit.specs.declared.gathering.About.{About}
-use Rattle.desk_audit.specs.private.ByName.{Gathers, IsBehind, IsToldAt, NobodySpeaks}
+use Rattle.desk_audit.specs.private.ByName.{Gathers, IsBehind}
 use Rattle.desk_audit.proofs.ByNameLemmas.{Abouts, IsAt}
 use Rattle.desk_audit.proofs.ListLemmas.{from_mapped, last_behind, to_mapped}
 

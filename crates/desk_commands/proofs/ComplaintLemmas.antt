@@ -1,14 +1,9 @@
 -- How the complaints of lines grow, answer by answer.
-use Rattle.std.proofs.Common.{◌≡◌, ℕ, zero, suc, [], ◌+◌, ◌<◌, List, ◌∷◌, ◌++◌, ◌∙◌, Result, Ok, Err, add-one, append_assoc, arith, drop, drop-cons, get_or, length, subst, sym}
+use Rattle.std.proofs.Common.{◌≡◌, ℕ, suc, ◌+◌, ◌<◌, List, ◌∷◌, ◌++◌, ◌∙◌, Result, Ok, Err, add-one, append_assoc, arith, drop, drop-cons, get_or, length, subst, sym}
 use Rattle.desk_commands.specs.Taking.{HadMemory, complaint, complaints}
 use Rattle.desk.specs.declared.ack.Ack.{Ack}
 use Rattle.desk.specs.declared.refusal.Refusal.{Refusal}
 use Rattle.desk.specs.Refusals.{IsWant}
-use Rattle.desk.specs.declared.refusal.Refusal.TheVariants as desk
-use Rattle.std.specs.List.{Contains}
-use Rattle.desk_commands.specs.declared.refusal.Refusal.{Refusal as Reason}
-use Rattle.desk_commands.specs.declared.refusal.Refusal.TheVariants as reasons
-use Rattle.desk_commands.specs.private.Outcomes.{EndsTaking}
 
 -- what is said of the answers before a place, and that memory did not run out at them
 pub record AreSaid (answers : List (Result Ack Refusal)) (said : List ℕ) (i : ℕ) : Type 0 where
@@ -51,33 +46,3 @@ said_refusal answers said i refusal default now lt is more other so_far =
       all = next_number (said ++ complaint (i + 1) refusal) (complaints 1 answers) i (drop (i + 1) answers) regrouped;
       memory = λ h. so_far.memory (subst HadMemory (sym rest) (other, h));
     })
-
--- what stands at a place is in the list
-pub contains_at : {X : Type 0} (xs : List X) (i : ℕ) (default x : X) → i < length xs → get_or xs i default ≡ x → Contains xs x
-contains_at [] i default x lt is = absurd (omega (arith, lt))
-contains_at (y ∷ ys) zero default x lt is = (0, omega arith, is)
-contains_at (y ∷ ys) (suc i) default x lt is =
-    let rest = contains_at ys i default x (omega (arith, lt)) is in
-    (suc rest.0, omega (arith, rest.1), rest.2)
-
--- why lines are not taken, where the storage failed for another reason that comes of this one
-pub ends_more : (A B : Type 0) (reason : Reason) → (A → B) → EndsTaking A reason → EndsTaking B reason
-ends_more A B reasons.FileFailed more why = tt
-ends_more A B reasons.BadWord more why = why
-ends_more A B reasons.NoMemory more why = tt
-ends_more A B (reasons.Roster fault) more why = why
-ends_more A B (reasons.Policy fault) more why = why
-ends_more A B (reasons.Beyond fault) more why = why
-ends_more A B (reasons.Desk desk.NoMemory) more why = tt
-ends_more A B (reasons.Desk desk.Storage) more why = more why
-ends_more A B (reasons.Desk desk.UnknownHost) more why = why
-ends_more A B (reasons.Desk desk.TooManyRules) more why = why
-ends_more A B (reasons.Desk desk.UnknownRelay) more why = why
-ends_more A B (reasons.Desk desk.TooLong) more why = why
-ends_more A B (reasons.Desk desk.NotCanonical) more why = why
-ends_more A B (reasons.Desk desk.BadField) more why = why
-ends_more A B (reasons.Desk (desk.Denied denial)) more why = why
-ends_more A B (reasons.Desk desk.RosterChanged) more why = why
-ends_more A B (reasons.Desk desk.NotADesk) more why = why
-ends_more A B (reasons.Desk desk.OldSchema) more why = why
-ends_more A B (reasons.Desk desk.BaseTooLarge) more why = why

@@ -14,9 +14,8 @@ use Rattle.desk.specs.declared.refusal.Refusal.TheVariants as desk
 use Rattle.desk_commands.specs.Printing.{HasRights, IsPrinted, PrintsHost, lines_printed}
 use Rattle.desk_commands.specs.Reviewing.{ReviewsDesk}
 use Rattle.desk_commands.specs.Taking.{HeldWith, Takes}
-use Rattle.desk_commands.specs.declared.refusal.Refusal.{Refusal as Reason}
 use Rattle.desk_commands.specs.declared.refusal.Refusal.TheVariants as reasons
-use Rattle.desk_commands.specs.private.Outcomes.{EndsFile, EndsInput, EndsReport}
+use Rattle.desk_commands.specs.private.Outcomes.{EndsFile, EndsReport}
 use Rattle.desk_commands.proofs.OverLemmas.{listed, set_on}
 use Rattle.desk_args.specs.declared.status.Status.TheVariants.{Done}
 use Rattle.desk_args.specs.declared.task.Store.{Store}
@@ -86,38 +85,6 @@ module _ (f : RosterFields Cmnd) (base : List Entry) (store : Store) (input : Op
         | inr (inr (inl memory)) ↦ subst ends (sym memory) tt
         | inr (inr (inr storage)) ↦ subst ends (sym storage) (cause storage)
       ]
-
--- why lines are not taken is why nothing is printed
-pub input_ends_file : (f : RosterFields Cmnd) (store : Store) (host : List ℕ) (after : Option ℕ) (old : Message → Type 0) (Up Failed : Type 0) (input : Option (List ℕ))
-    (reason : Reason) → EndsInput store Failed reason → EndsFile f store host after old Up Failed input reason
-input_ends_file f store host after old Up Failed input reasons.FileFailed ends = ends.0
-input_ends_file f store host after old Up Failed input reasons.BadWord ends = ends.1
-input_ends_file f store host after old Up Failed input reasons.NoMemory ends = tt
-input_ends_file f store host after old Up Failed input (reasons.Roster fault) ends = ends.1
-input_ends_file f store host after old Up Failed input (reasons.Policy fault) ends = ends.1
-input_ends_file f store host after old Up Failed input (reasons.Beyond fault) ends = ends.1
-input_ends_file f store host after old Up Failed input (reasons.Desk desk.NoMemory) ends = tt
-input_ends_file f store host after old Up Failed input (reasons.Desk desk.Storage) ends = ends.1
-input_ends_file f store host after old Up Failed input (reasons.Desk desk.UnknownHost) ends = absurd ends.1
-input_ends_file f store host after old Up Failed input (reasons.Desk desk.TooManyRules) ends = absurd ends.1
-input_ends_file f store host after old Up Failed input (reasons.Desk desk.UnknownRelay) ends = ends.1
-input_ends_file f store host after old Up Failed input (reasons.Desk desk.TooLong) ends = ends.1
-input_ends_file f store host after old Up Failed input (reasons.Desk desk.NotCanonical) ends = ends.1
-input_ends_file f store host after old Up Failed input (reasons.Desk desk.BadField) ends = ends.1
-input_ends_file f store host after old Up Failed input (reasons.Desk (desk.Denied denial)) ends = ends.1
-input_ends_file f store host after old Up Failed input (reasons.Desk desk.RosterChanged) ends = ends.1
-input_ends_file f store host after old Up Failed input (reasons.Desk desk.NotADesk) ends = ends.1
-input_ends_file f store host after old Up Failed input (reasons.Desk desk.OldSchema) ends = ends.1
-input_ends_file f store host after old Up Failed input (reasons.Desk desk.BaseTooLarge) ends = ends.1
-
-pub input_ends_report : (store : Store) (Failed : Type 0) (reason : Reason) → EndsInput store Failed reason → EndsReport store Failed reason
-input_ends_report store Failed reasons.FileFailed ends = ends.0
-input_ends_report store Failed reasons.BadWord ends = ends.1
-input_ends_report store Failed reasons.NoMemory ends = tt
-input_ends_report store Failed (reasons.Roster fault) ends = ends.1
-input_ends_report store Failed (reasons.Policy fault) ends = ends.1
-input_ends_report store Failed (reasons.Beyond fault) ends = ends.1
-input_ends_report store Failed (reasons.Desk refusal) ends = ends.1
 
 pub wants_end_report : (store : Store) (Failed : Type 0) (refusal : Refusal) → IsWant refusal → (refusal ≡ desk.Storage → Failed) → EndsReport store Failed (reasons.Desk refusal)
 wants_end_report store Failed refusal want cause = elim want [

@@ -1,6 +1,6 @@
 -- What several writes come to.
 use Rattle.std.proofs.Common.{◌≡◌, ◌∙◌, ℕ, ◌+◌, ◌-◌, ◌≤◌, List, [], ◌∷◌, ◌++◌, Option, ap, append-nil, append_assoc, arith, drop, le_refl, length, length-drop, subst, sym, take, take_all}
-use Rattle.std.proofs.KnownBytes.{Appends-kept, Appends-nil, Appends-trans}
+use Rattle.std.proofs.KnownBytes.{Appends-kept, Appends-trans}
 use Rattle.std.proofs.lemmas.List.{take_rest}
 use Rattle.std.proofs.Math.Seq.{take-add}
 use Rattle.std.specs.Fmt.{WritesInCalls}
@@ -48,10 +48,6 @@ module _ (before between after : Option (List ℕ)) (bytes : List ℕ) (done n n
 pub whole_front : (before after : Option (List ℕ)) (bytes : List ℕ) → Appends before after bytes → AppendsFront before after bytes
 whole_front before after bytes taken =
     (length bytes, subst (Appends before after) (sym (take_all (length bytes) bytes (le_refl (length bytes)))) taken)
-
--- none of them are too
-pub none_front : (known : Option (List ℕ)) (bytes : List ℕ) → AppendsFront known known bytes
-none_front known bytes = (0, Appends-nil known)
 
 -- a beginning that is kept
 pub front_kept : (before between after : Option (List ℕ)) (bytes : List ℕ) → AppendsFront before between bytes → Keeps between after

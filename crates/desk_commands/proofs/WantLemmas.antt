@@ -8,7 +8,6 @@ use Rattle.desk_commands.specs.Taking.{HadMemory}
 use Rattle.desk_commands.specs.Wanting.{IsWanting}
 use Rattle.desk_commands.specs.declared.answer.Answer.{Answer}
 use Rattle.desk_commands.specs.declared.refusal.Refusal.{Refusal as Reason}
-use Rattle.desk_commands.specs.declared.refusal.Refusal.TheVariants as reasons
 use Rattle.desk_commands.specs.private.Outcomes.{ShowsWantIn, WantsIn}
 use Rattle.desk_args.specs.declared.task.Job.{Job}
 use Rattle.desk_args.specs.declared.task.Job.TheVariants.{Deliver}

@@ -10,7 +10,6 @@ use Rattle.sqlite_rules.specs.Lists.{Has}
 use Rattle.sqlite_rules.proofs.ListLemmas.{all_has}
 use Rattle.desk_tables.specs.Kept.{IsForeign, IsTidy, table_in}
 use Rattle.desk_tables.specs.Stored.{Finds, IsUnreferred, tree_of}
-use Rattle.desk_tables.proofs.AddLemmas.{all_at}
 use Rattle.desk_tables.proofs.StepLemmas.{keyed_none, neat_none}
 use Rattle.desk_schema.specs.declared.part.Part.{Part}
 use Rattle.desk_schema.specs.declared.part.Part.TheVariants as part
@@ -21,7 +20,6 @@ use Rattle.desk_schema.specs.private.Making.{Adds, AddsPart, Grows, HasEmpty}
 use Rattle.desk_schema.proofs.GrowLemmas.{grows_more, same_itself}
 use Rattle.desk_schema.proofs.Grown.{finds_new, finds_still}
 use Rattle.desk_schema.proofs.MadeLemmas.{alone, append_none, bare, keeps_itself, none_in}
-use Rattle.desk_schema.proofs.RecognizedLemmas.{tree_is}
 use Rattle.desk_schema.proofs.ShapeLemmas.{desk_of, tree_in}
 use Rattle.desk_migration.specs.Migrated.{IsBeside}
 use Rattle.desk_migration.specs.private.Moving.{Emptied, EmptiesAll, Prepared, Prepares}
@@ -44,11 +42,6 @@ module _ (b c : Database) (adds : Adds (table_at part.Verdicts 0) b c) where
   tree_still : (p : Part) → FindsPart b.schema p → tree_of c.schema (name_of p) ≡ tree_of b.schema (name_of p)
   unfolding found_still
   tree_still p it = tree_in c.schema p (found_still p it) ∙ sym (tree_in b.schema p it)
-
-  rows_still : (p : Part) → FindsPart b.schema p → table_in c (name_of p) ≡ table_in b (name_of p)
-  rows_still p it =
-      let tree : (table_at p it.1).tree ≡ tree_of b.schema (name_of p) = tree_is p it.1 ∙ sym (tree_in b.schema p it) in
-      ap c.trees (tree_still p it ∙ sym tree) ∙ all_at (λ (t : Table). c.trees t.tree ≡ b.trees t.tree) b.schema.tables it.0 (table_at p it.1) it.2.has adds.others ∙ ap b.trees tree
 
   -- the new table is found behind them
   fresh : Lacks b.schema part.Verdicts → tree_of c.schema (codes "verdicts") ≡ next_tree b.schema

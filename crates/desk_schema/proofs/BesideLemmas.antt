@@ -1,5 +1,5 @@
 -- The tables of other names stay beside a desk's that changes, that grows, or that is made.
-use Rattle.std.proofs.Common.{◌≡◌, inl, inr, ◌≢◌, ◌==◌, ◌++◌, Bool, true, false, codes, cond, find, slice_get, ℕ, List, [], ◌∷◌, Option, Some, None, option_and_then, refl, sym, ap, subst, ◌∙◌}
+use Rattle.std.proofs.Common.{◌≡◌, inl, inr, ◌≢◌, ◌==◌, ◌++◌, true, false, find, slice_get, ℕ, List, Some, None, option_and_then, sym, ap, subst, ◌∙◌}
 use Rattle.std.specs.List.{position_from}
 use Rattle.std.proofs.lemmas.Bool.Decides.{eqb_tells}
 use Rattle.sqlite.specs.Schema.{Schema}
@@ -9,7 +9,7 @@ use Rattle.sqlite_rules.specs.Lists.{Has}
 use Rattle.sqlite_schema.specs.Names.{same_name, table_named}
 use Rattle.desk_tables.specs.Kept.{IsForeign, Spares}
 use Rattle.desk_tables.specs.Stored.{Finds, HasDesk, is_in, tree_of}
-use Rattle.desk_schema.specs.Beside.{IsOther, KeepsBeside, StandsBeside, TableWithRows, found_as}
+use Rattle.desk_schema.specs.Beside.{IsOther, KeepsBeside, StandsBeside, found_as}
 use Rattle.desk_schema.specs.declared.part.Part.{Part}
 use Rattle.desk_schema.specs.declared.part.Part.TheVariants as part
 use Rattle.desk_schema.specs.Parts.{name_of, table_at}

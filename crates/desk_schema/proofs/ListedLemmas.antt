@@ -1,5 +1,5 @@
 -- Two schemas that list the same tables, views and indexes have the same of a desk's tables.
-use Rattle.std.proofs.Common.{◌≡◌, ◌==◌, ℕ, List, ap, sym, ◌∙◌, find, slice_get}
+use Rattle.std.proofs.Common.{◌≡◌, ◌==◌, ℕ, List, ap, ◌∙◌, find, slice_get}
 use Rattle.std.specs.List.{position_from}
 use Rattle.sqlite.specs.Schema.{Schema}
 use Rattle.sqlite.specs.Table.{Table}

@@ -1,7 +1,7 @@
 -- Five empty tables and the row of the roster are a desk with no message.
-use Rattle.std.proofs.Common.{◌≡◌, ◌≢◌, ◌⊎◌, inl, inr, ◌+◌, ◌++◌, ◌==◌, Bool, cond, find, None, ℕ, List, [], ◌∷◌, codes, true, false, Some, unwrap_or, IsTrue, refl, sym, ap, subst, ◌∙◌}
+use Rattle.std.proofs.Common.{◌≡◌, ◌≢◌, ◌+◌, ◌++◌, None, ℕ, List, [], ◌∷◌, codes, true, false, unwrap_or, refl, sym, ap, subst, ◌∙◌}
 use Rattle.std.specs.Prelude.{IsUtf8}
-use Rattle.std.specs.List.{AllByRecursion, list_any, position_from}
+use Rattle.std.specs.List.{AllByRecursion, list_any}
 use Rattle.std.specs.FinSet as set
 use Rattle.std.specs.Ordering.{nat_cmp}
 use Rattle.std.specs.Cmp.Lexicographic.{slice_cmp}
@@ -12,8 +12,8 @@ use Rattle.sqlite.specs.Effect.{Database, IsDatabase}
 use Rattle.sqlite.specs.State.{State}
 use Rattle.sqlite_rules.specs.Lists.{Has}
 use Rattle.sqlite_schema.specs.Names.{same_name, table_named}
-use Rattle.desk_tables.specs.Kept.{IsDeskDatabase, IsKeyed, IsNeat, IsTidy, table_in}
-use Rattle.desk_tables.specs.Stored.{Finds, HasDesk, IsUnreferred, content_of, has, is_in, is_stray, recorded, texts_of, tree_of}
+use Rattle.desk_tables.specs.Kept.{IsTidy, table_in}
+use Rattle.desk_tables.specs.Stored.{Finds, IsUnreferred, content_of, has, is_in, is_stray, texts_of, tree_of}
 use Rattle.desk_tables.specs.private.Stepping.{IsBare, Marked, Marks, Says}
 use Rattle.desk_tables.proofs.OneSchema.{again, unused_again}
 use Rattle.desk_tables.proofs.RefillLemmas.{no_rows}
@@ -28,7 +28,7 @@ use Rattle.desk_schema.specs.private.Making.{AddsPart, Differs, Filled, Founds, 
 use Rattle.desk_schema.specs.Ready.{IsReady}
 use Rattle.sqlite.specs.Change.{KeepsRows}
 use Rattle.desk_schema.proofs.BesideLemmas.{new_tree, other_new, other_none, there_still}
-use Rattle.desk_schema.proofs.GrowLemmas.{grows_more, same_itself}
+use Rattle.desk_schema.proofs.GrowLemmas.{grows_more}
 use Rattle.desk_schema.proofs.RecognizedLemmas.{tree_is}
 use Rattle.desk_schema.proofs.TableLists.{all_member, all_of, has_before}
 

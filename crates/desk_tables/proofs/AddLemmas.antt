@@ -1,5 +1,5 @@
 -- The set of texts after the INSERT.
-use Rattle.std.proofs.Common.{zero, suc, slice_get, ◌≡◌, ℕ, ℤ, List, [], ◌∷◌, Bool, true, false, cond, ◌||◌, Some, refl, sym, ap, subst, ◌∙◌, arith}
+use Rattle.std.proofs.Common.{zero, suc, slice_get, ◌≡◌, ℕ, ℤ, List, [], ◌∷◌, Bool, true, false, cond, ◌||◌, Some, refl, sym, ap, subst, ◌∙◌}
 use Rattle.std.specs.List.{list_any}
 use Rattle.std.specs.Ordering.{nat_cmp}
 use Rattle.std.specs.Cmp.{Equal-is}

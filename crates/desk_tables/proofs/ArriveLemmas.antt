@@ -1,9 +1,7 @@
 -- How the transaction of a message that arrives ends.
-use Rattle.std.proofs.Common.{◌≡◌, inl, inr, ℕ, List, true, false, IsTrue, refl, sym, ap, subst, ◌∙◌, arith}
+use Rattle.std.proofs.Common.{◌≡◌, ℕ, List, true, false, IsTrue, refl, sym, ap, subst, ◌∙◌, arith}
 use Rattle.sqlite.specs.Tree.{Trees}
-use Rattle.sqlite.specs.State.{State, HasCleanDisk, IsLive, IsRolledBack, KeepsCommit, Shows, Survives}
-use Rattle.sqlite.specs.Steps.{FailsToCommit}
-use Rattle.sqlite.specs.declared.error.Error.{Error}
+use Rattle.sqlite.specs.State.{State, HasCleanDisk, IsLive, KeepsCommit, Shows, Survives}
 use Rattle.sqlite.proofs.StateLemmas.{survives_then}
 use Rattle.desk_tables.specs.Stored.{IsListedAs, content_of, has, with_text}
 use Rattle.desk_tables.specs.Kept.{IsDeskDatabase, Spares}
@@ -36,22 +34,6 @@ module _ (text : List ℕ) (old last end : State) (rests : Rests old) (step : Is
   kept : HasCleanDisk last → KeepsCommit (begun old) last
   kept clean = step.kept clean refl
 
-  -- ---- it was undone
-
-  pub undone_ends : (HasCleanDisk end → IsRolledBack last end) → Ends old end
-  undone_ends back = record {
-    rests = λ up. let it = back up.clean in let both = it.undone up.is_open in record { settled = both.0 ∙ sym both.1; autocommit = it.autocommit };
-    was_up = λ up. record { clean = clean_first (clean_last up.clean); is_open = (kept (clean_last up.clean)).was_open ((back up.clean).was_open up.is_open) };
-    was_clean = λ clean. clean_first (clean_last clean);
-  }
-
-  pub undone_same : (HasCleanDisk end → IsRolledBack last end) → IsUp end → end.now ≡ old.now
-  undone_same back up =
-      ((back up.clean).undone up.is_open).0 ∙ (kept (clean_last up.clean)).committed ((back up.clean).was_open up.is_open) ∙ sym (rests ((undone_ends back).was_up up)).settled
-
-  pub undone_survives : (Q : Trees → Type 0) → ((db : Trees) → ¬ P db) → Survives old end Q
-  undone_survives Q none = survives_then old last end _ _ Q (λ _ db no_such. absurd no_such) (λ _ db is. absurd (none db is)) survives_from ends
-
   -- ---- it was committed
 
   module _ (received : HasCleanDisk last → Received text (begun old) last) (desk : IsUp old → IsDeskDatabase old.now) (live : IsLive old) where
@@ -63,13 +45,6 @@ module _ (text : List ℕ) (old last end : State) (rests : Rests old) (step : Is
     arrive_survives only up = survives_then old last end _ _ (ArrivesAt text old.now) (λ _ db no_such. absurd no_such)
         (λ clean db left. let it = receives up (clean_last clean) in subst (ArrivesAt text old.now) (sym (only db left)) (λ b same sound.
         let again' = again last.now b it.sound sound same in record { desk = again'.desk it.desk; content = again'.content ∙ it.content; foreign = λ t there foreign. ap (λ (db : Trees). db t.tree) same ∙ it.spares.foreign t there foreign; listed = subst (λ s. IsListedAs s b.schema) it.spares.schema (listed_again last.now b it.sound sound same) })) survives_from ends
-
-    -- a commit that fails inside the transaction undoes it
-    pub commit_undone : (e : Error) → (HasCleanDisk end → FailsToCommit last end e) → HasCleanDisk end → IsRolledBack last end
-    commit_undone e fails clean = elim (fails clean) [
-      | inl failed ↦ failed.3
-      | inr late ↦ absurd (let both : true ≡ false = sym (received (clean_last clean)).mode ∙ late.1 in cc)
-    ]
 
     module _ (ok : HasCleanDisk end → IsTrue last.in_transaction × Shows last end last.now last.now false) where
       pub commit_ends : Ends old end

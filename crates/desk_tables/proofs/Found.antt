@@ -1,10 +1,9 @@
 -- The SELECT of a text among the messages, for any schema that finds the messages by name.
-use Rattle.std.proofs.Common.{arith, ne_eqb, suc, None, Some, true, false, pos, ◌≡◌, ◌==◌, ◌^◌, nat_le, nat_lt, List, [], ◌∷◌, ◌-◌, ℕ, Ok, Bool, not, codes, refl, map, length, sym, ap, subst, ◌∙◌, inl, inr}
+use Rattle.std.proofs.Common.{arith, ne_eqb, suc, None, true, false, pos, ◌≡◌, ◌==◌, ◌^◌, nat_le, nat_lt, List, [], ◌∷◌, ◌-◌, ℕ, Ok, Bool, not, codes, refl, map, length, sym, ap, subst, ◌∙◌, inl}
 use Rattle.std.specs.List.{list_all, list_any}
-use Rattle.sqlite.specs.declared.types.Value.{Value}
 use Rattle.sqlite.specs.declared.types.Value.TheVariants.{Null, Int, Text}
 use Rattle.sqlite.specs.Order.{Row, column}
-use Rattle.sqlite.specs.Term.{Term, Env, lit, col, op2, holds, eval_all}
+use Rattle.sqlite.specs.Term.{Env, lit, col, op2, holds}
 use Rattle.sqlite.specs.Query.{Query, IsAnswer, Output, output, inner, end}
 use Rattle.sqlite.specs.Program.{overlay}
 use Rattle.sqlite.specs.Tree.{Trees}
@@ -35,7 +34,6 @@ use Rattle.sqlite_ast.specs.declared.Core.{out-Core}
 use Rattle.sqlite_rules.specs.Lists.{Has}
 use Rattle.sqlite_rules.proofs.ListLemmas.{some_from, some_has}
 use Rattle.sqlite_rules.proofs.ProbeLemmas.{has_mapped, mapped_has}
-use Rattle.std.specs.List.Sorted.{IsPermutation}
 use Rattle.std.proofs.lemmas.List.Sorted.{IsPermutation-sym}
 use Rattle.desk_tables.specs.DeskTables.{column_of, messages_at}
 use Rattle.desk_tables.specs.Stored.{Finds}

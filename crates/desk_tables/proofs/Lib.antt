@@ -11,7 +11,6 @@ pub mod TextSets
 pub mod LookupLemmas
 pub mod Steps
 pub mod AddLemmas
-pub mod OpenLemmas
 pub mod Puts
 pub mod Where
 pub mod NameLemmas

@@ -1,5 +1,5 @@
 -- What the test of a body against a text says.
-use Rattle.std.proofs.Common.{◌≡◌, ℕ, List, [], ◌∷◌, Bool, true, false, cond, ◌&&◌, ◌||◌, Some, refl, sym, ap, ◌∙◌, arith}
+use Rattle.std.proofs.Common.{◌≡◌, ℕ, List, [], ◌∷◌, Bool, true, false, ◌&&◌, ◌||◌, Some, refl, sym, ap, ◌∙◌, arith}
 use Rattle.std.specs.List.{list_any, list_all}
 use Rattle.std.specs.Ordering.{is_eq}
 use Rattle.std.specs.Cmp.{eq_by_cmp_equiv}
@@ -43,9 +43,6 @@ missing_test = op2 (Compare Eq Binary) (col 1 1) (col 0 0) ∷ []
 module _ (text : List ℕ) where
   abbrev params : Row
   params = Text text ∷ []
-
-  abbrev hit : Row → List (List Row)
-  hit r = cond (list_all (holds (params ∷ r ∷ [])) (missing_test)) ((params ∷ r ∷ []) ∷ []) []
 
   pub hit_is : (r : Row) → list_all (holds (params ∷ r ∷ [])) missing_test ≡ has_text text r
   hit_is r = ap (λ b. b && true) (finds_text text (column r 1)) ∙ and-true _

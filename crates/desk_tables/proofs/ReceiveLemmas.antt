@@ -41,24 +41,6 @@ module _ (a b : Database) (text : List ℕ) (adds : AddsText text a b) (is : IsD
   desk_still : table_in b (codes "desk") ≡ table_in a (codes "desk")
   desk_still = still a b Messages Desk is.tidy.desk (λ e. omega (arith, e)) adds.schema adds.others
 
-  content_more : content_of b ≡ with_text text (content_of a)
-  content_more = λ i. record { roster = roster_of (desk_still i); texts = adds.texts i }
-
-  -- a desk, where the rows are those of the messages with the text
-  desk_more : IsWritten text → IsTidy b → HasRows (set.insert texts text) b → IsDeskDatabase b
-  desk_more written tidy rows = record {
-    tidy = tidy;
-    marked = (is.marked.0, ap recorded desk_still ∙ is.marked.1, is.marked.2);
-    texts = adds.typed is.texts;
-    only = λ q there.
-        let one : (same_text q text || has (content_of a) q) ≡ true = sym (set.contains-insert nat_list_cmp_total texts text q) ∙ sym (ap (λ (c : Content). has c q) content_more) ∙ there in
-        elim (or_cases _ _ one) [
-          | inl same ↦ subst IsWritten (sym (is_same q text same)) written
-          | inr before ↦ is.only q before
-        ];
-    rows = subst (λ t. HasRows t b) (sym (ap (λ (c : Content). c.texts) content_more)) rows;
-  }
-
   -- the text is new, and the rows were settled
   module _ (m : Message) (c : Database) (settles : Settles m b c) where
     desk_same : table_in c (codes "desk") ≡ table_in a (codes "desk")

@@ -23,8 +23,7 @@ use Rattle.desk_tables.specs.private.Turning.{Refilled, Refills, Renewed, Rowwis
 use Rattle.desk_tables.proofs.RowSets.{rows_of_nothing}
 use Rattle.desk_tables.proofs.AddLemmas.{is_same, same_sets}
 use Rattle.desk_tables.proofs.TextSets.{same_text}
-use Rattle.desk_tables.proofs.RequestLemmas.{step_none}
-use Rattle.desk_tables.proofs.TurnLemmas.{clean_before, rows_at, spares_none, spares_then, then_step, turned_names, turned_parked, turned_verdicts}
+use Rattle.desk_tables.proofs.TurnLemmas.{clean_before, rows_at, spares_then, then_step, turned_names, turned_parked, turned_verdicts}
 
 -- ---- texts of messages
 
@@ -74,12 +73,6 @@ pub record Refilling (messages : List Message) (old now : State) : Type 0 where
   pub step : IsStep old now
   pub refilled : HasCleanDisk now → IsTrue old.in_transaction → Refilled messages old now
 
-pub refilling_none : (a : State) → Refilling [] a a
-refilling_none a = record {
-  step = step_none a;
-  refilled = λ clean inside. record { mode = inside; refills = λ tidy. record { sound = λ s. s; schema = refl; tidy = tidy; rows = λ has. has; desk = refl; messages_same = refl; spares = spares_none a.now } };
-}
-
 one_more : (ms more : List Message) (m : Message) (a b c : Database) → more ≡ ms ++ m ∷ [] → set.contains (texts_in ms) (wire m) ≡ false → Refills ms a b → Settles m b c → Refills more a c
 one_more ms more m a b c is missing one two = record {
   sound = λ s. two.sound (one.sound s);
@@ -100,9 +93,6 @@ refilling_more ms more m a b c is message others one step next = record {
       let settled = next clean first.mode in
       record { mode = settled.mode; refills = λ tidy. let before = first.refills tidy in one_more ms more m a.now b.now c.now is (none_such ms m message others) before (settled.settles before.tidy) };
 }
-
-pub refilling_stops : (ms : List Message) (a b c : State) → Refilling ms a b → IsStep b c → IsStep a c
-refilling_stops ms a b c one step = then_step a b c one.step (λ clean inside. (one.refilled clean inside).mode) step
 
 has_taken : (xs : List Message) (i : ℕ) (x : Message) → Has (take i xs) x → Has xs x
 has_taken [] i x there = absurd (none i there)

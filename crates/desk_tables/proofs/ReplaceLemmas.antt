@@ -1,13 +1,11 @@
 -- What a desk is after its roster's text was replaced, and how that transaction ends.
-use Rattle.std.proofs.Common.{◌≡◌, ◌⊎◌, inl, inr, ℕ, List, Contains, [], ◌∷◌, map, codes, Bool, true, false, ◌||◌, IsTrue, refl, sym, ap, subst, ◌∙◌, arith}
+use Rattle.std.proofs.Common.{◌≡◌, inl, inr, ℕ, List, [], ◌∷◌, map, codes, true, false, IsTrue, refl, sym, ap, subst, ◌∙◌, arith}
 use Rattle.std.specs.Prelude.{IsUtf8}
 use Rattle.std.specs.List.{list_any}
 use Rattle.std.specs.FinSet as set
 use Rattle.sqlite.specs.Tree.{Trees}
 use Rattle.sqlite.specs.Effect.{Database}
-use Rattle.sqlite.specs.State.{State, HasCleanDisk, IsRolledBack, KeepsCommit, Shows, Survives}
-use Rattle.sqlite.specs.Steps.{FailsToCommit}
-use Rattle.sqlite.specs.declared.error.Error.{Error}
+use Rattle.sqlite.specs.State.{State, HasCleanDisk, KeepsCommit, Shows, Survives}
 use Rattle.sqlite.proofs.StateLemmas.{survives_then}
 use Rattle.sqlite_rules.specs.Lists.{Has}
 use Rattle.sqlite_rules.proofs.ListLemmas.{contains_had, has_contained}
@@ -98,13 +96,6 @@ module _ (roster : List ℕ) (old last end : State) (rests : Rests old) (step : 
     replace_survives only up = survives_then old last end _ _ (ChangesAt roster old.now) (λ _ db no_such. absurd no_such)
         (λ clean db left. let it = does up (clean_last clean) in subst (ChangesAt roster old.now) (sym (only db left)) (λ b same sound.
         let again' = again last.now b it.sound sound same in record { desk = again'.desk it.desk; content = again'.content ∙ it.content; foreign = λ t there foreign. ap (λ (db : Trees). db t.tree) same ∙ it.spares.foreign t there foreign; listed = subst (λ s. IsListedAs s b.schema) it.spares.schema (listed_again last.now b it.sound sound same) })) survives_from ends
-
-    -- a commit that fails inside the transaction undoes it
-    pub commit_undone : (e : Error) → (HasCleanDisk end → FailsToCommit last end e) → HasCleanDisk end → IsRolledBack last end
-    commit_undone e fails clean = elim (fails clean) [
-      | inl failed ↦ failed.3
-      | inr late ↦ absurd (let both : true ≡ false = sym (received (clean_last clean)).mode ∙ late.1 in cc)
-    ]
 
     module _ (ok : HasCleanDisk end → IsTrue last.in_transaction × Shows last end last.now last.now false) where
       pub commit_ends : Ends old end

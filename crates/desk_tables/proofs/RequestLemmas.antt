@@ -1,5 +1,5 @@
 -- How the steps of a request that arrives make one.
-use Rattle.std.proofs.Common.{◌≡◌, ◌⊎◌, inl, inr, ℕ, List, [], ◌∷◌, ◌++◌, codes, Bool, true, false, IsTrue, refl, sym, ap, subst, ◌∙◌, arith}
+use Rattle.std.proofs.Common.{◌≡◌, ◌⊎◌, inl, inr, ℕ, List, [], ◌∷◌, ◌++◌, codes, Bool, true, false, IsTrue, refl, sym, ap, subst, ◌∙◌}
 use Rattle.std.specs.FinSet as set
 use Rattle.sqlite.specs.declared.types.Value.{Value}
 use Rattle.sqlite.specs.Order.{Row, column}
@@ -21,7 +21,7 @@ use Rattle.desk_tables.specs.private.Stepping.{Finds, FindsParked, ShowsParked, 
 use Rattle.desk_tables.specs.private.Steps.{IsStep}
 use Rattle.desk_tables.specs.private.Turning.{JoinedParked, JoinsAll, JoinsOne, JoinsParked, Renames, Rowwise, Settled, Settles, ShowsVerdict, Stays, Turned, Turns}
 use Rattle.desk_tables.proofs.RowSets.{asked, rows_same}
-use Rattle.desk_tables.proofs.TurnLemmas.{clean_before, rows_at, spares_none, spares_then, then_step, turned_names, turned_parked, with_one}
+use Rattle.desk_tables.proofs.TurnLemmas.{clean_before, rows_at, spares_then, then_step, turned_names, turned_parked, with_one}
 
 -- ---- the name's row
 
@@ -68,28 +68,6 @@ pub record Joining (rows : List Row) (old now : State) : Type 0 where
   pub step : IsStep old now
   pub turned : HasCleanDisk now → IsTrue old.in_transaction → Turned Stays (Rowwise (JoinsAll rows)) Stays old now
 
-pub step_none : (a : State) → IsStep a a
-step_none a = record {
-  survives = record { clean = omega (arith); shield = λ s. s; counts = omega (arith); limit = refl; closes = λ clean is_open. inl is_open; crash = λ clean db left. inl left };
-  kept = λ clean inside. record { was_open = λ is_open. is_open; committed = λ is_open. refl };
-}
-
-joined_none : (a : State) → IsTrue a.in_transaction → Turned Stays (Rowwise (JoinsAll [])) Stays a a
-joined_none a inside = record {
-  mode = inside;
-  turns = λ tidy. record {
-    sound = λ s. s;
-    schema = refl;
-    tidy = tidy;
-    names = refl;
-    verdicts = record { each = λ r there. inl there; kept = λ r there. there; joined = λ x there. absurd there };
-    parked = refl;
-    desk = refl;
-    messages = refl;
-    spares = spares_none a.now;
-  };
-}
-
 one_more : (rows : List Row) (x : Row) (A B C : RowSet) → JoinsAll rows A B → JoinsOne x B C → JoinsAll (rows ++ x ∷ []) A C
 one_more rows x A B C all one = record { each = each; kept = λ r was. one.2.kept r (all.kept r was); joined = joined }
   where
@@ -131,9 +109,6 @@ joined_more rows more x a b c is one two = record {
       };
 }
 
-pub joining_none : (a : State) → Joining [] a a
-joining_none a = record { step = step_none a; turned = λ clean inside. joined_none a inside }
-
 pub joining_more : (rows more : List Row) (x : Row) (a b c : State) → more ≡ rows ++ x ∷ [] → Joining rows a b → IsStep b c → (HasCleanDisk c → IsTrue b.in_transaction → Turned Stays (Rowwise (JoinsOne x)) Stays b c) → Joining more a c
 joining_more rows more x a b c is one step next = record {
   step = then_step a b c one.step (λ clean inside. (one.turned clean inside).mode) step;
@@ -141,9 +116,6 @@ joining_more rows more x a b c is one step next = record {
       let first = one.turned (clean_before b c _ step.survives clean) inside in
       joined_more rows more x a b c is first (next clean first.mode);
 }
-
-pub joining_stops : (rows : List Row) (a b c : State) → Joining rows a b → IsStep b c → IsStep a c
-joining_stops rows a b c one step = then_step a b c one.step (λ clean inside. (one.turned clean inside).mode) step
 
 shown_joins : (name : RequestName) (rows : List Row) (P V W : RowSet) → ShowsParked name P rows → JoinsAll rows V W → Joins name P V W
 shown_joins name rows P V W shows all = record {

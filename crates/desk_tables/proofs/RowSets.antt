@@ -304,12 +304,3 @@ module _ (S : Message → Type 0) (q : RequestFields) (only : (m : Message) → 
       parked_each = parked_each;
       parked_all = parked_all;
     }
-
--- ---- one set, one state
-
--- Two states of the rows of one set differ at most in which request a name's row has.
-pub one_state : (S : Message → Type 0) (N V P N' V' P' : RowSet) → AreRows S N V P → AreRows S N' V' P' → (x : List Value) → (V x → V' x) × (P x → P' x)
-one_state S N V P N' V' P' a b x = (
-  (λ there. let it = a.verdicts_each x there in subst V' (sym it.3) (b.verdicts_all it.0 it.1 it.2)),
-  (λ there. let it = a.parked_each x there in subst P' (sym it.3) (b.parked_all it.0 it.1 it.2)),
-)

@@ -12,7 +12,7 @@ use Rattle.sqlite_draft.specs.declared.query.Draft.{Draft}
 use Rattle.sqlite_draft.specs.declared.join.Step.TheVariants.{Inner}
 use Rattle.sqlite_draft.specs.Join.{chain}
 use Rattle.sqlite_resolve.specs.Lowering.{fresh, max_budget}
-use Rattle.sqlite_resolve.specs.Compile.{compiled, first, command as command_in, returning, timed, small}
+use Rattle.sqlite_resolve.specs.Compile.{compiled, first, command as command_in, returning, timed}
 use Rattle.sqlite_resolve.specs.declared.state.State.{State}
 use Rattle.sqlite_resolve.specs.declared.select.Clauses.{Clauses}
 use Rattle.sqlite_resolve.specs.declared.scope.Level.{Level}

@@ -67,10 +67,6 @@ neat_less : (at : ℕ) (Gone : RowSet) (old new : List Row) → Loses Gone (IsRo
 neat_less at Gone old new loses keyed neat = record { keyed = keyed neat.keyed; whole = λ r there. neat.whole r (loses.each r there).0 }
 
 module _ (old new : Database) (tidy : IsTidy old) (schema : new.schema ≡ old.schema) where
-  -- the rows of this table, as the new schema finds it
-  abbrev found : List ℕ → Type 0
-  found name = table_in new name ≡ new.trees (tree_of old.schema name)
-
   at_new : (name : List ℕ) → table_in new name ≡ new.trees (tree_of old.schema name)
   at_new name = ap (λ s. new.trees (tree_of s name)) schema
 

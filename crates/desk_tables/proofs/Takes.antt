@@ -1,5 +1,5 @@
 -- What a DELETE by the name does to the rows of its table.
-use Rattle.std.proofs.Common.{◌≡◌, ◌≢◌, ◌⊎◌, inl, inr, ℕ, ◌^◌, nat_le, pos, List, [], ◌∷◌, length, ◌==◌, ◌&&◌, ◌||◌, Bool, true, false, cond, Option, Some, None, option_and_then, option_map, slice_get, Ok, Err, refl, sym, ap, subst, ◌∙◌}
+use Rattle.std.proofs.Common.{◌≡◌, ◌≢◌, ℕ, ◌^◌, nat_le, List, [], ◌∷◌, length, ◌==◌, ◌||◌, Bool, true, false, Option, Some, None, option_and_then, option_map, slice_get, Ok, refl, sym, ap, subst, ◌∙◌}
 use Rattle.std.specs.List.{AllByRecursion, filter_map, flat_map, list_any}
 use Rattle.sqlite.specs.declared.types.Value.{Value}
 use Rattle.sqlite.specs.declared.types.Value.TheVariants.{Null}

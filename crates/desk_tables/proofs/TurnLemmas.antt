@@ -134,9 +134,6 @@ spares_but old new p schema others = record {
   foreign = λ t there foreign. all_member (λ (u : Table). u.tree ≢ tree_of old.schema (called p) → new.trees u.tree ≡ old.trees u.tree) old.schema.tables t there others (other_than old.schema t.tree p foreign);
 }
 
-pub spares_none : (a : Database) → Spares a a
-spares_none a = record { schema = refl; foreign = λ t there foreign. refl }
-
 pub spares_then : (a b c : Database) → Spares a b → Spares b c → Spares a c
 spares_then a b c one two = record {
   schema = two.schema ∙ one.schema;

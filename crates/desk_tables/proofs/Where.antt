@@ -18,7 +18,7 @@ use Rattle.sqlite_draft.specs.declared.query.Draft.{Draft}
 use Rattle.sqlite_draft.specs.declared.join.Step.TheVariants.{Inner}
 use Rattle.sqlite_draft.specs.Join.{chain}
 use Rattle.sqlite_resolve.specs.Lowering.{fresh, max_budget, chosen, first_found}
-use Rattle.sqlite_resolve.specs.Compile.{compiled, first, command as command_in, returning, timed, small, delete, shows}
+use Rattle.sqlite_resolve.specs.Compile.{first, command as command_in, returning, timed, delete, shows}
 use Rattle.sqlite_resolve.specs.Write.{deleted, picked}
 use Rattle.sqlite_resolve.specs.declared.state.State.{State}
 use Rattle.sqlite_resolve.specs.declared.state.Passes.TheVariants.{Nothing}

@@ -1,7 +1,7 @@
 -- What a test leaves of a list: its elements, their order, and what it leaves of lists that are put together or mapped.
 use Rattle.std.proofs.Common.{◌≡◌, Bool, true, false, cond, List, [], ◌∷◌, ◌++◌, map, refl, sym, ap, ◌∙◌, subst, inl, inr}
-use Rattle.std.specs.List.{Contains, AllByRecursion, filter}
-use Rattle.std.proofs.lemmas.List.Elements.{All-contains, All-contains_itself, All-filter, All-from_recursion, filter-append, filter_passes, recursion_from_All}
+use Rattle.std.specs.List.{Contains, filter}
+use Rattle.std.proofs.lemmas.List.Elements.{All-contains, All-contains_itself, All-filter, filter-append, filter_passes}
 use Rattle.messages.specs.Fields.{RequestFields}
 use Rattle.messages.specs.declared.message.Message.{Message}
 use Rattle.sudo_words.specs.declared.cmnd.Cmnd.{Cmnd}
@@ -37,9 +37,6 @@ module _ {X : Type 0} (p : X → Bool) where
 
   pub passes : (xs : List X) (x : X) → Contains (filter p xs) x → p x ≡ true
   passes xs x m = All-contains (λ (y : X). p y ≡ true) (filter p xs) x (filter_passes p xs) m
-
-  pub each_left : (P : X → Type 0) (xs : List X) → AllByRecursion P xs → AllByRecursion P (filter p xs)
-  each_left P xs all = recursion_from_All P (filter p xs) (All-filter p P xs (All-from_recursion P xs all))
 
 -- ---- their order
 

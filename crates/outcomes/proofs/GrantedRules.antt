@@ -60,9 +60,6 @@ yes_from_all true true true true true false g h i j k l = absurd cc
 
 -- ---- the rule of a grant
 
-pub answer_is : (defined : List Entry) (host : List ℕ) (q : RequestFields) (first last : ℕ) (cmnd : Cmnd) (i : Invocation) → says defined (grant_rule host q first last cmnd) i ≡ answer_of (leb first i.at) (leb i.at last) (bytes_eq q.by i.user) (bytes_eq host i.host) (bytes_eq q.runas i.runas) (matches cmnd i.path i.args)
-answer_is defined host q first last cmnd i = refl
-
 pub same_from_test : (a b : List ℕ) → bytes_eq a b ≡ true → a ≡ b
 same_from_test a b h = (bytes_eq-Decides a b).0 h
 

@@ -13,7 +13,6 @@ use Rattle.grants.specs.Summaries.{Kept, StandsFor}
 use Rattle.grants.specs.declared.outcome.Status.{Status}
 use Rattle.grants.specs.declared.outcome.Status.TheVariants.{Disputed, Lapsed, Refused, Waiting, Void, Granted}
 use Rattle.grants.specs.declared.outcome.Window.{Window}
-use Rattle.grants.proofs.StatusLaws.{one_status}
 use Rattle.outcomes.specs.private.InTurn.{Give, grant_of, grants_of, live_for}
 use Rattle.messages.specs.Order.{AreInOrder}
 use Rattle.outcomes.specs.Outcomes.{AreLive, IsLive, LiveGrant, LivePrecedes}
@@ -105,16 +104,6 @@ module _ (f : RosterFields Cmnd) (set : List Message) (at : ℕ) (ks : List Kept
   }
 
 -- ---- one more
-
--- where the status is granted the request is not disputed
-pub not_disputed : (f : RosterFields Cmnd) (set : List Message) (k : Kept) (status : Status) (at : ℕ) (w : Window) → IsStatus f set (name_of k.request) status → window_at at status ≡ Some w → IsStatus f set (name_of k.request) Disputed → ⊥
-not_disputed f set k Disputed at w is e d = absurd cc
-not_disputed f set k Lapsed at w is e d = absurd cc
-not_disputed f set k Refused at w is e d = absurd cc
-not_disputed f set k Waiting at w is e d = absurd cc
-not_disputed f set k Void at w is e d = absurd cc
-not_disputed f set k (Granted v) at w is e d =
-    let same : ◌≡◌ {A = Status} (Granted v) Disputed = one_status f set (name_of k.request) (Granted v) Disputed is d in absurd cc
 
 pub pushed : (q r : RequestFields) (at : ℕ) (status : Status) (w : Window) (old new : List LiveGrant) (l : LiveGrant) → window_at at status ≡ Some w → r ≡ q → l ≡ grant_of r w → new ≡ old ++ l ∷ [] → new ≡ old ++ live_for at q status
 pushed q r at status w old new l e same is more =

@@ -2,11 +2,11 @@
 use Rattle.std.proofs.Common.{◌≡◌, ◌≢◌, ◌⊎◌, Bool, true, false, suc, List, [], ◌∷◌, ◌++◌, map, Option, Some, None, refl, sym, ap, ◌∙◌, subst, inl, inr, arith}
 use Rattle.std.specs.List.{Contains}
 use Rattle.std.specs.Option.{MatchOption}
-use Rattle.std.specs.BTreeMap.{BTreeMap, IsOrdered}
+use Rattle.std.specs.BTreeMap.{IsOrdered}
 use Rattle.std.proofs.lemmas.Bool.{cases_Bool}
 use Rattle.std.proofs.lemmas.List.Elements.{Contains-append_left, Contains-append_right, Contains-append_cases, Contains-push, Contains-push_cases}
 use Rattle.messages.specs.Fields.{RequestFields, VerdictFields}
-use Rattle.messages.specs.Names.{IsNamed, NobodyAsks, SameMessages, SameName, name_cmp, name_of}
+use Rattle.messages.specs.Names.{NobodyAsks, SameMessages, SameName, name_cmp, name_of}
 use Rattle.messages.specs.NameRows.{IsMarked, ShowSet}
 use Rattle.messages.specs.declared.name_row.NameRow.{NameRow}
 use Rattle.messages.specs.declared.request_name.RequestName.{RequestName}
@@ -18,7 +18,7 @@ use Rattle.grants.specs.declared.marks.Mark.{Mark}
 use Rattle.grants.specs.Marks.{Keep, verdict_of}
 use Rattle.grants.specs.Summaries.{Kept, StandsFor}
 use Rattle.outcomes.specs.Gathered.{AreGathered, Known}
-use Rattle.outcomes.specs.private.ByName.{AreAlone, AreByName, Gathers, GathersRows, HasNoVerdict, IsRowOf, IsSummaryOf, NoRowOf, Waits, at_name, listed}
+use Rattle.outcomes.specs.private.ByName.{AreAlone, AreByName, Gathers, GathersRows, HasNoVerdict, IsRowOf, IsSummaryOf, NoRowOf, at_name, listed}
 use Rattle.outcomes.proofs.ByNameLemmas.{Summaries}
 use Rattle.outcomes.proofs.GatherLemmas.{IsAt, among_messages, among_verdicts, no_request, none_gathered, of_itself, of_verdict, still_at}
 use Rattle.outcomes.proofs.Membership.{no_member, Contains-head, Contains-behind, Contains-cases}

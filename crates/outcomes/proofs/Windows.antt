@@ -58,9 +58,3 @@ module _ (f : RosterFields Cmnd) (set : List Message) (q : RequestFields) where
   pub not_endless : (moment : ℕ) → InWindow f set q moment → ((last : ℕ) → IsLastMoment f set q last → ⊥) → ⊥
   not_endless moment w none =
       last_within (q.until - moment) moment w (omega (arith, w.until)) none
-
-  pub one_first : (a b : ℕ) → IsFirstMoment f set q a → IsFirstMoment f set q b → a ≡ b
-  one_first a b x y = omega (arith, x.least b y.inside, y.least a x.inside)
-
-  pub one_last : (a b : ℕ) → IsLastMoment f set q a → IsLastMoment f set q b → a ≡ b
-  one_last a b x y = omega (arith, x.greatest b y.inside, y.greatest a x.inside)

@@ -1,8 +1,8 @@
 -- Writes, one behind the other.
-use Rattle.std.proofs.Common.{◌+◌, ℕ, List, [], ◌++◌, Option, Some, None, Result, Ok, Err, sym, ap, ◌∙◌, subst, refl, take, drop, append_assoc, take-append-drop}
+use Rattle.std.proofs.Common.{◌+◌, ℕ, List, [], ◌++◌, Option, Some, None, Result, Ok, Err, sym, ap, ◌∙◌, subst, take, drop, append_assoc, take-append-drop}
 use Rattle.std.proofs.lemmas.List.{append-nil}
 use Rattle.std.proofs.Math.Seq.{take-add}
-use Rattle.std.specs.Io.KnownBytes.{Appends, Keeps}
+use Rattle.std.specs.Io.KnownBytes.{Appends}
 use Rattle.relay_http.specs.Sent.{Began, Sends}
 
 pub appends_both : (a b c : Option (List ℕ)) (xs ys : List ℕ) → Appends a b xs → Appends b c ys → Appends a c (xs ++ ys)
@@ -10,15 +10,6 @@ appends_both None b c xs ys h k = tt
 appends_both (Some s) None c xs ys h k = absurd h
 appends_both (Some s) (Some t) None xs ys h k = absurd k
 appends_both (Some s) (Some t) (Some u) xs ys h k = k ∙ ap (λ (l : List ℕ). l ++ ys) h ∙ append_assoc s xs ys
-
-pub keeps_none : (a b : Option (List ℕ)) → Keeps a b → Appends a b []
-keeps_none None b h = tt
-keeps_none (Some s) None h = absurd h
-keeps_none (Some s) (Some t) h = h ∙ sym (append-nil s)
-
-pub keeps_itself : (a : Option (List ℕ)) → Keeps a a
-keeps_itself None = tt
-keeps_itself (Some s) = refl
 
 pub appends_next : (a b c : Option (List ℕ)) (bytes : List ℕ) (sent taken : ℕ) → Appends a b (take sent bytes)
     → Appends b c (take taken (drop sent bytes)) → Appends a c (take (sent + taken) bytes)

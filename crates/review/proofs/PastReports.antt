@@ -12,7 +12,7 @@ use Rattle.messages.specs.declared.message.Message.TheVariants.{Verdict}
 use Rattle.roster.specs.Agreement.{AgreeUntil}
 use Rattle.roster.specs.Fields.{CeilingFields, Entry, RosterFields}
 use Rattle.roster.specs.Relations.{pair_order}
-use Rattle.roster.proofs.RightLemmas.{against_alike, agree_turned, eligible_until, same_ceiling}
+use Rattle.roster.proofs.RightLemmas.{against_alike, eligible_until, same_ceiling}
 use Rattle.grants.specs.Past.{AreMadeBy}
 use Rattle.grants.specs.declared.outcome.Window.{Window}
 use Rattle.grants.proofs.PastLaws.{judge_alike, status}

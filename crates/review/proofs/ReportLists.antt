@@ -1,5 +1,5 @@
 -- The lines of a report, as loops add them.
-use Rattle.std.proofs.Common.{◌≡◌, ℕ, Bool, true, false, if◌then◌else◌, zero, suc, ◌+◌, ◌<◌, ◌≤◌, List, [], ◌∷◌, ◌++◌, length, map, take, get_or, refl, sym, ap, ◌∙◌, subst, arith, append_assoc}
+use Rattle.std.proofs.Common.{◌≡◌, ℕ, Bool, true, false, if◌then◌else◌, zero, suc, ◌+◌, ◌<◌, ◌≤◌, List, [], ◌∷◌, ◌++◌, length, map, take, get_or, sym, ap, ◌∙◌, subst, arith, append_assoc}
 use Rattle.std.specs.List.{AllByRecursion, flat_map}
 use Rattle.std.specs.Prelude.{codes}
 use Rattle.std.proofs.lemmas.Grind.{flat_map-append}
@@ -23,9 +23,6 @@ pub whole_list : {X : Type 0} (P : List X → Type 0) (xs : List X) (k : ℕ) �
 whole_list P xs k past is = subst P (take_all k xs past) is
 
 -- ---- one more part, and one more element's lines
-
-pub no_lines : {X : Type 0} (IsPart : X → List (List ℕ) → Type 0) (old : List ℕ) → AddsLines (AreParts IsPart []) old old
-no_lines IsPart old = ([], sym (append-nil old), refl)
 
 pub more_lines : {X : Type 0} (IsPart : X → List (List ℕ) → Type 0) (xs : List X) (k : ℕ) (x : X) (old mid new : List ℕ) → k < length xs → x ≡ get_or xs k x
     → AddsLines (AreParts IsPart (take k xs)) old mid → AddsLines (IsPart x) mid new → AddsLines (AreParts IsPart (take (k + 1) xs)) old new

@@ -1,10 +1,9 @@
 -- The cases that are gone through, level by level.
-use Rattle.std.proofs.Common.{◌≡◌, ℕ, ◌+◌, ◌<◌, ◌≤◌, suc, Option, Some, None, List, [], ◌∷◌, ◌++◌, length, take, drop, get_or, refl, sym, ap, ◌∙◌, subst, append_assoc}
+use Rattle.std.proofs.Common.{◌≡◌, ℕ, ◌+◌, ◌<◌, suc, Option, Some, None, List, [], ◌∷◌, ◌++◌, length, take, drop, get_or, refl, sym, ap, ◌∙◌, subst, append_assoc}
 use Rattle.std.specs.Prelude.{Result, Ok, Err, IfOk}
 use Rattle.std.specs.List.{AllByRecursion, flat_map, slice_get}
 use Rattle.std.proofs.Math.Seq.{split_at}
 use Rattle.std.proofs.lemmas.Grind.{flat_map-append}
-use Rattle.std.proofs.lemmas.List.{take_all}
 use Rattle.sudo_decide.specs.declared.invocation.Invocation.{Invocation}
 use Rattle.sudo_beyond.specs.Answer.{IsFirst, FirstOf}
 use Rattle.sudo_beyond.proofs.AlikeLemmas.{all_append, all_front, all_back}
@@ -21,9 +20,6 @@ module _ {X : Type 0} (P : Invocation → Type 0) (f : X → List Invocation) (x
       subst (λ (ys : List X). NoGap P (flat_map f ys)) (sym (take_next xs k x below is))
       (subst (λ (is : List Invocation). NoGap P is) (sym (flat_map-append f (take k xs) (x ∷ [])))
       (all_append (λ i. P i → ⊥) (flat_map f (take k xs)) (f x ++ []) before (all_append (λ i. P i → ⊥) (f x) [] here tt)))
-
-  pub gaps_done : length xs ≤ k → NoGap P (flat_map f (take k xs)) → NoGap P (flat_map f xs)
-  gaps_done done none = subst (λ (ys : List X). NoGap P (flat_map f ys)) (take_all k xs done) none
 
   pub gap_here : (x : X) (i : Invocation) → k < length xs → x ≡ get_or xs k x → NoGap P (flat_map f (take k xs)) → IsFirst P (f x) i → IsFirst P (flat_map f xs) i
   gap_here x i below is before first =

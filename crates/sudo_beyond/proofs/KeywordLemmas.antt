@@ -1,5 +1,5 @@
 -- No policy has a command that sudo takes for its own, or a name with which sudo begins a command.
-use Rattle.std.proofs.Common.{◌≡◌, ℕ, true, false, not, List, ◌++◌, subst, sym, ap, ◌∙◌}
+use Rattle.std.proofs.Common.{◌≡◌, ℕ, true, false, not, List, ◌++◌, subst}
 use Rattle.std.specs.Prelude.{codes}
 use Rattle.std.specs.List.{AllByRecursion}
 use Rattle.std.proofs.lemmas.Bool.{and_parts, not-true}

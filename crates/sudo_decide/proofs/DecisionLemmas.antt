@@ -1,16 +1,12 @@
 -- What the laws and other crates cite of decisions.
-use Rattle.std.proofs.Common.{◌≡◌, ℕ, Bool, true, false, ◌&&◌, if◌then◌else◌, Some, None, List, [], ◌∷◌, ◌++◌, map, reverse, refl, sym, ap, subst, inl}
-use Rattle.std.specs.Str.{bytes_eq}
+use Rattle.std.proofs.Common.{◌≡◌, Bool, false, ◌&&◌, if◌then◌else◌, Some, None, List, [], ◌∷◌, ◌++◌, map, reverse, refl, sym, ap, subst, inl}
 use Rattle.std.proofs.lemmas.List.{append-nil}
-use Rattle.sudo_policy.specs.declared.entry.Item.{Item}
-use Rattle.sudo_policy.specs.declared.entry.Item.TheVariants as items
 use Rattle.sudo_policy.specs.declared.entry.Rule.{Rule}
 use Rattle.sudo_policy.specs.declared.entry.Entry.{Entry}
 use Rattle.sudo_policy.specs.declared.entry.Entry.TheVariants as entries
-use Rattle.sudo_policy.specs.declared.tree.Definition.{Definition}
 use Rattle.sudo_decide.specs.declared.decision.Decision.{Decision}
 use Rattle.sudo_decide.specs.declared.invocation.Invocation.{Invocation}
-use Rattle.sudo_decide.specs.Decision.{names_say, takes_part, is_about, cmnd_says, says, entry_says, outcome, Decides, DecidesBy}
+use Rattle.sudo_decide.specs.Decision.{takes_part, is_about, cmnd_says, says, entry_says, outcome, Decides, DecidesBy}
 use Rattle.sudo_decide.proofs.Speakers as speakers
 use Rattle.sudo_decide.proofs.Reaching.{SameDefinitions, decides_same, rule_between, rules_behind, same_back}
 
@@ -39,13 +35,6 @@ decides_rule_last defined es r i answer speaks = inl (record {
 pub same_definitions : (es : List Entry) (rules : List Rule) (i : Invocation) (d : Decision)
     → Decides es i d → DecidesBy (reverse (es ++ map entries.Rule rules)) es i d
 same_definitions es rules i d by = decides_same (reverse es) (reverse (es ++ map entries.Rule rules)) es i d (rules_behind es rules) by
-
-pub same_definitions_back : (es : List Entry) (rules : List Rule) (i : Invocation) (d : Decision)
-    → DecidesBy (reverse (es ++ map entries.Rule rules)) es i d → Decides es i d
-same_definitions_back es rules i d by =
-    decides_same (reverse (es ++ map entries.Rule rules)) (reverse es) es i d
-    (same_back (reverse es) (reverse (es ++ map entries.Rule rules)) (rules_behind es rules))
-    by
 
 -- a silent rule may be added anywhere, or taken away
 pub silent_rule_added : (before after : List Entry) (r : Rule) (i : Invocation) (d : Decision)
@@ -76,10 +65,3 @@ pub dated_rule_taken : (before after : List Entry) (r : Rule) (i : Invocation) (
     → takes_part r i.at ≡ false → Decides (before ++ entries.Rule r ∷ after) i d → Decides (before ++ after) i d
 dated_rule_taken before after r i d outside =
     silent_rule_taken before after r i d (outside_is_silent (reverse (before ++ after)) r i outside)
-
--- ---- lists
-
--- a list of one name, not negated, says what the name does, whatever the definitions
-pub names_say_of_name : (defs : List (Definition (Item (List ℕ)))) (asked name : List ℕ)
-    → names_say defs asked (record { negated = false; item = items.Name name } ∷ []) ≡ (if bytes_eq name asked then Some true else None)
-names_say_of_name defs asked name = refl

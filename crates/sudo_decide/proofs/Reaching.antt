@@ -133,9 +133,6 @@ all_same_answers : (p q : List Entry) (i : Invocation) (rs : List Rule) → Same
 all_same_answers p q i [] same = tt
 all_same_answers p q i (r ∷ rs) same = (same_answers p q i r same, all_same_answers p q i rs same)
 
-pub says_same : (p q : List Entry) (i : Invocation) (r : Rule) → SameDefinitions p q → says p r i ≡ says q r i
-says_same p q i r same = says_alike (record { defined = p; asked = i }) (record { defined = q; asked = i }) r r (same_answers p q i r same)
-
 pub decides_same : (p q es : List Entry) (i : Invocation) (d : Decision) → SameDefinitions p q → DecidesBy p es i d → DecidesBy q es i d
 decides_same p q es i d same by =
     answers_decide (record { defined = p; asked = i }) (record { defined = q; asked = i }) es es d (all_same_answers p q i (rules_in es) same) by

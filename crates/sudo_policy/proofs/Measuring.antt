@@ -19,9 +19,6 @@ each_push P (y ∷ ys) x all here = (all.0, each_push P ys x all.1 here)
 pub stopped_sum : (a b : ℕ) → stopped (stopped a + b) ≡ stopped (a + b)
 stopped_sum a b = omega arith
 
-pub stopped_both : (a b : ℕ) → stopped (stopped a + stopped b) ≡ stopped (a + b)
-stopped_both a b = omega arith
-
 -- ---- one more item
 
 depth_push : {X : Type 0} (alias_of : X → Option (List ℕ)) (deep : List ℕ → ℕ) (xs : List (Signed X)) (x : Signed X)

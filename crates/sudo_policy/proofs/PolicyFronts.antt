@@ -75,12 +75,6 @@ canon_more es i d h =
     let one : canon (get_or es i d ∷ []) ≡ line_text (get_or es i d) = append-nil (line_text (get_or es i d)) in
     sym (ap canon (take_more es i d h) ∙ canon_both (take i es) (get_or es i d ∷ []) ∙ ap (λ (t : List ℕ). canon (take i es) ++ t) one)
 
-pub each_front : (es : List Entry) (half : ℕ) → AllByRecursion IsEntry es → AllByRecursion IsEntry (take half es)
-each_front es half h = all_front IsEntry (take half es) (drop half es) (subst (AllByRecursion IsEntry) (sym (take-append-drop half es)) h)
-
-pub each_rest : (es : List Entry) (half : ℕ) → AllByRecursion IsEntry es → AllByRecursion IsEntry (drop half es)
-each_rest es half h = all_rest IsEntry (take half es) (drop half es) (subst (AllByRecursion IsEntry) (sym (take-append-drop half es)) h)
-
 -- ---- policies
 
 pub policy_front : (es fs : List Entry) → IsPolicy (es ++ fs) → IsPolicy es
@@ -114,10 +108,6 @@ canon_push es e =
     ap length (canon_both es (e ∷ [])) ∙ length-append (canon es) (canon (e ∷ [])) ∙ ap (λ (t : List ℕ). length (canon es) + length t) one
 
 -- ---- rules define nothing
-
--- so what is known below a rule is known above it, and the other way round
-pub knows_below : (above : List Entry) (rule r : Rule) → KnowsRule above r → KnowsRule (entries.Rule rule ∷ above) r
-knows_below above rule r h = record { users = h.users; hosts = h.hosts; runas = h.runas; cmnd = h.cmnd }
 
 pub knows_above : (above : List Entry) (rule r : Rule) → KnowsRule (entries.Rule rule ∷ above) r → KnowsRule above r
 knows_above above rule r h = record { users = h.users; hosts = h.hosts; runas = h.runas; cmnd = h.cmnd }

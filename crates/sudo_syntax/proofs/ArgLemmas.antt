@@ -1,5 +1,5 @@
 -- Arguments at the front of tokens are read in one way.
-use Rattle.std.proofs.Common.{◌≡◌, ℕ, ◌≤◌, ◌<◌, true, List, [], ◌∷◌, ◌++◌, length, refl, sym, ap, subst, ◌∙◌, append_assoc, arith}
+use Rattle.std.proofs.Common.{◌≡◌, ℕ, ◌≤◌, ◌<◌, true, List, [], ◌∷◌, ◌++◌, length, sym, ap, subst, ◌∙◌, append_assoc, arith}
 use Rattle.std.specs.List.{AllByRecursion}
 use Rattle.std.proofs.lemmas.List.{append-nil, length-append}
 use Rattle.sudo_words.specs.Word.{is_arg}
@@ -22,12 +22,6 @@ Whole ts args r = ts ≡ arg_toks args ++ r
 
 abbrev pub Left : List (List ℕ) → List Tok → List (List ℕ) → List Tok → Type 0
 Left out ts args r = (more : List (List ℕ)) × (args ≡ out ++ more) × (ts ≡ arg_toks more ++ r)
-
-pub args_begin : (ts : List Tok) → Leads Fit (Whole ts) (Left [] ts)
-args_begin ts = record {
-  back = λ args r h. subst (λ (x : List (List ℕ)). Whole ts x r) (sym h.1) h.2;
-  on = λ args r f h. (args, refl, h);
-}
 
 all_behind : (out more : List (List ℕ)) → AreArgs (out ++ more) → AreArgs more
 all_behind [] more h = h
@@ -76,6 +70,3 @@ no_args out ts n args r (y ∷ ys) l t = absurd (n (arg_text y) (arg_toks ys ++ 
 
 pub args_end : (out : List (List ℕ)) (ts : List Tok) → NoArg ts → (args : List (List ℕ)) (r : List Tok) → Left out ts args r → (out ≡ args) × (ts ≡ r)
 args_end out ts n args r h = no_args out ts n args r h.0 h.1 h.2
-
-pub args_done : (out : List (List ℕ)) (ts : List Tok) → Left out ts out ts
-args_done out ts = ([], sym (append-nil out), refl)

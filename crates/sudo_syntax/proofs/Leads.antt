@@ -7,12 +7,6 @@ pub record Leads {V : Type 0} (Fit Whole Left : V → List Tok → Type 0) : Typ
   pub back : (v : V) (r : List Tok) → Left v r → Whole v r
   pub on : (v : V) (r : List Tok) → Fit v r → Whole v r → Left v r
 
-pub leads_same : {V : Type 0} (F W : V → List Tok → Type 0) → Leads F W W
-leads_same F W = record {
-  back = λ v r h. h;
-  on = λ v r f h. h;
-}
-
 pub leads_on : {V : Type 0} (F W L M : V → List Tok → Type 0) → Leads F W L → Leads F L M → Leads F W M
 leads_on F W L M a b = record {
   back = λ v r h. a.back v r (b.back v r h);

@@ -116,9 +116,6 @@ leads_on front line part rest is = record {
 
 -- ---- all lines
 
-pub leads_none : (lines : List (List ℕ)) → Leads [] lines [] [] lines
-leads_none lines = record { adds = λ es h. h; only = λ es h. (es, refl, h) }
-
 pub leads_more : (a : List ℕ) (lines : List (List ℕ)) (out : List Entry) (b : List ℕ) (rest : List (List ℕ)) (here : List Entry) (c : List ℕ) (last : List (List ℕ))
     → Leads a lines out b rest → Leads b rest here c last → Leads a lines (out ++ here) c last
 leads_more a lines out b rest here c last l m = record {

@@ -4,7 +4,7 @@ use Rattle.std.specs.Option.{option_or}
 use Rattle.sudo_words.specs.Bytes.{colon}
 use Rattle.sudo_policy.specs.Lex.{Tok, word, mark}
 use Rattle.sudo_policy.specs.Grammar.{SpellsTags, tag_word, last_tag}
-use Rattle.sudo_syntax.specs.private.Fronts.{NoTag, Tagged}
+use Rattle.sudo_syntax.specs.private.Fronts.{NoTag}
 use Rattle.sudo_syntax.proofs.Leads.{Leads}
 
 abbrev pub Ends : Option Bool → List Tok → Type 0
@@ -13,10 +13,6 @@ Ends v r = NoTag r
 -- behind tags of which the last said this
 abbrev pub Left : Option Bool → List Tok → Option Bool → List Tok → Type 0
 Left said ts v r = (tags : List Bool) × SpellsTags ts tags r × (v ≡ option_or (last_tag tags) said)
-
-or_none : (o : Option Bool) → option_or o None ≡ o
-or_none None = refl
-or_none (Some b) = refl
 
 or_some : (o : Option Bool) (tag : Bool) (said : Option Bool) → option_or (option_or o (Some tag)) said ≡ option_or o (Some tag)
 or_some None tag said = refl
@@ -28,12 +24,6 @@ one_tag true true e = refl
 one_tag true false e = absurd cc
 one_tag false true e = absurd cc
 one_tag false false e = refl
-
-pub tags_begin : (ts : List Tok) → Leads Ends (Tagged ts) (Left None ts)
-tags_begin ts = record {
-  back = λ v r h. (h.0, h.1, h.2 ∙ or_none (last_tag h.0));
-  on = λ v r f h. (h.0, h.1, h.2 ∙ sym (or_none (last_tag h.0)));
-}
 
 next_is : (said : Option Bool) (ts : List Tok) (a b : Bool) (tag : Bool) (next : List Tok) → ts ≡ word a 0 (tag_word tag) ∷ mark b colon ∷ next
     → (v : Option Bool) (r : List Tok) → NoTag r → (tags : List Bool) → SpellsTags ts tags r → v ≡ option_or (last_tag tags) said → Left (Some tag) next v r
@@ -57,6 +47,3 @@ no_tags said ts n v r (t ∷ tags) h o = absurd (n h.0 h.1 t h.2 h.3)
 
 pub tags_end : (said : Option Bool) (ts : List Tok) → NoTag ts → (v : Option Bool) (r : List Tok) → Left said ts v r → (said ≡ v) × (ts ≡ r)
 tags_end said ts n v r h = no_tags said ts n v r h.0 h.1 h.2
-
-pub tags_done : (said : Option Bool) (ts : List Tok) → Left said ts said ts
-tags_done said ts = ([], refl, refl)

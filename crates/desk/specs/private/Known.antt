@@ -1,5 +1,5 @@
 -- What is known of a desk's messages. For private clauses.
-use Rattle.std.specs.Prelude.{◌≡◌, List, [], Option, Some, None}
+use Rattle.std.specs.Prelude.{◌≡◌, [], Option, Some, None}
 use Rattle.messages.specs.declared.message.Message.{Message}
 use Rattle.outcomes.specs.declared.gathering.Gathered.{Gathered}
 use Rattle.outcomes.specs.Gathered.{AreGathered}

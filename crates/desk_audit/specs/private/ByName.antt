@@ -1,6 +1,6 @@
 -- What is said of a set of messages, in a map by name.
-use Rattle.std.specs.Prelude.{◌≡◌, List, Contains, Option, MatchOption}
-use Rattle.std.specs.BTreeMap.{BTreeMap, IsOrdered, get}
+use Rattle.std.specs.Prelude.{◌≡◌, List, Contains, MatchOption}
+use Rattle.std.specs.BTreeMap.{BTreeMap, IsOrdered}
 use Rattle.messages.specs.Names.{name_cmp}
 use Rattle.messages.specs.Order.{TextPrecedes}
 use Rattle.messages.specs.Wire.{wire}

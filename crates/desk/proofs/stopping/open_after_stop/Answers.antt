@@ -1,4 +1,4 @@
-use Rattle.std.proofs.Common.{◌≡◌, ◌⊎◌, List, ℕ, Contains}
+use Rattle.std.proofs.Common.{◌≡◌, ◌⊎◌, Contains}
 use Rattle.messages.specs.declared.message.Message.{Message}
 use Rattle.grants.specs.Bases.{FitsBase}
 use Rattle.desk_tables.specs.Sets.{IsNothing, SameSet, With}

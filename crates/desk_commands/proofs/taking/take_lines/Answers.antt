@@ -5,7 +5,6 @@ use Rattle.desk_commands.proofs.BroughtLemmas.{taken}
 use Rattle.desk_commands.proofs.LeavingLemmas.{if_err, none_taken, same_set, some_taken}
 use Rattle.desk_commands.proofs.OverLemmas.{nothing_said}
 use Rattle.desk_store.proofs.ServingLemmas.{served_as}
-use Rattle.desk.specs.Delivery.{WasWantingAmong}
 use Rattle.desk_commands.proofs.WantLemmas.{none_wanting, wanting_as}
 use Rattle.desk_commands.specs.Taking.{HadMemory}
 use Rattle.desk_commands.specs.declared.refusal.Refusal.TheVariants.{Desk}

@@ -1,4 +1,4 @@
-use Rattle.std.proofs.Common.{rules, ◌≡◌, ◌∷◌, [], arith, IsTrue, true, codes, sym, ◌∙◌}
+use Rattle.std.proofs.Common.{rules, ◌≡◌, ◌∷◌, [], arith, true, codes, sym, ◌∙◌}
 use Rattle.sqlite_schema.specs.declared.schema.Kind.TheVariants as kind_of
 use Rattle.desk_tables.specs.DeskTables.{column_of}
 use Rattle.desk_schema.proofs.RecognizedLemmas.{four}

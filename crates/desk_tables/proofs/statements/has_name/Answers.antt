@@ -1,4 +1,4 @@
-use Rattle.std.proofs.Common.{rules, ℕ, pos, not, length, ◌==◌, ◌≡◌, Bool, List, [], ◌∷◌, IsTrue, Ok, ap, sym, subst}
+use Rattle.std.proofs.Common.{rules, pos, not, length, ◌==◌, ◌≡◌, Bool, List, [], ◌∷◌, IsTrue, sym, subst}
 use Rattle.sqlite.specs.declared.types.Value.TheVariants.{Int, Text}
 use Rattle.sqlite.specs.Order.{Row}
 use Rattle.sqlite.specs.State.{State, Shown}

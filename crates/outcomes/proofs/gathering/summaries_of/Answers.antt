@@ -1,12 +1,10 @@
-use Rattle.std.proofs.Common.{List, [], take, get_or, sym, subst}
+use Rattle.std.proofs.Common.{List, take, sym, subst}
 use Rattle.std.specs.List.{Contains}
 use Rattle.std.proofs.lemmas.List.{take_all}
 use Rattle.std.proofs.lemmas.List.Elements.{Contains-get_or}
-use Rattle.messages.specs.NameRows.{ShowSet}
-use Rattle.messages.specs.declared.message.Message.{Message}
 use Rattle.messages.specs.declared.name_row.NameRow.{NameRow}
 use Rattle.sudo_decide.proofs.AnswerLemmas.{take_one_more}
-use Rattle.outcomes.specs.private.ByName.{GathersRows, IsRowOf}
+use Rattle.outcomes.specs.private.ByName.{GathersRows}
 use Rattle.outcomes.proofs.RowLemmas.{no_rows, none_alone, rows_gathered, shown_none}
 use Rattle.outcomes.proofs.gathering.summaries_of.Goals as goal
 

@@ -1,4 +1,4 @@
-use Rattle.std.proofs.Common.{◌≡◌, ◌-◌, ℕ, List, sym, subst, refl, ap, ◌∙◌, inl, inr, take, length, map, drop, Bool, true, false, not}
+use Rattle.std.proofs.Common.{◌-◌, ℕ, List, sym, subst, refl, ap, ◌∙◌, inl, inr, take, length, map, drop}
 use Rattle.httparse.specs.Spans.{IsRequestAt, IsRequestOf, span_bytes, header_bytes}
 use Rattle.httparse.specs.Grammar.{RequestHead, ReadsRequest}
 use Rattle.relay_http.specs.Asked.{Request, request_of}
@@ -6,10 +6,6 @@ use Rattle.relay_http.specs.Wanted.{AsksByHead, DatesRequest, HasHead, request_b
 use Rattle.relay_http.proofs.WantedLemmas.{take_front, take_rest, incomplete, complete_at, asks_at}
 use Rattle.relay_http.proofs.SettleLemmas.{whole_more, headless_more, overflow_more}
 use Rattle.relay_http.proofs.request.wanted_so_far.Goals as goal
-
-not_true : (b : Bool) → not b ≡ true → b ≡ false
-not_true true h = sym h
-not_true false h = refl
 
 none_yet : (c : goal.After-head_awaited) (h : RequestHead) → HasHead c.args.bytes.now h → ⊥
 none_yet c h k =

@@ -1,4 +1,4 @@
-use Rattle.std.proofs.Common.{List, string_bytes, subst}
+use Rattle.std.proofs.Common.{List, subst}
 use Rattle.grants.specs.Summaries.{Kept, StandsFor}
 use Rattle.sudo_policy.specs.declared.entry.Entry.{Entry}
 use Rattle.review.specs.private.Names.{AddsName, AreBarredOf, AreBroadOf, AreLiveOf, HaveNames}

@@ -1,4 +1,4 @@
-use Rattle.std.proofs.Common.{Bool, List, take, ap, subst}
+use Rattle.std.proofs.Common.{Bool, List, ap, subst}
 use Rattle.std.proofs.lemmas.List.{take_all}
 use Rattle.sudo_policy.specs.declared.entry.Signed.{Signed}
 use Rattle.sudo_decide.specs.Decision.{signed_answer, list_answer}

@@ -1,8 +1,7 @@
-use Rattle.std.proofs.Common.{Bool, Option, ap}
+use Rattle.std.proofs.Common.{Bool, Option}
 use Rattle.sudo_decide.specs.declared.invocation.Invocation.{Invocation}
-use Rattle.sudo_decide.specs.Decision.{signed_answer}
 use Rattle.sudo_compiled.specs.private.Writing.{known_says}
-use Rattle.sudo_compiled.proofs.WrittenLists.{adds_as, adds_one, on_ok}
+use Rattle.sudo_compiled.proofs.WrittenLists.{adds_one, on_ok}
 use Rattle.sudo_compiled.proofs.writing.push_item.Goals as goal
 
 pub returns-in-Own : goal.returns-in-Own

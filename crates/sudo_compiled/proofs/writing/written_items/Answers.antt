@@ -1,4 +1,4 @@
-use Rattle.std.proofs.Common.{Bool, Option, take, sym, ap, ◌∙◌}
+use Rattle.std.proofs.Common.{Bool, Option, sym, ap, ◌∙◌}
 use Rattle.std.specs.Option.{option_or}
 use Rattle.std.proofs.lemmas.List.{take_all}
 use Rattle.sudo_decide.specs.Decision.{signed_answer, list_answer}

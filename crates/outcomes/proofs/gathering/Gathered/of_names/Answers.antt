@@ -1,4 +1,3 @@
-use Rattle.std.proofs.Common.{[]}
 use Rattle.outcomes.proofs.ByNameLemmas.{gathered_from}
 use Rattle.outcomes.proofs.RowLemmas.{alone_by_name, shown_none}
 use Rattle.outcomes.proofs.gathering.Gathered.of_names.Goals as goal

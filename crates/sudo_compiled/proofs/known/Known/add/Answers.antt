@@ -1,4 +1,4 @@
-use Rattle.std.proofs.Common.{◌≡◌, Bool, List, ℕ, cond, Some, ap, ◌∙◌}
+use Rattle.std.proofs.Common.{◌≡◌, List, ℕ, cond, Some, ap, ◌∙◌}
 use Rattle.std.specs.Option.{option_map}
 use Rattle.std.specs.Prelude.{string_bytes}
 use Rattle.std.specs.HashMap.{get_by_text}
