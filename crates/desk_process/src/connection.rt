@@ -3,7 +3,7 @@
 use crate::outgoing::Outgoing;
 use desk::{Desk, Keeper};
 use mio::net::TcpStream;
-use relay_http::{Counted, More, Room, Routes, ServeFault, serve_in, wanted_so_far};
+use relay_http::{Counted, More, Routes, ServeFault, Workspace, serve_in, wanted_so_far};
 use std::alloc::Global;
 use std::io::{ErrorKind, Read, Write};
 use std::net::Shutdown;
@@ -246,14 +246,14 @@ impl Connection {
         &mut self,
         alloc: Global,
         desk: &mut Desk<K>,
-        room: &mut Room,
+        workspace: &mut Workspace,
     ) -> (Result<(), ServeFault>, Option<&'static str>) {
         let Stage::Asking { come, .. } = &self.stage else {
             return (Ok(()), None);
         };
         let mut reader = Counted::new(come.as_slice());
         let mut writer = Counted::new(Outgoing::new(alloc, &self.stream));
-        let served = serve_in(alloc, desk, room, &mut reader, &mut writer);
+        let served = serve_in(alloc, desk, workspace, &mut reader, &mut writer);
         let out = writer.into_inner();
         let wanting = out.wanting;
         self.stage = Stage::Answering {

@@ -6,7 +6,7 @@ use desk::{Desk, Keeper};
 use mio::event::Events;
 use mio::net::{TcpListener, TcpStream};
 use mio::{Interest, Poll, Token};
-use relay_http::{Room, Routes, ServeFault};
+use relay_http::{Routes, ServeFault, Workspace};
 use std::io::{self, ErrorKind};
 use std::time::{Duration, Instant};
 
@@ -25,7 +25,7 @@ pub(crate) struct Service {
     poll: Poll,
     listener: TcpListener,
     routes: Routes,
-    room: Room,
+    workspace: Workspace,
     places: Vec<Option<Connection>>,
     /// How many connections are open.
     open: usize,
@@ -75,7 +75,7 @@ impl Service {
             poll,
             listener,
             routes,
-            room: Room::new(),
+            workspace: Workspace::new(),
             places: Vec::new(rt.alloc()),
             open: 0,
             left: requests,
@@ -99,7 +99,7 @@ impl Service {
         connection: &mut Connection,
     ) -> io::Result<Next> {
         let began = Instant::now(rt)?;
-        let (served, wanting) = connection.answer(rt.alloc(), desk, &mut self.room);
+        let (served, wanting) = connection.answer(rt.alloc(), desk, &mut self.workspace);
         self.busy = self.busy.saturating_add(millis(began.elapsed(rt)?));
         if let Some(line) = wanting {
             log.say(rt, &line);

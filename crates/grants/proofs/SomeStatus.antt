@@ -11,7 +11,7 @@ use Rattle.roster.specs.Fields.{CeilingFields, RosterFields}
 use Rattle.roster.proofs.Ranges.{found_few}
 use Rattle.grants.specs.Statuses.{IsStatus}
 use Rattle.grants.specs.Summaries.{Kept, StandsFor}
-use Rattle.grants.specs.private.Reached.{admitted_status}
+use Rattle.grants.specs.private.Status.{admitted_status}
 use Rattle.grants.specs.declared.outcome.Status.{Status}
 use Rattle.grants.specs.declared.outcome.Status.TheVariants.{Disputed, Lapsed}
 use Rattle.grants.proofs.Answering.{no_denial}

@@ -18,7 +18,7 @@ use Rattle.grants.specs.Statuses.{IsFirstMoment, IsLastMoment, IsAdmitted, IsLap
 use Rattle.grants.specs.Marks.{verdict_of, Keep}
 use Rattle.grants.specs.private.Firsts.{has_counting, nth_of}
 use Rattle.grants.specs.Summaries.{Kept, StandsFor}
-use Rattle.grants.specs.private.Reached.{is_in_time, refuses, is_refused, before, end_of, window, from_complete, completion, revocation, admitted_status}
+use Rattle.grants.specs.private.Status.{is_in_time, refuses, is_refused, before, end_of, window, from_complete, completion, revocation, admitted_status}
 use Rattle.grants.specs.declared.marks.Mark.{Mark}
 use Rattle.grants.specs.declared.outcome.Status.TheVariants.{Refused, Void, Granted}
 use Rattle.grants.proofs.MarkLemmas.{mark_of, verdict_again}

@@ -14,7 +14,7 @@ use Rattle.messages.proofs.OneMessage.{one_request}
 use Rattle.roster.specs.Relations.{ceiling_at}
 use Rattle.grants.specs.Admission.{AdmitsRequest}
 use Rattle.grants.specs.private.Noting.{noted}
-use Rattle.grants.specs.private.Reached.{admitted_status}
+use Rattle.grants.specs.private.Status.{admitted_status}
 use Rattle.grants.specs.Statuses.{IsStatus}
 use Rattle.grants.specs.Summaries.{Kept, StandsFor}
 use Rattle.grants.specs.WorkedAdmission.{asked, asked_from}

@@ -3,6 +3,6 @@ pub mod Forms
 pub mod Noting
 pub mod Firsts
 pub mod Voters
-pub mod Reached
+pub mod Status
 pub mod Given
 pub mod Lines

@@ -15,7 +15,7 @@ ghost use Rattle.grants.specs.Summaries.{StandsFor};
 ghost use Rattle.grants.specs.declared.outcome.Status.{Status as AnyStatus};
 
 use crate::outcome::{Status, Window};
-use crate::reached::status;
+use crate::request_status::status;
 use crate::summary::Summary;
 use messages::Request;
 use roster::Roster;

@@ -11,7 +11,7 @@ ghost use Rattle.grants.specs.GrantRules.{AreGiven, AreRules, IsGrantRule, grant
 ghost use Rattle.grants.specs.Summaries.{StandsFor};
 
 use crate::outcome::{Status, Window};
-use crate::reached::status;
+use crate::request_status::status;
 use crate::summary::Summary;
 use messages::Request;
 use roster::Roster;

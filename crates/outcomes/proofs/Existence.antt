@@ -21,7 +21,7 @@ use Rattle.roster.specs.Fields.{CeilingFields, RosterFields}
 use Rattle.roster.proofs.Ranges.{found_few}
 use Rattle.grants.specs.Marks.{Keep}
 use Rattle.grants.specs.private.Noting.{noted}
-use Rattle.grants.specs.private.Reached.{admitted_status}
+use Rattle.grants.specs.private.Status.{admitted_status}
 use Rattle.grants.specs.Statuses.{IsStatus}
 use Rattle.grants.specs.Summaries.{Kept, StandsFor}
 use Rattle.grants.specs.declared.outcome.Status.{Status}

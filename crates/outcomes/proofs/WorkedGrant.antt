@@ -16,7 +16,7 @@ use Rattle.grants.specs.Admission.{AdmitsRequest}
 use Rattle.grants.specs.Statuses.{IsStatus}
 use Rattle.grants.specs.Summaries.{Kept, StandsFor}
 use Rattle.grants.specs.WorkedAdmission.{db_root, site}
-use Rattle.grants.specs.private.Reached.{admitted_status}
+use Rattle.grants.specs.private.Status.{admitted_status}
 use Rattle.grants.specs.declared.outcome.Status.{Status}
 use Rattle.grants.specs.declared.outcome.Status.TheVariants.{Granted}
 use Rattle.grants.proofs.AdmissionLemmas.{within}

@@ -97,7 +97,7 @@ pub fn read_request<R: Read>(
     reader: &mut Counted<R>,
     buf: &mut [u8],
 ) -> io::Result<usize>
-    requires room { length buf.old ≡ most_read }
+    requires length { length buf.old ≡ most_read }
     ensures within { IfOk result (λ n. n ≤ length buf.new) }
     ensures len { length buf.new ≡ length buf.old }
     ensures bytes { IfOk result (λ n. Consumes (R.remaining reader.old.inner) (R.remaining reader.new.inner) (take n buf.new)) }

@@ -15,9 +15,9 @@ use crate::answering::answered;
 use crate::counted::Counted;
 use crate::reading::read_request;
 use crate::request::wanted;
-use crate::room::Room;
 use crate::routes::Routes;
 use crate::sending::{self, send_reply};
+use crate::workspace::Workspace;
 use desk::{Desk, Keeper};
 use std::alloc::Global;
 use std::error::Error;
@@ -78,14 +78,14 @@ fn reply_to<K: Keeper, W: Write>(
     )
 }
 
-/// Does what `serve_one` does, in the room that one exchange leaves to the next.
+/// Does what `serve_one` does, in the workspace that one exchange leaves to the next.
 ///
-/// The buffer and the routes are those of the room. Where an earlier exchange did not leave them there, they are made before anything is read: where memory is refused for
+/// The buffer and the routes are those of the workspace. Where an earlier exchange did not leave them there, they are made before anything is read: where memory is refused for
 /// them it is `NoMemory`, and nothing was read. Want of memory later is a reply of the desk. Once a message is acknowledged no memory is taken.
 pub fn serve_in<K: Keeper, R: Read, W: Write>(
     alloc: Global,
     desk: &mut Desk<K>,
-    room: &mut Room,
+    workspace: &mut Workspace,
     reader: &mut Counted<R>,
     writer: &mut Counted<W>,
 ) -> Result<(), ServeFault>
@@ -111,7 +111,7 @@ pub fn serve_in<K: Keeper, R: Read, W: Write>(
     ensures served { Serves K.Keeper desk.old.keeper desk.new.keeper ⊥
         (WritesWant (λ bytes. Sends (W.contents writer.old.inner) (W.contents writer.new.inner) result bytes)) }
 {
-    let Ok(kept) = room.kept(alloc) else {
+    let Ok(kept) = workspace.kept(alloc) else {
         return Err(ServeFault::NoMemory);
     };
     let Ok(filled) = read_request(&kept.routes, reader, &mut kept.buf) else {
@@ -155,6 +155,6 @@ pub fn serve_one<K: Keeper, R: Read, W: Write>(
     ensures served { Serves K.Keeper desk.old.keeper desk.new.keeper ⊥
         (WritesWant (λ bytes. Sends (W.contents writer.old.inner) (W.contents writer.new.inner) result bytes)) }
 {
-    let mut room = Room::new();
-    serve_in(alloc, desk, &mut room, reader, writer)
+    let mut workspace = Workspace::new();
+    serve_in(alloc, desk, &mut workspace, reader, writer)
 }

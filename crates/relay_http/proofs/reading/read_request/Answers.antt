@@ -40,6 +40,6 @@ loop-filled-preserved g c = record {
 pub returns-clause-asks : goal.returns-clause-asks
 returns-clause-asks g c =
     let full : 24576 ≤ length (take c.loop-filled.filled c.loop-filled.buf) =
-    omega (arith, length-take c.loop-filled.filled c.loop-filled.buf, c.requires.room, c.loop-filled.invariant.len, c.loop-filled.invariant.within, c.loop-filled-test.false) in
+    omega (arith, length-take c.loop-filled.filled c.loop-filled.buf, c.requires.length, c.loop-filled.invariant.len, c.loop-filled.invariant.within, c.loop-filled-test.false) in
     asks_all (g.R.Read.remaining c.args.reader.now.inner) (g.R.Read.remaining c.loop-filled.reader.inner) (take c.loop-filled.filled c.loop-filled.buf) c.loop-filled.invariant.bytes
     (λ request asks more. full_more (take c.loop-filled.filled c.loop-filled.buf) more request full asks)

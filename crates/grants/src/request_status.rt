@@ -6,8 +6,8 @@ ghost use Rattle.messages.specs.declared.message.Message.{Message as AnyMessage}
 ghost use Rattle.messages.specs.declared.kind.VerdictKind.TheVariants as kinds;
 ghost use Rattle.grants.specs.Admission.{AdmitsRequest};
 ghost use Rattle.grants.specs.private.Firsts.{has_counting};
-ghost use Rattle.grants.specs.private.Reached as reached;
-ghost use Rattle.grants.specs.private.Reached.{IsAdmittedUnder};
+ghost use Rattle.grants.specs.private.Status as of_status;
+ghost use Rattle.grants.specs.private.Status.{IsAdmittedUnder};
 ghost use Rattle.grants.specs.Statuses.{IsStatus};
 ghost use Rattle.grants.specs.Summaries.{StandsFor};
 ghost use Rattle.grants.specs.private.Voters.{counting};
@@ -24,7 +24,7 @@ use std::collections::BTreeSet;
 use sudo_words::Moment;
 
 fn is_in_time(complete: Option<Moment>, moment: Moment) -> bool
-    ensures { result ≡ reached.is_in_time complete moment }
+    ensures { result ≡ of_status.is_in_time complete moment }
 {
     match complete {
         None => true,
@@ -34,13 +34,13 @@ fn is_in_time(complete: Option<Moment>, moment: Moment) -> bool
 
 /// Whether the refusal counts and does not come after the completion.
 fn refuses(voters: &Voters, complete: Option<Moment>, refusal: &Mark) -> bool
-    ensures { result ≡ reached.refuses (counting voters.now) complete refusal.now }
+    ensures { result ≡ of_status.refuses (counting voters.now) complete refusal.now }
 {
     is_in_time(complete, refusal.at) && voters.count(refusal)
 }
 
 fn is_refused(voters: &Voters, complete: Option<Moment>, refusals: &BTreeSet<Mark>) -> bool
-    ensures { result ≡ reached.is_refused (counting voters.now) complete refusals.now.keys }
+    ensures { result ≡ of_status.is_refused (counting voters.now) complete refusals.now.keys }
 {
     refusals.iter().any(|mark| refuses(voters, complete, mark))
 }
@@ -52,7 +52,7 @@ fn later(a: Moment, b: Moment) -> Moment
 }
 
 fn before(moment: Moment) -> Option<Moment>
-    ensures { result ≡ reached.before moment }
+    ensures { result ≡ of_status.before moment }
 {
     match moment.secs() {
         0 => None,
@@ -62,7 +62,7 @@ fn before(moment: Moment) -> Option<Moment>
 
 /// The last moment up to `until` that is not revoked.
 fn end_of(until: Moment, revoked: Option<Moment>) -> Option<Moment>
-    ensures { result ≡ reached.end_of until revoked }
+    ensures { result ≡ of_status.end_of until revoked }
 {
     match revoked {
         Some(revoked) if revoked <= until => before(revoked),
@@ -71,7 +71,7 @@ fn end_of(until: Moment, revoked: Option<Moment>) -> Option<Moment>
 }
 
 fn window_between(start: Moment, end: Option<Moment>) -> Status
-    ensures { result ≡ reached.window start end }
+    ensures { result ≡ of_status.window start end }
 {
     match end {
         Some(end) if start <= end => Status::Granted(Window { start, end }),
@@ -99,7 +99,7 @@ fn voters<'a>(
 fn completion(roster: &Roster, ceiling: &Ceiling, s: &Summary) -> Option<Moment>
     requires some { 1 ≤ ceiling.now.needs }
     requires few { ceiling.now.needs ≤ 3 }
-    ensures { result ≡ reached.completion roster.now.says ceiling.now s.now }
+    ensures { result ≡ of_status.completion roster.now.says ceiling.now s.now }
 {
     let approvers = voters(roster, ceiling, s, VerdictKind::Approve);
     nth(&approvers, ceiling.needs(), &s.approvals)
@@ -107,21 +107,21 @@ fn completion(roster: &Roster, ceiling: &Ceiling, s: &Summary) -> Option<Moment>
 
 /// When it is revoked first.
 fn revocation(roster: &Roster, ceiling: &Ceiling, s: &Summary) -> Option<Moment>
-    ensures { result ≡ reached.revocation roster.now.says ceiling.now s.now }
+    ensures { result ≡ of_status.revocation roster.now.says ceiling.now s.now }
 {
     let revokers = voters(roster, ceiling, s, VerdictKind::Revoke);
     nth(&revokers, 1, &s.revocations)
 }
 
 fn is_refused_by(roster: &Roster, ceiling: &Ceiling, s: &Summary, complete: Option<Moment>) -> bool
-    ensures { result ≡ reached.is_refused (has_counting roster.now.says ceiling.now kinds.Refuse s.now.request.by) complete s.now.refusals }
+    ensures { result ≡ of_status.is_refused (has_counting roster.now.says ceiling.now kinds.Refuse s.now.request.by) complete s.now.refusals }
 {
     let refusers = voters(roster, ceiling, s, VerdictKind::Refuse);
     is_refused(&refusers, complete, &s.refusals)
 }
 
 fn from_complete(roster: &Roster, ceiling: &Ceiling, s: &Summary, complete: Moment) -> Status
-    ensures { result ≡ reached.from_complete roster.now.says ceiling.now s.now (Some complete) }
+    ensures { result ≡ of_status.from_complete roster.now.says ceiling.now s.now (Some complete) }
 {
     window_between(
         later(s.request.from(), complete),
@@ -130,7 +130,7 @@ fn from_complete(roster: &Roster, ceiling: &Ceiling, s: &Summary, complete: Mome
 }
 
 fn unless_refused(refused: bool, status: Status) -> Status
-    ensures { result ≡ reached.reached refused status }
+    ensures { result ≡ of_status.unless_refused refused status }
 {
     if refused { Status::Refused } else { status }
 }
@@ -139,7 +139,7 @@ fn unless_refused(refused: bool, status: Status) -> Status
 fn admitted_status(roster: &Roster, ceiling: &Ceiling, s: &Summary) -> Status
     requires some { 1 ≤ ceiling.now.needs }
     requires few { ceiling.now.needs ≤ 3 }
-    ensures { result ≡ reached.admitted_status roster.now.says ceiling.now s.now }
+    ensures { result ≡ of_status.admitted_status roster.now.says ceiling.now s.now }
 {
     match completion(roster, ceiling, s) {
         None => unless_refused(is_refused_by(roster, ceiling, s, None), Status::Waiting),

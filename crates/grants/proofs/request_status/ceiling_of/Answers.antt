@@ -1,6 +1,6 @@
 use Rattle.messages.specs.declared.message.Message.TheVariants.{Request}
 use Rattle.grants.proofs.Answering.{no_denial}
-use Rattle.grants.proofs.reached.ceiling_of.Goals as goal
+use Rattle.grants.proofs.request_status.ceiling_of.Goals as goal
 
 pub returns-in-Err-clause-denied : goal.returns-in-Err-clause-denied
 returns-in-Err-clause-denied c = λ admits.

@@ -1,12 +1,12 @@
 use Rattle.std.proofs.Common.{sym, ap, subst, ◌∙◌}
 use Rattle.messages.specs.Names.{name_of}
 use Rattle.grants.specs.Admission.{AdmitsRequest}
-use Rattle.grants.specs.private.Reached.{IsAdmittedUnder}
+use Rattle.grants.specs.private.Status.{IsAdmittedUnder}
 use Rattle.grants.specs.Statuses.{IsStatus}
 use Rattle.grants.specs.Summaries.{Kept}
 use Rattle.grants.specs.declared.outcome.Status.{Status}
 use Rattle.grants.proofs.StatusLemmas.{admitted_is, lapsed_is}
-use Rattle.grants.proofs.reached.status.Goals as goal
+use Rattle.grants.proofs.request_status.status.Goals as goal
 
 pub returns-in-None : goal.returns-in-None
 returns-in-None c = λ set s.

@@ -25,16 +25,16 @@ impl Kept {
     }
 }
 
-/// What one exchange leaves to the next, so that it is not made anew for each: the routes, and the room for a request. The first exchange makes it.
+/// What one exchange leaves to the next, so that it is not made anew for each: the routes, and a buffer for a request. The first exchange makes it.
 #[derive(Drop)]
-pub struct Room {
+pub struct Workspace {
     kept: Option<Kept>,
 }
 
-impl Room {
+impl Workspace {
     /// Nothing is made yet, and no memory is taken.
-    pub fn new() -> Room {
-        Room { kept: None }
+    pub fn new() -> Workspace {
+        Workspace { kept: None }
     }
 
     /// What is kept. It is made where it is not there yet.

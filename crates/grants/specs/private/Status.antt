@@ -53,9 +53,9 @@ abbrev pub from_complete : RosterFields Cmnd → CeilingFields Cmnd → Kept →
 from_complete f c k None = Waiting
 from_complete f c k (Some complete) = window (max k.request.from complete) (end_of k.request.until (revocation f c k))
 
-abbrev pub reached : Bool → Status → Status
-reached refused status = if refused then Refused else status
+abbrev pub unless_refused : Bool → Status → Status
+unless_refused refused status = if refused then Refused else status
 
 abbrev pub admitted_status : RosterFields Cmnd → CeilingFields Cmnd → Kept → Status
 admitted_status f c k =
-    reached (is_refused (has_counting f c kinds.Refuse k.request.by) (completion f c k) k.refusals) (from_complete f c k (completion f c k))
+    unless_refused (is_refused (has_counting f c kinds.Refuse k.request.by) (completion f c k) k.refusals) (from_complete f c k (completion f c k))
