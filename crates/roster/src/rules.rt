@@ -4,7 +4,8 @@ ghost use Rattle.std.specs.Prelude.{◌≡◌, ◌&&◌, IfOk, nat_le};
 ghost use Rattle.std.specs.List.{list_all, list_any};
 ghost use Rattle.std.specs.Str.{bytes_eq};
 ghost use Rattle.roster.specs.Relations.{text_order};
-ghost use Rattle.roster.specs.private.LookupOrders.{AreTextsInOrder, IsInOrder};
+ghost use Rattle.roster.specs.private.LookupOrders.{AreTextsInOrder};
+ghost use Rattle.sorting.specs.Lists.{IsEachOnce};
 ghost use Rattle.roster.specs.Rules as rules;
 
 use crate::ceiling::Ceiling;
@@ -12,23 +13,15 @@ use crate::days::Days;
 use crate::draft::{Draft, DraftCeiling};
 use crate::said::Said;
 use crate::text::Text;
+use sorting::{in_order, is_among};
 use std::alloc::AllocError;
 use sudo_words::{Form, HostName, Items, Label, Name, Word};
 
-/// The same words in byte order; an error where memory runs out.
-fn in_order<F: Form + Clone>(words: &Items<Word<F>>) -> Result<Items<Word<F>>, AllocError>
-    ensures { IfOk result (IsInOrder text_order words.now) }
+/// The words, each once, in byte order; an error where memory runs out.
+fn copy_in_order<F: Form + Clone>(words: &Items<Word<F>>) -> Result<Items<Word<F>>, AllocError>
+    ensures { IfOk result (IsEachOnce text_order words.now) }
 {
-    let mut ordered = words.clone()?.into_vec();
-    ordered.sort_unstable();
-    Ok(Items::new(ordered))
-}
-
-fn is_among<F: Form>(ordered: &[Word<F>], word: &Word<F>) -> bool
-    requires { AreTextsInOrder ordered.now }
-    ensures { result ≡ rules.is_among ordered.now word.now }
-{
-    ordered.binary_search(word).is_ok()
+    Ok(Items::new(in_order(words.clone()?.into_vec())))
 }
 
 fn are_among<F: Form>(ordered: &[Word<F>], some: &[Word<F>]) -> bool
@@ -95,8 +88,8 @@ fn names_only(duties: &Items<Label>, hosts: &Items<HostName>, said: &Said) -> bo
 pub(crate) fn knows_names(said: &Said) -> Result<bool, AllocError>
     ensures { IfOk result (λ known. known ≡ rules.are_known said.now) }
 {
-    let duties = in_order(&said.duties)?;
-    let hosts = in_order(&said.hosts)?;
+    let duties = copy_in_order(&said.duties)?;
+    let hosts = copy_in_order(&said.hosts)?;
     Ok(names_only(&duties, &hosts, said))
 }
 

@@ -1,6 +1,6 @@
 -- The orders in which a roster's commands, pairs and names are looked up by halving. For private clauses.
 use Rattle.std.specs.Prelude.{ℕ, Bool, List, []}
-use Rattle.std.specs.List.Sorted.{IsPermutation, IsSorted}
+use Rattle.std.specs.List.Sorted.{IsPermutation, IsSorted, IsStrictlySortedBy}
 use Rattle.std.specs.Cmp.Lexicographic.{slice_cmp}
 use Rattle.std.specs.declared.cmp.Ordering.{Ordering}
 use Rattle.std.specs.Ordering.{nat_cmp, is_eq, ordering_then}
@@ -11,8 +11,9 @@ use Rattle.roster.specs.declared.commands.Kind.{Kind}
 use Rattle.roster.specs.declared.commands.Kind.TheVariants as kind
 use Rattle.roster.specs.Relations.{pair_order, text_order}
 
+-- each text once
 abbrev pub AreTextsInOrder : List (List ℕ) → Type 0
-AreTextsInOrder texts = IsSorted text_order texts
+AreTextsInOrder texts = IsStrictlySortedBy text_order texts
 
 abbrev pub AreInOrder : List (List ℕ × List ℕ) → Type 0
 AreInOrder pairs = IsSorted pair_order pairs

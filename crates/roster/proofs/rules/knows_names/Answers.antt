@@ -2,7 +2,7 @@ use Rattle.std.proofs.Common.{◌∙◌, subst}
 use Rattle.sudo_words.specs.declared.cmnd.Cmnd.{Cmnd}
 use Rattle.roster.specs.Fields.{RosterFields}
 use Rattle.roster.specs.Relations.{text_order}
-use Rattle.roster.specs.private.LookupOrders.{IsInOrder}
+use Rattle.sorting.specs.Lists.{IsEachOnce}
 use Rattle.roster.proofs.Listed.{known_in_order}
 use Rattle.roster.proofs.rules.knows_names.Goals as goal
 
@@ -12,5 +12,5 @@ returns c =
     let hosts = c.in_ok-hosts.hosts in
     c.names_only.ensures
     ∙ known_in_order c.args.said.now duties hosts
-    (subst (λ (f : RosterFields Cmnd). IsInOrder text_order f.duties duties) c.said.view_is c.in_ok-duties.ensures)
-    (subst (λ (f : RosterFields Cmnd). IsInOrder text_order f.hosts hosts) c.said.view_is c.in_ok-hosts.ensures)
+    (subst (λ (f : RosterFields Cmnd). IsEachOnce text_order f.duties duties) c.said.view_is c.in_ok-duties.ensures)
+    (subst (λ (f : RosterFields Cmnd). IsEachOnce text_order f.hosts hosts) c.said.view_is c.in_ok-hosts.ensures)
