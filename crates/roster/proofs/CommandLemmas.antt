@@ -92,11 +92,9 @@ and_false true = refl
 and_false false = refl
 
 pub at_dir : (dir : List ℕ) (c : Cmnd) → is_at (place (Dir dir)) c ≡ is_dir dir c
-at_dir dir All = refl
 at_dir dir (Dir d) = then_equal (text_order d dir) ∙ sym (texts_ties d dir)
 at_dir dir (Path f Any) = refl
-at_dir dir (Path f Empty) = refl
-at_dir dir (Path f (Exactly args)) = refl
+at_dir dir _ = refl
 
 -- the same kind of rule without arguments
 alone : (f file : List ℕ) → is_eq (ordering_then (text_order f file) Equal) ≡ (bytes_eq f file && true)

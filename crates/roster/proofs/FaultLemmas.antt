@@ -59,13 +59,7 @@ fault_at n =
 
 at_its_number : (fault : RosterFault) → fault_at (number fault) ≡ fault
 at_its_number NotToml = refl
-at_its_number UnknownKey = refl
-at_its_number WrongType = refl
-at_its_number BadName = refl
-at_its_number UnknownName = refl
-at_its_number SelfConflict = refl
-at_its_number OutOfRange = refl
-at_its_number NoMemory = refl
+at_its_number _ = refl
 
 pub one_fault : (text : List ℕ) (d e : RosterFault) → IsLeastFault text d → IsLeastFault text e → d ≡ e
 one_fault text d e a b =
@@ -80,25 +74,15 @@ one_saying text t u d s = same_Some t u (sym d.types ∙ ap fields_of (one_docum
 
 -- the first fault has no lower one
 pub none_below_one : (text : List ℕ) (lower : RosterFault) → number lower < 1 → ¬ Has text lower
-none_below_one text NotToml l h = omega arith
-none_below_one text UnknownKey l h = omega arith
-none_below_one text WrongType l h = omega arith
-none_below_one text BadName l h = omega arith
-none_below_one text UnknownName l h = omega arith
-none_below_one text SelfConflict l h = omega arith
-none_below_one text OutOfRange l h = omega arith
 none_below_one text NoMemory l h = h
+none_below_one text _ l h = omega arith
 
 only_from_three : (text : List ℕ) (d : Members) → parse_document text ≡ Some d → has_known_keys d ≡ true → (lower : RosterFault) → number lower < 3 → ¬ Has text lower
 only_from_three text d toml keys NotToml l h = none-some d (sym h ∙ toml)
 only_from_three text d toml keys UnknownKey l h =
     true≢false (sym keys ∙ ap has_known_keys (one_document text d h.0 toml h.1) ∙ h.2)
-only_from_three text d toml keys WrongType l h = omega arith
-only_from_three text d toml keys BadName l h = omega arith
-only_from_three text d toml keys UnknownName l h = omega arith
-only_from_three text d toml keys SelfConflict l h = omega arith
-only_from_three text d toml keys OutOfRange l h = omega arith
 only_from_three text d toml keys NoMemory l h = h
+only_from_three text d toml keys _ l h = omega arith
 
 -- a text with a roster's keys alone, of which a value is missing or has not its type, has that fault and no lower one
 pub of_wrong_type : (text : List ℕ) (d : Members) → parse_document text ≡ Some d → has_known_keys d ≡ true → fields_of d ≡ None → IsLeastFault text WrongType
@@ -111,11 +95,8 @@ only_from_four text t d UnknownKey l h =
     true≢false (sym d.keys ∙ ap has_known_keys (one_document text d.document h.0 d.toml h.1) ∙ h.2)
 only_from_four text t d WrongType l h =
     none-some t (sym h.2 ∙ ap fields_of (one_document text h.0 d.document h.1 d.toml) ∙ d.types)
-only_from_four text t d BadName l h = omega arith
-only_from_four text t d UnknownName l h = omega arith
-only_from_four text t d SelfConflict l h = omega arith
-only_from_four text t d OutOfRange l h = omega arith
 only_from_four text t d NoMemory l h = h
+only_from_four text t d _ l h = omega arith
 
 pub of_bad_name : (text : List ℕ) (t : RosterFields (List ℕ)) → IsDraftOf text t → ¬ GoodNames IsCmndText t → IsLeastFault text BadName
 of_bad_name text t d bad = ((t, (d.document, d.toml, d.types), bad), only_from_four text t d)
@@ -126,10 +107,8 @@ only_from_five text t d good NotToml l h = only_from_four text t d NotToml (omeg
 only_from_five text t d good UnknownKey l h = only_from_four text t d UnknownKey (omega arith) h
 only_from_five text t d good WrongType l h = only_from_four text t d WrongType (omega arith) h
 only_from_five text t d good BadName l h = h.2 (subst (GoodNames IsCmndText) (one_saying text t h.0 d h.1) good)
-only_from_five text t d good UnknownName l h = omega arith
-only_from_five text t d good SelfConflict l h = omega arith
-only_from_five text t d good OutOfRange l h = omega arith
 only_from_five text t d good NoMemory l h = h
+only_from_five text t d good _ l h = omega arith
 
 pub of_unknown_name : (text : List ℕ) (t : RosterFields (List ℕ)) → IsDraftOf text t → GoodNames IsCmndText t → are_known t ≡ false → IsLeastFault text UnknownName
 of_unknown_name text t d good unknown = ((t, (d.document, d.toml, d.types), unknown), only_from_five text t d good)
@@ -167,10 +146,5 @@ of_out_of_range text t d good known apart out = ((t, (d.document, d.toml, d.type
 -- a text with a document is TOML, and has only greater faults than that
 pub read_at_all : (text : List ℕ) (d : Members) → parse_document text ≡ Some d → (lower : RosterFault) → number lower < 2 → ¬ Has text lower
 read_at_all text d p NotToml l h = none-some d (sym h ∙ p)
-read_at_all text d p UnknownKey l h = omega arith
-read_at_all text d p WrongType l h = omega arith
-read_at_all text d p BadName l h = omega arith
-read_at_all text d p UnknownName l h = omega arith
-read_at_all text d p SelfConflict l h = omega arith
-read_at_all text d p OutOfRange l h = omega arith
 read_at_all text d p NoMemory l h = h
+read_at_all text d p _ l h = omega arith

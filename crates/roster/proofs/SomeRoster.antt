@@ -1,5 +1,5 @@
 -- Each text is a roster's, or has a least fault.
-use Rattle.std.proofs.Common.{◌≡◌, ◌⊎◌, ◌<◌, ℕ, ◌∙◌, Bool, true, false, List, [], ◌∷◌, map, All, Option, Some, None, refl, sym, ap, ap₂, arith, inl, inr}
+use Rattle.std.proofs.Common.{◌≡◌, ◌⊎◌, ℕ, true, List, [], ◌∷◌, map, All, Option, Some, None, refl, sym, ap, ap₂, inl, inr}
 use Rattle.std.proofs.lemmas.Bool.{cases_Bool}
 use Rattle.std.proofs.lemmas.List.Elements.{All-cons, All-head, All-nil, All-tail}
 use Rattle.sudo_words.specs.Command.{IsLawful, cmnd_text}
@@ -13,7 +13,7 @@ use Rattle.roster.specs.Rules.{GoodNames, IsCmndText, IsNamedCeiling, are_known,
 use Rattle.roster.specs.private.Stages.{IsDraftOf}
 use Rattle.roster.specs.declared.fault.RosterFault.{RosterFault}
 use Rattle.roster.specs.declared.fault.RosterFault.TheVariants.{NotToml, UnknownKey, WrongType, BadName, UnknownName, SelfConflict, OutOfRange}
-use Rattle.roster.proofs.DecidedNames.{Decided, names_or_not}
+use Rattle.roster.proofs.DecidedNames.{names_or_not}
 use Rattle.roster.proofs.FaultLemmas.{none_below_one, of_bad_name, of_out_of_range, of_self_conflict, of_unknown_name, of_wrong_type, read_at_all}
 use Rattle.roster.proofs.Texts.{roster_text}
 

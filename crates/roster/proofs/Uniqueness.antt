@@ -3,23 +3,13 @@ use Rattle.std.proofs.Common.{◌≡◌, ℕ, ◌∙◌, List, [], ◌∷◌, ma
 use Rattle.std.specs.Prelude.{All}
 use Rattle.std.proofs.lemmas.List.Elements.{All-head, All-tail}
 use Rattle.std.proofs.lemmas.Option.{same_Some}
-use Rattle.sudo_words.specs.Command.{IsLawful, cmnd_text}
+use Rattle.sudo_words.specs.Command.{IsLawful}
 use Rattle.sudo_words.specs.declared.cmnd.Cmnd.{Cmnd}
-use Rattle.sudo_words.proofs.CommandLemmas.{one_command}
+use Rattle.sudo_words.proofs.CommandLemmas.{one_cmnds}
 use Rattle.roster.specs.Document.{fields_of}
 use Rattle.roster.specs.Faults.{IsRosterText}
 use Rattle.roster.specs.Fields.{CeilingFields, RosterFields, ceiling_in_texts, entry_in_texts, in_texts}
 use Rattle.roster.specs.Rules.{IsNamedCeiling, GoodNames}
-
-one_cmnds : (cs ds : List Cmnd) → All IsLawful cs → All IsLawful ds → map cmnd_text cs ≡ map cmnd_text ds → cs ≡ ds
-one_cmnds [] [] a b e = refl
-one_cmnds [] (d ∷ ds) a b e = absurd cc
-one_cmnds (c ∷ cs) [] a b e = absurd cc
-one_cmnds (c ∷ cs) (d ∷ ds) a b e =
-    let first : cmnd_text c ≡ cmnd_text d = cc in
-    let rest : map cmnd_text cs ≡ map cmnd_text ds = cc in
-    ap₂ (λ (x : Cmnd) (xs : List Cmnd). x ∷ xs) (one_command c d (All-head IsLawful c cs a) (All-head IsLawful d ds b) first)
-    (one_cmnds cs ds (All-tail IsLawful c cs a) (All-tail IsLawful d ds b) rest)
 
 one_ceiling : (c d : CeilingFields Cmnd) → All IsLawful c.commands → All IsLawful d.commands → ceiling_in_texts c ≡ ceiling_in_texts d → c ≡ d
 one_ceiling c d a b e =

@@ -1,11 +1,10 @@
-use Rattle.std.proofs.Common.{◌≡◌, ℕ, List, [], ◌∷◌, Some, true, false, refl}
+use Rattle.std.proofs.Common.{◌≡◌, ℕ, List, [], ◌∷◌, true, false, refl}
 use Rattle.std.specs.Prelude.{codes}
 use Rattle.std.proofs.lemmas.Bool.{false≢true}
 use Rattle.std.proofs.lemmas.List.Elements.{All-nil}
 use Rattle.sudo_words.specs.Word.{is_keyword}
 use Rattle.toml.proofs.OnLiterals.{toml_on_literals}
 use Rattle.toml.specs.Data.{Items, Members, array, item, member, no_items, no_members, string, table}
-use Rattle.toml.specs.Parse.{parse_document}
 use Rattle.roster.specs.Document.{duty_entry, fields_of, has_known_keys}
 use Rattle.roster.specs.Fields.{RosterFields}
 use Rattle.roster.specs.Rules.{GoodNames, IsCmndText, IsNamedCeiling, are_known, good_names, has_self_conflict, in_range}
@@ -53,9 +52,6 @@ upper_bad : ¬ GoodNames IsCmndText (said (codes "H" ∷ []) [] (codes "d"))
 unfolding good_names is_keyword
 upper_bad good = false≢true good.names
 
-pub returns-clause-bad_name : goal.returns-clause-bad_name
-returns-clause-bad_name c = of_bad_name _ (said (codes "H" ∷ []) [] (codes "d")) upper upper_bad
-
 -- ---- a duty that is not listed
 
 other : IsDraftOf (text_of (codes "'h'") (codes "'d'") [] (codes "a=['e']")) (said (codes "h" ∷ []) [] (codes "e"))
@@ -69,9 +65,6 @@ other_good = record { names = refl; ceilings = All-nil (IsNamedCeiling IsCmndTex
 other_unknown : are_known (said (codes "h" ∷ []) [] (codes "e")) ≡ false
 unfolding are_known
 other_unknown = refl
-
-pub returns-clause-unknown_name : goal.returns-clause-unknown_name
-returns-clause-unknown_name c = of_unknown_name _ (said (codes "h" ∷ []) [] (codes "e")) other other_good other_unknown
 
 -- ---- a duty that conflicts with itself
 
@@ -90,9 +83,6 @@ self_known = refl
 self_itself : has_self_conflict (said (codes "h" ∷ []) itself (codes "d")) ≡ true
 unfolding has_self_conflict
 self_itself = refl
-
-pub returns-clause-self_conflict : goal.returns-clause-self_conflict
-returns-clause-self_conflict c = of_self_conflict _ (said (codes "h" ∷ []) itself (codes "d")) self self_good self_known self_itself
 
 -- ---- no host
 
@@ -119,9 +109,6 @@ bare_out : in_range (text_of [] (codes "'d'") [] (codes "a=['d']")) (said [] [] 
 unfolding in_range
 bare_out = refl
 
-pub returns-clause-out_of_range : goal.returns-clause-out_of_range
-returns-clause-out_of_range c = of_out_of_range _ (said [] [] (codes "d")) bare (bare_good [] bare_names) bare_known bare_apart bare_out
-
 -- ---- both
 
 both : IsDraftOf (text_of [] (codes "'d'") (codes "['d','d']") (codes "a=['d']")) (said [] itself (codes "d"))
@@ -140,5 +127,11 @@ both_itself : has_self_conflict (said [] itself (codes "d")) ≡ true
 unfolding has_self_conflict
 both_itself = refl
 
-pub returns-clause-lesser : goal.returns-clause-lesser
-returns-clause-lesser c = of_self_conflict _ (said [] itself (codes "d")) both (bare_good itself both_names) both_known both_itself
+pub returns : goal.returns
+returns c = record {
+  bad_name = of_bad_name _ (said (codes "H" ∷ []) [] (codes "d")) upper upper_bad;
+  unknown_name = of_unknown_name _ (said (codes "h" ∷ []) [] (codes "e")) other other_good other_unknown;
+  self_conflict = of_self_conflict _ (said (codes "h" ∷ []) itself (codes "d")) self self_good self_known self_itself;
+  out_of_range = of_out_of_range _ (said [] [] (codes "d")) bare (bare_good [] bare_names) bare_known bare_apart bare_out;
+  lesser = of_self_conflict _ (said [] itself (codes "d")) both (bare_good itself both_names) both_known both_itself;
+}

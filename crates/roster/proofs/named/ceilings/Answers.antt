@@ -2,18 +2,16 @@ use Rattle.std.proofs.Common.{◌≡◌, ◌+◌, ◌++◌, [], ◌∷◌, map, 
 use Rattle.std.specs.Prelude.{All}
 use Rattle.std.proofs.lemmas.List.{take_more, map_push}
 use Rattle.std.proofs.lemmas.List.Elements.{All-get_or, All-same, All-push}
-use Rattle.std.proofs.lemmas.Result.{err_from_is_err_and}
 use Rattle.sudo_words.specs.Command.{IsLawful}
 use Rattle.roster.specs.Fields.{entry_in_texts}
 use Rattle.roster.specs.Rules.{IsCmndText, IsNamedCeiling}
+use Rattle.sudo_words.proofs.Exits.{is_err}
 use Rattle.roster.proofs.named.ceilings.Goals as goal
 
 pub returns-in_err-ceiling : goal.returns-in_err-ceiling
 returns-in_err-ceiling c =
-    let p = err_from_is_err_and c.from_residual.result c.from_residual.ensures.1 in
-    rw (p.1, p.2) (λ n.
-    let h = c.in_err-ceiling.ensures n in
-    (h.0, λ all. h.1 (rw c.text-item.is (All-get_or (IsNamedCeiling IsCmndText) c.args.texts.now c.loop-text.text-index c.text-item.result (omega arith) all))))
+    rw (is_err c.from_residual.result c.from_residual.ensures.1)
+    (λ n. let h = c.in_err-ceiling.ensures n in (h.0, λ all. h.1 (rw c.text-item.is (All-get_or (IsNamedCeiling IsCmndText) c.args.texts.now c.loop-text.text-index c.text-item.result (omega arith) all))))
 
 pub loop-text-preserved : goal.loop-text-preserved
 loop-text-preserved c =

@@ -2,19 +2,17 @@ use Rattle.std.proofs.Common.{◌≡◌, ◌+◌, ◌++◌, [], ◌∷◌, map, 
 use Rattle.std.specs.Prelude.{All}
 use Rattle.std.proofs.lemmas.List.{take_more, map_push}
 use Rattle.std.proofs.lemmas.List.Elements.{All-get_or, All-same, All-push}
-use Rattle.std.proofs.lemmas.Result.{err_from_is_err_and}
 use Rattle.sudo_words.specs.Command.{IsLawful, cmnd_text}
 use Rattle.roster.specs.private.LookupOrders.{cmnd_order}
 use Rattle.roster.specs.private.LookupOrders.{IsInOrder}
 use Rattle.roster.specs.Rules.{IsCmndText}
+use Rattle.sudo_words.proofs.Exits.{is_err}
 use Rattle.roster.proofs.named.commands.Goals as goal
 
 pub returns-in_err-command : goal.returns-in_err-command
 returns-in_err-command c =
-    let p = err_from_is_err_and c.from_residual.result c.from_residual.ensures.1 in
-    rw (p.1, p.2) (λ n.
-    let h = c.in_err-command.ensures n in
-    (h.0, λ all. h.1 (rw c.text-item.is (All-get_or IsCmndText c.args.texts.now c.loop-text.text-index c.text-item.result (omega arith) all))))
+    rw (is_err c.from_residual.result c.from_residual.ensures.1)
+    (λ n. let h = c.in_err-command.ensures n in (h.0, λ all. h.1 (rw c.text-item.is (All-get_or IsCmndText c.args.texts.now c.loop-text.text-index c.text-item.result (omega arith) all))))
 
 pub loop-text-preserved : goal.loop-text-preserved
 loop-text-preserved c =

@@ -1,14 +1,12 @@
-use Rattle.std.proofs.lemmas.Result.{err_from_is_err_and}
 use Rattle.roster.specs.Rules.{is_named_entry}
 use Rattle.roster.proofs.Loop.{all_kept, kept_more, one_wrong}
+use Rattle.sudo_words.proofs.Exits.{is_err}
 use Rattle.roster.proofs.named.entries.Goals as goal
 
 pub returns-in_err-entry : goal.returns-in_err-entry
 returns-in_err-entry c =
-    let p = err_from_is_err_and c.from_residual.result c.from_residual.ensures.1 in
-    rw (p.1, p.2) (λ n.
-    let h = c.in_err-entry.ensures n in
-    (h.0, one_wrong is_named_entry c.args.texts.now c.loop-text.text-index c.text-item.result c.loop-text-test.true c.text-item.is h.1))
+    rw (is_err c.from_residual.result c.from_residual.ensures.1)
+    (λ n. let h = c.in_err-entry.ensures n in (h.0, one_wrong is_named_entry c.args.texts.now c.loop-text.text-index c.text-item.result c.loop-text-test.true c.text-item.is h.1))
 
 pub loop-text-preserved : goal.loop-text-preserved
 loop-text-preserved c =

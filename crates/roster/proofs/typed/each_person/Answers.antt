@@ -1,16 +1,14 @@
 use Rattle.std.proofs.Common.{◌∙◌, Some, ap, sym}
-use Rattle.std.proofs.lemmas.Result.{err_from_is_err_and}
 use Rattle.roster.specs.Document.{duty_entries}
 use Rattle.roster.proofs.Loop.{members_more, members_read, members_wrong}
 use Rattle.roster.proofs.Rising.{members_rise}
+use Rattle.sudo_words.proofs.Exits.{is_err}
 use Rattle.roster.proofs.typed.each_person.Goals as goal
 
 pub returns-in_err-entries-clause-reads : goal.returns-in_err-entries-clause-reads
 returns-in_err-entries-clause-reads c =
-    let p = err_from_is_err_and c.from_residual.result c.from_residual.ensures.1 in
-    rw (p.1, p.2) (λ n.
-    let h = c.in_err-entries.ensures n in
-    (h.0, members_wrong duty_entries c.loop-key.key-iterator c.next.new.self (c.in-Some.key.now, c.in-Some.value.now) c.loop-key.people.items _ c.in-Some.ensures.steps h.1 c.loop-key.invariant))
+    rw (is_err c.from_residual.result c.from_residual.ensures.1)
+    (λ n. let h = c.in_err-entries.ensures n in (h.0, members_wrong duty_entries c.loop-key.key-iterator c.next.new.self (c.in-Some.key.now, c.in-Some.value.now) c.loop-key.people.items _ c.in-Some.ensures.steps h.1 c.loop-key.invariant))
 
 pub loop-key-preserved : goal.loop-key-preserved
 loop-key-preserved c =

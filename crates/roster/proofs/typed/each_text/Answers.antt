@@ -1,15 +1,13 @@
 use Rattle.std.proofs.Common.{◌∙◌, Some, ap, sym}
-use Rattle.std.proofs.lemmas.Result.{err_from_is_err_and}
 use Rattle.toml.specs.Data.{as_str}
 use Rattle.roster.proofs.Loop.{items_more, items_read, items_wrong}
+use Rattle.sudo_words.proofs.Exits.{is_err}
 use Rattle.roster.proofs.typed.each_text.Goals as goal
 
 pub returns-in_err-text : goal.returns-in_err-text
 returns-in_err-text c =
-    let p = err_from_is_err_and c.from_residual.result c.from_residual.ensures.1 in
-    rw (p.1, p.2) (λ n.
-    let h = c.in_err-text.ensures n in
-    (h.0, items_wrong as_str c.args.values.now c.loop-value.value-index c.value-item.result c.loop-value.texts.items _ c.loop-value-test.true c.value-item.is h.1 c.loop-value.invariant))
+    rw (is_err c.from_residual.result c.from_residual.ensures.1)
+    (λ n. let h = c.in_err-text.ensures n in (h.0, items_wrong as_str c.args.values.now c.loop-value.value-index c.value-item.result c.loop-value.texts.items _ c.loop-value-test.true c.value-item.is h.1 c.loop-value.invariant))
 
 pub loop-value-preserved : goal.loop-value-preserved
 loop-value-preserved c =
