@@ -4,6 +4,7 @@
 mod ceiling;
 mod commands;
 mod conflicts;
+mod content;
 mod days;
 mod draft;
 mod fault;
@@ -16,7 +17,6 @@ mod relations;
 mod right_laws;
 mod roster;
 mod rules;
-mod said;
 mod text;
 mod typed;
 

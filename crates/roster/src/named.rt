@@ -13,10 +13,10 @@ ghost use Rattle.roster.specs.declared.fault.RosterFault.TheVariants.{BadName};
 use crate::ceiling::Ceiling;
 use crate::commands::in_order;
 use crate::conflicts::Conflicts;
+use crate::content::Content;
 use crate::days::Days;
 use crate::draft::{Draft, DraftCeiling};
 use crate::fault::RosterFault;
-use crate::said::Said;
 use crate::text::Text;
 use std::alloc::Global;
 use sudo_words::{Cmnd, CmndFault, Form, Items, Label, Name, Word, WordFault, read_cmnd};
@@ -172,7 +172,7 @@ fn ceilings(
 
 /// What the draft says, where each text in a name's place is such a name and each in a command's place a command's.
 #[tactic(auto, unfolding(crate::specs::Rules::good_names))]
-pub(crate) fn said_of(alloc: Global, draft: &Draft) -> Result<Said, RosterFault>
+pub(crate) fn content_of(alloc: Global, draft: &Draft) -> Result<Content, RosterFault>
     ensures { Meets BadName (GoodNames IsCmndText draft.now) (λ s. GoodNames IsLawful s × (in_texts s ≡ draft.now)) result }
 {
     let relays = words(alloc, draft.relays.as_slice())?;
@@ -181,7 +181,7 @@ pub(crate) fn said_of(alloc: Global, draft: &Draft) -> Result<Said, RosterFault>
     let people = people(alloc, draft.people.as_slice())?;
     let conflicts = conflicts(alloc, draft.conflicts.as_slice())?;
     let ceilings = ceilings(alloc, draft.ceilings.as_slice())?;
-    Ok(Said {
+    Ok(Content {
         relays,
         hosts,
         duties,

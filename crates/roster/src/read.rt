@@ -10,12 +10,12 @@ ghost use Rattle.roster.specs.Rules.{GoodNames, IsCmndText};
 ghost use Rattle.roster.specs.private.Stages.{IsDraftOf, KeepsRules};
 ghost use Rattle.roster.specs.declared.fault.RosterFault.TheVariants.{NoMemory, NotToml};
 
+use crate::content::Content;
 use crate::draft::Draft;
 use crate::fault::RosterFault;
 use crate::keys::has_known_keys;
-use crate::named::said_of;
+use crate::named::content_of;
 use crate::rules::{has_self_conflict, is_in_range, knows_names};
-use crate::said::Said;
 use crate::typed::draft_of;
 use std::alloc::Global;
 use toml::Table;
@@ -36,14 +36,14 @@ fn document(alloc: Global, text: &str) -> Result<Table, RosterFault>
 
 /// The least fault of what the draft says, where each of its texts in a name's place is such a name.
 #[tactic(auto, using(crate::proofs::Texts::known_of_draft))]
-fn tested(text: &str, draft: &Draft, said: &Said) -> Result<(), RosterFault>
+fn tested(text: &str, draft: &Draft, content: &Content) -> Result<(), RosterFault>
     requires draft { IsDraftOf text.now draft.now }
     requires named { GoodNames IsCmndText draft.now }
-    requires said { in_texts said.now ≡ draft.now }
+    requires content { in_texts content.now ≡ draft.now }
     ensures kept { IfOk result (λ _. KeepsRules text.now draft.now) }
     ensures least { IfErr result (λ e. e ≢ NoMemory → IsLeastFault text.now e) }
 {
-    let known = knows_names(said)?;
+    let known = knows_names(content)?;
     if !known {
         return Err(RosterFault::UnknownName);
     }
@@ -57,19 +57,19 @@ fn tested(text: &str, draft: &Draft, said: &Said) -> Result<(), RosterFault>
 }
 
 /// What the draft of a text says by names and commands, or the least of the text's faults.
-fn said_by_draft(alloc: Global, text: &str, draft: &Draft) -> Result<Said, RosterFault>
+fn content_by_draft(alloc: Global, text: &str, draft: &Draft) -> Result<Content, RosterFault>
     requires draft { IsDraftOf text.now draft.now }
     requires ordered { IsOrdered draft.now }
     ensures found { IfOk result (λ s. IsRosterText text.now s) }
     ensures ordered { IfOk result IsOrdered }
     ensures least { IfErr result (λ e. e ≢ NoMemory → IsLeastFault text.now e) }
 {
-    let said = said_of(alloc, draft)?;
-    tested(text, draft, &said).and(Ok(said))
+    let content = content_of(alloc, draft)?;
+    tested(text, draft, &content).and(Ok(content))
 }
 
 /// What the document of a text says that is a roster's, or the least of the text's faults.
-fn said_by_document(alloc: Global, text: &str, table: &Table) -> Result<Said, RosterFault>
+fn content_by_document(alloc: Global, text: &str, table: &Table) -> Result<Content, RosterFault>
     requires { parse_document text.now ≡ Some (table_view table.now) }
     ensures found { IfOk result (λ s. IsRosterText text.now s) }
     ensures ordered { IfOk result IsOrdered }
@@ -79,15 +79,15 @@ fn said_by_document(alloc: Global, text: &str, table: &Table) -> Result<Said, Ro
         return Err(RosterFault::UnknownKey);
     }
     let draft = draft_of(alloc, table)?;
-    said_by_draft(alloc, text, &draft)
+    content_by_draft(alloc, text, &draft)
 }
 
 /// What a text says that is a roster's, or the least of its faults.
-pub(crate) fn said_by(alloc: Global, text: &str) -> Result<Said, RosterFault>
+pub(crate) fn content_by(alloc: Global, text: &str) -> Result<Content, RosterFault>
     ensures found { IfOk result (λ s. IsRosterText text.now s) }
     ensures ordered { IfOk result IsOrdered }
     ensures least { IfErr result (λ e. e ≢ NoMemory → IsLeastFault text.now e) }
 {
     let table = document(alloc, text)?;
-    said_by_document(alloc, text, &table)
+    content_by_document(alloc, text, &table)
 }

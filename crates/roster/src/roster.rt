@@ -10,11 +10,11 @@ ghost use Rattle.roster.specs.Rules as rules;
 ghost use Rattle.roster.specs.declared.fault.RosterFault.TheVariants.{NoMemory};
 
 use crate::ceiling::Ceiling;
+use crate::content::Content;
 use crate::days::Days;
 use crate::fault::RosterFault;
-use crate::read::said_by;
+use crate::read::content_by;
 use crate::relations::{entries_of, entry_of, first_of, give, is_among};
-use crate::said::Said;
 use std::alloc::Global;
 use std::fmt;
 use std::marker::Model;
@@ -27,7 +27,7 @@ use sudo_words::{Day, HostName, Items, Label, Moment, Name};
 #[derive(Drop)]
 pub struct Roster {
     text: String,
-    said: Said,
+    content: Content,
 }
 
 impl Model for Roster {
@@ -38,9 +38,9 @@ impl Model for Roster {
 
     ghost Value = { Reading };
 
-    ghost view = { λ r. record { text = string_bytes r.text; says = r.said } };
+    ghost view = { λ r. record { text = string_bytes r.text; says = r.content } };
 
-    ghost invariant = { λ r. IsRosterText (string_bytes r.text) r.said × IsOrdered r.said };
+    ghost invariant = { λ r. IsRosterText (string_bytes r.text) r.content × IsOrdered r.content };
 }
 
 impl fmt::Debug for Roster {
@@ -61,8 +61,11 @@ impl Roster {
         ensures least { IfErr result (λ e. e ≢ NoMemory → IsLeastFault text.now e) }
     {
         let kept = String::from_str(alloc, text)?;
-        let said = said_by(alloc, text)?;
-        Ok(Roster { text: kept, said })
+        let content = content_by(alloc, text)?;
+        Ok(Roster {
+            text: kept,
+            content,
+        })
     }
 
     /// The text that was read.
@@ -79,14 +82,14 @@ impl Roster {
         ensures value { result.now ≡ self.now.says.people }
         ensures rising { relations.AreRising result.now }
     {
-        self.said.people.as_slice()
+        self.content.people.as_slice()
     }
 
     /// The pairs of duties that conflict, as the text lists them.
     pub fn conflicts(&self) -> &[(Label, Label)]
         ensures { result.now ≡ self.now.says.conflicts }
     {
-        self.said.conflicts.as_slice()
+        self.content.conflicts.as_slice()
     }
 
     /// Whether the roster lists the person.
@@ -113,14 +116,14 @@ impl Roster {
     pub fn has_host(&self, host: &HostName) -> bool
         ensures { result ≡ rules.is_among self.now.says.hosts host.now }
     {
-        is_among(self.said.hosts.as_slice(), host.as_str())
+        is_among(self.content.hosts.as_slice(), host.as_str())
     }
 
     /// Whether the text is one of the roster's relays.
     pub fn has_relay(&self, relay: &str) -> bool
         ensures { result ≡ rules.is_among self.now.says.relays relay.now }
     {
-        is_among(self.said.relays.as_slice(), relay)
+        is_among(self.content.relays.as_slice(), relay)
     }
 
     /// The first of the relays in byte order. There is always one.
@@ -128,7 +131,7 @@ impl Roster {
     pub fn first_relay(&self) -> &Label
         ensures { relations.IsFirst self.now.says.relays result.now }
     {
-        first_of(self.said.relays.as_slice())
+        first_of(self.content.relays.as_slice())
     }
 
     /// The ceiling of the label. One to three people must approve under it.
@@ -136,7 +139,7 @@ impl Roster {
         ensures value { option_map (λ c. c.now) result ≡ relations.ceiling_at self.now.says label.now }
         ensures needs { IfSome result (λ c. (1 ≤ c.now.needs) × (c.now.needs ≤ 3)) }
     {
-        entry_of(self.said.ceilings.as_slice(), label)
+        entry_of(self.content.ceilings.as_slice(), label)
     }
 
     /// Whether the person holds the duty at the moment.
@@ -150,7 +153,7 @@ impl Roster {
     pub fn conflicting(&self, first: &Label, second: &Label) -> bool
         ensures { result ≡ relations.conflicting self.now.says first.now second.now }
     {
-        self.said.conflicts.joins(first, second)
+        self.content.conflicts.joins(first, second)
     }
 
     /// Whether the person may approve or refuse at the moment what the asker asked for under the ceiling: the person is
@@ -179,6 +182,6 @@ impl Roster {
     fn is_one_against(&self, entries: &[(Label, Days)], duty: &Label, day: Day) -> bool
         ensures { result ≡ list_any (relations.is_against self.now.says duty.now day) entries.now }
     {
-        self.said.conflicts.join_one(entries, duty, day)
+        self.content.conflicts.join_one(entries, duty, day)
     }
 }

@@ -9,9 +9,9 @@ ghost use Rattle.sorting.specs.Lists.{IsEachOnce};
 ghost use Rattle.roster.specs.Rules as rules;
 
 use crate::ceiling::Ceiling;
+use crate::content::Content;
 use crate::days::Days;
 use crate::draft::{Draft, DraftCeiling};
-use crate::said::Said;
 use crate::text::Text;
 use sorting::{in_order, is_among};
 use std::alloc::AllocError;
@@ -72,25 +72,25 @@ fn knows_ceilings(duties: &[Label], hosts: &[HostName], ceilings: &[(Label, Ceil
     ceilings.iter().all(|c| knows_ceiling(duties, hosts, c))
 }
 
-fn names_only(duties: &Items<Label>, hosts: &Items<HostName>, said: &Said) -> bool
+fn names_only(duties: &Items<Label>, hosts: &Items<HostName>, content: &Content) -> bool
     requires duties { AreTextsInOrder duties.now }
     requires hosts { AreTextsInOrder hosts.now }
-    ensures { result ≡ rules.names_only duties.now hosts.now said.now }
+    ensures { result ≡ rules.names_only duties.now hosts.now content.now }
 {
     let duties = duties.as_slice();
-    knows_pairs(duties, said.conflicts.as_slice())
-        && knows_people(duties, said.people.as_slice())
-        && knows_ceilings(duties, hosts.as_slice(), said.ceilings.as_slice())
+    knows_pairs(duties, content.conflicts.as_slice())
+        && knows_people(duties, content.people.as_slice())
+        && knows_ceilings(duties, hosts.as_slice(), content.ceilings.as_slice())
 }
 
 /// Whether each duty that is named is one of the duties, and each host of a ceiling one of the hosts; an error where
 /// memory runs out.
-pub(crate) fn knows_names(said: &Said) -> Result<bool, AllocError>
-    ensures { IfOk result (λ known. known ≡ rules.are_known said.now) }
+pub(crate) fn knows_names(content: &Content) -> Result<bool, AllocError>
+    ensures { IfOk result (λ known. known ≡ rules.are_known content.now) }
 {
-    let duties = copy_in_order(&said.duties)?;
-    let hosts = copy_in_order(&said.hosts)?;
-    Ok(names_only(&duties, &hosts, said))
+    let duties = copy_in_order(&content.duties)?;
+    let hosts = copy_in_order(&content.hosts)?;
+    Ok(names_only(&duties, &hosts, content))
 }
 
 fn has_equal_pair(pairs: &[(Text, Text)]) -> bool

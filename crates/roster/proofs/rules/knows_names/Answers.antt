@@ -11,6 +11,6 @@ returns c =
     let duties = c.in_ok-duties.duties in
     let hosts = c.in_ok-hosts.hosts in
     c.names_only.ensures
-    ∙ known_in_order c.args.said.now duties hosts
-    (subst (λ (f : RosterFields Cmnd). IsEachOnce text_order f.duties duties) c.said.view_is c.in_ok-duties.ensures)
-    (subst (λ (f : RosterFields Cmnd). IsEachOnce text_order f.hosts hosts) c.said.view_is c.in_ok-hosts.ensures)
+    ∙ known_in_order c.args.content.now duties hosts
+    (subst (λ (f : RosterFields Cmnd). IsEachOnce text_order f.duties duties) c.content.view_is c.in_ok-duties.ensures)
+    (subst (λ (f : RosterFields Cmnd). IsEachOnce text_order f.hosts hosts) c.content.view_is c.in_ok-hosts.ensures)

@@ -7,7 +7,7 @@ use Rattle.roster.specs.Fields.{RosterFields}
 use Rattle.roster.specs.Rules.{GoodNames, IsCmndText, IsNamedCeiling, is_named_pair, is_named_person}
 use Rattle.roster.proofs.Names.{by_place, in_all_places}
 use Rattle.sudo_words.proofs.Exits.{is_err}
-use Rattle.roster.proofs.named.said_of.Goals as goal
+use Rattle.roster.proofs.named.content_of.Goals as goal
 
 pub returns-in_err-relays : goal.returns-in_err-relays
 returns-in_err-relays c =

@@ -7,7 +7,7 @@ use std::marker::Model;
 use sudo_words::{HostName, Items, Label, Name};
 
 #[derive(Drop)]
-pub(crate) struct Said {
+pub(crate) struct Content {
     pub(crate) relays: Items<Label>,
     pub(crate) hosts: Items<HostName>,
     pub(crate) duties: Items<Label>,
@@ -16,7 +16,7 @@ pub(crate) struct Said {
     pub(crate) ceilings: Items<(Label, Ceiling)>,
 }
 
-impl Model for Said {
+impl Model for Content {
     ghost use Rattle.sudo_words.specs.declared.cmnd.Cmnd.{Cmnd};
     ghost use Rattle.roster.specs.Fields.{RosterFields};
 
