@@ -119,12 +119,12 @@ fn look(routes: &Routes, come: &[u8]) -> Option<Awaited> {
 fn take_request(
     mut stream: &TcpStream,
     routes: &Routes,
+    chunk: &mut [u8],
     come: &mut Vec<u8>,
     awaited: &mut Awaited,
 ) -> Next {
-    let mut chunk = [0; 4096];
     for _ in 0..=MOST_ASKED {
-        let count = match stream.read(&mut chunk) {
+        let count = match stream.read(chunk) {
             Ok(0) => return Next::IsWhole,
             Ok(count) => count,
             Err(error) if error.kind() == ErrorKind::WouldBlock => return Next::Waits,
@@ -164,13 +164,12 @@ fn send_rest(mut stream: &TcpStream, rest: &[u8], sent: &mut usize) -> Next {
 }
 
 /// Takes what the peer still sends, so that it can read the reply before the connection is closed.
-fn read_last(mut stream: &TcpStream, reads: &mut usize) -> Next {
-    let mut chunk = [0; 1024];
+fn read_last(mut stream: &TcpStream, chunk: &mut [u8], reads: &mut usize) -> Next {
     for _ in 0..MOST_READS {
         if *reads >= MOST_READS {
             break;
         }
-        match stream.read(&mut chunk) {
+        match stream.read(chunk) {
             Ok(0) => return Next::Ends,
             Ok(_) => *reads += 1,
             Err(error) if error.kind() == ErrorKind::WouldBlock => return Next::Waits,
@@ -210,35 +209,37 @@ impl Connection {
         }
     }
 
-    /// Goes on as far as its peer lets it, up to a whole request.
-    pub(crate) fn go_on(&mut self, routes: &Routes, now: u64) -> Next {
+    /// Goes on as far as its peer lets it, up to a whole request. What it reads comes into the chunk first.
+    pub(crate) fn go_on(&mut self, routes: &Routes, chunk: &mut [u8], now: u64) -> Next {
         match &mut self.stage {
-            Stage::Asking { come, awaited } => take_request(&self.stream, routes, come, awaited),
+            Stage::Asking { come, awaited } => {
+                take_request(&self.stream, routes, chunk, come, awaited)
+            }
             Stage::Answering { rest, sent } => {
                 match send_rest(&self.stream, rest.as_slice(), sent) {
-                    Next::Ends => self.close(now),
+                    Next::Ends => self.close(chunk, now),
                     next => next,
                 }
             }
-            Stage::Closing { .. } => self.read_last(now),
+            Stage::Closing { .. } => self.read_last(chunk, now),
         }
     }
 
     /// Ends the reply.
-    fn close(&mut self, now: u64) -> Next {
+    fn close(&mut self, chunk: &mut [u8], now: u64) -> Next {
         if self.stream.shutdown(Shutdown::Write).is_err() {
             return Next::Ends;
         }
         self.stage = Stage::Closing { reads: 0 };
-        self.read_last(now)
+        self.read_last(chunk, now)
     }
 
-    fn read_last(&mut self, now: u64) -> Next {
+    fn read_last(&mut self, chunk: &mut [u8], now: u64) -> Next {
         let Stage::Closing { reads } = &mut self.stage else {
             return Next::Waits;
         };
         self.due = now.saturating_add(TO_CLOSE);
-        read_last(&self.stream, reads)
+        read_last(&self.stream, chunk, reads)
     }
 
     /// Has the desk answer the request, and sends what the peer takes of the reply at once; with what is said of a 503.

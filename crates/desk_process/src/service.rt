@@ -16,6 +16,9 @@ const MOST_CONNECTIONS: usize = 1_000;
 /// The most connections that are accepted in one turn, and the most events that are looked at.
 const MOST_AT_ONCE: usize = 64;
 
+/// The most bytes of one read.
+const CHUNK: usize = 4096;
+
 /// The token of the listener. A connection's is its place.
 const LISTENER: Token = Token(MOST_CONNECTIONS);
 
@@ -26,6 +29,8 @@ pub(crate) struct Service {
     listener: TcpListener,
     routes: Routes,
     workspace: Workspace,
+    /// Where the bytes of a read come in, one connection's after another's.
+    chunk: [u8; CHUNK],
     places: Vec<Option<Connection>>,
     /// How many connections are open.
     open: usize,
@@ -76,6 +81,7 @@ impl Service {
             listener,
             routes,
             workspace: Workspace::new(),
+            chunk: [0; CHUNK],
             places: Vec::new(rt.alloc()),
             open: 0,
             left: requests,
@@ -109,7 +115,7 @@ impl Service {
         }
         let now = self.now(rt)?;
         connection.begin_reply(now);
-        Ok(connection.go_on(&self.routes, now))
+        Ok(connection.go_on(&self.routes, &mut self.chunk, now))
     }
 
     /// Goes on with a connection as far as its peer lets it.
@@ -121,7 +127,7 @@ impl Service {
         connection: &mut Connection,
     ) -> io::Result<Next> {
         let now = self.now(rt)?;
-        match connection.go_on(&self.routes, now) {
+        match connection.go_on(&self.routes, &mut self.chunk, now) {
             Next::IsWhole => self.answer(rt, desk, log, connection),
             next => Ok(next),
         }
