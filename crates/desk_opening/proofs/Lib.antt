@@ -7,6 +7,7 @@ pub mod Compared
 pub mod RowsCompared
 pub mod KeyedCompared
 pub mod PlainRows
+pub mod KeptLemmas
 -- the tests by halving
 pub mod NameLemmas
 pub mod IndexLemmas

@@ -1,6 +1,7 @@
 -- What is judged of the rows that were read is so of the database.
-use Rattle.std.proofs.Common.{◌≡◌, ℕ, Bool, true, List, [], Contains, Option, None, Some, codes, unwrap_or, sym, ap, subst, ◌∙◌}
+use Rattle.std.proofs.Common.{◌≡◌, ◌&&◌, ℕ, Bool, true, false, List, [], Contains, Option, None, Some, codes, unwrap_or, sym, ap, subst, ◌∙◌}
 use Rattle.std.specs.Prelude.{string_bytes}
+use Rattle.std.proofs.lemmas.Bool.{and_from, false≢true}
 use Rattle.sqlite.specs.declared.types.Value.{Value}
 use Rattle.sqlite.specs.Order.{Row, column}
 use Rattle.sqlite.specs.Effect.{Database, IsDatabase}
@@ -14,13 +15,15 @@ use Rattle.desk_schema.specs.declared.part.Part.TheVariants as part
 use Rattle.desk_schema.specs.References.{AreUnreferred}
 use Rattle.desk_schema.specs.Shapes.{FindsPart, HasCommon, IsOld, IsUnmarked, IsVacant}
 use Rattle.desk_schema.proofs.ShapeLemmas.{desk_of}
-use Rattle.desk_opening.specs.declared.found.Found.{Found}
+use Rattle.desk_opening.specs.declared.found.Contents.{Contents}
 use Rattle.desk_opening.specs.declared.found.Found.TheVariants as found
 use Rattle.desk_opening.specs.Opened.{FoundIn, HasContents, IsDamaged, IsDeskBesideRows, IsKept}
 use Rattle.desk_opening.specs.Rows.{HaveRowids}
-use Rattle.desk_opening.specs.private.Judged.{AreContents, IsWhole, Judges, JudgesOld, Strays}
+use Rattle.desk_opening.specs.private.Judged.{AreContents, IsWhole, LackContents}
+use Rattle.desk_opening.specs.private.Compare.{are_kept}
 use Rattle.desk_opening.specs.private.Reading.{AreHeld}
 use Rattle.desk_opening.specs.private.Selecting.{ShowsRows, ShowsTexts}
+use Rattle.desk_opening.proofs.KeptLemmas.{held_where_kept, kept_where_held}
 use Rattle.desk_opening.proofs.Shown.{SameRows, held_too, identified, recorded_two, same_back, same_rows_in}
 use Rattle.desk_opening.proofs.TextsShown.{contents_there, messages_listed, none_there}
 
@@ -101,33 +104,44 @@ module _ (db : Database) (sound : IsDatabase db) (common : HasCommon db.schema) 
   roster_is : (roster : List ℕ) → HasContents 2 db roster → (content_of db).roster ≡ roster
   roster_is roster contents = ap (λ o. unwrap_or o []) (sym (recorded_two (table_in db (codes "desk"))) ∙ contents.marked)
 
-  pub found_in : (f : Found) → Judges D M N V P alone f → FoundIn db f
-  found_in found.Empty h = absurd h
-  found_in (found.Desk c) h = (
-    kept (string_bytes c.roster) c.messages.items h.0 h.1,
-    roster_is (string_bytes c.roster) (contents_there 2 db D M texts (string_bytes c.roster) c.messages.items h.0),
-    messages_listed 2 db D M texts (string_bytes c.roster) c.messages.items h.0,
-  )
-  found_in (found.Old c) h = absurd h
-  found_in found.NotADesk h = (
-    not_vacant db.schema common,
-    λ is. none_there 2 db D M texts h is.contents.0 is.contents.1,
-    λ old. not_old db.schema verdicts old.tables,
+  pub desk_in : (c : Contents) → AreContents 2 D M (string_bytes c.roster) c.messages.items → alone ≡ true → are_kept c.messages.items N V P ≡ true → FoundIn db (found.Desk c)
+  desk_in c are lone test = (
+    kept (string_bytes c.roster) c.messages.items are (record { alone_is = lone; held = held_where_kept c.messages.items (λ m there. (are.bodies.only m there).message) N V P test }),
+    roster_is (string_bytes c.roster) (contents_there 2 db D M texts (string_bytes c.roster) c.messages.items are),
+    messages_listed 2 db D M texts (string_bytes c.roster) c.messages.items are,
   )
 
-  pub damaged_in : Strays D M N V P alone → IsDamaged db
-  damaged_in h = (beside h.0 (contents_there 2 db D M texts h.0 h.1 h.2), λ is. h.3 (whole h.0 h.1 h.2 is))
+  pub damaged_in : (c : Contents) → AreContents 2 D M (string_bytes c.roster) c.messages.items → (alone && are_kept c.messages.items N V P) ≡ false → IsDamaged db
+  damaged_in c are test =
+      let roster = string_bytes c.roster in
+      let all = c.messages.items in
+      let wide = rows_identified db sound common verdicts N V P rows in (
+        beside roster (contents_there 2 db D M texts roster all are),
+        λ is.
+            let it = whole roster all are is in
+            false≢true (sym test ∙ and_from _ _ it.alone_is (kept_where_held all (λ m there. (are.bodies.only m there).message) N V P wide.0 wide.1 wide.2 it.held)),
+      )
+
+-- ---- no desk of today
+
+-- its texts show something else
+pub other_in : (db : Database) → HasCommon db.schema → FindsPart db.schema part.Verdicts → (D M : List Row) → ShowsTexts db D M → LackContents 2 D M → FoundIn db found.NotADesk
+other_in db common verdicts D M texts lack = (
+  not_vacant db.schema common,
+  λ is. none_there 2 db D M texts lack is.contents.0 is.contents.1,
+  λ old. not_old db.schema verdicts old.tables,
+)
 
 -- ---- an older desk
 
-pub old_in : (db : Database) → IsOld db.schema → (D M : List Row) → ShowsTexts db D M → (f : Found) → JudgesOld D M f → FoundIn db f
-old_in db old D M texts found.Empty h = absurd h
-old_in db old D M texts (found.Desk c) h = absurd h
-old_in db old D M texts (found.Old c) h =
-    let contents = contents_there 1 db D M texts (string_bytes c.roster) c.messages.items h in
-    (record { tables = old; contents = (string_bytes c.roster, contents) }, contents.marked, messages_listed 1 db D M texts (string_bytes c.roster) c.messages.items h)
-old_in db old D M texts found.NotADesk h = (
+pub old_in : (db : Database) → IsOld db.schema → (D M : List Row) → ShowsTexts db D M → (c : Contents) → AreContents 1 D M (string_bytes c.roster) c.messages.items → FoundIn db (found.Old c)
+old_in db old D M texts c are =
+    let contents = contents_there 1 db D M texts (string_bytes c.roster) c.messages.items are in
+    (record { tables = old; contents = (string_bytes c.roster, contents) }, contents.marked, messages_listed 1 db D M texts (string_bytes c.roster) c.messages.items are)
+
+pub not_old_in : (db : Database) → IsOld db.schema → (D M : List Row) → ShowsTexts db D M → LackContents 1 D M → FoundIn db found.NotADesk
+not_old_in db old D M texts lack = (
   not_vacant db.schema old.common,
   λ is. not_old db.schema is.verdicts old,
-  λ is. none_there 1 db D M texts h is.contents.0 is.contents.1,
+  λ is. none_there 1 db D M texts lack is.contents.0 is.contents.1,
 )

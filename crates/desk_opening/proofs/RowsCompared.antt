@@ -18,9 +18,14 @@ use Rattle.messages.specs.declared.message.Message.{Message}
 use Rattle.messages.specs.declared.message.Message.TheVariants.{Request, Verdict}
 use Rattle.messages.proofs.Uniqueness.{one_message}
 use Rattle.desk_tables.specs.Rows.{AreRows, Asks, IsMarked, IsRow, name_row, parked_row, verdict_row}
+use Rattle.desk_schema.specs.declared.part.Part.TheVariants.{Names, Verdicts, Parked}
 use Rattle.desk_opening.specs.Rows.{HaveRowids}
-use Rattle.desk_opening.specs.private.Compare.{agree, are_each, are_rows, asks, counts, has_row, is_disputed, is_name_row, is_named, is_of_name, is_once, is_other, is_parked_row, is_verdict, is_verdict_row, shows_parked, shows_request, shows_verdict, waits}
+use Rattle.desk_opening.specs.private.Compare.{agree, are_rows_of, asks, counts, has_name_row, has_parked_row, has_verdict_row, is_disputed, is_name_row, is_named, is_of_name, is_once, is_other, is_parked_row, is_verdict, is_verdict_row, shows_parked, shows_request, shows_verdict, waits}
 use Rattle.desk_opening.proofs.Compared.{agree_int, agree_is, agree_text, five, four, is_the_number, is_the_text, number_is, six, text_is}
+
+-- the tests of the three tables
+abbrev pub are_tests : List Message → (N V P : List Row) → Bool
+are_tests ms N V P = are_rows_of Names ms N && (are_rows_of Verdicts ms V && are_rows_of Parked ms P)
 
 one_request : (p q : RequestFields) → Request p ≡ Request q → p ≡ q
 one_request p q e = cc
@@ -221,27 +226,36 @@ module _ (ms : List Message) (known : (m : Message) → Contains ms m → IsMess
   -- ---- where the test holds, they are the rows
 
   module _ (N V P : List Row) where
-    module _ (h : are_rows ms N V P ≡ true) where
-      each : are_each ms N V P ≡ true
-      each = (and_parts _ _ h).0
+    module _ (h : are_tests ms N V P ≡ true) where
+      names_test : are_rows_of Names ms N ≡ true
+      names_test = (and_parts _ _ h).0
 
-      rest : (list_all (has_row ms N V P) ms && list_all (λ r. list_all (is_once r) N) N) ≡ true
-      rest = (and_parts _ _ h).1
+      verdicts_test : are_rows_of Verdicts ms V ≡ true
+      verdicts_test = (and_parts _ _ (and_parts _ _ h).1).0
+
+      parked_test : are_rows_of Parked ms P ≡ true
+      parked_test = (and_parts _ _ (and_parts _ _ h).1).1
 
       name_at : (r : Row) → Has N r → IsNameRow r
-      name_at r there = name_shown r (test_has (is_name_row ms) N r (and_parts _ _ each).0 there)
+      name_at r there = name_shown r (test_has (is_name_row ms) N r (and_parts _ _ names_test).0 there)
 
       verdict_at : (r : Row) → Has V r → IsVerdictRow r
-      verdict_at r there = verdict_shown r (test_has (is_verdict_row ms) V r (and_parts _ _ (and_parts _ _ each).1).0 there)
+      verdict_at r there = verdict_shown r (test_has (is_verdict_row ms) V r (and_parts _ _ verdicts_test).0 there)
 
       parked_at : (r : Row) → Has P r → IsParkedRow r
-      parked_at r there = parked_shown r (test_has (is_parked_row ms) P r (and_parts _ _ (and_parts _ _ each).1).1 there)
+      parked_at r there = parked_shown r (test_has (is_parked_row ms) P r (and_parts _ _ parked_test).0 there)
 
-      row_of : (m : Message) → S m → has_row ms N V P m ≡ true
-      row_of m there = test_has (has_row ms N V P) ms m (and_parts _ _ rest).0 (has_contained ms m there)
+      name_row_of : (m : Message) → S m → has_name_row N m ≡ true
+      name_row_of m there = test_has (has_name_row N) ms m (and_parts _ _ (and_parts _ _ names_test).1).0 (has_contained ms m there)
+
+      verdict_row_of : (m : Message) → S m → has_verdict_row ms V m ≡ true
+      verdict_row_of m there = test_has (has_verdict_row ms V) ms m (and_parts _ _ verdicts_test).1 (has_contained ms m there)
+
+      parked_row_of : (m : Message) → S m → has_parked_row ms P m ≡ true
+      parked_row_of m there = test_has (has_parked_row ms P) ms m (and_parts _ _ parked_test).1 (has_contained ms m there)
 
       once_of : (r s : Row) → Has N r → Has N s → is_once r s ≡ true
-      once_of r s here there = test_has (is_once r) N s (test_has (λ x. list_all (is_once x) N) N r (and_parts _ _ rest).1 here) there
+      once_of r s here there = test_has (is_once r) N s (test_has (λ x. list_all (is_once x) N) N r (and_parts _ _ (and_parts _ _ names_test).1).1 here) there
 
       name_of_row : (asker : List ℕ) (number : ℕ) (r : Row) → is_of_name asker number r ≡ true → (it : IsNameRow r) → (it.q.by ≡ asker) × (it.q.no ≡ number)
       name_of_row asker number r is it =
@@ -250,7 +264,7 @@ module _ (ms : List Message) (known : (m : Message) → Contains ms m → IsMess
 
       names_all : (q : RequestFields) → S (Request q) → (p : RequestFields) × (disputed : Bool) × SameName p q × IsRow N (name_row p disputed)
       names_all q there =
-          let found = some_has (is_of_name q.by q.no) N (row_of (Request q) there) in
+          let found = some_has (is_of_name q.by q.no) N (name_row_of (Request q) there) in
           let it = name_at found.0 found.1 in
           (it.q, is_disputed ms (Request it.q), name_of_row q.by q.no found.0 found.2 it, (column found.0 0, subst (Has N) it.is found.1))
 
@@ -277,12 +291,12 @@ module _ (ms : List Message) (known : (m : Message) → Contains ms m → IsMess
 
       has_verdict : (v : VerdictFields) → S (Verdict v) → Asks S (name_meant v) → IsRow V (verdict_row v)
       has_verdict v there asked =
-          let found = some_has (λ r. shows_verdict r (Verdict v)) V (subst (λ (t : Bool). (if t then list_any (λ r. shows_verdict r (Verdict v)) V else list_any (λ r. shows_parked r (Verdict v)) P) ≡ true) (is_asked v.of v.no asked) (row_of (Verdict v) there)) in
+          let found = some_has (λ r. shows_verdict r (Verdict v)) V (subst (λ (t : Bool). (not t || list_any (λ r. shows_verdict r (Verdict v)) V) ≡ true) (is_asked v.of v.no asked) (verdict_row_of (Verdict v) there)) in
           (column found.0 0, subst (Has V) (verdict_is found.0 v found.2) found.1)
 
       has_parked : (v : VerdictFields) → S (Verdict v) → (¬ Asks S (name_meant v)) → IsRow P (parked_row v)
       has_parked v there none =
-          let found = some_has (λ r. shows_parked r (Verdict v)) P (subst (λ (t : Bool). (if t then list_any (λ r. shows_verdict r (Verdict v)) V else list_any (λ r. shows_parked r (Verdict v)) P) ≡ true) (not_asked v.of v.no none) (row_of (Verdict v) there)) in
+          let found = some_has (λ r. shows_parked r (Verdict v)) P (subst (λ (t : Bool). (not (not t) || list_any (λ r. shows_parked r (Verdict v)) P) ≡ true) (not_asked v.of v.no none) (parked_row_of (Verdict v) there)) in
           (column found.0 0, subst (Has P) (parked_is found.0 v found.2) found.1)
 
       pub rows_are : AreRows S (IsRow N) (IsRow V) (IsRow P)
@@ -320,14 +334,25 @@ module _ (ms : List Message) (known : (m : Message) → Contains ms m → IsMess
           let row : x ≡ w.0 ∷ parked_row it.0 = w.2 ∙ ap (λ (y : List Value). w.0 ∷ y) it.3 in
           subst (λ y. is_parked_row ms y ≡ true) (sym row) (shows_waiting w.0 it.0 it.1 (not_asked it.0.of it.0.no it.2))
 
-      has_its_row : (m : Message) → Has ms m → has_row ms N V P m ≡ true
-      has_its_row (Request q) there =
+      has_its_name : (m : Message) → Has ms m → has_name_row N m ≡ true
+      has_its_name (Request q) there =
           let it = r.names_all q (contains_had ms (Request q) there) in
           some_from (is_of_name q.by q.no) N (it.3.0 ∷ name_row it.0 it.1) it.3.1 (of_name_by q.by q.no (it.3.0 ∷ name_row it.0 it.1) (ap Text it.2.0) (ap (λ n. Int (pos n)) it.2.1))
-      has_its_row (Verdict v) there = elim (cases_Bool (asks ms v.of v.no)) [
-        | inl is ↦ subst (λ (t : Bool). (if t then list_any (λ r. shows_verdict r (Verdict v)) V else list_any (λ r. shows_parked r (Verdict v)) P) ≡ true) (sym is)
+      has_its_name (Verdict v) there = refl
+
+      has_its_verdict : (m : Message) → Has ms m → has_verdict_row ms V m ≡ true
+      has_its_verdict (Request q) there = refl
+      has_its_verdict (Verdict v) there = elim (cases_Bool (asks ms v.of v.no)) [
+        | inr is ↦ subst (λ (t : Bool). (not t || list_any (λ r. shows_verdict r (Verdict v)) V) ≡ true) (sym is) refl
+        | inl is ↦ subst (λ (t : Bool). (not t || list_any (λ r. shows_verdict r (Verdict v)) V) ≡ true) (sym is)
             (let it = r.verdicts_all v (contains_had ms (Verdict v) there) (asks_is v.of v.no is) in some_from (λ r. shows_verdict r (Verdict v)) V (it.0 ∷ verdict_row v) it.1 (is_its_row it.0 v))
-        | inr is ↦ subst (λ (t : Bool). (if t then list_any (λ r. shows_verdict r (Verdict v)) V else list_any (λ r. shows_parked r (Verdict v)) P) ≡ true) (sym is)
+      ]
+
+      has_its_parked : (m : Message) → Has ms m → has_parked_row ms P m ≡ true
+      has_its_parked (Request q) there = refl
+      has_its_parked (Verdict v) there = elim (cases_Bool (asks ms v.of v.no)) [
+        | inl is ↦ subst (λ (t : Bool). (not (not t) || list_any (λ r. shows_parked r (Verdict v)) P) ≡ true) (sym is) refl
+        | inr is ↦ subst (λ (t : Bool). (not (not t) || list_any (λ r. shows_parked r (Verdict v)) P) ≡ true) (sym is)
             (let it = r.parked_all v (contains_had ms (Verdict v) there) (none_asks v.of v.no is) in some_from (λ r. shows_parked r (Verdict v)) P (it.0 ∷ parked_row v) it.1 (is_its_parked it.0 v))
       ]
 
@@ -352,7 +377,11 @@ module _ (ms : List Message) (known : (m : Message) → Contains ms m → IsMess
                 (agree_text (wire (Request a.0)) (column x 3) (column y 3) (of_a 3) (of_b 3 ∙ sym (ap (λ (z : Row). column z 2) one)))
           ]
 
-      pub test_holds : are_rows ms N V P ≡ true
+      once_all : list_all (λ x. list_all (is_once x) N) N ≡ true
+      once_all = test_from (λ x. list_all (is_once x) N) N (λ x here. test_from (is_once x) N (λ y there. once_passes x y here there))
+
+      pub test_holds : are_tests ms N V P ≡ true
       test_holds =
-          and_from _ _ (and_from _ _ (test_from (is_name_row ms) N name_passes) (and_from _ _ (test_from (is_verdict_row ms) V verdict_passes) (test_from (is_parked_row ms) P parked_passes)))
-          (and_from _ _ (test_from (has_row ms N V P) ms has_its_row) (test_from (λ x. list_all (is_once x) N) N (λ x here. test_from (is_once x) N (λ y there. once_passes x y here there))))
+          and_from _ _ (and_from _ _ (test_from (is_name_row ms) N name_passes) (and_from _ _ (test_from (has_name_row N) ms has_its_name) once_all))
+          (and_from _ _ (and_from _ _ (test_from (is_verdict_row ms) V verdict_passes) (test_from (has_verdict_row ms V) ms has_its_verdict))
+          (and_from _ _ (test_from (is_parked_row ms) P parked_passes) (test_from (has_parked_row ms P) ms has_its_parked)))

@@ -1,6 +1,7 @@
 //! What a database keeps, as it is opened.
 
-ghost use Rattle.std.specs.Prelude.{◌≡◌, ◌≢◌, ◌↔◌, Contains, true, false, Err, IsTrue, IfOk, IfSome, IfNone, OnOk, string_bytes};
+ghost use Rattle.std.specs.Prelude.{◌≡◌, ◌≢◌, ◌↔◌, ◌&&◌, List, true, false, Err, IsTrue, IfOk, OnOk};
+ghost use Rattle.sqlite.specs.Order.{Row as AnyRow};
 ghost use Rattle.sqlite.specs.State.{HasCleanDisk, IsLive};
 ghost use Rattle.sqlite.specs.Held.{state};
 ghost use Rattle.desk_tables.specs.SqliteStates.{IsUp, Rests};
@@ -9,15 +10,14 @@ ghost use Rattle.desk_schema.specs.declared.part.Part.TheVariants as part;
 ghost use Rattle.desk_schema.specs.Shapes.{FindsPart, HasCommon, IsOld, IsShape, IsUnmarked};
 ghost use Rattle.desk_schema.specs.References.{AreUnreferred};
 ghost use Rattle.desk_opening.specs.Opened.{FoundIn, IsDamaged, Reads};
-ghost use Rattle.desk_opening.specs.Rows.{HaveRowids};
-ghost use Rattle.messages.specs.Wire.{IsMessage};
-ghost use Rattle.messages.specs.declared.message.Message.{Message as AnyMessage};
-ghost use Rattle.desk_opening.specs.private.Judged.{AreContents, IsWhole, Judges, JudgesOld, LackContents, Strays};
+ghost use Rattle.desk_opening.specs.private.Judged.{ShowsContents};
+ghost use Rattle.desk_opening.specs.private.Selecting.{ShowsTexts};
 
 use crate::found::{Contents, Found};
-use crate::reading::{all_stored, are_held, roster_of};
+use crate::kept::keeps_rows;
+use crate::reading::{all_stored, roster_of};
 use crate::statements::rows_of;
-use crate::tables::{Rows, Texts, rows_beside, texts_of};
+use crate::tables::{Texts, texts_of};
 use desk_schema::{Part, Shape, are_unreferred, shape_of};
 use desk_tables::Fault;
 use sqlite::{Alter, Connection, Error};
@@ -26,9 +26,7 @@ use sudo_words::NoMemory;
 
 /// The roster's text and the messages, where the rows show these and nothing else, in this schema.
 fn contents_of(alloc: Global, texts: &Texts, version: u32) -> Result<Option<Contents>, NoMemory>
-    ensures some { IfOk result (λ found. IfSome found (λ c.
-        AreContents version texts.now.desk.items texts.now.messages.items (string_bytes c.roster) c.messages.items)) }
-    ensures none { IfOk result (λ found. IfNone found (LackContents version texts.now.desk.items texts.now.messages.items)) }
+    ensures { IfOk result (ShowsContents version texts.now.desk.items texts.now.messages.items) }
 {
     let Some(roster) = roster_of(alloc, texts.desk.as_slice(), version)? else {
         return Ok(None);
@@ -39,51 +37,22 @@ fn contents_of(alloc: Global, texts: &Texts, version: u32) -> Result<Option<Cont
     Ok(Some(Contents { roster, messages }))
 }
 
-/// Whether the rows are those of the contents, and no foreign key refers to the tables.
-fn is_whole(alloc: Global, contents: &Contents, rows: &Rows, alone: bool) -> Result<bool, NoMemory>
-    requires { (m : AnyMessage) → Contains contents.now.messages.items m → IsMessage m }
-    ensures whole { IfOk result (λ is. IsTrue is → IsWhole alone contents.now.messages.items rows.now.names.items rows.now.verdicts.items rows.now.parked.items) }
-    ensures only { HaveRowids rows.now.names.items → HaveRowids rows.now.verdicts.items → HaveRowids rows.now.parked.items
-        → IsWhole alone contents.now.messages.items rows.now.names.items rows.now.verdicts.items rows.now.parked.items → IfOk result (λ is. IsTrue is) }
+/// The roster's text and the messages, where the database has these and nothing else, in this schema. It stays as it is.
+fn contents_in<S: Alter>(
+    alloc: Global,
+    conn: &mut Connection<S>,
+    version: u32,
+) -> Result<Option<Contents>, Fault>
+    requires rests { Rests (state S.Store conn.old) }
+    requires common { IsUp (state S.Store conn.old) → HasCommon (state S.Store conn.old).now.schema }
+    ensures reads { Reads (state S.Store conn.old) (state S.Store conn.new) }
+    ensures up { IsUp (state S.Store conn.old) → HasCleanDisk (state S.Store conn.new) → OnOk result (IsUp (state S.Store conn.new)) }
+    ensures found { IsUp (state S.Store conn.new) → IfOk result (λ found. (desk messages : List AnyRow)
+        × ShowsTexts (state S.Store conn.old).now desk messages × ShowsContents version desk messages found) }
+    ensures not_stray { result ≢ Err fault.Stray }
 {
-    if !alone {
-        return Ok(false);
-    }
-    are_held(
-        alloc,
-        contents.messages.as_slice(),
-        rows.names.as_slice(),
-        rows.verdicts.as_slice(),
-        rows.parked.as_slice(),
-    )
-}
-
-/// What a desk of today is found to be, by its rows.
-fn judge(alloc: Global, texts: &Texts, rows: &Rows, alone: bool) -> Result<Found, Fault>
-    ensures found { IfOk result (λ f.
-        Judges texts.now.desk.items texts.now.messages.items rows.now.names.items rows.now.verdicts.items rows.now.parked.items alone f) }
-    ensures stray { HaveRowids rows.now.names.items → HaveRowids rows.now.verdicts.items → HaveRowids rows.now.parked.items → result ≡ Err fault.Stray
-        → Strays texts.now.desk.items texts.now.messages.items rows.now.names.items rows.now.verdicts.items rows.now.parked.items alone }
-{
-    let Some(contents) = contents_of(alloc, texts, 2)? else {
-        return Ok(Found::NotADesk);
-    };
-    if is_whole(alloc, &contents, rows, alone)? {
-        Ok(Found::Desk(contents))
-    } else {
-        drop(contents);
-        Err(Fault::Stray)
-    }
-}
-
-/// What an older desk is found to be, by its rows.
-fn judge_old(alloc: Global, texts: &Texts) -> Result<Found, NoMemory>
-    ensures { IfOk result (λ f. JudgesOld texts.now.desk.items texts.now.messages.items f) }
-{
-    match contents_of(alloc, texts, 1)? {
-        Some(contents) => Ok(Found::Old(contents)),
-        None => Ok(Found::NotADesk),
-    }
+    let texts = texts_of(conn)?;
+    Ok(contents_of(alloc, &texts, version)?)
 }
 
 /// What the database's schema has of a desk's tables.
@@ -101,6 +70,12 @@ fn is_alone<S: Alter>(conn: &Connection<S>) -> bool
     are_unreferred(conn.schema())
 }
 
+fn both(a: bool, b: bool) -> bool
+    ensures { result ≡ (a && b) }
+{
+    a && b
+}
+
 /// Looks at a database that has a desk's tables.
 fn look_within<S: Alter>(alloc: Global, conn: &mut Connection<S>) -> Result<Found, Fault>
     requires rests { Rests (state S.Store conn.old) }
@@ -113,9 +88,15 @@ fn look_within<S: Alter>(alloc: Global, conn: &mut Connection<S>) -> Result<Foun
     ensures damaged { IsUp (state S.Store conn.new) → result ≡ Err fault.Stray → IsDamaged (state S.Store conn.old).now }
 {
     let alone = is_alone(conn);
-    let texts = texts_of(conn)?;
-    let rows = rows_beside(conn)?;
-    judge(alloc, &texts, &rows, alone)
+    let Some(contents) = contents_in(alloc, conn, 2)? else {
+        return Ok(Found::NotADesk);
+    };
+    let kept = keeps_rows(alloc, conn, contents.messages.as_slice())?;
+    if !both(alone, kept) {
+        drop(contents);
+        return Err(Fault::Stray);
+    }
+    Ok(Found::Desk(contents))
 }
 
 /// Whether the older desk's `marks` have a row.
@@ -157,8 +138,10 @@ fn look_old<S: Alter>(alloc: Global, conn: &mut Connection<S>) -> Result<Found, 
     ensures found { IsUp (state S.Store conn.new) → IfOk result (FoundIn (state S.Store conn.old).now) }
     ensures not_stray { result ≢ Err fault.Stray }
 {
-    let texts = texts_of(conn)?;
-    Ok(judge_old(alloc, &texts)?)
+    match contents_in(alloc, conn, 1)? {
+        Some(contents) => Ok(Found::Old(contents)),
+        None => Ok(Found::NotADesk),
+    }
 }
 
 /// Tells what the database keeps. It stays as it is.

@@ -5,8 +5,6 @@ ghost use Rattle.std.specs.List.{list_all};
 ghost use Rattle.std.specs.Ordering.{int_eq};
 ghost use Rattle.std.specs.Str.{bytes_eq};
 ghost use Rattle.sqlite.specs.Order.{column};
-ghost use Rattle.desk_tables.specs.Kept.{IsKeyed};
-ghost use Rattle.desk_opening.specs.Rows.{ArePlain};
 ghost use Rattle.desk_opening.specs.private.Compare as compare;
 ghost use Rattle.desk_opening.specs.private.Names.{id_is, is_at, name_is, number_in, text_in};
 
@@ -75,7 +73,8 @@ fn is_each_same(rows: &[Row]) -> bool
     rows.iter().all(|row| has_rowid(row) && is_same(row, row))
 }
 
-fn is_each_keyed(alloc: Global, rows: &[Row]) -> Result<bool, NoMemory>
+/// Each row has a rowid of its own, and that is a whole number.
+pub(crate) fn are_keyed(alloc: Global, rows: &[Row]) -> Result<bool, NoMemory>
     ensures { IfOk result (λ are. are ≡ list_all (compare.is_keyed rows.now) rows.now) }
 {
     let ids = ids_in(alloc, rows)?;
@@ -83,12 +82,4 @@ fn is_each_keyed(alloc: Global, rows: &[Row]) -> Result<bool, NoMemory>
         return Ok(true);
     }
     Ok(walk::are_keyed(rows))
-}
-
-/// The rowids are whole numbers, and rows that have one rowid are the same.
-pub fn are_keyed(alloc: Global, rows: &[Row]) -> Result<bool, NoMemory>
-    ensures keyed { IfOk result (λ are. IsTrue are → IsKeyed rows.now) }
-    ensures only { ArePlain rows.now → IsKeyed rows.now → IfOk result (λ are. IsTrue are) }
-{
-    is_each_keyed(alloc, rows)
 }

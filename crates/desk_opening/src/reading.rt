@@ -1,18 +1,14 @@
 //! What the rows of a desk's tables say.
 
-ghost use Rattle.std.specs.Prelude.{◌≡◌, ◌&&◌, List, ℕ, true, false, Some, Contains, IfOk, IfSome, IfNone, IsTrue, IsUtf8};
+ghost use Rattle.std.specs.Prelude.{◌≡◌, List, ℕ, Some, IfOk, IfSome, IfNone, IsUtf8};
 ghost use Rattle.std.specs.String.{string_bytes};
 ghost use Rattle.sqlite.specs.declared.types.Value.TheVariants.{Text};
 ghost use Rattle.sqlite.specs.Order.{column};
-ghost use Rattle.messages.specs.Wire.{wire, IsMessage};
-ghost use Rattle.messages.specs.declared.message.Message.{Message as AnyMessage};
+ghost use Rattle.messages.specs.Wire.{wire};
 ghost use Rattle.desk_tables.specs.Stored.{IsWritten};
-ghost use Rattle.desk_opening.specs.Rows.{HaveRowids};
-ghost use Rattle.desk_opening.specs.private.Reading.{IsForeign, IsKeepable, AreBodies, AreHeld, HasForeign, body, shown_mark};
+ghost use Rattle.desk_opening.specs.private.Reading.{IsForeign, IsKeepable, AreBodies, HasForeign, body, shown_mark};
 
 use crate::compare::is_number;
-use crate::once::are_keyed;
-use crate::rows::are_rows;
 use crate::stored::Stored;
 use messages::{Message, MessageFault, read_message};
 use sqlite::Row;
@@ -100,30 +96,4 @@ pub(crate) fn all_stored(alloc: Global, rows: &[Row]) -> Result<Option<Vec<Store
         all.push(one)?;
     }
     Ok(Some(all))
-}
-
-fn all_four(a: bool, b: bool, c: bool, d: bool) -> bool
-    ensures { result ≡ (a && (b && (c && d))) }
-{
-    a && b && c && d
-}
-
-/// Whether the rows of the three tables are those of the messages, each with a rowid of its own.
-pub(crate) fn are_held(
-    alloc: Global,
-    all: &[Stored],
-    names: &[Row],
-    verdicts: &[Row],
-    parked: &[Row],
-) -> Result<bool, NoMemory>
-    requires { (m : AnyMessage) → Contains all.now m → IsMessage m }
-    ensures held { IfOk result (λ are. IsTrue are → AreHeld (λ m. Contains all.now m) names.now verdicts.now parked.now) }
-    ensures only { HaveRowids names.now → HaveRowids verdicts.now → HaveRowids parked.now
-        → AreHeld (λ m. Contains all.now m) names.now verdicts.now parked.now → IfOk result (λ are. IsTrue are) }
-{
-    let of_messages = are_rows(alloc, all, names, verdicts, parked)?;
-    let names_keyed = are_keyed(alloc, names)?;
-    let verdicts_keyed = are_keyed(alloc, verdicts)?;
-    let parked_keyed = are_keyed(alloc, parked)?;
-    Ok(all_four(of_messages, names_keyed, verdicts_keyed, parked_keyed))
 }

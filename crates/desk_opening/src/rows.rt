@@ -2,12 +2,9 @@
 //!
 //! What a row is compared with is found by halving. Where that does not fit, each message is looked at.
 
-ghost use Rattle.std.specs.Prelude.{◌≡◌, IsTrue, Contains, IfOk};
+ghost use Rattle.std.specs.Prelude.{◌≡◌, Contains, IfOk};
 ghost use Rattle.std.specs.List.{list_all, list_any};
-ghost use Rattle.messages.specs.Wire.{IsMessage};
-ghost use Rattle.messages.specs.declared.message.Message.{Message as AnyMessage};
-ghost use Rattle.desk_tables.specs.Rows.{AreRows, IsRow};
-ghost use Rattle.desk_opening.specs.Rows.{HaveRowids};
+ghost use Rattle.desk_schema.specs.declared.part.Part.TheVariants as part;
 ghost use Rattle.desk_opening.specs.private.Compare as compare;
 ghost use Rattle.desk_opening.specs.private.Names.{IsIndex};
 
@@ -18,6 +15,7 @@ use crate::places::text_in;
 use crate::stored::Stored;
 use crate::table::Table;
 use crate::walk;
+use desk_schema::Part;
 use messages::Message;
 use sqlite::Row;
 use std::alloc::Global;
@@ -101,99 +99,121 @@ fn has_parked(parked: &Table<'_>, stored: &Stored) -> bool
     walk::has_parked(parked.rows, stored)
 }
 
-/// The message has its row.
-fn has_row(
-    known: &Known<'_>,
-    names: &Table<'_>,
-    verdicts: &Table<'_>,
-    parked: &Table<'_>,
-    stored: &Stored,
-) -> bool
-    requires { IsIndex known.now.all.now known.now.names.items known.now.disputed.items }
-    ensures { result ≡ compare.has_row known.now.all.now names.now.rows.now verdicts.now.rows.now parked.now.rows.now stored.now }
+/// The message has its row in `names`, where it has one there.
+fn has_name_row(names: &Table<'_>, stored: &Stored) -> bool
+    ensures { result ≡ compare.has_name_row names.now.rows.now stored.now }
 {
     match stored.message() {
         Message::Request(request) => has_name(names, request.by().as_str(), request.no()),
-        Message::Verdict(_) => {
-            if known.counts(stored) {
-                has_verdict(verdicts, stored)
-            } else {
-                has_parked(parked, stored)
-            }
-        }
+        Message::Verdict(_) => true,
     }
 }
 
-fn are_name_rows(known: &Known<'_>, rows: &[Row]) -> bool
+/// The message has its row in `verdicts`, where it has one there.
+fn has_verdict_row(known: &Known<'_>, verdicts: &Table<'_>, stored: &Stored) -> bool
+    requires { IsIndex known.now.all.now known.now.names.items known.now.disputed.items }
+    ensures { result ≡ compare.has_verdict_row known.now.all.now verdicts.now.rows.now stored.now }
+{
+    !known.counts(stored) || has_verdict(verdicts, stored)
+}
+
+/// The message has its row in `parked`, where it has one there.
+fn has_parked_row(known: &Known<'_>, parked: &Table<'_>, stored: &Stored) -> bool
+    requires { IsIndex known.now.all.now known.now.names.items known.now.disputed.items }
+    ensures { result ≡ compare.has_parked_row known.now.all.now parked.now.rows.now stored.now }
+{
+    !known.waits(stored) || has_parked(parked, stored)
+}
+
+fn is_each_name_row(known: &Known<'_>, rows: &[Row]) -> bool
     requires { IsIndex known.now.all.now known.now.names.items known.now.disputed.items }
     ensures { result ≡ list_all (compare.is_name_row known.now.all.now) rows.now }
 {
     rows.iter().all(|row| is_name_row(known, row))
 }
 
-fn are_verdict_rows(known: &Known<'_>, rows: &[Row]) -> bool
+fn is_each_verdict_row(known: &Known<'_>, rows: &[Row]) -> bool
     requires { IsIndex known.now.all.now known.now.names.items known.now.disputed.items }
     ensures { result ≡ list_all (compare.is_verdict_row known.now.all.now) rows.now }
 {
     rows.iter().all(|row| is_verdict_row(known, row))
 }
 
-fn are_parked_rows(known: &Known<'_>, rows: &[Row]) -> bool
+fn is_each_parked_row(known: &Known<'_>, rows: &[Row]) -> bool
     requires { IsIndex known.now.all.now known.now.names.items known.now.disputed.items }
     ensures { result ≡ list_all (compare.is_parked_row known.now.all.now) rows.now }
 {
     rows.iter().all(|row| is_parked_row(known, row))
 }
 
-fn are_each(known: &Known<'_>, names: &[Row], verdicts: &[Row], parked: &[Row]) -> bool
-    requires { IsIndex known.now.all.now known.now.names.items known.now.disputed.items }
-    ensures { result ≡ compare.are_each known.now.all.now names.now verdicts.now parked.now }
+fn have_name_rows(all: &[Stored], names: &Table<'_>) -> bool
+    ensures { result ≡ list_all (compare.has_name_row names.now.rows.now) all.now }
 {
-    are_name_rows(known, names)
-        && are_verdict_rows(known, verdicts)
-        && are_parked_rows(known, parked)
+    all.iter().all(|stored| has_name_row(names, stored))
 }
 
-/// Each message has its row.
-fn have_rows(known: &Known<'_>, names: &Table<'_>, verdicts: &Table<'_>, parked: &Table<'_>) -> bool
+fn have_verdict_rows(known: &Known<'_>, verdicts: &Table<'_>) -> bool
     requires { IsIndex known.now.all.now known.now.names.items known.now.disputed.items }
-    ensures { result ≡ list_all (compare.has_row known.now.all.now names.now.rows.now verdicts.now.rows.now parked.now.rows.now) known.now.all.now }
+    ensures { result ≡ list_all (compare.has_verdict_row known.now.all.now verdicts.now.rows.now) known.now.all.now }
 {
     known
         .all
         .iter()
-        .all(|stored| has_row(known, names, verdicts, parked, stored))
+        .all(|stored| has_verdict_row(known, verdicts, stored))
 }
 
-fn pass(
-    alloc: Global,
-    all: &[Stored],
-    names: &[Row],
-    verdicts: &[Row],
-    parked: &[Row],
-) -> Result<bool, NoMemory>
-    ensures { IfOk result (λ pass. pass ≡ compare.are_rows all.now names.now verdicts.now parked.now) }
+fn have_parked_rows(known: &Known<'_>, parked: &Table<'_>) -> bool
+    requires { IsIndex known.now.all.now known.now.names.items known.now.disputed.items }
+    ensures { result ≡ list_all (compare.has_parked_row known.now.all.now parked.now.rows.now) known.now.all.now }
 {
-    let known = Known::new(alloc, all)?;
-    let named = Table::by_name(alloc, names)?;
-    let counted = Table::by_verdict(alloc, verdicts)?;
-    let waiting = Table::by_text(alloc, parked)?;
-    let once = are_once(alloc, names)?;
-    let each = are_each(&known, names, verdicts, parked);
-    Ok(each && have_rows(&known, &named, &counted, &waiting) && once)
+    known
+        .all
+        .iter()
+        .all(|stored| has_parked_row(known, parked, stored))
 }
 
-/// Whether the rows of the three tables are those of the messages.
-pub fn are_rows(
-    alloc: Global,
-    all: &[Stored],
-    names: &[Row],
-    verdicts: &[Row],
-    parked: &[Row],
-) -> Result<bool, NoMemory>
-    requires { (m : AnyMessage) → Contains all.now m → IsMessage m }
-    ensures are { IfOk result (λ are. IsTrue are → AreRows (Contains all.now) (IsRow names.now) (IsRow verdicts.now) (IsRow parked.now)) }
-    ensures only { HaveRowids names.now → HaveRowids verdicts.now → HaveRowids parked.now → AreRows (Contains all.now) (IsRow names.now) (IsRow verdicts.now) (IsRow parked.now) → IfOk result (λ are. IsTrue are) }
+/// The rows, of `names`, are those of the messages.
+fn are_names(alloc: Global, known: &Known<'_>, rows: &[Row]) -> Result<bool, NoMemory>
+    requires { IsIndex known.now.all.now known.now.names.items known.now.disputed.items }
+    ensures { IfOk result (λ are. are ≡ compare.are_rows_of part.Names known.now.all.now rows.now) }
 {
-    pass(alloc, all, names, verdicts, parked)
+    let named = Table::by_name(alloc, rows)?;
+    let once = are_once(alloc, rows)?;
+    Ok(is_each_name_row(known, rows) && have_name_rows(known.all, &named) && once)
+}
+
+/// The rows, of `verdicts`, are those of the messages.
+fn are_verdicts(alloc: Global, known: &Known<'_>, rows: &[Row]) -> Result<bool, NoMemory>
+    requires { IsIndex known.now.all.now known.now.names.items known.now.disputed.items }
+    ensures { IfOk result (λ are. are ≡ compare.are_rows_of part.Verdicts known.now.all.now rows.now) }
+{
+    let counted = Table::by_verdict(alloc, rows)?;
+    Ok(is_each_verdict_row(known, rows) && have_verdict_rows(known, &counted))
+}
+
+/// The rows, of `parked`, are those of the messages.
+fn are_parked(alloc: Global, known: &Known<'_>, rows: &[Row]) -> Result<bool, NoMemory>
+    requires { IsIndex known.now.all.now known.now.names.items known.now.disputed.items }
+    ensures { IfOk result (λ are. are ≡ compare.are_rows_of part.Parked known.now.all.now rows.now) }
+{
+    let waiting = Table::by_text(alloc, rows)?;
+    Ok(is_each_parked_row(known, rows) && have_parked_rows(known, &waiting))
+}
+
+/// Whether the rows of the table are those that the messages come to: so always for a table that does not follow from them.
+pub(crate) fn are_rows_of(
+    alloc: Global,
+    part: Part,
+    known: &Known<'_>,
+    rows: &[Row],
+) -> Result<bool, NoMemory>
+    requires { IsIndex known.now.all.now known.now.names.items known.now.disputed.items }
+    ensures { IfOk result (λ are. are ≡ compare.are_rows_of part known.now.all.now rows.now) }
+{
+    match part {
+        Part::Names => are_names(alloc, known, rows),
+        Part::Verdicts => are_verdicts(alloc, known, rows),
+        Part::Parked => are_parked(alloc, known, rows),
+        Part::Desk | Part::Messages | Part::Marks => Ok(true),
+    }
 }

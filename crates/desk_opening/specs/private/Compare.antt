@@ -11,6 +11,8 @@ use Rattle.messages.specs.Fields.{VerdictFields}
 use Rattle.messages.specs.Wire.{wire, kind_text}
 use Rattle.messages.specs.declared.message.Message.{Message}
 use Rattle.messages.specs.declared.message.Message.TheVariants.{Request, Verdict}
+use Rattle.desk_schema.specs.declared.part.Part.{Part}
+use Rattle.desk_schema.specs.declared.part.Part.TheVariants.{Desk, Messages, Names, Marks, Verdicts, Parked}
 pub use Rattle.desk_opening.specs.Opened.{is_number}
 
 -- ---- values
@@ -123,14 +125,33 @@ is_verdict_row messages r = list_any (λ m. shows_verdict r m && counts messages
 abbrev pub is_parked_row : List Message → Row → Bool
 is_parked_row messages r = list_any (λ m. shows_parked r m && waits messages m) messages
 
-abbrev pub has_row : List Message → (names verdicts parked : List Row) → Message → Bool
-has_row messages names verdicts parked (Request q) = list_any (is_of_name q.by q.no) names
-has_row messages names verdicts parked (Verdict v) =
-    if asks messages v.of v.no then list_any (λ r. shows_verdict r (Verdict v)) verdicts else list_any (λ r. shows_parked r (Verdict v)) parked
+-- the message has its row in the table, where it has one there
+abbrev pub has_name_row : (names : List Row) → Message → Bool
+has_name_row names (Request q) = list_any (is_of_name q.by q.no) names
+has_name_row names (Verdict v) = true
 
-abbrev pub are_each : List Message → (names verdicts parked : List Row) → Bool
-are_each messages names verdicts parked = list_all (is_name_row messages) names && (list_all (is_verdict_row messages) verdicts && list_all (is_parked_row messages) parked)
+abbrev pub has_verdict_row : List Message → (verdicts : List Row) → Message → Bool
+has_verdict_row messages verdicts m = not (counts messages m) || list_any (λ r. shows_verdict r m) verdicts
 
-abbrev pub are_rows : List Message → (names verdicts parked : List Row) → Bool
-are_rows messages names verdicts parked =
-    are_each messages names verdicts parked && (list_all (has_row messages names verdicts parked) messages && list_all (λ r. list_all (is_once r) names) names)
+abbrev pub has_parked_row : List Message → (parked : List Row) → Message → Bool
+has_parked_row messages parked m = not (waits messages m) || list_any (λ r. shows_parked r m) parked
+
+-- ---- tables beside messages
+
+-- the rows of the table are those that the messages come to
+abbrev pub are_rows_of : Part → List Message → List Row → Bool
+are_rows_of Desk messages rows = true
+are_rows_of Messages messages rows = true
+are_rows_of Names messages rows =
+    list_all (is_name_row messages) rows && (list_all (has_name_row rows) messages && list_all (λ r. list_all (is_once r) rows) rows)
+are_rows_of Marks messages rows = true
+are_rows_of Verdicts messages rows = list_all (is_verdict_row messages) rows && list_all (has_verdict_row messages rows) messages
+are_rows_of Parked messages rows = list_all (is_parked_row messages) rows && list_all (has_parked_row messages rows) messages
+
+-- and each has a rowid of its own
+abbrev pub is_kept : Part → List Message → List Row → Bool
+is_kept part messages rows = are_rows_of part messages rows && list_all (is_keyed rows) rows
+
+-- so of the three tables that follow from the messages
+abbrev pub are_kept : List Message → (names verdicts parked : List Row) → Bool
+are_kept messages names verdicts parked = is_kept Names messages names && (is_kept Verdicts messages verdicts && is_kept Parked messages parked)

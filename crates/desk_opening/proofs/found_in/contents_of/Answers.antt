@@ -5,8 +5,8 @@ use Rattle.sqlite.specs.Order.{Row}
 use Rattle.desk_opening.specs.private.Reading.{AreBodies, shown_mark}
 use Rattle.desk_opening.proofs.found_in.contents_of.Goals as goal
 
-pub returns-clause-some : goal.returns-clause-some
-returns-clause-some c =
+pub returns : goal.returns
+returns c =
     let mark : shown_mark c.args.version c.as_slice.result.now ≡ Some (string_bytes c.in-Some.roster) = search rules in
     let bodies : AreBodies c.as_slice-2.result.now c.in-Some-2.messages.items = search rules in
     record {

@@ -1,17 +1,10 @@
-use Rattle.std.proofs.Common.{◌≡◌, Bool, IsTrue, sym, ◌∙◌}
-use Rattle.std.specs.List.{list_all}
-use Rattle.desk_tables.specs.Kept.{IsKeyed}
-use Rattle.desk_opening.specs.private.Compare.{is_keyed}
-use Rattle.desk_opening.proofs.KeyedCompared.{is_keyed_so, keyed_is}
-use Rattle.desk_opening.proofs.ReadLemmas.{ok_as}
+use Rattle.std.proofs.Common.{◌≤◌, ℕ, ℤ, List, sym, subst, ◌∙◌}
+use Rattle.std.specs.Prelude.{count_by}
+use Rattle.desk_opening.specs.private.Names.{id_is}
+use Rattle.desk_opening.proofs.OnceLemmas.{keyed_apart}
 use Rattle.desk_opening.proofs.once.are_keyed.Goals as goal
 
-pub returns-clause-keyed : goal.returns-clause-keyed
-returns-clause-keyed c =
-    let rows = c.args.rows.now in
-    ok_as (λ (b : Bool). b ≡ list_all (is_keyed rows) rows) (λ (b : Bool). IsTrue b → IsKeyed rows) (λ b e is. keyed_is rows (sym e ∙ is)) c.is_each_keyed.result c.is_each_keyed.ensures
-
-pub returns-clause-only : goal.returns-clause-only
-returns-clause-only c plain keyed =
-    let rows = c.args.rows.now in
-    ok_as (λ (b : Bool). b ≡ list_all (is_keyed rows) rows) (λ (b : Bool). IsTrue b) (λ b e. e ∙ is_keyed_so rows plain keyed) c.is_each_keyed.result c.is_each_keyed.ensures
+pub returns-then-is_each_same : goal.returns-then-is_each_same
+returns-then-is_each_same c =
+    let few : (asker : List ℕ) (number : ℤ) → count_by (id_is asker number) c.args.rows.now ≤ 1 = λ asker number. subst (λ n. n ≤ 1) (c.in_ok-ids.ensures asker number) (c.are_apart.ensures c.if-are_apart.true asker number) in
+    sym (keyed_apart c.args.rows.now few (sym c.is_each_same.ensures ∙ c.if-is_each_same.true))
