@@ -18,7 +18,8 @@ use Rattle.outcomes.proofs.FileLemmas.{one_file, one_file_after, one_lines}
 use Rattle.outcomes.proofs.SummaryLemmas.{one_of_summaries, summaries_of_set}
 use Rattle.desk.proofs.RunLemmas.{runs_agree}
 use Rattle.desk.proofs.TextLemmas.{one_texts}
-use Rattle.outcomes.proofs.SetLemmas.{Alike, alike_sets, file_after_alike, file_alike, lines_alike, live_alike, one_live, one_outcome, one_parked, outcome_alike, parked_of_set}
+use Rattle.outcomes.proofs.SetLemmas.{Alike, alike_sets, file_after_alike, file_alike, lines_alike, live_alike}
+use Rattle.outcomes.proofs.SetLemmas.{one_live, one_outcome, one_parked, outcome_alike, parked_of_set}
 
 module _ (f : RosterFields Cmnd) (old s t : List Message) (r u : List Event) (acked : SameAcked r u) (first : IsRun f old r s) (second : IsRun f old u t) where
   same_left : SameMessages s t
@@ -45,11 +46,14 @@ module _ (f : RosterFields Cmnd) (old s t : List Message) (r u : List Event) (ac
   pub same_count : (host : List ℕ) (a b : List Line) → AreLines f s host a → AreLines f t host b → length a ≡ length b
   same_count host a b x y = ap length (one_lines f t host a b (lines_alike f s t left_alike host a x) y)
 
-  pub same_file_after : (base : List Entry) (host : List ℕ) (moment : ℕ) (a b : List ℕ) → IsHostFileAfter f base s host moment a → IsHostFileAfter f base t host moment b → a ≡ b
+  pub same_file_after : (base : List Entry) (host : List ℕ) (moment : ℕ) (a b : List ℕ)
+      → IsHostFileAfter f base s host moment a → IsHostFileAfter f base t host moment b → a ≡ b
   same_file_after base host moment a b x y = one_file_after f base t host moment a b (file_after_alike f s t left_alike base host moment a x) y
 
-  pub same_count_after : (host : List ℕ) (moment : ℕ) (a b : List Line) → AreLines f s host a → AreLines f t host b → length (lines_after moment a) ≡ length (lines_after moment b)
-  same_count_after host moment a b x y = ap (λ (lines : List Line). length (lines_after moment lines)) (one_lines f t host a b (lines_alike f s t left_alike host a x) y)
+  pub same_count_after : (host : List ℕ) (moment : ℕ) (a b : List Line) → AreLines f s host a
+      → AreLines f t host b → length (lines_after moment a) ≡ length (lines_after moment b)
+  same_count_after host moment a b x y =
+      ap (λ (lines : List Line). length (lines_after moment lines)) (one_lines f t host a b (lines_alike f s t left_alike host a x) y)
 
   pub same_texts : (a b : List (List ℕ)) → AreTexts s a → AreTexts t b → a ≡ b
   same_texts a b x y = one_texts s t a b same_left x y

@@ -45,8 +45,10 @@ replaced_by_rebuilding Empty Desk Old Desk' Old' recorded recorded' text S T lef
 
 -- ---- the desk, under another name of its roster's text and of its messages
 
-pub leaves_same : (MayLeave : Left → Type 0) (r s : List ℕ) (S T : Message → Type 0) → s ≡ r → SameSet S T → LeavesOnly MayLeave (IsDeskOf s T) → LeavesOnly MayLeave (IsDeskOf r S)
+pub leaves_same : (MayLeave : Left → Type 0) (r s : List ℕ) (S T : Message → Type 0) → s ≡ r
+    → SameSet S T → LeavesOnly MayLeave (IsDeskOf s T) → LeavesOnly MayLeave (IsDeskOf r S)
 leaves_same MayLeave r s S T roster set leaves left may = same_left r s S T left roster set (leaves left may)
 
-pub of_roster : (MayLeave : Left → Type 0) (r s : List ℕ) (S : Message → Type 0) → s ≡ r → LeavesOnly MayLeave (IsDeskOf s S) → LeavesOnly MayLeave (IsDeskOf r S)
+pub of_roster : (MayLeave : Left → Type 0) (r s : List ℕ) (S : Message → Type 0)
+    → s ≡ r → LeavesOnly MayLeave (IsDeskOf s S) → LeavesOnly MayLeave (IsDeskOf r S)
 of_roster MayLeave r s S roster = leaves_same MayLeave r s S S roster (λ m. (λ h. h, λ h. h))

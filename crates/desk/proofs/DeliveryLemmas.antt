@@ -16,8 +16,10 @@ use Rattle.grants.proofs.Answering.{no_denial, one_denial}
 use Rattle.desk_tables.specs.Sets.{IsWith}
 use Rattle.desk.specs.declared.ack.Ack.{Ack}
 use Rattle.desk.specs.declared.refusal.Refusal.{Refusal}
-use Rattle.desk.specs.declared.refusal.Refusal.TheVariants.{UnknownRelay, UnknownHost, TooLong, NotCanonical, BadField, Denied, TooManyRules, RosterChanged, NotADesk, OldSchema, Storage, NoMemory, BaseTooLarge}
-use Rattle.desk.specs.Delivery.{Acknowledges, AcknowledgesAmong, Answers, AnswersBody, AreAnswers, Delivery, HeldAfter, HeldAfterAll, IsDeliveryAnswer, IsBodyOf, WasWanting}
+use Rattle.desk.specs.declared.refusal.Refusal.TheVariants.{UnknownRelay, UnknownHost, TooLong, NotCanonical, BadField, Denied, TooManyRules}
+use Rattle.desk.specs.declared.refusal.Refusal.TheVariants.{RosterChanged, NotADesk, OldSchema, Storage, NoMemory, BaseTooLarge}
+use Rattle.desk.specs.Delivery.{Acknowledges, AcknowledgesAmong, Answers, AnswersBody, AreAnswers}
+use Rattle.desk.specs.Delivery.{Delivery, HeldAfter, HeldAfterAll, IsDeliveryAnswer, IsBodyOf, WasWanting}
 
 -- ---- one answer
 
@@ -41,7 +43,8 @@ admitted_denied f body m n d x y admits denial =
     let P : Message → Type 0 = Admits f in
     no_denial f n d (subst P (same_body body m n x y) admits) denial.applies
 
-denials_agree : (f : RosterFields Cmnd) (body : List ℕ) (m n : Message) (d e : Denial) → IsBodyOf body m → IsBodyOf body n → IsDenial f m d → IsDenial f n e → d ≡ e
+denials_agree : (f : RosterFields Cmnd) (body : List ℕ) (m n : Message) (d e : Denial)
+    → IsBodyOf body m → IsBodyOf body n → IsDenial f m d → IsDenial f n e → d ≡ e
 denials_agree f body m n d e x y first second =
     let P : Message → Type 0 = λ v. IsDenial f v d in
     one_denial f n d e (subst P (same_body body m n x y) first) second
@@ -105,11 +108,13 @@ answer_from_sound f d a sound = record {
 }
 
 -- a body of a known relay that is refused before anything is kept
-pub refused : (f : RosterFields Cmnd) (d : Delivery) (e : Refusal) → is_among f.relays d.relay ≡ true → (e ≡ NoMemory) ⊎ AnswersBody f d.body (Err e) → IsDeliveryAnswer f d (Err e)
+pub refused : (f : RosterFields Cmnd) (d : Delivery) (e : Refusal) → is_among f.relays d.relay ≡ true
+    → (e ≡ NoMemory) ⊎ AnswersBody f d.body (Err e) → IsDeliveryAnswer f d (Err e)
 refused f d e known (inl memory) = answer_from_sound f d (Err e) (inl (inl memory))
 refused f d e known (inr right) = answer_from_sound f d (Err e) (inr (inr (known, right)))
 
-pub acknowledged : (f : RosterFields Cmnd) (d : Delivery) (ack : Ack) (m : Message) → is_among f.relays d.relay ≡ true → IsBodyOf d.body m → Admits f m → IsDeliveryAnswer f d (Ok ack)
+pub acknowledged : (f : RosterFields Cmnd) (d : Delivery) (ack : Ack) (m : Message)
+    → is_among f.relays d.relay ≡ true → IsBodyOf d.body m → Admits f m → IsDeliveryAnswer f d (Ok ack)
 acknowledged f d ack m known body admits = answer_from_sound f d (Ok ack) (inr (inr (known, (m, body, admits))))
 
 -- ---- the set
@@ -130,37 +135,43 @@ held_at_ok S T d ack m body is = λ n. (
 
 -- ---- many deliveries
 
-pub answers_push : (f : RosterFields Cmnd) (ds : List Delivery) (answers : List (Result Ack Refusal)) (d : Delivery) (a : Result Ack Refusal) → AreAnswers f ds answers → IsDeliveryAnswer f d a → AreAnswers f (ds ++ d ∷ []) (answers ++ a ∷ [])
+pub answers_push : (f : RosterFields Cmnd) (ds : List Delivery) (answers : List (Result Ack Refusal)) (d : Delivery) (a : Result Ack Refusal)
+    → AreAnswers f ds answers → IsDeliveryAnswer f d a → AreAnswers f (ds ++ d ∷ []) (answers ++ a ∷ [])
 answers_push f [] [] d a all is = (is, tt)
 answers_push f [] (b ∷ answers) d a all is = absurd all
 answers_push f (e ∷ ds) [] d a all is = absurd all
 answers_push f (e ∷ ds) (b ∷ answers) d a all is = (all.0, answers_push f ds answers d a all.1 is)
 
-among_before : (m : Message) (ds : List Delivery) (answers : List (Result Ack Refusal)) (d : Delivery) (a : Result Ack Refusal) → AcknowledgesAmong ds answers m → AcknowledgesAmong (ds ++ d ∷ []) (answers ++ a ∷ []) m
+among_before : (m : Message) (ds : List Delivery) (answers : List (Result Ack Refusal)) (d : Delivery) (a : Result Ack Refusal)
+    → AcknowledgesAmong ds answers m → AcknowledgesAmong (ds ++ d ∷ []) (answers ++ a ∷ []) m
 among_before m [] answers d a h = absurd h
 among_before m (e ∷ ds) [] d a h = absurd h
 among_before m (e ∷ ds) (b ∷ answers) d a (inl here) = inl here
 among_before m (e ∷ ds) (b ∷ answers) d a (inr later) = inr (among_before m ds answers d a later)
 
-among_last : (f : RosterFields Cmnd) (m : Message) (ds : List Delivery) (answers : List (Result Ack Refusal)) (d : Delivery) (a : Result Ack Refusal) → AreAnswers f ds answers → Acknowledges d a m → AcknowledgesAmong (ds ++ d ∷ []) (answers ++ a ∷ []) m
+among_last : (f : RosterFields Cmnd) (m : Message) (ds : List Delivery) (answers : List (Result Ack Refusal)) (d : Delivery) (a : Result Ack Refusal)
+    → AreAnswers f ds answers → Acknowledges d a m → AcknowledgesAmong (ds ++ d ∷ []) (answers ++ a ∷ []) m
 among_last f m [] [] d a all h = inl h
 among_last f m [] (b ∷ answers) d a all h = absurd all
 among_last f m (e ∷ ds) [] d a all h = absurd all
 among_last f m (e ∷ ds) (b ∷ answers) d a all h = inr (among_last f m ds answers d a all.1 h)
 
-among_cases : (f : RosterFields Cmnd) (m : Message) (ds : List Delivery) (answers : List (Result Ack Refusal)) (d : Delivery) (a : Result Ack Refusal) → AreAnswers f ds answers → AcknowledgesAmong (ds ++ d ∷ []) (answers ++ a ∷ []) m → AcknowledgesAmong ds answers m ⊎ Acknowledges d a m
+among_cases : (f : RosterFields Cmnd) (m : Message) (ds : List Delivery) (answers : List (Result Ack Refusal)) (d : Delivery) (a : Result Ack Refusal)
+    → AreAnswers f ds answers → AcknowledgesAmong (ds ++ d ∷ []) (answers ++ a ∷ []) m → AcknowledgesAmong ds answers m ⊎ Acknowledges d a m
 among_cases f m [] [] d a all (inl here) = inr here
 among_cases f m [] [] d a all (inr none) = absurd none
 among_cases f m [] (b ∷ answers) d a all h = absurd all
 among_cases f m (e ∷ ds) [] d a all h = absurd all
 among_cases f m (e ∷ ds) (b ∷ answers) d a all (inl here) = inl (inl here)
 among_cases f m (e ∷ ds) (b ∷ answers) d a all (inr later) =
-    elim (among_cases f m ds answers d a all.1 later) as (λ _. AcknowledgesAmong (e ∷ ds) (b ∷ answers) m ⊎ Acknowledges d a m) [ inl before ↦ inl (inr before) | inr last ↦ inr last ]
+    elim (among_cases f m ds answers d a all.1 later)
+    as (λ _. AcknowledgesAmong (e ∷ ds) (b ∷ answers) m ⊎ Acknowledges d a m) [ inl before ↦ inl (inr before) | inr last ↦ inr last ]
 
 pub held_by_none : (S : Message → Type 0) → HeldAfterAll S [] [] S
 held_by_none S = λ m. (λ h. elim h as (λ _. S m) [ inl held ↦ held | inr none ↦ absurd none ], λ h. inl h)
 
-pub held_push : (f : RosterFields Cmnd) (S T U : Message → Type 0) (ds : List Delivery) (answers : List (Result Ack Refusal)) (d : Delivery) (a : Result Ack Refusal) → AreAnswers f ds answers
+pub held_push : (f : RosterFields Cmnd) (S T U : Message
+    → Type 0) (ds : List Delivery) (answers : List (Result Ack Refusal)) (d : Delivery) (a : Result Ack Refusal) → AreAnswers f ds answers
     → HeldAfterAll S ds answers T → HeldAfter T d a U → HeldAfterAll S (ds ++ d ∷ []) (answers ++ a ∷ []) U
 held_push f S T U ds answers d a all before last = λ m. (
   λ h. elim h as (λ _. U m) [

@@ -7,7 +7,8 @@ use Rattle.desk.specs.Delivery.{HaveFailed, WasWantingAmong, storage_failure, st
 use Rattle.desk.specs.Refusals.{IsWant}
 use Rattle.desk.specs.declared.ack.Ack.{Ack}
 use Rattle.desk.specs.declared.refusal.Refusal.{Refusal}
-use Rattle.desk.specs.declared.refusal.Refusal.TheVariants.{UnknownRelay, UnknownHost, TooLong, NotCanonical, BadField, Denied, TooManyRules, RosterChanged, NotADesk, OldSchema, Storage, NoMemory, BaseTooLarge}
+use Rattle.desk.specs.declared.refusal.Refusal.TheVariants.{UnknownRelay, UnknownHost, TooLong, NotCanonical, BadField, Denied, TooManyRules}
+use Rattle.desk.specs.declared.refusal.Refusal.TheVariants.{RosterChanged, NotADesk, OldSchema, Storage, NoMemory, BaseTooLarge}
 
 abbrev Answer : Type 0
 Answer = Result Ack Refusal
@@ -38,7 +39,8 @@ failed n a b c (inl counted) below (inl rose) = inl (omega (arith, counted, rose
 failed n a b c (inl counted) below (inr greatest) = inr greatest
 failed n a b c (inr greatest) below rose = inr (omega (arith, greatest, below))
 
-pub have_failed_push : (n a b c : ℕ) (answer : Answer) → HaveFailed n a b → b ≤ c → (answer ≡ Err Storage → HasFailed b c) → HaveFailed (n + storage_failure answer) a c
+pub have_failed_push : (n a b c : ℕ) (answer : Answer) → HaveFailed n a b → b ≤ c
+    → (answer ≡ Err Storage → HasFailed b c) → HaveFailed (n + storage_failure answer) a c
 have_failed_push n a b c (Ok ack) before below cause = calm n a b c before below
 have_failed_push n a b c (Err Storage) before below cause = failed n a b c before below (cause refl)
 have_failed_push n a b c (Err UnknownRelay) before below cause = calm n a b c before below

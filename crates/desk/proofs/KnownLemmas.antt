@@ -39,7 +39,8 @@ known_still Up Later S T (Some g) known was same = λ later.
     let k = known (was later) in (k.0, lists_still S T k.0 (same later) k.1, k.2)
 
 -- a message more is held
-pub known_more : (Up Later : Type 0) (S T : Message → Type 0) (m : Message) (old new : Option Gathered) → IsKnown Up S old → (Later → Up) → (Later → IsWith S m T)
+pub known_more : (Up Later : Type 0) (S T : Message → Type 0) (m : Message) (old new : Option Gathered)
+    → IsKnown Up S old → (Later → Up) → (Later → IsWith S m T)
     → ((set : List Message) → IfSome old (AreGathered set) → IfSome new (AreGathered (set ++ m ∷ []))) → (old ≡ None → new ≡ None) → IsKnown Later T new
 known_more Up Later S T m None None known was grown more nothing = tt
 known_more Up Later S T m None (Some g) known was grown more nothing =
@@ -49,7 +50,8 @@ known_more Up Later S T m (Some g) (Some h) known was grown more nothing = λ la
     let k = known (was later) in (k.0 ++ m ∷ [], with_lists S T m k.0 (grown later) k.1, more k.0 k.2)
 
 -- of a desk that was made nothing is held
-pub at_first : (Up : Type 0) (S : Message → Type 0) (origin : Origin) (o : Option Gathered) → IsKnownAtFirst origin o → (Up → origin ≡ Made → IsNothing S) → IsKnown Up S o
+pub at_first : (Up : Type 0) (S : Message → Type 0) (origin : Origin) (o : Option Gathered)
+    → IsKnownAtFirst origin o → (Up → origin ≡ Made → IsNothing S) → IsKnown Up S o
 at_first Up S origin None first nothing = tt
 at_first Up S origin (Some g) first nothing = λ up.
     ([], λ n. (λ held. absurd (nothing up first.0 n held), λ among. absurd (no_member n among)), first.1)

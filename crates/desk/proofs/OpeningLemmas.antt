@@ -7,10 +7,12 @@ use Rattle.desk_store.specs.declared.found.Found.TheVariants as found
 use Rattle.desk.specs.Opening.{Refuses}
 use Rattle.desk.specs.Refusals.{IsWant}
 use Rattle.desk.specs.declared.refusal.Refusal.{Refusal}
-use Rattle.desk.specs.declared.refusal.Refusal.TheVariants.{UnknownRelay, UnknownHost, TooLong, NotCanonical, BadField, Denied, TooManyRules, RosterChanged, NotADesk, OldSchema, Storage, NoMemory, BaseTooLarge}
+use Rattle.desk.specs.declared.refusal.Refusal.TheVariants.{UnknownRelay, UnknownHost, TooLong, NotCanonical, BadField, Denied, TooManyRules}
+use Rattle.desk.specs.declared.refusal.Refusal.TheVariants.{RosterChanged, NotADesk, OldSchema, Storage, NoMemory, BaseTooLarge}
 
 module _ (Empty Kept Old : Type 0) (roster : List ℕ) (tells : Found) where
-  pub told_desk : (text : String Global) → tells ≡ found.Desk text → Tells Empty Kept Old roster tells → Kept × (¬ Empty) × (¬ Old) × (string_bytes text ≡ roster)
+  pub told_desk : (text : String Global) → tells ≡ found.Desk text
+      → Tells Empty Kept Old roster tells → Kept × (¬ Empty) × (¬ Old) × (string_bytes text ≡ roster)
   told_desk text is told = let P : Found → Type 0 = Tells Empty Kept Old roster in subst P is told
 
   -- and of one with nothing of a desk's

@@ -6,7 +6,8 @@ use Rattle.desk_tables.specs.Sets.{SameSet}
 use Rattle.desk.specs.Rebuilding.{Rebuilds, RefusesToRebuild}
 use Rattle.desk.specs.Refusals.{IsWant}
 use Rattle.desk.specs.declared.refusal.Refusal.{Refusal}
-use Rattle.desk.specs.declared.refusal.Refusal.TheVariants.{UnknownRelay, UnknownHost, TooLong, NotCanonical, BadField, Denied, TooManyRules, RosterChanged, NotADesk, OldSchema, Storage, NoMemory, BaseTooLarge}
+use Rattle.desk.specs.declared.refusal.Refusal.TheVariants.{UnknownRelay, UnknownHost, TooLong, NotCanonical, BadField, Denied, TooManyRules}
+use Rattle.desk.specs.declared.refusal.Refusal.TheVariants.{RosterChanged, NotADesk, OldSchema, Storage, NoMemory, BaseTooLarge}
 
 pub same_sets : (S T U : Message → Type 0) → SameSet S T → SameSet T U → SameSet S U
 same_sets S T U first second = λ m. (λ h. (second m).0 ((first m).0 h), λ h. (first m).1 ((second m).1 h))
@@ -30,7 +31,8 @@ not_rebuilt_over Fits Empty Desk Old Storage fits large (inr none) = absurd none
 not_rebuilt_over Fits Empty Desk Old NoMemory fits large (inr none) = absurd none
 
 -- what is not rebuilt of a desk has a base past the limits
-pub not_rebuilt_again : (Fits Empty Desk Old : Type 0) (e : Refusal) → Desk → IsWant e ⊎ RefusesToRebuild Fits Empty Desk Old e → IsWant e ⊎ ((e ≡ BaseTooLarge) × (¬ Fits))
+pub not_rebuilt_again : (Fits Empty Desk Old : Type 0) (e : Refusal) → Desk
+    → IsWant e ⊎ RefusesToRebuild Fits Empty Desk Old e → IsWant e ⊎ ((e ≡ BaseTooLarge) × (¬ Fits))
 not_rebuilt_again Fits Empty Desk Old e desk (inl want) = inl want
 not_rebuilt_again Fits Empty Desk Old BaseTooLarge desk (inr large) = inr (refl, large)
 not_rebuilt_again Fits Empty Desk Old NotADesk desk (inr why) = absurd (why.2 desk)

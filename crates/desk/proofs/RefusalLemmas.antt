@@ -42,7 +42,8 @@ told_lack errors.Storage (Err e) is = inr is
 told_lack errors.NoMemory (Err e) is = inl is
 
 -- what storage did to the call
-pub handed_on : {A B K : Type 0} {is_up is_clean : K → Type 0} {failures : K → ℕ} {beside : K → TableWithRows → Type 0} {a b : K} (error : KeeperError) (s : Result B KeeperError) (r : Result A Refusal)
+pub handed_on : {A B K : Type 0} {is_up is_clean : K → Type 0} {failures : K → ℕ} {beside : K → TableWithRows
+    → Type 0} {a b : K} (error : KeeperError) (s : Result B KeeperError) (r : Result A Refusal)
     → s ≡ Err error → IsErrAnd r (λ e. e ≡ refusal_of_error error) → IsServed is_up is_clean failures beside a b (s ≡ Err errors.Storage) (IsErr s)
     → IsServed is_up is_clean failures beside a b (r ≡ Err Storage) (IsErrAnd r IsWant)
 handed_on error s r was is served = served_as (r ≡ Err Storage) (IsErrAnd r IsWant) (told_storage error s r was is) (λ _. told_lack error r is) served

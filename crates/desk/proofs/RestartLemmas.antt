@@ -13,7 +13,8 @@ use Rattle.desk.specs.Refusals.{IsWant}
 use Rattle.desk.specs.Same.{AnswerAlike}
 use Rattle.desk.specs.State.{DeskState}
 use Rattle.desk.specs.declared.refusal.Refusal.{Refusal}
-use Rattle.desk.specs.declared.refusal.Refusal.TheVariants.{UnknownRelay, UnknownHost, TooLong, NotCanonical, BadField, Denied, TooManyRules, RosterChanged, NotADesk, OldSchema, Storage, NoMemory, BaseTooLarge}
+use Rattle.desk.specs.declared.refusal.Refusal.TheVariants.{UnknownRelay, UnknownHost, TooLong, NotCanonical, BadField, Denied, TooManyRules}
+use Rattle.desk.specs.declared.refusal.Refusal.TheVariants.{RosterChanged, NotADesk, OldSchema, Storage, NoMemory, BaseTooLarge}
 use Rattle.outcomes.proofs.LawLemmas.{order_free}
 use Rattle.outcomes.proofs.SetLemmas.{parked_of_set}
 use Rattle.desk.proofs.TextLemmas.{texts_of_set}
@@ -32,12 +33,14 @@ same_answers f S T same = record {
 }
 
 -- a desk that is opened over what a desk held, holds that
-pub held_again : (Empty Desk Old : Type 0) (recorded text : List ℕ) (S T U : Message → Type 0) → Desk → SameSet S T → Opens Empty Desk Old recorded text T U → SameSet S U
+pub held_again : (Empty Desk Old : Type 0) (recorded text : List ℕ) (S T U : Message → Type 0)
+    → Desk → SameSet S T → Opens Empty Desk Old recorded text T U → SameSet S U
 held_again Empty Desk Old recorded text S T U desk same (inl none) = absurd (none.1 desk)
 held_again Empty Desk Old recorded text S T U desk same (inr found) = λ m. (λ h. (found.4 m).0 ((same m).0 h), λ h. (same m).1 ((found.4 m).1 h))
 
 -- and has the roster's text that was recorded
-pub recorded_text : (Empty Desk Old : Type 0) (recorded text : List ℕ) (S T : Message → Type 0) → Desk → Opens Empty Desk Old recorded text S T → recorded ≡ text
+pub recorded_text : (Empty Desk Old : Type 0) (recorded text : List ℕ) (S T : Message → Type 0)
+    → Desk → Opens Empty Desk Old recorded text S T → recorded ≡ text
 recorded_text Empty Desk Old recorded text S T desk (inl none) = absurd (none.1 desk)
 recorded_text Empty Desk Old recorded text S T desk (inr found) = found.3
 
@@ -87,8 +90,8 @@ of_both (Ok a) P Q R each p q = each a p q
 of_both (Err e) P Q R each p q = tt
 
 -- what was given was up, where what came of it is
-pub was_up_of : {K : Type 0} (is_up is_clean : K → Type 0) (failures : K → ℕ) (beside : K → TableWithRows → Type 0) (k : K) (r : Result (DeskState K) (Refusal × K))
-    → MatchResult r (λ d. IsServed is_up is_clean failures beside k d.keeper ⊥ ⊥) (λ x. IsServed is_up is_clean failures beside k x.1 (x.0 ≡ Storage) (IsWant x.0))
-    → MatchResult r (λ d. is_up d.keeper → is_up k) (λ x. is_up x.1 → is_up k)
+pub was_up_of : {K : Type 0} (is_up is_clean : K → Type 0) (failures : K → ℕ) (beside : K → TableWithRows
+    → Type 0) (k : K) (r : Result (DeskState K) (Refusal × K)) → MatchResult r (λ d. IsServed is_up is_clean failures beside k d.keeper ⊥ ⊥)
+    (λ x. IsServed is_up is_clean failures beside k x.1 (x.0 ≡ Storage) (IsWant x.0)) → MatchResult r (λ d. is_up d.keeper → is_up k) (λ x. is_up x.1 → is_up k)
 was_up_of is_up is_clean failures beside k (Ok d) served = served.was_up
 was_up_of is_up is_clean failures beside k (Err x) served = served.was_up

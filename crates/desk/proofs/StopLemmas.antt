@@ -37,12 +37,13 @@ module _ (Empty Desk Old : Type 0) (recorded : List ℕ) (held : Message → Typ
           | inr there ↦ onward S held new found.2 there.4
         ]
 
-    pub held_either : (said other : List ℕ) (S : Message → Type 0) (left : Left) → IsDeskOf said S left ⊎ IsDeskOf other S left → IsFoundAs Empty Desk Old recorded held left → SameSet S new
+    pub held_either : (said other : List ℕ) (S : Message → Type 0) (left : Left)
+        → IsDeskOf said S left ⊎ IsDeskOf other S left → IsFoundAs Empty Desk Old recorded held left → SameSet S new
     held_either said other S left (inl whole) is = held_whole said S left whole is
     held_either said other S left (inr whole) is = held_whole other S left whole is
 
-    pub held_of_delivery : (f : RosterFields Cmnd) (said : List ℕ) (S : Message → Type 0) (d : Delivery) (left : Left) → IsLeftByDelivery f said S d left → IsFoundAs Empty Desk Old recorded held left
-        → SameSet S new ⊎ ((m : Message) × IsAcceptable f d m × SameSet (With S m) new)
+    pub held_of_delivery : (f : RosterFields Cmnd) (said : List ℕ) (S : Message → Type 0) (d : Delivery) (left : Left) → IsLeftByDelivery f said S d left
+        → IsFoundAs Empty Desk Old recorded held left → SameSet S new ⊎ ((m : Message) × IsAcceptable f d m × SameSet (With S m) new)
     held_of_delivery f said S d left (inl before) is = inl (held_whole said S left before is)
     held_of_delivery f said S d left (inr after) is = inr (after.0, after.1, held_whole said (With S after.0) left after.2 is)
 
@@ -56,8 +57,8 @@ module _ (Empty Desk Old : Type 0) (recorded : List ℕ) (held : Message → Typ
     held_nothing said left (inr fresh) is = let same = held_whole said (λ _. ⊥) left fresh is in λ m there. (same m).1 there
 
   -- a whole desk of the roster's text is refused for its base alone
-  pub base_alone : (Fits : Type 0) (text : List ℕ) (S : Message → Type 0) (left : Left) (e : Refusal) → IsDeskOf text S left → IsFoundAs Empty Desk Old recorded held left
-      → IsWant e ⊎ Refuses Fits Empty Desk Old recorded text e → IsWant e ⊎ ((e ≡ BaseTooLarge) × (¬ Fits))
+  pub base_alone : (Fits : Type 0) (text : List ℕ) (S : Message → Type 0) (left : Left) (e : Refusal) → IsDeskOf text S left
+      → IsFoundAs Empty Desk Old recorded held left → IsWant e ⊎ Refuses Fits Empty Desk Old recorded text e → IsWant e ⊎ ((e ≡ BaseTooLarge) × (¬ Fits))
   base_alone Fits text S left e whole is why =
       let found = found_whole text S left whole is in
       elim (refused_again Fits Empty Desk Old recorded text text e found.0 (sym found.1) why) as (λ _. IsWant e ⊎ ((e ≡ BaseTooLarge) × (¬ Fits))) [

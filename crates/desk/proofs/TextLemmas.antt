@@ -52,19 +52,23 @@ from_wires (n ∷ ms) text h =
 
 -- ---- each once, in byte order
 
-module _ (set : List Message) (texts sorted kept : List (String Global)) (are : map string_bytes texts ≡ map wire set) (moved : IsPermutation texts sorted) (ordered : IsSorted string_cmp sorted) (filtered : IsFiltered (DiffersFromLast string_eq) [] sorted kept) where
+module _ (set : List Message) (texts sorted kept : List (String Global)) (are : map string_bytes texts ≡ map wire set)
+    (moved : IsPermutation texts sorted) (ordered : IsSorted string_cmp sorted) (filtered : IsFiltered (DiffersFromLast string_eq) [] sorted kept) where
   kept_is : kept ≡ dedup string_eq sorted
   kept_is = dedup_is string_eq sorted kept filtered
 
   strictly : IsStrictlySortedBy string_cmp kept
   strictly =
-      subst (IsStrictlySortedBy string_cmp) (sym kept_is) (IsStrictlySortedBy-dedup string_cmp_total (λ x y. texts_ties (string_bytes x) (string_bytes y)) sorted ordered)
+      subst (IsStrictlySortedBy string_cmp) (sym kept_is)
+      (IsStrictlySortedBy-dedup string_cmp_total (λ x y. texts_ties (string_bytes x) (string_bytes y)) sorted ordered)
 
   each_of_set : (text : List ℕ) → Contains (map string_bytes kept) text → (m : Message) × Contains set m × (text ≡ wire m)
   each_of_set text h =
       let found = from_texts kept text h in
-      let there = Contains-permutation sorted texts found.0 (IsPermutation-sym texts sorted moved) (Contains-from_dedup string_eq sorted found.0 (subst (λ (l : List (String Global)). Contains l found.0) kept_is found.1)) in
-      from_wires set text (subst (λ (l : List (List ℕ)). Contains l text) are (subst (Contains (map string_bytes texts)) found.2 (in_texts texts found.0 there)))
+      let there = Contains-permutation sorted texts found.0 (IsPermutation-sym texts sorted moved)
+      (Contains-from_dedup string_eq sorted found.0 (subst (λ (l : List (String Global)). Contains l found.0) kept_is found.1)) in
+      from_wires set text
+      (subst (λ (l : List (List ℕ)). Contains l text) are (subst (Contains (map string_bytes texts)) found.2 (in_texts texts found.0 there)))
 
   all_of_set : (m : Message) → Contains set m → Contains (map string_bytes kept) (wire m)
   all_of_set m h =

@@ -3,15 +3,19 @@ use Rattle.std.specs.Prelude.{◌≡◌, ◌≢◌, ◌⊎◌, ℕ, List}
 use Rattle.desk_tables.specs.Sets.{IsNothing, SameSet}
 use Rattle.messages.specs.declared.message.Message.{Message}
 use Rattle.desk.specs.declared.refusal.Refusal.{Refusal}
-use Rattle.desk.specs.declared.refusal.Refusal.TheVariants.{RosterChanged, NotADesk, OldSchema, BaseTooLarge}
+use Rattle.desk.specs.declared.refusal.Refusal.TheVariants.{RosterChanged, NotADesk}
+use Rattle.desk.specs.declared.refusal.Refusal.TheVariants.{OldSchema, BaseTooLarge}
 
--- Where the keeper kept nothing of a desk's, the desk holds nothing. Where it kept a desk of the same roster's text, it holds what that desk held.
-abbrev pub Opens : (Empty Desk Old : Type 0) → (recorded text : List ℕ) → (old new : Message → Type 0) → Type 0
+-- Where the keeper kept nothing of a desk's, the desk holds nothing. Where it kept a desk of the
+-- same roster's text, it holds what that desk held.
+abbrev pub Opens : (Empty Desk Old : Type 0)
+    → (recorded text : List ℕ) → (old new : Message → Type 0) → Type 0
 Opens Empty Desk Old recorded text old new =
-    (Empty × (¬ Desk) × (¬ Old) × IsNothing new) ⊎ (Desk × (¬ Empty) × (¬ Old) × (recorded ≡ text) × SameSet old new)
+    (Empty × (¬ Desk) × (¬ Old) × IsNothing new)
+    ⊎ (Desk × (¬ Empty) × (¬ Old) × (recorded ≡ text) × SameSet old new)
 
--- The refusal that is right: a base past the limits, else what is no desk, a desk of an older form, or a desk of another roster's text. At most
--- one is.
+-- The refusal that is right: a base past the limits, else what is no desk, a desk of an older form,
+-- or a desk of another roster's text. At most one is.
 abbrev pub Refuses : (Fits Empty Desk Old : Type 0) → (recorded text : List ℕ) → Refusal → Type 0
 Refuses Fits Empty Desk Old recorded text BaseTooLarge = ¬ Fits
 Refuses Fits Empty Desk Old recorded text NotADesk = Fits × (¬ Empty) × (¬ Desk) × (¬ Old)

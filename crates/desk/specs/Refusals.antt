@@ -8,7 +8,11 @@ use Rattle.grants.specs.declared.host_fault.HostFault.TheVariants as host_faults
 use Rattle.desk_store.specs.declared.error.KeeperError.{KeeperError}
 use Rattle.desk_store.specs.declared.error.KeeperError.TheVariants as errors
 use Rattle.desk.specs.declared.refusal.Refusal.{Refusal}
-use Rattle.desk.specs.declared.refusal.Refusal.TheVariants.{UnknownRelay, UnknownHost, TooLong, NotCanonical, BadField, Denied, TooManyRules, RosterChanged, NotADesk, OldSchema, Storage, NoMemory, BaseTooLarge}
+use Rattle.desk.specs.declared.refusal.Refusal.TheVariants.{UnknownRelay, UnknownHost, TooLong}
+use Rattle.desk.specs.declared.refusal.Refusal.TheVariants.{NotCanonical, BadField, Denied}
+use Rattle.desk.specs.declared.refusal.Refusal.TheVariants.{TooManyRules, RosterChanged}
+use Rattle.desk.specs.declared.refusal.Refusal.TheVariants.{NotADesk, OldSchema, Storage}
+use Rattle.desk.specs.declared.refusal.Refusal.TheVariants.{NoMemory, BaseTooLarge}
 
 -- its code and name
 abbrev pub refusal_text : Refusal → List ℕ
@@ -26,7 +30,8 @@ refusal_text Storage = codes "K4 Storage"
 refusal_text NoMemory = codes "K5 NoMemory"
 refusal_text BaseTooLarge = codes "K6 BaseTooLarge"
 
--- Memory or the storage was wanting: no right answer to anything, and it may come at any call that takes memory or uses the storage.
+-- Memory or the storage was wanting: no right answer to anything, and it may come at any call that
+-- takes memory or uses the storage.
 abbrev pub IsWant : Refusal → Type 0
 IsWant e = (e ≡ NoMemory) ⊎ (e ≡ Storage)
 

@@ -14,12 +14,15 @@ pub data Event : Type 0 where
   Delivered : Delivery → Result Ack Refusal → Event
   Asked : Event
 
--- From the messages held before, the run leaves these: each delivery is answered, and changes the set, by the rule of deliveries, and a
--- question changes nothing. Of the lists only the members mean anything.
-abbrev pub IsRun : RosterFields Cmnd → (old : List Message) → List Event → (new : List Message) → Type 0
+-- From the messages held before, the run leaves these: each delivery is answered, and changes the
+-- set, by the rule of deliveries, and a question changes nothing. Of the lists only the members
+-- mean anything.
+abbrev pub IsRun : RosterFields Cmnd → (old : List Message)
+    → List Event → (new : List Message) → Type 0
 IsRun f old [] new = SameMessages old new
 IsRun f old (Delivered d answer ∷ run) new =
-    (held : List Message) × IsDeliveryAnswer f d answer × HeldAfter (λ m. Contains old m) d answer (λ m. Contains held m) × IsRun f held run new
+    (held : List Message) × IsDeliveryAnswer f d answer
+    × HeldAfter (λ m. Contains old m) d answer (λ m. Contains held m) × IsRun f held run new
 IsRun f old (Asked ∷ run) new = IsRun f old run new
 
 -- some delivery of the run brought the message, and was acknowledged

@@ -7,5 +7,6 @@ use Rattle.messages.specs.declared.message.Message.{Message}
 -- the text of each message of the set, each once, in byte order
 pub record AreTexts (messages : List Message) (texts : List (List ℕ)) : Type 0 where
   pub in_order : AreInOrder TextPrecedes texts
-  pub each : (text : List ℕ) → Contains texts text → (m : Message) × Contains messages m × (text ≡ wire m)
+  pub each : (text : List ℕ) → Contains texts text
+      → (m : Message) × Contains messages m × (text ≡ wire m)
   pub all : (m : Message) → Contains messages m → Contains texts (wire m)

@@ -14,7 +14,8 @@ use std::alloc::Global;
 /// The message that the body is the text of, where the roster admits it.
 pub(crate) fn admitted(alloc: Global, roster: &Roster, body: &[u8]) -> Result<Message, Refusal>
     ensures found { IfOk result (λ m. IsBodyOf body.now m × Admits roster.now.says m) }
-    ensures err { IfErr result (λ e. (e ≡ refusal.NoMemory) ⊎ AnswersBody roster.now.says body.now (Err e)) }
+    ensures err { IfErr result
+        (λ e. (e ≡ refusal.NoMemory) ⊎ AnswersBody roster.now.says body.now (Err e)) }
 {
     let message = read_message(alloc, body)?;
     admit(roster, &message)?;

@@ -1,12 +1,15 @@
 //! A desk.
 
-ghost use Rattle.std.specs.Prelude.{◌≡◌, ◌≢◌, ◌⊎◌, ◌↔◌, ◌≤◌, [], length, map, vec_capacity, Contains, IfOk, IsOkAnd, IfErr, OnOk, OnErr, MatchResult, Err};
+ghost use Rattle.std.specs.Prelude.{◌≡◌, ◌≢◌, ◌⊎◌, ◌↔◌, ◌≤◌, [], length, map, vec_capacity};
+ghost use Rattle.std.specs.Prelude.{Contains, IfOk, IsOkAnd, IfErr, OnOk, OnErr, MatchResult, Err};
 ghost use Rattle.messages.specs.declared.message.Message.{Message as AnyMessage};
 ghost use Rattle.grants.specs.Bases.{FitsBase};
 ghost use Rattle.desk_store.specs.Left.{IsDeskOf, LeavesOnly};
 ghost use Rattle.desk_store.specs.Serves.{Serves};
 ghost use Rattle.desk.specs.Crash.{IsLeftByDelivery, IsLeftByOpening};
-ghost use Rattle.desk.specs.Delivery.{Acknowledges, AreAnswers, HaveFailed, HeldAfter, HeldAfterAll, IsBodyOf, IsDeliveryAnswer, WasWantingAmong, delivery_of, storage_failures};
+ghost use Rattle.desk.specs.Delivery.{Acknowledges, AreAnswers, HaveFailed, HeldAfter};
+ghost use Rattle.desk.specs.Delivery.{HeldAfterAll, IsBodyOf, IsDeliveryAnswer};
+ghost use Rattle.desk.specs.Delivery.{WasWantingAmong, delivery_of, storage_failures};
 ghost use Rattle.desk.specs.Opening.{Opens, Refuses};
 ghost use Rattle.desk.specs.Refusals.{IsWant};
 ghost use Rattle.desk.specs.Serving.{ServesAs};
@@ -25,9 +28,11 @@ use std::alloc::Global;
 use std::marker::Model;
 use sudo_policy::Policy;
 
-/// A desk, which contracts see as its roster, its base policy and its keeper, which holds the set of messages.
+/// A desk, which contracts see as its roster, its base policy and its keeper, which holds the set
+/// of messages.
 ///
-/// A base has at most 4,096 entries, a weight of at most 65,536, and a canonical text of at most 1 MiB.
+/// A base has at most 4,096 entries, a weight of at most 65,536, and a canonical text of at most 1
+/// MiB.
 #[derive(Drop)]
 pub struct Desk<K: Keeper> {
     pub(crate) alloc: Global,
@@ -48,21 +53,24 @@ impl<K: Keeper> Model for Desk<K> {
 
     ghost view = { λ d. record { roster = d.roster; base = d.base; keeper = d.keeper } };
 
-    ghost invariant = { λ d. FitsBase d.base × (K.is_up d.keeper → K.is_desk d.keeper) × (K.is_up d.keeper → K.roster d.keeper ≡ d.roster.text)
-        × (K.is_up d.keeper → LeavesOnly (K.may_leave d.keeper) (IsDeskOf (K.roster d.keeper) (K.holds d.keeper)))
+    ghost invariant = { λ d. FitsBase d.base × (K.is_up d.keeper → K.is_desk d.keeper)
+        × (K.is_up d.keeper → K.roster d.keeper ≡ d.roster.text) × (K.is_up d.keeper
+        → LeavesOnly (K.may_leave d.keeper) (IsDeskOf (K.roster d.keeper) (K.holds d.keeper)))
         × IsKnown (K.is_up d.keeper) (K.holds d.keeper) d.known };
 }
 
 impl<K: Keeper> Desk<K> {
-    /// Opens the desk that the keeper keeps, or makes one without messages where it keeps nothing of a desk's.
+    /// Opens the desk that the keeper keeps, or makes one without messages where it keeps nothing
+    /// of a desk's.
     ///
-    /// `BaseTooLarge` comes exactly where the base is past a limit of the desk. Else `NotADesk` comes where the keeper has
-    /// something of a desk's and no desk, `OldSchema` where it has a desk of an older form, and `RosterChanged` where its desk has
-    /// another roster's text; `Storage` and `NoMemory` wherever the storage or memory refuses. A refusal hands the keeper back, with
-    /// what it keeps as it was.
+    /// `BaseTooLarge` comes exactly where the base is past a limit of the desk. Else `NotADesk`
+    /// comes where the keeper has something of a desk's and no desk, `OldSchema` where it has a
+    /// desk of an older form, and `RosterChanged` where its desk has another roster's text;
+    /// `Storage` and `NoMemory` wherever the storage or memory refuses. A refusal hands the keeper
+    /// back, with what it keeps as it was.
     ///
-    /// Whenever the call ends, a crash leaves a desk that was there whole, and of an empty keeper nothing, or a whole desk without
-    /// messages. After Ok a crash leaves the desk.
+    /// Whenever the call ends, a crash leaves a desk that was there whole, and of an empty keeper
+    /// nothing, or a whole desk without messages. After Ok a crash leaves the desk.
     pub fn open(
         alloc: Global,
         roster: Roster,
@@ -71,27 +79,31 @@ impl<K: Keeper> Desk<K> {
     ) -> Result<Desk<K>, (Refusal, K)>
         ensures handed_in { IfOk result (λ d. (d.roster ≡ roster) × (d.base ≡ base)) }
         ensures fits { IfOk result (λ d. FitsBase base) }
-        ensures opens { IfOk result (λ d. K.is_up d.keeper
-            → Opens (K.is_empty keeper) (K.is_desk keeper) (K.is_old keeper) (K.roster keeper) roster.text (K.holds keeper) (K.holds d.keeper)) }
+        ensures opens { IfOk result
+            (λ d. K.is_up d.keeper → Opens (K.is_empty keeper) (K.is_desk keeper)
+            (K.is_old keeper) (K.roster keeper) roster.text (K.holds keeper) (K.holds d.keeper)) }
         ensures too_large { IfErr result (λ r. (r.0 ≡ refusal.BaseTooLarge) ↔ (¬ FitsBase base)) }
-        ensures refused { IfErr result (λ r. K.is_up r.1
-            → IsWant r.0 ⊎ Refuses (FitsBase base) (K.is_empty keeper) (K.is_desk keeper) (K.is_old keeper) (K.roster keeper) roster.text r.0) }
+        ensures refused { IfErr result
+            (λ r. K.is_up r.1 → IsWant r.0 ⊎ Refuses (FitsBase base) (K.is_empty keeper)
+            (K.is_desk keeper) (K.is_old keeper) (K.roster keeper) roster.text r.0) }
         ensures unchanged { IfErr result (λ r. K.is_up r.1 → K.is_same keeper r.1) }
-        ensures served { MatchResult result (λ d. Serves K.Keeper keeper d.keeper ⊥ ⊥) (λ r. Serves K.Keeper keeper r.1 (r.0 ≡ refusal.Storage) (IsWant r.0)) }
+        ensures served { MatchResult result (λ d. Serves K.Keeper keeper d.keeper ⊥ ⊥)
+            (λ r. Serves K.Keeper keeper r.1 (r.0 ≡ refusal.Storage) (IsWant r.0)) }
         // A base past the limits is refused before the keeper is asked.
         ensures unasked { IfErr result (λ r. r.0 ≡ refusal.BaseTooLarge → r.1 ≡ keeper) }
-        ensures crash { K.is_up keeper → MatchResult result
-            (λ d. K.is_clean d.keeper
-            → LeavesOnly (K.may_leave d.keeper)
-            (IsLeftByOpening (K.is_empty keeper) (K.is_desk keeper) (K.is_old keeper) (K.roster keeper) roster.text (K.holds keeper)))
+        ensures crash { K.is_up keeper → MatchResult result (λ d. K.is_clean d.keeper
+            → LeavesOnly (K.may_leave d.keeper) (IsLeftByOpening (K.is_empty keeper)
+            (K.is_desk keeper) (K.is_old keeper) (K.roster keeper) roster.text (K.holds keeper)))
             (λ r. r.0 ≢ refusal.BaseTooLarge → K.is_clean r.1
-            → LeavesOnly (K.may_leave r.1)
-            (IsLeftByOpening (K.is_empty keeper) (K.is_desk keeper) (K.is_old keeper) (K.roster keeper) roster.text (K.holds keeper))) }
-        ensures lasting { K.is_up keeper → IfOk result
-            (λ d. K.is_clean d.keeper → LeavesOnly (K.may_leave d.keeper) (IsDeskOf roster.text (K.holds d.keeper))) }
-        ensures durable { IfOk result (λ d. K.is_up d.keeper → LeavesOnly (K.may_leave d.keeper) (IsDeskOf roster.text (K.holds d.keeper))) }
+            → LeavesOnly (K.may_leave r.1) (IsLeftByOpening (K.is_empty keeper) (K.is_desk keeper)
+            (K.is_old keeper) (K.roster keeper) roster.text (K.holds keeper))) }
+        ensures lasting { K.is_up keeper → IfOk result (λ d. K.is_clean d.keeper
+            → LeavesOnly (K.may_leave d.keeper) (IsDeskOf roster.text (K.holds d.keeper))) }
+        ensures durable { IfOk result (λ d. K.is_up d.keeper
+            → LeavesOnly (K.may_leave d.keeper) (IsDeskOf roster.text (K.holds d.keeper))) }
     {
-        // Calls drop what a refusal does not hand back: where an exit drops it in line, each of its fields is proved again there.
+        // Calls drop what a refusal does not hand back: where an exit drops it in line, each of its
+        // fields is proved again there.
         if !fits_base(&base) {
             drop(base);
             drop(roster);
@@ -116,28 +128,37 @@ impl<K: Keeper> Desk<K> {
 
     /// Delivers the body that the relay brings.
     ///
-    /// `UnknownRelay` comes where the roster has no such relay; else `TooLong`, `NotCanonical` or `BadField`, where the
-    /// body is no message's; else the denial, where the roster does not admit the message: the first that applies. Want of
-    /// memory anywhere is `NoMemory`, and a failure of the storage is `Storage`. An acknowledgement says that the message is
-    /// kept; one that was kept before changes nothing. After a refusal nothing changed.
+    /// `UnknownRelay` comes where the roster has no such relay; else `TooLong`, `NotCanonical` or
+    /// `BadField`, where the body is no message's; else the denial, where the roster does not admit
+    /// the message: the first that applies. Want of memory anywhere is `NoMemory`, and a failure of
+    /// the storage is `Storage`. An acknowledgement says that the message is kept; one that was
+    /// kept before changes nothing. After a refusal nothing changed.
     ///
-    /// Whenever the call ends, a crash leaves the whole desk without the message, or the whole desk with it; after Ok only the latter.
-    /// While the keeper is up, a crash leaves what the desk holds.
+    /// Whenever the call ends, a crash leaves the whole desk without the message, or the whole desk
+    /// with it; after Ok only the latter. While the keeper is up, a crash leaves what the desk
+    /// holds.
     pub fn deliver(&mut self, relay: &str, body: &[u8]) -> Result<Ack, Refusal>
-        ensures answer { IsDeliveryAnswer self.old.roster.says (record { relay = relay.now; body = body.now }) result }
-        ensures held { K.is_up self.new.keeper
-            → HeldAfter (K.holds self.old.keeper) (record { relay = relay.now; body = body.now }) result (K.holds self.new.keeper) }
-        ensures repeated { K.is_up self.new.keeper → (m : AnyMessage) → IsBodyOf body.now m → K.holds self.old.keeper m
-            → OnOk result (K.is_same self.old.keeper self.new.keeper) }
-        ensures unchanged { K.is_up self.new.keeper → OnErr result (K.is_same self.old.keeper self.new.keeper) }
+        ensures answer { IsDeliveryAnswer self.old.roster.says
+            (record { relay = relay.now; body = body.now }) result }
+        ensures held { K.is_up self.new.keeper → HeldAfter (K.holds self.old.keeper)
+            (record { relay = relay.now; body = body.now }) result (K.holds self.new.keeper) }
+        ensures repeated { K.is_up self.new.keeper → (m : AnyMessage) → IsBodyOf body.now m
+            → K.holds self.old.keeper m → OnOk result (K.is_same self.old.keeper self.new.keeper) }
+        ensures unchanged { K.is_up self.new.keeper
+            → OnErr result (K.is_same self.old.keeper self.new.keeper) }
         ensures roster { self.new.roster ≡ self.old.roster }
         ensures base { self.new.base ≡ self.old.base }
         ensures served { ServesAs K.Keeper self.old.keeper self.new.keeper result }
-        ensures crash { K.is_up self.old.keeper → K.is_clean self.new.keeper → LeavesOnly (K.may_leave self.new.keeper)
-            (IsLeftByDelivery self.old.roster.says self.old.roster.text (K.holds self.old.keeper) (record { relay = relay.now; body = body.now })) }
-        ensures lasting { K.is_up self.old.keeper → K.is_clean self.new.keeper → OnOk result (LeavesOnly (K.may_leave self.new.keeper)
-            (IsDeskOf self.old.roster.text (λ m. K.holds self.old.keeper m ⊎ Acknowledges (record { relay = relay.now; body = body.now }) result m))) }
-        ensures durable { K.is_up self.new.keeper → LeavesOnly (K.may_leave self.new.keeper) (IsDeskOf self.new.roster.text (K.holds self.new.keeper)) }
+        ensures crash { K.is_up self.old.keeper → K.is_clean self.new.keeper
+            → LeavesOnly (K.may_leave self.new.keeper)
+            (IsLeftByDelivery self.old.roster.says self.old.roster.text
+            (K.holds self.old.keeper) (record { relay = relay.now; body = body.now })) }
+        ensures lasting { K.is_up self.old.keeper → K.is_clean self.new.keeper
+            → OnOk result (LeavesOnly (K.may_leave self.new.keeper)
+            (IsDeskOf self.old.roster.text (λ m. K.holds self.old.keeper m
+            ⊎ Acknowledges (record { relay = relay.now; body = body.now }) result m))) }
+        ensures durable { K.is_up self.new.keeper → LeavesOnly (K.may_leave self.new.keeper)
+            (IsDeskOf self.new.roster.text (K.holds self.new.keeper)) }
     {
         if !self.roster.has_relay(relay) {
             return Err(Refusal::UnknownRelay);
@@ -146,7 +167,8 @@ impl<K: Keeper> Desk<K> {
         // What is known stays only where the message is kept.
         let known = with_message(self.known.take(), &message);
         let added = self.keeper.add(&message, text_of(body, &message));
-        // A call drops the message: where an exit drops it in line, each of its fields is proved again there.
+        // A call drops the message: where an exit drops it in line, each of its fields is proved
+        // again there.
         drop(message);
         added?;
         self.known = known;
@@ -155,24 +177,29 @@ impl<K: Keeper> Desk<K> {
 
     /// Delivers each body that a relay brings, in order, and answers for each as `deliver` does.
     ///
-    /// The whole is refused with `NoMemory` alone, before anything is delivered: the room for the answers is taken first.
-    /// While the keeper is up, a crash leaves what the desk holds: what it held, and all that was acknowledged.
+    /// The whole is refused with `NoMemory` alone, before anything is delivered: the room for the
+    /// answers is taken first. While the keeper is up, a crash leaves what the desk holds: what it
+    /// held, and all that was acknowledged.
     pub fn deliver_all(
         &mut self,
         list: &[(String, Vec<u8>)],
     ) -> Result<Vec<Result<Ack, Refusal>>, Refusal>
-        ensures answers { IfOk result (λ answers. AreAnswers self.old.roster.says (map delivery_of list.now) answers.items) }
-        ensures held { K.is_up self.new.keeper → IfOk result
-            (λ answers. HeldAfterAll (K.holds self.old.keeper) (map delivery_of list.now) answers.items (K.holds self.new.keeper)) }
+        ensures answers { IfOk result
+            (λ answers. AreAnswers self.old.roster.says (map delivery_of list.now) answers.items) }
+        ensures held { K.is_up self.new.keeper
+            → IfOk result (λ answers. HeldAfterAll (K.holds self.old.keeper)
+            (map delivery_of list.now) answers.items (K.holds self.new.keeper)) }
         ensures refused { OnErr result (self.new ≡ self.old) }
         ensures err { IfErr result (λ e. e ≡ refusal.NoMemory) }
         ensures roster { self.new.roster ≡ self.old.roster }
         ensures base { self.new.base ≡ self.old.base }
         ensures served { Serves K.Keeper self.old.keeper self.new.keeper
-            (IsOkAnd result (λ answers. Contains answers.items (Err refusal.Storage))) (IsOkAnd result (λ answers. WasWantingAmong answers.items)) }
-        ensures causes { IfOk result (λ answers.
-            HaveFailed (storage_failures answers.items) (K.failures self.old.keeper) (K.failures self.new.keeper)) }
-        ensures durable { K.is_up self.new.keeper → LeavesOnly (K.may_leave self.new.keeper) (IsDeskOf self.new.roster.text (K.holds self.new.keeper)) }
+            (IsOkAnd result (λ answers. Contains answers.items (Err refusal.Storage)))
+            (IsOkAnd result (λ answers. WasWantingAmong answers.items)) }
+        ensures causes { IfOk result (λ answers. HaveFailed (storage_failures answers.items)
+            (K.failures self.old.keeper) (K.failures self.new.keeper)) }
+        ensures durable { K.is_up self.new.keeper → LeavesOnly (K.may_leave self.new.keeper)
+            (IsDeskOf self.new.roster.text (K.holds self.new.keeper)) }
     {
         let mut answers = Vec::with_capacity(self.alloc, list.len())?;
         self.deliver_each(list, &mut answers);
@@ -180,9 +207,11 @@ impl<K: Keeper> Desk<K> {
         Ok(answers)
     }
 
-    /// While the keeper is up, a crash leaves what the desk holds. It reads nothing: a proof names it.
+    /// While the keeper is up, a crash leaves what the desk holds. It reads nothing: a proof names
+    /// it.
     fn lasts(&self)
-        ensures { K.is_up self.now.keeper → LeavesOnly (K.may_leave self.now.keeper) (IsDeskOf self.now.roster.text (K.holds self.now.keeper)) }
+        ensures { K.is_up self.now.keeper → LeavesOnly (K.may_leave self.now.keeper)
+            (IsDeskOf self.now.roster.text (K.holds self.now.keeper)) }
     {
         let _roster = &self.roster;
     }
@@ -191,14 +220,16 @@ impl<K: Keeper> Desk<K> {
     fn deliver_each(&mut self, list: &[(String, Vec<u8>)], answers: &mut Vec<Result<Ack, Refusal>>)
         requires none { answers.old.items ≡ [] }
         requires room { length list.now ≤ vec_capacity answers.old }
-        ensures answers { AreAnswers self.old.roster.says (map delivery_of list.now) answers.new.items }
-        ensures held { K.is_up self.new.keeper
-            → HeldAfterAll (K.holds self.old.keeper) (map delivery_of list.now) answers.new.items (K.holds self.new.keeper) }
+        ensures answers { AreAnswers self.old.roster.says
+            (map delivery_of list.now) answers.new.items }
+        ensures held { K.is_up self.new.keeper → HeldAfterAll (K.holds self.old.keeper)
+            (map delivery_of list.now) answers.new.items (K.holds self.new.keeper) }
         ensures roster { self.new.roster ≡ self.old.roster }
         ensures base { self.new.base ≡ self.old.base }
         ensures served { Serves K.Keeper self.old.keeper self.new.keeper
             (Contains answers.new.items (Err refusal.Storage)) (WasWantingAmong answers.new.items) }
-        ensures causes { HaveFailed (storage_failures answers.new.items) (K.failures self.old.keeper) (K.failures self.new.keeper) }
+        ensures causes { HaveFailed (storage_failures answers.new.items)
+            (K.failures self.old.keeper) (K.failures self.new.keeper) }
     {
         for (relay, body) in list {
             let answer = self.deliver(relay.as_str(), body.as_slice());
@@ -228,7 +259,8 @@ impl<K: Keeper> Desk<K> {
         ensures same { result ≡ self.keeper }
         ensures desk { K.is_up result → K.is_desk result }
         ensures roster { K.is_up result → K.roster result ≡ self.roster.text }
-        ensures durable { K.is_up result → LeavesOnly (K.may_leave result) (IsDeskOf self.roster.text (K.holds result)) }
+        ensures durable { K.is_up result
+            → LeavesOnly (K.may_leave result) (IsDeskOf self.roster.text (K.holds result)) }
     {
         let Desk {
             alloc: _,

@@ -14,7 +14,8 @@ use sudo_words::NoMemory;
 /// What a desk holds, name by name.
 #[derive(Debug, Drop)]
 pub struct Holdings {
-    /// The summary of each name that somebody asks under, by the asker in byte order, then by the number.
+    /// The summary of each name that somebody asks under, by the asker in byte order, then by the
+    /// number.
     pub summaries: Vec<Summary>,
     /// The texts of the verdicts that wait for their request, each once, in byte order.
     pub parked: Vec<String>,
@@ -22,8 +23,10 @@ pub struct Holdings {
 
 /// Those of what is known of a set.
 pub(crate) fn holdings_in(alloc: Global, gathered: &Gathered) -> Result<Holdings, NoMemory>
-    ensures summaries { (set : List AnyMessage) → AreGathered set gathered.now → IfOk result (λ held. AreSummaries set held.summaries.items) }
-    ensures parked { (set : List AnyMessage) → AreGathered set gathered.now → IfOk result (λ held. AreParked set (map string_bytes held.parked.items)) }
+    ensures summaries { (set : List AnyMessage) → AreGathered set gathered.now
+        → IfOk result (λ held. AreSummaries set held.summaries.items) }
+    ensures parked { (set : List AnyMessage) → AreGathered set gathered.now
+        → IfOk result (λ held. AreParked set (map string_bytes held.parked.items)) }
 {
     let summaries = summaries_in(alloc, gathered)?;
     let parked = parked_in(alloc, gathered)?;

@@ -1,5 +1,5 @@
-//! The desk: it answers messages that ask for time-boxed rights, approve, refuse and revoke them, keeps those that it acknowledges,
-//! and prints each host's sudoers file.
+//! The desk: it answers messages that ask for time-boxed rights, approve, refuse and revoke them,
+//! keeps those that it acknowledges, and prints each host's sudoers file.
 #![tactic(auto)]
 
 mod ack;

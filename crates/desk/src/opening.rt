@@ -25,7 +25,8 @@ pub(crate) enum Origin {
     Made,
 }
 
-/// What is known of its messages at first: there are none where it was made, and else it is gathered when it is asked for.
+/// What is known of its messages at first: there are none where it was made, and else it is
+/// gathered when it is asked for.
 pub(crate) fn known_at_first(alloc: Global, origin: Origin) -> Option<Gathered>
     ensures { IsKnownAtFirst origin result }
 {
@@ -35,21 +36,27 @@ pub(crate) fn known_at_first(alloc: Global, origin: Origin) -> Option<Gathered>
     }
 }
 
-/// Finds a desk of this roster's text at the keeper's, or makes one where the keeper keeps nothing of a desk's.
+/// Finds a desk of this roster's text at the keeper's, or makes one where the keeper keeps nothing
+/// of a desk's.
 pub(crate) fn find_or_make<K: Keeper>(keeper: &mut K, text: &str) -> Result<Origin, Refusal>
-    ensures made { K.is_up keeper.new → IfOk result (λ origin. origin ≡ origins.Made → IsNothing (K.holds keeper.new)) }
+    ensures made { K.is_up keeper.new
+        → IfOk result (λ origin. origin ≡ origins.Made → IsNothing (K.holds keeper.new)) }
     ensures desk { K.is_up keeper.new → OnOk result (K.is_desk keeper.new) }
     ensures roster { K.is_up keeper.new → OnOk result (K.roster keeper.new ≡ text.now) }
-    ensures opens { K.is_up keeper.new → OnOk result
-        (Opens (K.is_empty keeper.old) (K.is_desk keeper.old) (K.is_old keeper.old) (K.roster keeper.old) text.now (K.holds keeper.old) (K.holds keeper.new)) }
-    ensures refused { K.is_up keeper.new → IfErr result
-        (λ e. IsWant e ⊎ Refuses ⊤ (K.is_empty keeper.old) (K.is_desk keeper.old) (K.is_old keeper.old) (K.roster keeper.old) text.now e) }
+    ensures opens { K.is_up keeper.new
+        → OnOk result (Opens (K.is_empty keeper.old) (K.is_desk keeper.old) (K.is_old keeper.old)
+        (K.roster keeper.old) text.now (K.holds keeper.old) (K.holds keeper.new)) }
+    ensures refused { K.is_up keeper.new
+        → IfErr result (λ e. IsWant e ⊎ Refuses ⊤ (K.is_empty keeper.old)
+        (K.is_desk keeper.old) (K.is_old keeper.old) (K.roster keeper.old) text.now e) }
     ensures fits { IfErr result (λ e. e ≢ refusal.BaseTooLarge) }
     ensures unchanged { K.is_up keeper.new → OnErr result (K.is_same keeper.old keeper.new) }
     ensures served { ServesAs K.Keeper keeper.old keeper.new result }
     ensures crash { K.is_up keeper.old → K.is_clean keeper.new → LeavesOnly (K.may_leave keeper.new)
-        (IsLeftByOpening (K.is_empty keeper.old) (K.is_desk keeper.old) (K.is_old keeper.old) (K.roster keeper.old) text.now (K.holds keeper.old)) }
-    ensures durable { K.is_up keeper.new → OnOk result (LeavesOnly (K.may_leave keeper.new) (IsDeskOf (K.roster keeper.new) (K.holds keeper.new))) }
+        (IsLeftByOpening (K.is_empty keeper.old) (K.is_desk keeper.old)
+        (K.is_old keeper.old) (K.roster keeper.old) text.now (K.holds keeper.old)) }
+    ensures durable { K.is_up keeper.new → OnOk result (LeavesOnly (K.may_leave keeper.new)
+        (IsDeskOf (K.roster keeper.new) (K.holds keeper.new))) }
 {
     match keeper.look()? {
         Found::Empty => {

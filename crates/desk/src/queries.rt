@@ -1,6 +1,8 @@
-//! What is asked of a desk. An answer is that of the set of messages that it holds, and nothing of the desk changes.
+//! What is asked of a desk. An answer is that of the set of messages that it holds, and nothing of
+//! the desk changes.
 
-ghost use Rattle.std.specs.Prelude.{◌≡◌, ◌⊎◌, ◌↔◌, ◌<◌, ◌≤◌, List, false, map, length, IfOk, IfErr, MatchResult, Err, string_bytes};
+ghost use Rattle.std.specs.Prelude.{◌≡◌, ◌⊎◌, ◌↔◌, ◌<◌, ◌≤◌, List, false, map, length};
+ghost use Rattle.std.specs.Prelude.{IfOk, IfErr, MatchResult, Err, string_bytes};
 ghost use Rattle.messages.specs.declared.message.Message.{Message as AnyMessage};
 ghost use Rattle.roster.specs.Rules.{is_among};
 ghost use Rattle.desk_tables.specs.Sets.{Lists, SameSet};
@@ -26,7 +28,8 @@ use sudo_words::{HostName, Moment};
 impl<K: Keeper> Desk<K> {
     /// What the messages come to that are about the name: its status, none where nobody asks.
     pub fn status_of(&mut self, name: &RequestName) -> Result<Option<Status>, Refusal>
-        ensures status { (set : List AnyMessage) → K.is_up self.new.keeper → Lists (K.holds self.old.keeper) set
+        ensures status { (set : List AnyMessage) → K.is_up self.new.keeper
+            → Lists (K.holds self.old.keeper) set
             → IfOk result (ComesTo self.old.roster.says set name.now) }
         ensures err { IfErr result IsWant }
         ensures unchanged { K.is_up self.new.keeper → K.is_same self.old.keeper self.new.keeper }
@@ -42,7 +45,8 @@ impl<K: Keeper> Desk<K> {
 
     /// The grants that are in force at the moment, by the asker in byte order, then by the number.
     pub fn live_at(&mut self, at: Moment) -> Result<Vec<Live>, Refusal>
-        ensures live { (set : List AnyMessage) → K.is_up self.new.keeper → Lists (K.holds self.old.keeper) set
+        ensures live { (set : List AnyMessage) → K.is_up self.new.keeper
+            → Lists (K.holds self.old.keeper) set
             → IfOk result (λ list. AreLive self.old.roster.says set at list.items) }
         ensures err { IfErr result IsWant }
         ensures unchanged { K.is_up self.new.keeper → K.is_same self.old.keeper self.new.keeper }
@@ -58,7 +62,8 @@ impl<K: Keeper> Desk<K> {
 
     /// The texts of the verdicts that wait for their request, each once, in byte order.
     pub fn parked(&mut self) -> Result<Vec<String>, Refusal>
-        ensures parked { (set : List AnyMessage) → K.is_up self.new.keeper → Lists (K.holds self.old.keeper) set
+        ensures parked { (set : List AnyMessage) → K.is_up self.new.keeper
+            → Lists (K.holds self.old.keeper) set
             → IfOk result (λ texts. AreParked set (map string_bytes texts.items)) }
         ensures err { IfErr result IsWant }
         ensures unchanged { K.is_up self.new.keeper → K.is_same self.old.keeper self.new.keeper }
@@ -72,12 +77,15 @@ impl<K: Keeper> Desk<K> {
         Ok(texts?)
     }
 
-    /// The summaries of what is asked, by the asker in byte order, then by the number: what a report is made from.
+    /// The summaries of what is asked, by the asker in byte order, then by the number: what a
+    /// report is made from.
     pub fn summaries(&mut self) -> Result<Vec<Summary>, Refusal>
-        ensures summaries { (set : List AnyMessage) → K.is_up self.new.keeper → Lists (K.holds self.old.keeper) set
+        ensures summaries { (set : List AnyMessage)
+            → K.is_up self.new.keeper → Lists (K.holds self.old.keeper) set
             → IfOk result (λ list. AreSummaries set list.items) }
         ensures err { IfErr result IsWant }
-        ensures held { K.is_up self.new.keeper → SameSet (K.holds self.old.keeper) (K.holds self.new.keeper) }
+        ensures held { K.is_up self.new.keeper
+            → SameSet (K.holds self.old.keeper) (K.holds self.new.keeper) }
         ensures unchanged { K.is_up self.new.keeper → K.is_same self.old.keeper self.new.keeper }
         ensures roster { self.new.roster ≡ self.old.roster }
         ensures base { self.new.base ≡ self.old.base }
@@ -89,11 +97,14 @@ impl<K: Keeper> Desk<K> {
         Ok(list?)
     }
 
-    /// The summaries and the parked texts, of the messages as they are brought once: what a report is made from.
+    /// The summaries and the parked texts, of the messages as they are brought once: what a report
+    /// is made from.
     pub fn holdings(&mut self) -> Result<Holdings, Refusal>
-        ensures summaries { (set : List AnyMessage) → K.is_up self.new.keeper → Lists (K.holds self.old.keeper) set
+        ensures summaries { (set : List AnyMessage)
+            → K.is_up self.new.keeper → Lists (K.holds self.old.keeper) set
             → IfOk result (λ held. AreSummaries set held.summaries.items) }
-        ensures parked { (set : List AnyMessage) → K.is_up self.new.keeper → Lists (K.holds self.old.keeper) set
+        ensures parked { (set : List AnyMessage) → K.is_up self.new.keeper
+            → Lists (K.holds self.old.keeper) set
             → IfOk result (λ held. AreParked set (map string_bytes held.parked.items)) }
         ensures err { IfErr result IsWant }
         ensures unchanged { K.is_up self.new.keeper → K.is_same self.old.keeper self.new.keeper }
@@ -107,26 +118,33 @@ impl<K: Keeper> Desk<K> {
         Ok(held?)
     }
 
-    /// The text of the host's sudoers file: the base's canonical text, and after it a line for each command of each request
-    /// that is granted on the host, with the first and the last moment of its window.
+    /// The text of the host's sudoers file: the base's canonical text, and after it a line for each
+    /// command of each request that is granted on the host, with the first and the last moment of
+    /// its window.
     ///
-    /// `UnknownHost` comes exactly where the roster has no such host, `TooManyRules` exactly where the lines after the base are
-    /// more than 8,192.
+    /// `UnknownHost` comes exactly where the roster has no such host, `TooManyRules` exactly where
+    /// the lines after the base are more than 8,192.
     pub fn host_file(&mut self, host: &HostName) -> Result<String, Refusal>
         // It is the file, and so it gives the rights.
-        ensures file { (set : List AnyMessage) → K.is_up self.new.keeper → Lists (K.holds self.old.keeper) set
-            → IfOk result (λ s. IsHostFile self.old.roster.says self.old.base set host.now (string_bytes s)) }
-        ensures rights { (set : List AnyMessage) → K.is_up self.new.keeper → Lists (K.holds self.old.keeper) set
-            → IfOk result (λ s. GivesRights self.old.roster.says self.old.base set host.now (string_bytes s)) }
-        // A host of the roster is refused it where the lines are too many, and not where they are few.
-        ensures unknown { (result ≡ Err refusal.UnknownHost) ↔ (is_among self.old.roster.says.hosts host.now ≡ false) }
-        ensures few { (set : List AnyMessage) (ls : List Line) → K.is_up self.new.keeper → Lists (K.holds self.old.keeper) set
-            → AreLines self.old.roster.says set host.now ls → length ls ≤ 8_192
-            → IfErr result (λ e. (e ≡ refusal.UnknownHost) ⊎ IsWant e) }
-        ensures many { (set : List AnyMessage) (ls : List Line) → K.is_up self.new.keeper → Lists (K.holds self.old.keeper) set
-            → AreLines self.old.roster.says set host.now ls → 8_192 < length ls
-            → MatchResult result (λ _. ⊥) (λ e. (e ≡ refusal.UnknownHost) ⊎ (e ≡ refusal.TooManyRules) ⊎ IsWant e) }
-        ensures err { IfErr result (λ e. (e ≡ refusal.UnknownHost) ⊎ (e ≡ refusal.TooManyRules) ⊎ IsWant e) }
+        ensures file { (set : List AnyMessage) → K.is_up self.new.keeper
+            → Lists (K.holds self.old.keeper) set → IfOk result
+            (λ s. IsHostFile self.old.roster.says self.old.base set host.now (string_bytes s)) }
+        ensures rights { (set : List AnyMessage) → K.is_up self.new.keeper
+            → Lists (K.holds self.old.keeper) set → IfOk result
+            (λ s. GivesRights self.old.roster.says self.old.base set host.now (string_bytes s)) }
+        // A host of the roster is refused it where the lines are too many, and not where they are
+        // few.
+        ensures unknown { (result ≡ Err refusal.UnknownHost)
+            ↔ (is_among self.old.roster.says.hosts host.now ≡ false) }
+        ensures few { (set : List AnyMessage) (ls : List Line) → K.is_up self.new.keeper
+            → Lists (K.holds self.old.keeper) set → AreLines self.old.roster.says set host.now ls
+            → length ls ≤ 8_192 → IfErr result (λ e. (e ≡ refusal.UnknownHost) ⊎ IsWant e) }
+        ensures many { (set : List AnyMessage) (ls : List Line)
+            → K.is_up self.new.keeper → Lists (K.holds self.old.keeper) set
+            → AreLines self.old.roster.says set host.now ls → 8_192 < length ls → MatchResult result
+            (λ _. ⊥) (λ e. (e ≡ refusal.UnknownHost) ⊎ (e ≡ refusal.TooManyRules) ⊎ IsWant e) }
+        ensures err { IfErr result
+            (λ e. (e ≡ refusal.UnknownHost) ⊎ (e ≡ refusal.TooManyRules) ⊎ IsWant e) }
         ensures unchanged { K.is_up self.new.keeper → K.is_same self.old.keeper self.new.keeper }
         ensures roster { self.new.roster ≡ self.old.roster }
         ensures base { self.new.base ≡ self.old.base }
@@ -135,25 +153,32 @@ impl<K: Keeper> Desk<K> {
         self.file_of(host, None)
     }
 
-    /// The same text without the lines that end before the moment; one that ends at the moment stays.
+    /// The same text without the lines that end before the moment; one that ends at the moment
+    /// stays.
     ///
-    /// `UnknownHost` comes exactly where the roster has no such host, `TooManyRules` exactly where the lines that are left are
-    /// more than 8,192.
+    /// `UnknownHost` comes exactly where the roster has no such host, `TooManyRules` exactly where
+    /// the lines that are left are more than 8,192.
     pub fn host_file_after(&mut self, host: &HostName, moment: Moment) -> Result<String, Refusal>
         // It is that file, and so it gives the rights from the moment on.
-        ensures file { (set : List AnyMessage) → K.is_up self.new.keeper → Lists (K.holds self.old.keeper) set
-            → IfOk result (λ s. IsHostFileAfter self.old.roster.says self.old.base set host.now moment (string_bytes s)) }
-        ensures rights { (set : List AnyMessage) → K.is_up self.new.keeper → Lists (K.holds self.old.keeper) set
-            → IfOk result (λ s. GivesRightsAfter self.old.roster.says self.old.base set host.now moment (string_bytes s)) }
+        ensures file { (set : List AnyMessage) → K.is_up self.new.keeper
+            → Lists (K.holds self.old.keeper) set → IfOk result (λ s. IsHostFileAfter
+            self.old.roster.says self.old.base set host.now moment (string_bytes s)) }
+        ensures rights { (set : List AnyMessage) → K.is_up self.new.keeper
+            → Lists (K.holds self.old.keeper) set → IfOk result (λ s. GivesRightsAfter
+            self.old.roster.says self.old.base set host.now moment (string_bytes s)) }
         // A host of the roster is refused it where too many lines are left, and not where few are.
-        ensures unknown { (result ≡ Err refusal.UnknownHost) ↔ (is_among self.old.roster.says.hosts host.now ≡ false) }
-        ensures few { (set : List AnyMessage) (ls : List Line) → K.is_up self.new.keeper → Lists (K.holds self.old.keeper) set
+        ensures unknown { (result ≡ Err refusal.UnknownHost)
+            ↔ (is_among self.old.roster.says.hosts host.now ≡ false) }
+        ensures few { (set : List AnyMessage) (ls : List Line)
+            → K.is_up self.new.keeper → Lists (K.holds self.old.keeper) set
             → AreLines self.old.roster.says set host.now ls → length (lines_after moment ls) ≤ 8_192
             → IfErr result (λ e. (e ≡ refusal.UnknownHost) ⊎ IsWant e) }
-        ensures many { (set : List AnyMessage) (ls : List Line) → K.is_up self.new.keeper → Lists (K.holds self.old.keeper) set
-            → AreLines self.old.roster.says set host.now ls → 8_192 < length (lines_after moment ls)
-            → MatchResult result (λ _. ⊥) (λ e. (e ≡ refusal.UnknownHost) ⊎ (e ≡ refusal.TooManyRules) ⊎ IsWant e) }
-        ensures err { IfErr result (λ e. (e ≡ refusal.UnknownHost) ⊎ (e ≡ refusal.TooManyRules) ⊎ IsWant e) }
+        ensures many { (set : List AnyMessage) (ls : List Line) → K.is_up self.new.keeper
+            → Lists (K.holds self.old.keeper) set → AreLines self.old.roster.says set host.now ls
+            → 8_192 < length (lines_after moment ls) → MatchResult result (λ _. ⊥)
+            (λ e. (e ≡ refusal.UnknownHost) ⊎ (e ≡ refusal.TooManyRules) ⊎ IsWant e) }
+        ensures err { IfErr result
+            (λ e. (e ≡ refusal.UnknownHost) ⊎ (e ≡ refusal.TooManyRules) ⊎ IsWant e) }
         ensures unchanged { K.is_up self.new.keeper → K.is_same self.old.keeper self.new.keeper }
         ensures roster { self.new.roster ≡ self.old.roster }
         ensures base { self.new.base ≡ self.old.base }
@@ -162,18 +187,24 @@ impl<K: Keeper> Desk<K> {
         self.file_of(host, Some(moment))
     }
 
-    /// The host's file with the lines that are left: each without a moment, and with one each that ends then or later.
+    /// The host's file with the lines that are left: each without a moment, and with one each that
+    /// ends then or later.
     fn file_of(&mut self, host: &HostName, after: Option<Moment>) -> Result<String, Refusal>
-        ensures file { (set : List AnyMessage) → K.is_up self.new.keeper → Lists (K.holds self.old.keeper) set
-            → IfOk result (λ s. left.IsFileLeft self.old.roster.says self.old.base set host.now after (string_bytes s)) }
-        ensures unknown { (result ≡ Err refusal.UnknownHost) ↔ (is_among self.old.roster.says.hosts host.now ≡ false) }
-        ensures few { (set : List AnyMessage) (ls : List Line) → K.is_up self.new.keeper → Lists (K.holds self.old.keeper) set
-            → AreLines self.old.roster.says set host.now ls → length (left.lines_left after ls) ≤ 8_192
+        ensures file { (set : List AnyMessage) → K.is_up self.new.keeper
+            → Lists (K.holds self.old.keeper) set → IfOk result (λ s. left.IsFileLeft
+            self.old.roster.says self.old.base set host.now after (string_bytes s)) }
+        ensures unknown { (result ≡ Err refusal.UnknownHost)
+            ↔ (is_among self.old.roster.says.hosts host.now ≡ false) }
+        ensures few { (set : List AnyMessage) (ls : List Line) → K.is_up self.new.keeper
+            → Lists (K.holds self.old.keeper) set → AreLines self.old.roster.says set host.now ls
+            → length (left.lines_left after ls) ≤ 8_192
             → IfErr result (λ e. (e ≡ refusal.UnknownHost) ⊎ IsWant e) }
-        ensures many { (set : List AnyMessage) (ls : List Line) → K.is_up self.new.keeper → Lists (K.holds self.old.keeper) set
-            → AreLines self.old.roster.says set host.now ls → 8_192 < length (left.lines_left after ls)
-            → MatchResult result (λ _. ⊥) (λ e. (e ≡ refusal.UnknownHost) ⊎ (e ≡ refusal.TooManyRules) ⊎ IsWant e) }
-        ensures err { IfErr result (λ e. (e ≡ refusal.UnknownHost) ⊎ (e ≡ refusal.TooManyRules) ⊎ IsWant e) }
+        ensures many { (set : List AnyMessage) (ls : List Line) → K.is_up self.new.keeper
+            → Lists (K.holds self.old.keeper) set → AreLines self.old.roster.says set host.now ls
+            → 8_192 < length (left.lines_left after ls) → MatchResult result (λ _. ⊥)
+            (λ e. (e ≡ refusal.UnknownHost) ⊎ (e ≡ refusal.TooManyRules) ⊎ IsWant e) }
+        ensures err { IfErr result
+            (λ e. (e ≡ refusal.UnknownHost) ⊎ (e ≡ refusal.TooManyRules) ⊎ IsWant e) }
         ensures unchanged { K.is_up self.new.keeper → K.is_same self.old.keeper self.new.keeper }
         ensures roster { self.new.roster ≡ self.old.roster }
         ensures base { self.new.base ≡ self.old.base }

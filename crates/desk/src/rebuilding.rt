@@ -18,21 +18,24 @@ use roster::Roster;
 use std::alloc::Global;
 use sudo_policy::Policy;
 
-/// Makes a desk of this roster's text where the keeper keeps nothing of a desk's, and else gives the text to the desk that it keeps.
+/// Makes a desk of this roster's text where the keeper keeps nothing of a desk's, and else gives
+/// the text to the desk that it keeps.
 pub(crate) fn make_or_replace<K: Keeper>(keeper: &mut K, text: &str) -> Result<(), Refusal>
     ensures desk { K.is_up keeper.new → OnOk result (K.is_desk keeper.new) }
     ensures roster { K.is_up keeper.new → OnOk result (K.roster keeper.new ≡ text.now) }
-    ensures keeps { K.is_up keeper.new
-        → OnOk result (Rebuilds (K.is_empty keeper.old) (K.is_desk keeper.old) (K.is_old keeper.old) (K.holds keeper.old) (K.holds keeper.new)) }
-    ensures refused { K.is_up keeper.new
-        → IfErr result (λ e. IsWant e ⊎ RefusesToRebuild ⊤ (K.is_empty keeper.old) (K.is_desk keeper.old) (K.is_old keeper.old) e) }
+    ensures keeps { K.is_up keeper.new → OnOk result (Rebuilds (K.is_empty keeper.old)
+        (K.is_desk keeper.old) (K.is_old keeper.old) (K.holds keeper.old) (K.holds keeper.new)) }
+    ensures refused { K.is_up keeper.new → IfErr result (λ e. IsWant e ⊎ RefusesToRebuild ⊤
+        (K.is_empty keeper.old) (K.is_desk keeper.old) (K.is_old keeper.old) e) }
     ensures err { IfErr result (λ e. IsWant e ⊎ (e ≡ refusal.NotADesk)) }
     ensures fits { IfErr result (λ e. e ≢ refusal.BaseTooLarge) }
     ensures unchanged { K.is_up keeper.new → OnErr result (K.is_same keeper.old keeper.new) }
     ensures served { ServesAs K.Keeper keeper.old keeper.new result }
     ensures crash { K.is_up keeper.old → K.is_clean keeper.new → LeavesOnly (K.may_leave keeper.new)
-        (IsLeftByRebuilding (K.is_empty keeper.old) (K.is_desk keeper.old) (K.is_old keeper.old) (K.roster keeper.old) text.now (K.holds keeper.old)) }
-    ensures durable { K.is_up keeper.new → OnOk result (LeavesOnly (K.may_leave keeper.new) (IsDeskOf (K.roster keeper.new) (K.holds keeper.new))) }
+        (IsLeftByRebuilding (K.is_empty keeper.old) (K.is_desk keeper.old)
+        (K.is_old keeper.old) (K.roster keeper.old) text.now (K.holds keeper.old)) }
+    ensures durable { K.is_up keeper.new → OnOk result (LeavesOnly (K.may_leave keeper.new)
+        (IsDeskOf (K.roster keeper.new) (K.holds keeper.new))) }
 {
     match keeper.look()? {
         Found::Empty => {
@@ -53,17 +56,20 @@ pub(crate) fn make_or_replace<K: Keeper>(keeper: &mut K, text: &str) -> Result<(
 }
 
 impl<K: Keeper> Desk<K> {
-    /// Gives the desk that the keeper keeps this roster, in one commit, or makes one without messages where it keeps nothing of a desk's.
+    /// Gives the desk that the keeper keeps this roster, in one commit, or makes one without
+    /// messages where it keeps nothing of a desk's.
     ///
-    /// The messages stay, also those that the roster does not admit: the answers are those of the set under the new roster. A desk of
-    /// an older form becomes one of today's.
+    /// The messages stay, also those that the roster does not admit: the answers are those of the
+    /// set under the new roster. A desk of an older form becomes one of today's.
     ///
-    /// `BaseTooLarge` comes exactly where the base is past a limit of the desk. Else `NotADesk` comes where the keeper has something of
-    /// a desk's and no desk; `Storage` and `NoMemory` wherever the storage or memory refuses. A refusal hands the keeper back, with
-    /// what it keeps as it was.
+    /// `BaseTooLarge` comes exactly where the base is past a limit of the desk. Else `NotADesk`
+    /// comes where the keeper has something of a desk's and no desk; `Storage` and `NoMemory`
+    /// wherever the storage or memory refuses. A refusal hands the keeper back, with what it keeps
+    /// as it was.
     ///
-    /// Whenever the call ends, a crash leaves the whole desk as it was, or the whole desk with the new roster's text, and of an empty
-    /// keeper nothing, or a whole desk without messages. After Ok a crash leaves the desk with the new roster's text.
+    /// Whenever the call ends, a crash leaves the whole desk as it was, or the whole desk with the
+    /// new roster's text, and of an empty keeper nothing, or a whole desk without messages. After
+    /// Ok a crash leaves the desk with the new roster's text.
     pub fn rebuild(
         alloc: Global,
         roster: Roster,
@@ -72,29 +78,32 @@ impl<K: Keeper> Desk<K> {
     ) -> Result<Desk<K>, (Refusal, K)>
         ensures handed_in { IfOk result (λ d. (d.roster ≡ roster) × (d.base ≡ base)) }
         ensures fits { IfOk result (λ d. FitsBase base) }
-        ensures keeps { IfOk result (λ d. K.is_up d.keeper
-            → Rebuilds (K.is_empty keeper) (K.is_desk keeper) (K.is_old keeper) (K.holds keeper) (K.holds d.keeper)) }
+        ensures keeps { IfOk result (λ d. K.is_up d.keeper → Rebuilds (K.is_empty keeper)
+            (K.is_desk keeper) (K.is_old keeper) (K.holds keeper) (K.holds d.keeper)) }
         ensures too_large { IfErr result (λ r. (r.0 ≡ refusal.BaseTooLarge) ↔ (¬ FitsBase base)) }
-        ensures refused { IfErr result (λ r. K.is_up r.1
-            → IsWant r.0 ⊎ RefusesToRebuild (FitsBase base) (K.is_empty keeper) (K.is_desk keeper) (K.is_old keeper) r.0) }
+        ensures refused { IfErr result (λ r. K.is_up r.1 → IsWant r.0 ⊎ RefusesToRebuild
+            (FitsBase base) (K.is_empty keeper) (K.is_desk keeper) (K.is_old keeper) r.0) }
         // So no other roster's text is refused, and no older form.
-        ensures err { IfErr result (λ r. IsWant r.0 ⊎ (r.0 ≡ refusal.NotADesk) ⊎ (r.0 ≡ refusal.BaseTooLarge)) }
+        ensures err { IfErr result
+            (λ r. IsWant r.0 ⊎ (r.0 ≡ refusal.NotADesk) ⊎ (r.0 ≡ refusal.BaseTooLarge)) }
         ensures unchanged { IfErr result (λ r. K.is_up r.1 → K.is_same keeper r.1) }
-        ensures served { MatchResult result (λ d. Serves K.Keeper keeper d.keeper ⊥ ⊥) (λ r. Serves K.Keeper keeper r.1 (r.0 ≡ refusal.Storage) (IsWant r.0)) }
+        ensures served { MatchResult result (λ d. Serves K.Keeper keeper d.keeper ⊥ ⊥)
+            (λ r. Serves K.Keeper keeper r.1 (r.0 ≡ refusal.Storage) (IsWant r.0)) }
         // A base past the limits is refused before the keeper is asked.
         ensures unasked { IfErr result (λ r. r.0 ≡ refusal.BaseTooLarge → r.1 ≡ keeper) }
-        ensures crash { K.is_up keeper → MatchResult result
-            (λ d. K.is_clean d.keeper
-            → LeavesOnly (K.may_leave d.keeper)
-            (IsLeftByRebuilding (K.is_empty keeper) (K.is_desk keeper) (K.is_old keeper) (K.roster keeper) roster.text (K.holds keeper)))
+        ensures crash { K.is_up keeper → MatchResult result (λ d. K.is_clean d.keeper
+            → LeavesOnly (K.may_leave d.keeper) (IsLeftByRebuilding (K.is_empty keeper)
+            (K.is_desk keeper) (K.is_old keeper) (K.roster keeper) roster.text (K.holds keeper)))
             (λ r. r.0 ≢ refusal.BaseTooLarge → K.is_clean r.1
-            → LeavesOnly (K.may_leave r.1)
-            (IsLeftByRebuilding (K.is_empty keeper) (K.is_desk keeper) (K.is_old keeper) (K.roster keeper) roster.text (K.holds keeper))) }
-        ensures lasting { K.is_up keeper → IfOk result
-            (λ d. K.is_clean d.keeper → LeavesOnly (K.may_leave d.keeper) (IsDeskOf roster.text (K.holds d.keeper))) }
-        ensures durable { IfOk result (λ d. K.is_up d.keeper → LeavesOnly (K.may_leave d.keeper) (IsDeskOf roster.text (K.holds d.keeper))) }
+            → LeavesOnly (K.may_leave r.1) (IsLeftByRebuilding (K.is_empty keeper)
+            (K.is_desk keeper) (K.is_old keeper) (K.roster keeper) roster.text (K.holds keeper))) }
+        ensures lasting { K.is_up keeper → IfOk result (λ d. K.is_clean d.keeper
+            → LeavesOnly (K.may_leave d.keeper) (IsDeskOf roster.text (K.holds d.keeper))) }
+        ensures durable { IfOk result (λ d. K.is_up d.keeper
+            → LeavesOnly (K.may_leave d.keeper) (IsDeskOf roster.text (K.holds d.keeper))) }
     {
-        // Calls drop what a refusal does not hand back: where an exit drops it in line, each of its fields is proved again there.
+        // Calls drop what a refusal does not hand back: where an exit drops it in line, each of its
+        // fields is proved again there.
         if !fits_base(&base) {
             drop(base);
             drop(roster);

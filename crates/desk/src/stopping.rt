@@ -18,12 +18,15 @@ use roster::Roster;
 use std::alloc::Global;
 use sudo_policy::Policy;
 
-/// Opens a desk over a keeper that keeps what a crash may leave of another, which stopped and is named for the proof alone.
+/// Opens a desk over a keeper that keeps what a crash may leave of another, which stopped and is
+/// named for the proof alone.
 ///
-/// What may be left is said by the clauses `crash`, `lasting` and `durable` of the call that was stopped. So where that call had
-/// acknowledged, or the stop came between calls, the desk holds all that was acknowledged, and answers every question alike; where it
-/// stopped in a delivery, the desk holds that with the message or without it; and where it stopped while a desk was made, opened or
-/// rebuilt, nothing is lost. Nothing is refused but for the base, or for want of memory or of the storage.
+/// What may be left is said by the clauses `crash`, `lasting` and `durable` of the call that was
+/// stopped. So where that call had acknowledged, or the stop came between calls, the desk holds all
+/// that was acknowledged, and answers every question alike; where it stopped in a delivery, the
+/// desk holds that with the message or without it; and where it stopped while a desk was made,
+/// opened or rebuilt, nothing is lost. Nothing is refused but for the base, or for want of memory
+/// or of the storage.
 pub fn open_after_stop<K: Keeper>(
     alloc: Global,
     _stopped: &K,
@@ -31,19 +34,28 @@ pub fn open_after_stop<K: Keeper>(
     base: Policy,
     found: K,
 ) -> Result<Desk<K>, (Refusal, K)>
-    requires { K.is_up found → MayBe (K.may_leave _stopped.now) (IsFoundAs (K.is_empty found) (K.is_desk found) (K.is_old found) (K.roster found) (K.holds found)) }
-    ensures held { (list : List AnyMessage) → LeavesOnly (K.may_leave _stopped.now) (IsDeskOf roster.text (λ m. Contains list m))
+    requires { K.is_up found → MayBe (K.may_leave _stopped.now) (IsFoundAs (K.is_empty found)
+        (K.is_desk found) (K.is_old found) (K.roster found) (K.holds found)) }
+    ensures held { (list : List AnyMessage)
+        → LeavesOnly (K.may_leave _stopped.now) (IsDeskOf roster.text (λ m. Contains list m))
         → IfOk result (λ d. K.is_up d.keeper → SameSet (λ m. Contains list m) (K.holds d.keeper)) }
-    ensures alike { (list : List AnyMessage) → LeavesOnly (K.may_leave _stopped.now) (IsDeskOf roster.text (λ m. Contains list m))
-        → IfOk result (λ d. K.is_up d.keeper → AnswerAlike roster.says (λ m. Contains list m) (K.holds d.keeper)) }
-    ensures refused { (list : List AnyMessage) → LeavesOnly (K.may_leave _stopped.now) (IsDeskOf roster.text (λ m. Contains list m))
-        → IfErr result (λ r. K.is_up r.1 → IsWant r.0 ⊎ ((r.0 ≡ refusal.BaseTooLarge) × (¬ FitsBase base))) }
-    ensures delivery { (list : List AnyMessage) (d : Delivery) → LeavesOnly (K.may_leave _stopped.now) (IsLeftByDelivery roster.says roster.text (λ m. Contains list m) d)
-        → IfOk result (λ desk. K.is_up desk.keeper → SameSet (λ m. Contains list m) (K.holds desk.keeper)
-        ⊎ ((m : AnyMessage) × IsAcceptable roster.says d m × SameSet (With (λ n. Contains list n) m) (K.holds desk.keeper))) }
-    ensures making { LeavesOnly (K.may_leave _stopped.now) (IsNothingOrFresh roster.text) → IfOk result (λ d. K.is_up d.keeper → IsNothing (K.holds d.keeper)) }
+    ensures alike { (list : List AnyMessage) → LeavesOnly (K.may_leave _stopped.now)
+        (IsDeskOf roster.text (λ m. Contains list m)) → IfOk result (λ d. K.is_up d.keeper
+        → AnswerAlike roster.says (λ m. Contains list m) (K.holds d.keeper)) }
+    ensures refused { (list : List AnyMessage) → LeavesOnly (K.may_leave _stopped.now)
+        (IsDeskOf roster.text (λ m. Contains list m)) → IfErr result
+        (λ r. K.is_up r.1 → IsWant r.0 ⊎ ((r.0 ≡ refusal.BaseTooLarge) × (¬ FitsBase base))) }
+    ensures delivery { (list : List AnyMessage) (d : Delivery)
+        → LeavesOnly (K.may_leave _stopped.now)
+        (IsLeftByDelivery roster.says roster.text (λ m. Contains list m) d)
+        → IfOk result (λ desk. K.is_up desk.keeper → SameSet (λ m. Contains list m)
+        (K.holds desk.keeper) ⊎ ((m : AnyMessage) × IsAcceptable roster.says d m
+        × SameSet (With (λ n. Contains list n) m) (K.holds desk.keeper))) }
+    ensures making { LeavesOnly (K.may_leave _stopped.now) (IsNothingOrFresh roster.text)
+        → IfOk result (λ d. K.is_up d.keeper → IsNothing (K.holds d.keeper)) }
     ensures rebuilding { (list : List AnyMessage) (recorded : List ℕ)
-        → LeavesOnly (K.may_leave _stopped.now) (λ left. IsDeskOf recorded (λ m. Contains list m) left ⊎ IsDeskOf roster.text (λ m. Contains list m) left)
+        → LeavesOnly (K.may_leave _stopped.now) (λ left. IsDeskOf recorded
+        (λ m. Contains list m) left ⊎ IsDeskOf roster.text (λ m. Contains list m) left)
         → IfOk result (λ d. K.is_up d.keeper → SameSet (λ m. Contains list m) (K.holds d.keeper)) }
     ensures unchanged { IfErr result (λ r. K.is_up r.1 → K.is_same found r.1) }
 {

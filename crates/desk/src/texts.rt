@@ -18,9 +18,11 @@ use std::alloc::Global;
 use sudo_words::NoMemory;
 
 impl<K: Keeper> Desk<K> {
-    /// The texts of all messages, each once, in byte order: delivered to another desk of the same roster they make the same set.
+    /// The texts of all messages, each once, in byte order: delivered to another desk of the same
+    /// roster they make the same set.
     pub fn texts(&mut self) -> Result<Vec<String>, Refusal>
-        ensures texts { (set : List AnyMessage) → K.is_up self.new.keeper → Lists (K.holds self.old.keeper) set
+        ensures texts { (set : List AnyMessage) → K.is_up self.new.keeper
+            → Lists (K.holds self.old.keeper) set
             → IfOk result (λ texts. AreTexts set (map string_bytes texts.items)) }
         ensures err { IfErr result IsWant }
         ensures unchanged { K.is_up self.new.keeper → K.is_same self.old.keeper self.new.keeper }
@@ -54,9 +56,12 @@ fn texts_in(alloc: Global, set: &[Message]) -> Result<Vec<String>, NoMemory>
     Ok(texts)
 }
 
-/// Lists of the same messages have one list of texts, and one list of texts is that of one set of messages.
+/// Lists of the same messages have one list of texts, and one list of texts is that of one set of
+/// messages.
 pub fn one_text_list()
-    ensures texts { (s t : List AnyMessage) (a b : List (List ℕ)) → SameMessages s t → AreTexts s a → AreTexts t b → a ≡ b }
-    ensures set { (s t : List AnyMessage) (a : List (List ℕ)) → ((m : AnyMessage) → Contains s m → IsMessage m) → ((m : AnyMessage) → Contains t m → IsMessage m)
+    ensures texts { (s t : List AnyMessage) (a b : List (List ℕ))
+        → SameMessages s t → AreTexts s a → AreTexts t b → a ≡ b }
+    ensures set { (s t : List AnyMessage) (a : List (List ℕ)) → ((m : AnyMessage)
+        → Contains s m → IsMessage m) → ((m : AnyMessage) → Contains t m → IsMessage m)
         → AreTexts s a → AreTexts t a → SameMessages s t }
 {}

@@ -20,8 +20,11 @@ pub next_pushed : {X : Type 0} (rule : X → Rule) (args : List Arg) (before : L
     → i < length items → HasRules args (before ++ map rule (take i items)) → HasRule arg (rule (get_or items i other))
     → HasRules (args ++ arg ∷ []) (before ++ map rule (take (i + 1) items))
 next_pushed rule args before items i other arg less have has =
-    rw (take_more items i other less, map-append rule (take i items) (get_or items i other ∷ []), ← append_assoc before (map rule (take i items)) (rule (get_or items i other) ∷ []))
-    (one_more HasRule args _ arg _ have has)
+    rw (
+      take_more items i other less,
+      map-append rule (take i items) (get_or items i other ∷ []),
+      ← append_assoc before (map rule (take i items)) (rule (get_or items i other) ∷ []),
+    ) (one_more HasRule args _ arg _ have has)
 
 -- A command to which arguments were added has their rules as well.
 pub rules_added : (before after : Command) (app : App) (args : List Arg) (rules : List Rule) → AddsInTurn AddsArg before args after → HasRules args rules

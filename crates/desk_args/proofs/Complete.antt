@@ -1,14 +1,19 @@
 -- A line in which clap finds no fault is one of the program's commands, with a value for each argument that it wants.
-use Rattle.std.specs.Prelude.{◌≡◌, ◌⊎◌, ℕ, ◌&&◌, ◌||◌, Bool, true, false, not, List, [], ◌∷◌, Option, Some, None, codes, if◌then◌else◌, is_some, find, fold, option_and_then, option_map, slice_get, slice_index_or, refl}
+use Rattle.std.specs.Prelude.{◌≡◌, ◌⊎◌, ℕ, ◌&&◌, ◌||◌, Bool, true, false, not, List, [], ◌∷◌, Option, Some, None, codes}
+use Rattle.std.specs.Prelude.{if◌then◌else◌, is_some, find, fold, option_and_then, option_map, slice_get, slice_index_or, refl}
 use Rattle.std.specs.List.{list_all, list_any}
 use Rattle.std.specs.Option.{option_map_or}
 use Rattle.std.specs.Str.{bytes_eq}
 use Rattle.std.proofs.lemmas.Slice.Eq.{bytes_eq-Decides}
 use Rattle.std.proofs.Common.{sym, inl, inr}
-use Rattle.clap.specs.Walk.{Held, Names, Outcome, Row, Rule, Step, Text, Waiting, Walk, after_flag, after_step, answers_to, arg_by_index, arg_by_long, bundle, done, finished, first_of, idle, long_met, long_or_other, next, nothing_held, option, plain, plain_word, positional, refused, rows_after, settled, short_or_plain, stop_after, subcommand, subcommand_met, subcommand_or_other, to_positional, trailing, value, waits, walk, walk_from, walked, walked_from, word_met}
+use Rattle.clap.specs.Walk.{Held, Names, Outcome, Row, Rule, Step, Text, Waiting, Walk, after_flag, after_step, answers_to, arg_by_index}
+use Rattle.clap.specs.Walk.{arg_by_long, bundle, done, finished, first_of, idle, long_met, long_or_other, next, nothing_held, option, plain}
+use Rattle.clap.specs.Walk.{plain_word, positional, refused, rows_after, settled, short_or_plain, stop_after, subcommand, subcommand_met}
+use Rattle.clap.specs.Walk.{subcommand_or_other, to_positional, trailing, value, waits, walk, walk_from, walked, walked_from, word_met}
 use Rattle.clap.specs.Facts.{explicit_source}
 use Rattle.clap.specs.declared.error.kind.ErrorKind.{ErrorKind}
-use Rattle.clap.specs.Faults.{check_fault, defaults_fault, entered_fault, fault_of, level_fault, other_fault, settle_fault, step_fault, turn_fault, walk_fault, word_fault}
+use Rattle.clap.specs.Faults.{check_fault, defaults_fault, entered_fault, fault_of, level_fault}
+use Rattle.clap.specs.Faults.{other_fault, settle_fault, step_fault, turn_fault, walk_fault, word_fault}
 use Rattle.clap.specs.Kinds.{Kinds, check_kinds, or_else}
 use Rattle.clap.specs.Lexer.{long_of, short_of}
 use Rattle.clap.specs.Simple.{Shape, matches_of, argument_words, built, entered, label_of, names_of, rows_at, subcommand_of}
@@ -86,7 +91,8 @@ word_other : (s : Shape) (names : Names) (is_trailing : Bool) (waiting : Waiting
 word_other s names true waiting position word h on none = tt
 word_other s names false waiting position word h on none = named_other s (subcommand_met names waiting word) waiting position word h on none
 
-positional_other : (c : List Rule) (found : Option Rule) (word : Text) (w : Walk) (h : Held) → IsOther w.stopped → IsOther (to_positional c found word w h).stopped
+positional_other : (c : List Rule) (found : Option Rule) (word : Text) (w : Walk) (h : Held)
+    → IsOther w.stopped → IsOther (to_positional c found word w h).stopped
 positional_other c None word w h other = other
 positional_other c (Some a) word w h other = tt
 
@@ -173,7 +179,8 @@ none_wanted s rows has none = no_third_kind (wants_help s rows has) (not has && 
 subcommand_is : (s : Shape) (rows : List Row) (has : Bool) → s.subcommand_required ≡ true → check_fault s rows has ≡ [] → has ≡ true
 subcommand_is s rows true required none = refl
 subcommand_is s rows false required none =
-    let not_required : s.subcommand_required ≡ false = no_second_kind (wants_help s rows false) (not false && s.subcommand_required) (wants_argument s rows false) none in
+    let not_required : s.subcommand_required ≡ false =
+    no_second_kind (wants_help s rows false) (not false && s.subcommand_required) (wants_argument s rows false) none in
     absurd cc
 
 is_there : (given others : Bool) → (not given || others) ≡ false → given ≡ true
@@ -283,8 +290,16 @@ stop_complete : (stop : Option (Text × List Text)) → IsOther stop → is_some
     → HasAllValues (entered (built desk) stop)
 stop_complete None other is none = absurd cc
 stop_complete (Some p) other is none =
-    found_complete p.0 (built desk).subs p.1
-    (inr check_complete, (inr decide_complete, (inr beyond_complete, (inr deliver_complete, (inr print_complete, (inr review_complete, (inr rebuild_complete, (inr serve_complete, (inl (other_name p.0 other), tt))))))))) is none
+    found_complete p.0 (built desk).subs p.1 (
+      inr check_complete,
+      (
+        inr decide_complete,
+        (
+          inr beyond_complete,
+          (inr deliver_complete, (inr print_complete, (inr review_complete, (inr rebuild_complete, (inr serve_complete, (inl (other_name p.0 other), tt)))))),
+        ),
+      ),
+    ) is none
 
 pub complete : (words : List Text) → fault_of desk words ≡ [] → HasAllValues (subcommand_of desk words)
 complete words none =

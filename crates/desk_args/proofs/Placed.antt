@@ -1,12 +1,15 @@
 -- Words that are no options are taken by their places.
-use Rattle.std.specs.Prelude.{◌≡◌, ◌&&◌, ◌==◌, Bool, true, false, not, List, [], ◌∷◌, ◌++◌, ℕ, Option, Some, None, is_some, if◌then◌else◌, find, fold, option_and_then, option_map, refl}
+use Rattle.std.specs.Prelude.{◌≡◌, ◌&&◌, ◌==◌, Bool, true, false, not, List, [], ◌∷◌, ◌++◌, ℕ, Option, Some}
+use Rattle.std.specs.Prelude.{None, is_some, if◌then◌else◌, find, fold, option_and_then, option_map, refl}
 use Rattle.std.specs.List.{list_all}
 use Rattle.std.specs.Option.{option_map_or}
 use Rattle.std.specs.Str.{bytes_eq}
 use Rattle.std.proofs.Common.{◌∙◌, ap, ap₂, append_assoc, sym}
 use Rattle.std.proofs.lemmas.List.{append-nil}
-use Rattle.clap.specs.Walk.{answers_to, stop_after, Held, Names, Rule, Text, Waiting, Walk, arg_by_index, finished, idle, is_multiple, nothing_held, option, positional, rows_after, settled, to_positional, value, walk, walk_from, walked, word_met}
-use Rattle.clap.specs.Faults.{built_fault, check_fault, entered_fault, defaults_fault, level_fault, settle_fault, step_fault, turn_fault, walk_fault, word_fault}
+use Rattle.clap.specs.Walk.{answers_to, stop_after, Held, Names, Rule, Text, Waiting, Walk, arg_by_index, finished, idle, is_multiple}
+use Rattle.clap.specs.Walk.{nothing_held, option, positional, rows_after, settled, to_positional, value, walk, walk_from, walked, word_met}
+use Rattle.clap.specs.Faults.{built_fault, check_fault, entered_fault, defaults_fault, level_fault}
+use Rattle.clap.specs.Faults.{settle_fault, step_fault, turn_fault, walk_fault, word_fault}
 use Rattle.clap.specs.Kinds.{Kinds, or_else}
 use Rattle.clap.specs.Lexer.{long_of, long_of_rest, short_of, short_of_rest, strip_byte}
 use Rattle.clap.specs.Simple.{App, Shape, entered, label_of, names_of, rows_at}

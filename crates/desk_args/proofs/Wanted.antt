@@ -53,5 +53,6 @@ is_serve name rows (inr (inr (inl p))) check decide beyond deliver print review 
 is_serve name rows (inr (inr (inr (inl p)))) check decide beyond deliver print review rebuild = absurd (other name (codes "deliver") deliver p.0)
 is_serve name rows (inr (inr (inr (inr (inl p))))) check decide beyond deliver print review rebuild = absurd (other name (codes "print") print p.0)
 is_serve name rows (inr (inr (inr (inr (inr (inl p)))))) check decide beyond deliver print review rebuild = absurd (other name (codes "review") review p.0)
-is_serve name rows (inr (inr (inr (inr (inr (inr (inl p))))))) check decide beyond deliver print review rebuild = absurd (other name (codes "rebuild") rebuild p.0)
+is_serve name rows (inr (inr (inr (inr (inr (inr (inl p))))))) check decide beyond deliver print review rebuild =
+    absurd (other name (codes "rebuild") rebuild p.0)
 is_serve name rows (inr (inr (inr (inr (inr (inr (inr p))))))) check decide beyond deliver print review rebuild = sym p.0

@@ -1,9 +1,11 @@
 -- The command line, and what it says to do.
-use Rattle.std.specs.Prelude.{◌≡◌, ◌≢◌, ◌⊎◌, ℕ, ◌<◌, ◌≤◌, ◌&&◌, Bool, true, false, List, [], ◌∷◌, Option, Some, None, codes, is_some, length, nat_le, nat_lt, unwrap_or}
+use Rattle.std.specs.Prelude.{◌≡◌, ◌≢◌, ◌⊎◌, ℕ, ◌<◌, ◌≤◌, ◌&&◌, Bool, true, false, List, [], ◌∷◌}
+use Rattle.std.specs.Prelude.{Option, Some, None, codes, is_some, length, nat_le, nat_lt, unwrap_or}
 use Rattle.std.specs.Char.{is_ascii_digit}
 use Rattle.std.specs.List.{list_all}
 use Rattle.std.specs.Str.Parse.{digits_value}
-use Rattle.clap.specs.Words.{App, Row, Rule, Text, first_of, all_of, fault_of, new_app, new_rule, subcommand_of, with_rule, with_subcommand}
+use Rattle.clap.specs.Words.{App, Row, Rule, Text, first_of, all_of, fault_of, new_app}
+use Rattle.clap.specs.Words.{new_rule, subcommand_of, with_rule, with_subcommand}
 use Rattle.clap.specs.declared.builder.ArgAction.TheVariants.{Set, Append}
 use Rattle.sudo_words.specs.Moment.{IsStamp}
 use Rattle.sudo_words.specs.Word.{is_arg, is_file_path, is_host_name, is_name}
@@ -13,7 +15,8 @@ use Rattle.desk_args.specs.declared.task.Places.{Places}
 use Rattle.desk_args.specs.declared.task.Store.{Store}
 use Rattle.desk_args.specs.declared.task.Store.TheVariants.{Memory, File}
 use Rattle.desk_args.specs.declared.task.Job.{Job}
-use Rattle.desk_args.specs.declared.task.Job.TheVariants.{Beyond, Check, Decide, Deliver, Print, Rebuild, Review, Serve}
+use Rattle.desk_args.specs.declared.task.Job.TheVariants.{Beyond, Check, Decide, Deliver}
+use Rattle.desk_args.specs.declared.task.Job.TheVariants.{Print, Rebuild, Review, Serve}
 
 -- ---- the program's commands
 
@@ -39,7 +42,8 @@ abbrev pub check_args : List Text
 check_args = codes "FILE" ∷ []
 
 abbrev pub decide_args : List Text
-decide_args = codes "FILE" ∷ codes "USER" ∷ codes "HOST" ∷ codes "RUNAS" ∷ codes "AT" ∷ codes "PATH" ∷ []
+decide_args =
+    codes "FILE" ∷ codes "USER" ∷ codes "HOST" ∷ codes "RUNAS" ∷ codes "AT" ∷ codes "PATH" ∷ []
 
 abbrev pub beyond_args : List Text
 beyond_args = codes "A" ∷ codes "B" ∷ []
@@ -63,10 +67,8 @@ decide = with_rule (with_wanted (new_app (codes "decide")) decide_args) (several
 -- `beyond A B [--user USER] [--host HOST] [--runas RUNAS]`
 abbrev pub beyond : App
 beyond =
-    with_rule
-    (with_rule
-    (with_rule (with_wanted (new_app (codes "beyond")) beyond_args) (optional (codes "USER") (codes "user")))
-    (optional (codes "HOST") (codes "host")))
+    with_rule (with_rule (with_rule (with_wanted (new_app (codes "beyond")) beyond_args)
+    (optional (codes "USER") (codes "user"))) (optional (codes "HOST") (codes "host")))
     (optional (codes "RUNAS") (codes "runas"))
 
 -- a command on a desk, with an argument of its own
@@ -79,7 +81,8 @@ deliver = on_desk (codes "deliver") (codes "RELAY")
 
 -- `print ROSTER BASE STORE HOST [--after AFTER]`
 abbrev pub print : App
-print = with_rule (on_desk (codes "print") (codes "HOST")) (optional (codes "AFTER") (codes "after"))
+print =
+    with_rule (on_desk (codes "print") (codes "HOST")) (optional (codes "AFTER") (codes "after"))
 
 -- `review ROSTER BASE STORE AT`
 abbrev pub review : App
@@ -91,7 +94,8 @@ rebuild = with_wanted (new_app (codes "rebuild")) place_args
 
 -- `serve ROSTER BASE STORE ADDR [--requests REQUESTS]`
 abbrev pub serve : App
-serve = with_rule (on_desk (codes "serve") (codes "ADDR")) (optional (codes "REQUESTS") (codes "requests"))
+serve = with_rule (on_desk (codes "serve") (codes "ADDR"))
+    (optional (codes "REQUESTS") (codes "requests"))
 
 -- the command with these commands under it as well
 abbrev pub with_subcommands : App → List App → App
@@ -108,7 +112,9 @@ on_desks = deliver ∷ print ∷ review ∷ rebuild ∷ serve ∷ []
 
 -- the program, which is run by one of its commands
 abbrev pub program : App
-program = let top = new_app (codes "desk") in record top { top = record top.top { subcommand_required = true; has_version = true } }
+program =
+    let top = new_app (codes "desk") in
+    record top { top = record top.top { subcommand_required = true; has_version = true } }
 
 -- `desk COMMAND`
 abbrev pub desk : App
@@ -139,7 +145,8 @@ values id rows = unwrap_or (all_of id rows) []
 
 -- at most so many values, each of the form
 abbrev pub HasWords : (Text → Bool) → ℕ → Text → List Row → List Text → Type 0
-HasWords form most id rows texts = (values id rows ≡ texts) × (list_all form texts ≡ true) × (length texts ≤ most)
+HasWords form most id rows texts =
+    (values id rows ≡ texts) × (list_all form texts ≡ true) × (length texts ≤ most)
 
 -- the run that the values of `decide` say
 pub record IsInvocation (rows : List Row) (run : Invocation) : Type 0 where
@@ -161,12 +168,14 @@ is_number text = nat_lt 0 (length text) && (nat_le (length text) 7 && list_all i
 
 -- such a number, from 1 to 1,000,000
 abbrev pub is_count : Text → Bool
-is_count text = is_number text && (nat_lt 0 (digits_value 10 text) && nat_le (digits_value 10 text) 1_000_000)
+is_count text =
+    is_number text && (nat_lt 0 (digits_value 10 text) && nat_le (digits_value 10 text) 1_000_000)
 
 -- the option has this number as its value, or it is left out
 abbrev pub HasCount : Text → List Row → Option ℕ → Type 0
 HasCount id rows None = first_of id rows ≡ None
-HasCount id rows (Some n) = (text : Text) × HasWord is_count id rows text × (n ≡ digits_value 10 text)
+HasCount id rows (Some n) =
+    (text : Text) × HasWord is_count id rows text × (n ≡ digits_value 10 text)
 
 -- the scope that the options of `beyond` say: what is left out is not fixed
 pub record IsScopeOf (rows : List Row) (scope : Scope) : Type 0 where
@@ -183,7 +192,8 @@ SaysStore text (File path) = (text ≡ path) × (path ≢ codes "-")
 abbrev pub HasStore : Text → List Row → Store → Type 0
 HasStore id rows store = (text : Text) × HasValue id rows text × SaysStore text store
 
--- the places that the values say: the paths of the roster and of the base, and where messages are kept
+-- the places that the values say: the paths of the roster and of the base, and where messages are
+-- kept
 pub record ArePlaces (rows : List Row) (places : Places) : Type 0 where
   pub roster : HasValue (codes "ROSTER") rows places.roster
   pub base : HasValue (codes "BASE") rows places.base
@@ -198,17 +208,23 @@ Says (Some line) (Check file) = (line.0 ≡ codes "check") × HasValue (codes "F
 Says (Some line) (Decide file run) =
     (line.0 ≡ codes "decide") × HasValue (codes "FILE") line.1 file × IsInvocation line.1 run
 Says (Some line) (Beyond a b scope) =
-    (line.0 ≡ codes "beyond") × HasValue (codes "A") line.1 a × HasValue (codes "B") line.1 b × IsScopeOf line.1 scope
-Says (Some line) (Deliver places relay) = (line.0 ≡ codes "deliver") × ArePlaces line.1 places × HasValue (codes "RELAY") line.1 relay
+    (line.0 ≡ codes "beyond") × HasValue (codes "A") line.1 a
+    × HasValue (codes "B") line.1 b × IsScopeOf line.1 scope
+Says (Some line) (Deliver places relay) =
+    (line.0 ≡ codes "deliver") × ArePlaces line.1 places × HasValue (codes "RELAY") line.1 relay
 Says (Some line) (Print places host after) =
-    (line.0 ≡ codes "print") × ArePlaces line.1 places × HasWord is_host_name (codes "HOST") line.1 host
+    (line.0 ≡ codes "print") × ArePlaces line.1 places
+    × HasWord is_host_name (codes "HOST") line.1 host
     × HasMomentIfGiven (codes "AFTER") line.1 after
-Says (Some line) (Review places at) = (line.0 ≡ codes "review") × ArePlaces line.1 places × HasMoment (codes "AT") line.1 at
+Says (Some line) (Review places at) =
+    (line.0 ≡ codes "review") × ArePlaces line.1 places × HasMoment (codes "AT") line.1 at
 Says (Some line) (Rebuild places) = (line.0 ≡ codes "rebuild") × ArePlaces line.1 places
 Says (Some line) (Serve places addr requests) =
-    (line.0 ≡ codes "serve") × ArePlaces line.1 places × HasValue (codes "ADDR") line.1 addr × HasCount (codes "REQUESTS") line.1 requests
+    (line.0 ≡ codes "serve") × ArePlaces line.1 places
+    × HasValue (codes "ADDR") line.1 addr × HasCount (codes "REQUESTS") line.1 requests
 
--- By clap's rules the words are a command of the program, without a fault, and their values say the job.
+-- By clap's rules the words are a command of the program, without a fault, and their values say the
+-- job.
 pub record IsCommandLine (words : List Text) (job : Job) : Type 0 where
   pub faultless : fault_of desk words ≡ []
   pub says : Says (subcommand_of desk words) job
@@ -229,7 +245,8 @@ pub record HasBadMoment (id : Text) (rows : List Row) : Type 0 where
 
 -- too many values, or one that is not of the form
 abbrev pub HasBadWords : (Text → Bool) → ℕ → Text → List Row → Type 0
-HasBadWords form most id rows = (most < length (values id rows)) ⊎ (list_all form (values id rows) ≡ false)
+HasBadWords form most id rows =
+    (most < length (values id rows)) ⊎ (list_all form (values id rows) ≡ false)
 
 -- one of the values of `decide` is not of its form
 pub data HasBadValue (rows : List Row) : Type 0 where
@@ -261,7 +278,8 @@ SaysBadly (Some line) =
     ⊎ ((line.0 ≡ codes "review") × HasBadMoment (codes "AT") line.1)
     ⊎ ((line.0 ≡ codes "serve") × HasBadWord is_count (codes "REQUESTS") line.1)
 
--- By clap's rules the words are a command of the program, without a fault, but a value is not of its form.
+-- By clap's rules the words are a command of the program, without a fault, but a value is not of
+-- its form.
 pub record IsBadLine (words : List Text) : Type 0 where
   pub faultless : fault_of desk words ≡ []
   pub says : SaysBadly (subcommand_of desk words)

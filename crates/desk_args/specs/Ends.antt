@@ -1,7 +1,8 @@
 -- How the program ends.
 use Rattle.std.specs.Prelude.{ℕ}
 use Rattle.desk_args.specs.declared.status.Status.{Status}
-use Rattle.desk_args.specs.declared.status.Status.TheVariants.{Denied, Done, Found, LinesRefused, Refused}
+use Rattle.desk_args.specs.declared.status.Status.TheVariants.{Denied, Done, Found}
+use Rattle.desk_args.specs.declared.status.Status.TheVariants.{LinesRefused, Refused}
 
 -- the program's exit status
 abbrev pub exit_status : Status → ℕ

@@ -7,9 +7,11 @@ use Rattle.sudo_words.specs.Word.{is_arg, is_file_path, is_host_name, is_name}
 use Rattle.sudo_decide.specs.declared.invocation.Invocation.{Invocation}
 use Rattle.desk_args.specs.CommandLine.{SaysStore}
 use Rattle.desk_args.specs.declared.task.Job.{Job}
-use Rattle.desk_args.specs.declared.task.Job.TheVariants.{Beyond, Check, Decide, Deliver, Print, Rebuild, Review, Serve}
+use Rattle.desk_args.specs.declared.task.Job.TheVariants.{Beyond, Check, Decide, Deliver}
+use Rattle.desk_args.specs.declared.task.Job.TheVariants.{Print, Rebuild, Review, Serve}
 
--- A word is an operand where it does not begin with `-`, or is `-` alone (POSIX.1-2017, XBD 12.2, guidelines 4 and 13).
+-- A word is an operand where it does not begin with `-`, or is `-` alone (POSIX.1-2017, XBD 12.2,
+-- guidelines 4 and 13).
 abbrev pub is_operand : Text → Bool
 is_operand [] = true
 is_operand (b ∷ []) = true
@@ -30,15 +32,21 @@ SaysByPlace words (Check file) = words ≡ codes "check" ∷ file ∷ []
 SaysByPlace words (Decide file run) =
     (at : Text) × IsStamp at run.at × HasForms run
     × (words ≡ codes "decide" ∷ file ∷ run.user ∷ run.host ∷ run.runas ∷ at ∷ run.path ∷ run.args)
-SaysByPlace words (Beyond a b scope) = (words ≡ codes "beyond" ∷ a ∷ b ∷ []) × (scope ≡ record { user = None; host = None; runas = None })
+SaysByPlace words (Beyond a b scope) = (words ≡ codes "beyond" ∷ a ∷ b ∷ [])
+    × (scope ≡ record { user = None; host = None; runas = None })
 SaysByPlace words (Deliver places relay) =
-    (store : Text) × SaysStore store places.store × (words ≡ codes "deliver" ∷ places.roster ∷ places.base ∷ store ∷ relay ∷ [])
+    (store : Text) × SaysStore store places.store
+    × (words ≡ codes "deliver" ∷ places.roster ∷ places.base ∷ store ∷ relay ∷ [])
 SaysByPlace words (Print places host after) =
-    (store : Text) × SaysStore store places.store × (words ≡ codes "print" ∷ places.roster ∷ places.base ∷ store ∷ host ∷ [])
+    (store : Text) × SaysStore store places.store
+    × (words ≡ codes "print" ∷ places.roster ∷ places.base ∷ store ∷ host ∷ [])
     × (is_host_name host ≡ true) × (after ≡ None)
 SaysByPlace words (Review places at) =
-    (store text : Text) × SaysStore store places.store × IsStamp text at × (words ≡ codes "review" ∷ places.roster ∷ places.base ∷ store ∷ text ∷ [])
+    (store text : Text) × SaysStore store places.store
+    × IsStamp text at × (words ≡ codes "review" ∷ places.roster ∷ places.base ∷ store ∷ text ∷ [])
 SaysByPlace words (Rebuild places) =
-    (store : Text) × SaysStore store places.store × (words ≡ codes "rebuild" ∷ places.roster ∷ places.base ∷ store ∷ [])
+    (store : Text) × SaysStore store places.store
+    × (words ≡ codes "rebuild" ∷ places.roster ∷ places.base ∷ store ∷ [])
 SaysByPlace words (Serve places addr requests) =
-    (store : Text) × SaysStore store places.store × (words ≡ codes "serve" ∷ places.roster ∷ places.base ∷ store ∷ addr ∷ []) × (requests ≡ None)
+    (store : Text) × SaysStore store places.store
+    × (words ≡ codes "serve" ∷ places.roster ∷ places.base ∷ store ∷ addr ∷ []) × (requests ≡ None)

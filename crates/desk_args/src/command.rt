@@ -1,7 +1,9 @@
 //! The program's commands, as clap reads them.
 
-ghost use Rattle.std.specs.Prelude.{◌≡◌, ◌++◌, List, IfOk, IfErr, OnOk, [], ◌∷◌, map, string_bytes, false};
-ghost use Rattle.clap.specs.Words.{App, Rule, fault_of, kind_of, new_app, rule_of, subcommand_of, subcommand_rows_of};
+ghost use Rattle.std.specs.Prelude.{◌≡◌, ◌++◌, List, IfOk, IfErr, OnOk};
+ghost use Rattle.std.specs.Prelude.{[], ◌∷◌, map, string_bytes, false};
+ghost use Rattle.clap.specs.Words.{App, Rule, fault_of, kind_of, new_app};
+ghost use Rattle.clap.specs.Words.{rule_of, subcommand_of, subcommand_rows_of};
 ghost use Rattle.desk_args.specs.CommandLine as line;
 ghost use Rattle.desk_args.specs.CommandLine.{desk};
 ghost use Rattle.desk_args.specs.private.Commands.{AreCommands, HasRules, IsCommand, with_rules};
@@ -99,8 +101,8 @@ fn push_wanted<'a>(
     args: &mut Vec<Arg<'a>>,
     names: &[(&'a str, &'a str)],
 ) -> Result<(), AllocError>
-    ensures { (rules : List Rule) → HasRules args.old.items rules
-        → OnOk result (HasRules args.new.items (rules ++ map (λ n. line.wanted n.0.now) names.now)) }
+    ensures { (rules : List Rule) → HasRules args.old.items rules → OnOk result
+        (HasRules args.new.items (rules ++ map (λ n. line.wanted n.0.now) names.now)) }
 {
     for (id, help) in names {
         args.push(wanted(alloc, id, help))?;
@@ -127,8 +129,8 @@ fn push_options<'a>(
     args: &mut Vec<Arg<'a>>,
     options: &[(&'a str, &'a str, &'a str)],
 ) -> Result<(), AllocError>
-    ensures { (rules : List Rule) → HasRules args.old.items rules
-        → OnOk result (HasRules args.new.items (rules ++ map (λ o. line.optional o.0.now o.1.now) options.now)) }
+    ensures { (rules : List Rule) → HasRules args.old.items rules → OnOk result
+        (HasRules args.new.items (rules ++ map (λ o. line.optional o.0.now o.1.now) options.now)) }
 {
     for (id, long, help) in options {
         args.push(optional(alloc, id, long, help))?;
@@ -143,7 +145,8 @@ fn command_of<'a>(
     about: &'a str,
     args: Vec<Arg<'a>>,
 ) -> Result<Command<'a>, AllocError>
-    ensures { (rules : List Rule) → HasRules args.entry.items rules → IfOk result (IsCommand (with_rules (new_app name.entry.now) rules)) }
+    ensures { (rules : List Rule) → HasRules args.entry.items rules
+        → IfOk result (IsCommand (with_rules (new_app name.entry.now) rules)) }
 {
     Command::new(alloc, name)
         .about(about)
@@ -159,8 +162,8 @@ fn command_with<'a>(
     names: &[(&'a str, &'a str)],
     options: &[(&'a str, &'a str, &'a str)],
 ) -> Result<Command<'a>, AllocError>
-    ensures { IfOk result (IsCommand (with_rules (new_app name.entry.now)
-        (map (λ n. line.wanted n.0.now) names.now ++ map (λ o. line.optional o.0.now o.1.now) options.now))) }
+    ensures { IfOk result (IsCommand (with_rules (new_app name.entry.now) (map (λ n.
+        line.wanted n.0.now) names.now ++ map (λ o. line.optional o.0.now o.1.now) options.now))) }
 {
     let mut args: Vec<Arg<'a>> = Vec::new(alloc);
     push_wanted(alloc, &mut args, names)?;
@@ -168,7 +171,8 @@ fn command_with<'a>(
     command_of(alloc, name, about, args)
 }
 
-/// A command on a desk, which wants its roster, its base policy and its store, and then an argument of its own.
+/// A command on a desk, which wants its roster, its base policy and its store, and then an argument
+/// of its own.
 fn on_desk<'a>(
     alloc: Global,
     name: &'a str,
@@ -177,8 +181,8 @@ fn on_desk<'a>(
     help: &'a str,
     options: &[(&'a str, &'a str, &'a str)],
 ) -> Result<Command<'a>, AllocError>
-    ensures { IfOk result (IsCommand (with_rules (new_app name.entry.now)
-        (map line.wanted (line.desk_args id.entry.now) ++ map (λ o. line.optional o.0.now o.1.now) options.now))) }
+    ensures { IfOk result (IsCommand (with_rules (new_app name.entry.now) (map line.wanted
+        (line.desk_args id.entry.now) ++ map (λ o. line.optional o.0.now o.1.now) options.now))) }
 {
     let names = [
         ("ROSTER", "The roster"),
@@ -257,15 +261,16 @@ fn push_made<'a>(
     commands: &mut Vec<Command<'a>>,
     made: Result<Command<'a>, AllocError>,
 ) -> Result<(), AllocError>
-    ensures { (apps : List App) (app : App) → AreCommands commands.old.items apps → IfOk made.entry (IsCommand app)
-        → OnOk result (AreCommands commands.new.items (apps ++ app ∷ [])) }
+    ensures { (apps : List App) (app : App) → AreCommands commands.old.items apps → IfOk made.entry
+        (IsCommand app) → OnOk result (AreCommands commands.new.items (apps ++ app ∷ [])) }
 {
     Ok(commands.push(made?)?)
 }
 
 /// Adds the commands on policies.
 fn push_on_policies<'a>(alloc: Global, commands: &mut Vec<Command<'a>>) -> Result<(), AllocError>
-    ensures { (apps : List App) → AreCommands commands.old.items apps → OnOk result (AreCommands commands.new.items (apps ++ line.on_policies)) }
+    ensures { (apps : List App) → AreCommands commands.old.items apps
+        → OnOk result (AreCommands commands.new.items (apps ++ line.on_policies)) }
 {
     push_made(commands, check(alloc))?;
     push_made(commands, decide(alloc))?;
@@ -274,7 +279,8 @@ fn push_on_policies<'a>(alloc: Global, commands: &mut Vec<Command<'a>>) -> Resul
 
 /// Adds the commands on a desk.
 fn push_on_desks<'a>(alloc: Global, commands: &mut Vec<Command<'a>>) -> Result<(), AllocError>
-    ensures { (apps : List App) → AreCommands commands.old.items apps → OnOk result (AreCommands commands.new.items (apps ++ line.on_desks)) }
+    ensures { (apps : List App) → AreCommands commands.old.items apps
+        → OnOk result (AreCommands commands.new.items (apps ++ line.on_desks)) }
 {
     push_made(commands, deliver(alloc))?;
     push_made(commands, print(alloc))?;
@@ -310,8 +316,10 @@ fn fault_of_error(error: clap::Error) -> JobFault
 /// The matches of the words, by clap's rules.
 pub fn parsed<'a>(alloc: Global, words: &'a [String]) -> Result<ArgMatches<'a>, JobFault>
     ensures faultless { IfOk result (λ m. fault_of desk (map string_bytes words.entry.now) ≡ []) }
-    ensures matches { IfOk result (λ m. subcommand_rows_of m ≡ subcommand_of desk (map string_bytes words.entry.now)) }
-    ensures only { IfErr result (λ e. fault_of desk (map string_bytes words.entry.now) ≡ [] → e ≡ NoMemory) }
+    ensures matches { IfOk result
+        (λ m. subcommand_rows_of m ≡ subcommand_of desk (map string_bytes words.entry.now)) }
+    ensures only { IfErr result
+        (λ e. fault_of desk (map string_bytes words.entry.now) ≡ [] → e ≡ NoMemory) }
     ensures word { IfErr result (λ e. e ≡ BadWord → ⊥) }
 {
     let command = command(alloc)?;

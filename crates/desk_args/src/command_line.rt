@@ -1,11 +1,14 @@
 //! What the command line says to do.
 
-ghost use Rattle.std.specs.Prelude.{◌≡◌, ◌≢◌, IfOk, IfErr, MatchResult, Some, [], ◌∷◌, codes, map, string_bytes};
+ghost use Rattle.std.specs.Prelude.{◌≡◌, ◌≢◌, IfOk, IfErr, MatchResult};
+ghost use Rattle.std.specs.Prelude.{Some, [], ◌∷◌, codes, map, string_bytes};
 ghost use Rattle.clap.specs.Words.{fault_of, found_of, rows_of, subcommand_rows_of};
 ghost use Rattle.sudo_decide.specs.declared.invocation.Invocation.{Invocation as Run};
 ghost use Rattle.sudo_decide.specs.declared.scope.Scope.{Scope as Fixed};
 ghost use Rattle.desk_args.specs.CommandLine as line;
-ghost use Rattle.desk_args.specs.CommandLine.{ArePlaces, HasBadScope, HasBadValue, HaveSome, IsBadLine, IsCommandLine, HasAllValues, IsInvocation, IsScopeOf, Says, SaysBadly, desk};
+ghost use Rattle.desk_args.specs.CommandLine.{ArePlaces, HasBadScope, HasBadValue, HaveSome};
+ghost use Rattle.desk_args.specs.CommandLine.{IsBadLine, IsCommandLine, HasAllValues};
+ghost use Rattle.desk_args.specs.CommandLine.{IsInvocation, IsScopeOf, Says, SaysBadly, desk};
 ghost use Rattle.desk_args.specs.Faults.{IsUsage};
 ghost use Rattle.desk_args.specs.private.Readings.{IsReading};
 ghost use Rattle.desk_args.specs.declared.fault.JobFault.TheVariants.{BadWord, NoMemory};
@@ -25,7 +28,8 @@ use sudo_decide::{Invocation, Scope};
 fn invocation(alloc: Global, matches: &ArgMatches<'_>) -> Result<Invocation, JobFault>
     requires { HaveSome line.decide_args (rows_of (found_of matches.now)) }
     ensures found { IfOk result (λ run. IsInvocation (rows_of (found_of matches.now)) run) }
-    ensures only { (run : Run) → IsInvocation (rows_of (found_of matches.now)) run → MatchResult result (λ r. r ≡ run) (λ e. e ≡ NoMemory) }
+    ensures only { (run : Run) → IsInvocation (rows_of (found_of matches.now)) run
+        → MatchResult result (λ r. r ≡ run) (λ e. e ≡ NoMemory) }
     ensures word { IfErr result (λ e. e ≡ BadWord → HasBadValue (rows_of (found_of matches.now))) }
     ensures usage { IfErr result (λ e. IsUsage e → ⊥) }
 {
@@ -47,9 +51,12 @@ fn invocation(alloc: Global, matches: &ArgMatches<'_>) -> Result<Invocation, Job
 
 fn check(alloc: Global, matches: &ArgMatches<'_>) -> Result<Job, JobFault>
     requires { HaveSome line.check_args (rows_of (found_of matches.now)) }
-    ensures found { IfOk result (λ j. Says (Some (codes "check", rows_of (found_of matches.now))) j) }
-    ensures only { (j : Task) → Says (Some (codes "check", rows_of (found_of matches.now))) j → MatchResult result (λ k. k ≡ j) (λ e. e ≡ NoMemory) }
-    ensures word { IfErr result (λ e. e ≡ BadWord → SaysBadly (Some (codes "check", rows_of (found_of matches.now)))) }
+    ensures found { IfOk result
+        (λ j. Says (Some (codes "check", rows_of (found_of matches.now))) j) }
+    ensures only { (j : Task) → Says (Some (codes "check", rows_of (found_of matches.now))) j
+        → MatchResult result (λ k. k ≡ j) (λ e. e ≡ NoMemory) }
+    ensures word { IfErr result
+        (λ e. e ≡ BadWord → SaysBadly (Some (codes "check", rows_of (found_of matches.now)))) }
     ensures usage { IfErr result (λ e. IsUsage e → ⊥) }
 {
     Ok(Job::Check {
@@ -59,9 +66,12 @@ fn check(alloc: Global, matches: &ArgMatches<'_>) -> Result<Job, JobFault>
 
 fn decide(alloc: Global, matches: &ArgMatches<'_>) -> Result<Job, JobFault>
     requires { HaveSome line.decide_args (rows_of (found_of matches.now)) }
-    ensures found { IfOk result (λ j. Says (Some (codes "decide", rows_of (found_of matches.now))) j) }
-    ensures only { (j : Task) → Says (Some (codes "decide", rows_of (found_of matches.now))) j → MatchResult result (λ k. k ≡ j) (λ e. e ≡ NoMemory) }
-    ensures word { IfErr result (λ e. e ≡ BadWord → SaysBadly (Some (codes "decide", rows_of (found_of matches.now)))) }
+    ensures found { IfOk result
+        (λ j. Says (Some (codes "decide", rows_of (found_of matches.now))) j) }
+    ensures only { (j : Task) → Says (Some (codes "decide", rows_of (found_of matches.now))) j
+        → MatchResult result (λ k. k ≡ j) (λ e. e ≡ NoMemory) }
+    ensures word { IfErr result
+        (λ e. e ≡ BadWord → SaysBadly (Some (codes "decide", rows_of (found_of matches.now)))) }
     ensures usage { IfErr result (λ e. IsUsage e → ⊥) }
 {
     let file = text(alloc, matches, "FILE")?;
@@ -72,7 +82,8 @@ fn decide(alloc: Global, matches: &ArgMatches<'_>) -> Result<Job, JobFault>
 /// What the options of `beyond` fix.
 fn scope_of(alloc: Global, matches: &ArgMatches<'_>) -> Result<Scope, JobFault>
     ensures found { IfOk result (IsScopeOf (rows_of (found_of matches.now))) }
-    ensures only { (s : Fixed) → IsScopeOf (rows_of (found_of matches.now)) s → MatchResult result (λ r. r ≡ s) (λ e. e ≡ NoMemory) }
+    ensures only { (s : Fixed) → IsScopeOf (rows_of (found_of matches.now)) s
+        → MatchResult result (λ r. r ≡ s) (λ e. e ≡ NoMemory) }
     ensures word { IfErr result (λ e. e ≡ BadWord → HasBadScope (rows_of (found_of matches.now))) }
     ensures usage { IfErr result (λ e. IsUsage e → ⊥) }
 {
@@ -84,9 +95,12 @@ fn scope_of(alloc: Global, matches: &ArgMatches<'_>) -> Result<Scope, JobFault>
 
 fn beyond(alloc: Global, matches: &ArgMatches<'_>) -> Result<Job, JobFault>
     requires { HaveSome line.beyond_args (rows_of (found_of matches.now)) }
-    ensures found { IfOk result (λ j. Says (Some (codes "beyond", rows_of (found_of matches.now))) j) }
-    ensures only { (j : Task) → Says (Some (codes "beyond", rows_of (found_of matches.now))) j → MatchResult result (λ k. k ≡ j) (λ e. e ≡ NoMemory) }
-    ensures word { IfErr result (λ e. e ≡ BadWord → SaysBadly (Some (codes "beyond", rows_of (found_of matches.now)))) }
+    ensures found { IfOk result
+        (λ j. Says (Some (codes "beyond", rows_of (found_of matches.now))) j) }
+    ensures only { (j : Task) → Says (Some (codes "beyond", rows_of (found_of matches.now))) j
+        → MatchResult result (λ k. k ≡ j) (λ e. e ≡ NoMemory) }
+    ensures word { IfErr result
+        (λ e. e ≡ BadWord → SaysBadly (Some (codes "beyond", rows_of (found_of matches.now)))) }
     ensures usage { IfErr result (λ e. IsUsage e → ⊥) }
 {
     let a = text(alloc, matches, "A")?;
@@ -99,7 +113,8 @@ fn beyond(alloc: Global, matches: &ArgMatches<'_>) -> Result<Job, JobFault>
 fn places(alloc: Global, matches: &ArgMatches<'_>) -> Result<Places, AllocError>
     requires { HaveSome line.place_args (rows_of (found_of matches.now)) }
     ensures found { IfOk result (λ p. ArePlaces (rows_of (found_of matches.now)) p) }
-    ensures only { (p : Parts) → ArePlaces (rows_of (found_of matches.now)) p → IfOk result (λ q. q ≡ p) }
+    ensures only { (p : Parts) → ArePlaces (rows_of (found_of matches.now)) p
+        → IfOk result (λ q. q ≡ p) }
 {
     let roster = text(alloc, matches, "ROSTER")?;
     let base = text(alloc, matches, "BASE")?;
@@ -113,9 +128,12 @@ fn places(alloc: Global, matches: &ArgMatches<'_>) -> Result<Places, AllocError>
 
 fn deliver(alloc: Global, matches: &ArgMatches<'_>) -> Result<Job, JobFault>
     requires { HaveSome (line.desk_args (codes "RELAY")) (rows_of (found_of matches.now)) }
-    ensures found { IfOk result (λ j. Says (Some (codes "deliver", rows_of (found_of matches.now))) j) }
-    ensures only { (j : Task) → Says (Some (codes "deliver", rows_of (found_of matches.now))) j → MatchResult result (λ k. k ≡ j) (λ e. e ≡ NoMemory) }
-    ensures word { IfErr result (λ e. e ≡ BadWord → SaysBadly (Some (codes "deliver", rows_of (found_of matches.now)))) }
+    ensures found { IfOk result
+        (λ j. Says (Some (codes "deliver", rows_of (found_of matches.now))) j) }
+    ensures only { (j : Task) → Says (Some (codes "deliver", rows_of (found_of matches.now))) j
+        → MatchResult result (λ k. k ≡ j) (λ e. e ≡ NoMemory) }
+    ensures word { IfErr result
+        (λ e. e ≡ BadWord → SaysBadly (Some (codes "deliver", rows_of (found_of matches.now)))) }
     ensures usage { IfErr result (λ e. IsUsage e → ⊥) }
 {
     let relay = text(alloc, matches, "RELAY")?;
@@ -125,9 +143,12 @@ fn deliver(alloc: Global, matches: &ArgMatches<'_>) -> Result<Job, JobFault>
 
 fn print(alloc: Global, matches: &ArgMatches<'_>) -> Result<Job, JobFault>
     requires { HaveSome (line.desk_args (codes "HOST")) (rows_of (found_of matches.now)) }
-    ensures found { IfOk result (λ j. Says (Some (codes "print", rows_of (found_of matches.now))) j) }
-    ensures only { (j : Task) → Says (Some (codes "print", rows_of (found_of matches.now))) j → MatchResult result (λ k. k ≡ j) (λ e. e ≡ NoMemory) }
-    ensures word { IfErr result (λ e. e ≡ BadWord → SaysBadly (Some (codes "print", rows_of (found_of matches.now)))) }
+    ensures found { IfOk result
+        (λ j. Says (Some (codes "print", rows_of (found_of matches.now))) j) }
+    ensures only { (j : Task) → Says (Some (codes "print", rows_of (found_of matches.now))) j
+        → MatchResult result (λ k. k ≡ j) (λ e. e ≡ NoMemory) }
+    ensures word { IfErr result
+        (λ e. e ≡ BadWord → SaysBadly (Some (codes "print", rows_of (found_of matches.now)))) }
     ensures usage { IfErr result (λ e. IsUsage e → ⊥) }
 {
     let after = moment_if_given(matches, "AFTER")?;
@@ -142,9 +163,12 @@ fn print(alloc: Global, matches: &ArgMatches<'_>) -> Result<Job, JobFault>
 
 fn review(alloc: Global, matches: &ArgMatches<'_>) -> Result<Job, JobFault>
     requires { HaveSome (line.desk_args (codes "AT")) (rows_of (found_of matches.now)) }
-    ensures found { IfOk result (λ j. Says (Some (codes "review", rows_of (found_of matches.now))) j) }
-    ensures only { (j : Task) → Says (Some (codes "review", rows_of (found_of matches.now))) j → MatchResult result (λ k. k ≡ j) (λ e. e ≡ NoMemory) }
-    ensures word { IfErr result (λ e. e ≡ BadWord → SaysBadly (Some (codes "review", rows_of (found_of matches.now)))) }
+    ensures found { IfOk result
+        (λ j. Says (Some (codes "review", rows_of (found_of matches.now))) j) }
+    ensures only { (j : Task) → Says (Some (codes "review", rows_of (found_of matches.now))) j
+        → MatchResult result (λ k. k ≡ j) (λ e. e ≡ NoMemory) }
+    ensures word { IfErr result
+        (λ e. e ≡ BadWord → SaysBadly (Some (codes "review", rows_of (found_of matches.now)))) }
     ensures usage { IfErr result (λ e. IsUsage e → ⊥) }
 {
     let at = moment(matches, "AT")?;
@@ -154,9 +178,12 @@ fn review(alloc: Global, matches: &ArgMatches<'_>) -> Result<Job, JobFault>
 
 fn rebuild(alloc: Global, matches: &ArgMatches<'_>) -> Result<Job, JobFault>
     requires { HaveSome line.place_args (rows_of (found_of matches.now)) }
-    ensures found { IfOk result (λ j. Says (Some (codes "rebuild", rows_of (found_of matches.now))) j) }
-    ensures only { (j : Task) → Says (Some (codes "rebuild", rows_of (found_of matches.now))) j → MatchResult result (λ k. k ≡ j) (λ e. e ≡ NoMemory) }
-    ensures word { IfErr result (λ e. e ≡ BadWord → SaysBadly (Some (codes "rebuild", rows_of (found_of matches.now)))) }
+    ensures found { IfOk result
+        (λ j. Says (Some (codes "rebuild", rows_of (found_of matches.now))) j) }
+    ensures only { (j : Task) → Says (Some (codes "rebuild", rows_of (found_of matches.now))) j
+        → MatchResult result (λ k. k ≡ j) (λ e. e ≡ NoMemory) }
+    ensures word { IfErr result
+        (λ e. e ≡ BadWord → SaysBadly (Some (codes "rebuild", rows_of (found_of matches.now)))) }
     ensures usage { IfErr result (λ e. IsUsage e → ⊥) }
 {
     Ok(Job::Rebuild {
@@ -166,9 +193,12 @@ fn rebuild(alloc: Global, matches: &ArgMatches<'_>) -> Result<Job, JobFault>
 
 fn serve(alloc: Global, matches: &ArgMatches<'_>) -> Result<Job, JobFault>
     requires { HaveSome (line.desk_args (codes "ADDR")) (rows_of (found_of matches.now)) }
-    ensures found { IfOk result (λ j. Says (Some (codes "serve", rows_of (found_of matches.now))) j) }
-    ensures only { (j : Task) → Says (Some (codes "serve", rows_of (found_of matches.now))) j → MatchResult result (λ k. k ≡ j) (λ e. e ≡ NoMemory) }
-    ensures word { IfErr result (λ e. e ≡ BadWord → SaysBadly (Some (codes "serve", rows_of (found_of matches.now)))) }
+    ensures found { IfOk result
+        (λ j. Says (Some (codes "serve", rows_of (found_of matches.now))) j) }
+    ensures only { (j : Task) → Says (Some (codes "serve", rows_of (found_of matches.now))) j
+        → MatchResult result (λ k. k ≡ j) (λ e. e ≡ NoMemory) }
+    ensures word { IfErr result
+        (λ e. e ≡ BadWord → SaysBadly (Some (codes "serve", rows_of (found_of matches.now)))) }
     ensures usage { IfErr result (λ e. IsUsage e → ⊥) }
 {
     let requests = count_if_given(matches, "REQUESTS")?;
@@ -214,15 +244,18 @@ fn named(alloc: Global, matches: &ArgMatches<'_>) -> Result<Job, JobFault>
     }
 }
 
-/// What the words say to do, the program's own name first, by clap's rules for the program's commands.
+/// What the words say to do, the program's own name first, by clap's rules for the program's
+/// commands.
 ///
-/// `BadWord` comes where a value has not the form that its place asks for, and `Usage` where the words are no command, or
-/// ask for help.
+/// `BadWord` comes where a value has not the form that its place asks for, and `Usage` where the
+/// words are no command, or ask for help.
 pub fn job(alloc: Global, words: Vec<String>) -> Result<Job, JobFault>
     ensures found { IfOk result (λ j. IsCommandLine (map string_bytes words.items) j) }
-    ensures only { (j : Task) → IsCommandLine (map string_bytes words.items) j → MatchResult result (λ k. k ≡ j) (λ e. e ≡ NoMemory) }
+    ensures only { (j : Task) → IsCommandLine (map string_bytes words.items) j
+        → MatchResult result (λ k. k ≡ j) (λ e. e ≡ NoMemory) }
     ensures word { IfErr result (λ e. e ≡ BadWord → IsBadLine (map string_bytes words.items)) }
-    ensures usage { IfErr result (λ e. IsUsage e → fault_of desk (map string_bytes words.items) ≢ []) }
+    ensures usage { IfErr result
+        (λ e. IsUsage e → fault_of desk (map string_bytes words.items) ≢ []) }
 {
     let matches = parsed(alloc, &words)?;
     named(alloc, &matches)

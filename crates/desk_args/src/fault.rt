@@ -15,13 +15,16 @@ pub enum JobFault {
     BadWord,
     /// Memory ran out.
     NoMemory,
-    /// The line is no command of the program, or asks for help. The fault has the text for the user.
+    /// The line is no command of the program, or asks for help. The fault has the text for the
+    /// user.
     Usage(clap::Error),
 }
 
-/// Prints clap's text, help on the standard output and a mistake on the standard error, and says how the program ends after it.
+/// Prints clap's text, help on the standard output and a mistake on the standard error, and says
+/// how the program ends after it.
 pub fn show(rt: &HostRuntime, error: &clap::Error) -> Status
-    ensures mistake { kind_of error.now ≢ ErrorKind.DisplayHelp → kind_of error.now ≢ ErrorKind.DisplayVersion → result ≡ Status.Refused }
+    ensures mistake { kind_of error.now ≢ ErrorKind.DisplayHelp
+        → kind_of error.now ≢ ErrorKind.DisplayVersion → result ≡ Status.Refused }
 {
     if error.print(rt).is_err() || error.use_stderr() {
         Status::Refused

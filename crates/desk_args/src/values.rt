@@ -1,11 +1,15 @@
 //! The values of a command's arguments.
 
-ghost use Rattle.std.specs.Prelude.{◌≡◌, ◌⊎◌, ◌<◌, ◌≤◌, ℕ, List, IfOk, IfErr, IfSome, MatchResult, Option, None, Some, map, length, true, false, if◌then◌else◌};
+ghost use Rattle.std.specs.Prelude.{◌≡◌, ◌⊎◌, ◌<◌, ◌≤◌, ℕ, List, IfOk, IfErr, IfSome, MatchResult};
+ghost use Rattle.std.specs.Prelude.{Option, None, Some, map, length, true, false, if◌then◌else◌};
 ghost use Rattle.std.specs.List.{list_all};
 ghost use Rattle.std.specs.Str.Parse.{digits_value};
 ghost use Rattle.clap.specs.Words.{found_of, rows_of};
 ghost use Rattle.sudo_words.specs.Word.{is_arg};
-ghost use Rattle.desk_args.specs.CommandLine.{HasBadMoment, HasBadWord, HasBadWords, HasCount, HasMoment, HasMomentIfGiven, HasOption, HasSome, HasStore, HasValue, HasWord, HasWords, is_count, is_number, values};
+ghost use Rattle.desk_args.specs.CommandLine.{HasBadMoment, HasBadWord, HasBadWords};
+ghost use Rattle.desk_args.specs.CommandLine.{HasCount, HasMoment, HasMomentIfGiven};
+ghost use Rattle.desk_args.specs.CommandLine.{HasOption, HasSome, HasStore, HasValue};
+ghost use Rattle.desk_args.specs.CommandLine.{HasWord, HasWords, is_count, is_number, values};
 ghost use Rattle.desk_args.specs.Faults.{IsUsage};
 ghost use Rattle.desk_args.specs.declared.fault.JobFault.TheVariants.{BadWord, NoMemory};
 ghost use Rattle.desk_args.specs.declared.task.Store.{Store as Place};
@@ -50,8 +54,10 @@ pub fn text(alloc: Global, matches: &ArgMatches<'_>, id: &str) -> Result<Text, A
 pub fn word<F: Form>(alloc: Global, matches: &ArgMatches<'_>, id: &str) -> Result<Word<F>, JobFault>
     requires { HasSome id.now (rows_of (found_of matches.now)) }
     ensures found { IfOk result (λ w. HasWord F.has id.now (rows_of (found_of matches.now)) w) }
-    ensures only { (w : List ℕ) → HasWord F.has id.now (rows_of (found_of matches.now)) w → MatchResult result (λ r. r ≡ w) (λ e. e ≡ NoMemory) }
-    ensures word { IfErr result (λ e. e ≡ BadWord → HasBadWord F.has id.now (rows_of (found_of matches.now))) }
+    ensures only { (w : List ℕ) → HasWord F.has id.now (rows_of (found_of matches.now)) w
+        → MatchResult result (λ r. r ≡ w) (λ e. e ≡ NoMemory) }
+    ensures word { IfErr result
+        (λ e. e ≡ BadWord → HasBadWord F.has id.now (rows_of (found_of matches.now))) }
     ensures usage { IfErr result (λ e. IsUsage e → ⊥) }
 {
     Ok(Word::read(alloc, value(matches, id))?)
@@ -64,8 +70,10 @@ pub fn word_if_given<F: Form>(
     id: &str,
 ) -> Result<Option<Word<F>>, JobFault>
     ensures found { IfOk result (HasOption F.has id.now (rows_of (found_of matches.now))) }
-    ensures only { (w : Option (List ℕ)) → HasOption F.has id.now (rows_of (found_of matches.now)) w → MatchResult result (λ r. r ≡ w) (λ e. e ≡ NoMemory) }
-    ensures word { IfErr result (λ e. e ≡ BadWord → HasBadWord F.has id.now (rows_of (found_of matches.now))) }
+    ensures only { (w : Option (List ℕ)) → HasOption F.has id.now (rows_of (found_of matches.now)) w
+        → MatchResult result (λ r. r ≡ w) (λ e. e ≡ NoMemory) }
+    ensures word { IfErr result
+        (λ e. e ≡ BadWord → HasBadWord F.has id.now (rows_of (found_of matches.now))) }
     ensures usage { IfErr result (λ e. IsUsage e → ⊥) }
 {
     match matches.get_str(id) {
@@ -86,7 +94,8 @@ fn number_of(value: &[u8]) -> Option<u64>
 
 /// The number that 1 to 7 digits write, from 1 to 1,000,000.
 fn count_of(value: &[u8]) -> Option<u64>
-    ensures found { IfSome result (λ n. (is_count value.now ≡ true) × (n ≡ digits_value 10 value.now)) }
+    ensures found { IfSome result
+        (λ n. (is_count value.now ≡ true) × (n ≡ digits_value 10 value.now)) }
     ensures only { is_count value.now ≡ true → result ≡ Some (digits_value 10 value.now) }
 {
     let n = number_of(value)?;
@@ -99,8 +108,10 @@ fn count_of(value: &[u8]) -> Option<u64>
 /// The value of an option, a number from 1 to 1,000,000, or none where it is left out.
 pub fn count_if_given(matches: &ArgMatches<'_>, id: &str) -> Result<Option<u64>, JobFault>
     ensures found { IfOk result (HasCount id.now (rows_of (found_of matches.now))) }
-    ensures only { (n : Option ℕ) → HasCount id.now (rows_of (found_of matches.now)) n → MatchResult result (λ r. r ≡ n) (λ e. ⊥) }
-    ensures word { IfErr result (λ e. (e ≡ BadWord) × HasBadWord is_count id.now (rows_of (found_of matches.now))) }
+    ensures only { (n : Option ℕ) → HasCount id.now (rows_of (found_of matches.now)) n
+        → MatchResult result (λ r. r ≡ n) (λ e. ⊥) }
+    ensures word { IfErr result
+        (λ e. (e ≡ BadWord) × HasBadWord is_count id.now (rows_of (found_of matches.now))) }
 {
     match matches.get_str(id) {
         Some(text) => match count_of(text.as_bytes()) {
@@ -111,11 +122,13 @@ pub fn count_if_given(matches: &ArgMatches<'_>, id: &str) -> Result<Option<u64>,
     }
 }
 
-/// Where messages are kept, by the value of an argument that has one: `-` says in memory, and any other the path of a database.
+/// Where messages are kept, by the value of an argument that has one: `-` says in memory, and any
+/// other the path of a database.
 pub fn store(alloc: Global, matches: &ArgMatches<'_>, id: &str) -> Result<Store, AllocError>
     requires { HasSome id.now (rows_of (found_of matches.now)) }
     ensures found { IfOk result (HasStore id.now (rows_of (found_of matches.now))) }
-    ensures only { (s : Place) → HasStore id.now (rows_of (found_of matches.now)) s → IfOk result (λ r. r ≡ s) }
+    ensures only { (s : Place) → HasStore id.now (rows_of (found_of matches.now)) s
+        → IfOk result (λ r. r ≡ s) }
 {
     let text = value(matches, id);
     if text == "-" {
@@ -129,8 +142,10 @@ pub fn store(alloc: Global, matches: &ArgMatches<'_>, id: &str) -> Result<Store,
 pub fn moment(matches: &ArgMatches<'_>, id: &str) -> Result<Moment, JobFault>
     requires { HasSome id.now (rows_of (found_of matches.now)) }
     ensures found { IfOk result (λ m. HasMoment id.now (rows_of (found_of matches.now)) m) }
-    ensures only { (m : ℕ) → HasMoment id.now (rows_of (found_of matches.now)) m → MatchResult result (λ r. r ≡ m) (λ e. ⊥) }
-    ensures word { IfErr result (λ e. (e ≡ BadWord) × HasBadMoment id.now (rows_of (found_of matches.now))) }
+    ensures only { (m : ℕ) → HasMoment id.now (rows_of (found_of matches.now)) m
+        → MatchResult result (λ r. r ≡ m) (λ e. ⊥) }
+    ensures word { IfErr result
+        (λ e. (e ≡ BadWord) × HasBadMoment id.now (rows_of (found_of matches.now))) }
 {
     match Moment::read_stamp(value(matches, id)) {
         Some(moment) => Ok(moment),
@@ -141,8 +156,10 @@ pub fn moment(matches: &ArgMatches<'_>, id: &str) -> Result<Moment, JobFault>
 /// The value of an option, a moment's canonical text, or none where it is left out.
 pub fn moment_if_given(matches: &ArgMatches<'_>, id: &str) -> Result<Option<Moment>, JobFault>
     ensures found { IfOk result (HasMomentIfGiven id.now (rows_of (found_of matches.now))) }
-    ensures only { (m : Option ℕ) → HasMomentIfGiven id.now (rows_of (found_of matches.now)) m → MatchResult result (λ r. r ≡ m) (λ e. ⊥) }
-    ensures word { IfErr result (λ e. (e ≡ BadWord) × HasBadMoment id.now (rows_of (found_of matches.now))) }
+    ensures only { (m : Option ℕ) → HasMomentIfGiven id.now (rows_of (found_of matches.now)) m
+        → MatchResult result (λ r. r ≡ m) (λ e. ⊥) }
+    ensures word { IfErr result
+        (λ e. (e ≡ BadWord) × HasBadMoment id.now (rows_of (found_of matches.now))) }
 {
     match matches.get_str(id) {
         Some(text) => match Moment::read_stamp(text) {
@@ -155,8 +172,10 @@ pub fn moment_if_given(matches: &ArgMatches<'_>, id: &str) -> Result<Option<Mome
 
 /// The texts, each an argument.
 fn all_args(alloc: Global, texts: &[&str]) -> Result<Items<Arg>, JobFault>
-    ensures found { IfOk result (λ v. (v ≡ map (λ t. t.now) texts.now) × (list_all is_arg v ≡ true)) }
-    ensures word { IfErr result (λ e. e ≡ BadWord → list_all is_arg (map (λ t. t.now) texts.now) ≡ false) }
+    ensures found { IfOk result
+        (λ v. (v ≡ map (λ t. t.now) texts.now) × (list_all is_arg v ≡ true)) }
+    ensures word { IfErr result
+        (λ e. e ≡ BadWord → list_all is_arg (map (λ t. t.now) texts.now) ≡ false) }
     ensures usage { IfErr result (λ e. IsUsage e → ⊥) }
 {
     let mut args = Vec::new(alloc);
@@ -169,9 +188,12 @@ fn all_args(alloc: Global, texts: &[&str]) -> Result<Items<Arg>, JobFault>
 /// The values of an argument that may be left out, at most 64 of them.
 #[tactic(auto, using(crate::proofs::Rows::some_values, crate::proofs::Rows::no_values))]
 pub fn args(alloc: Global, matches: &ArgMatches<'_>, id: &str) -> Result<Items<Arg>, JobFault>
-    ensures found { IfOk result (λ v. HasWords is_arg 64 id.now (rows_of (found_of matches.now)) v) }
-    ensures only { (v : List (List ℕ)) → HasWords is_arg 64 id.now (rows_of (found_of matches.now)) v → MatchResult result (λ r. r ≡ v) (λ e. e ≡ NoMemory) }
-    ensures word { IfErr result (λ e. e ≡ BadWord → HasBadWords is_arg 64 id.now (rows_of (found_of matches.now))) }
+    ensures found { IfOk result
+        (λ v. HasWords is_arg 64 id.now (rows_of (found_of matches.now)) v) }
+    ensures only { (v : List (List ℕ)) → HasWords is_arg 64 id.now
+        (rows_of (found_of matches.now)) v → MatchResult result (λ r. r ≡ v) (λ e. e ≡ NoMemory) }
+    ensures word { IfErr result
+        (λ e. e ≡ BadWord → HasBadWords is_arg 64 id.now (rows_of (found_of matches.now))) }
     ensures usage { IfErr result (λ e. IsUsage e → ⊥) }
 {
     let Some(texts) = matches.get_raw(id) else {

@@ -51,7 +51,8 @@ EntryPrecedes d e = NamePrecedes d.name e.name
 
 -- ---- their order
 
-above : (k : RequestName) (es : List Entry) → AllByRecursion (λ y. name_cmp k y ≡ Less) (keys_of (map keyed es)) → (e : Entry) → Contains es e → name_cmp k e.name ≡ Less
+above : (k : RequestName) (es : List Entry) → AllByRecursion (λ y. name_cmp k y ≡ Less) (keys_of (map keyed es))
+    → (e : Entry) → Contains es e → name_cmp k e.name ≡ Less
 above k [] all e m = absurd (no_member e m)
 above k (d ∷ es) all e m =
     elim (Contains-cases d es e m) as (λ _. name_cmp k e.name ≡ Less) [
@@ -69,7 +70,8 @@ in_order (e ∷ es) sorted = (
 
 exact_names : (a b : RequestName) → name_cmp a b ≡ Equal → a ≡ b
 exact_names a b h =
-    let pairs : ◌≡◌ {A = List ℕ × ℕ} (a.by, a.no) (b.by, b.no) = exact_pairs (slice_cmp nat_cmp) nat_cmp exact_bytes exact_unsigned (a.by, a.no) (b.by, b.no) h in
+    let pairs : ◌≡◌ {A = List ℕ × ℕ} (a.by, a.no) (b.by, b.no) =
+    exact_pairs (slice_cmp nat_cmp) nat_cmp exact_bytes exact_unsigned (a.by, a.no) (b.by, b.no) h in
     ap (λ (p : List ℕ × ℕ). record { by = p.0; no = p.1 }) pairs
 
 -- ---- all of them
@@ -111,7 +113,8 @@ pub keyed_is : (e : Entry) (name : RequestName) (about : About) → e.name ≡ n
 keyed_is e name about same_name same_about =
     subst (λ (n : RequestName). keyed e ≡ (n, about)) same_name (subst (λ (a : About). keyed e ≡ (e.name, a)) same_about refl)
 
-pub split_once_more : (old new : List Entry) (e : Entry) (k : Keyed) (rest next all : List Keyed) → new ≡ old ++ e ∷ [] → keyed e ≡ k → rest ≡ k ∷ next → map keyed old ++ rest ≡ all → map keyed new ++ next ≡ all
+pub split_once_more : (old new : List Entry) (e : Entry) (k : Keyed) (rest next all : List Keyed)
+    → new ≡ old ++ e ∷ [] → keyed e ≡ k → rest ≡ k ∷ next → map keyed old ++ rest ≡ all → map keyed new ++ next ≡ all
 split_once_more old new e k rest next all more is steps split =
     ap (λ (es : List Entry). map keyed es ++ next) more
     ∙ ap (λ (ks : List Keyed). ks ++ next) (map-append keyed old (e ∷ []) ∙ ap (λ (x : Keyed). map keyed old ++ x ∷ []) is)

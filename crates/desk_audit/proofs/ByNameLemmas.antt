@@ -35,7 +35,8 @@ still_at set m name differ (Some about) is = record {
 }
 
 -- one name is set, to what is told of it in the longer set, and the others stay
-pub one_more : (set : List Message) (m : Message) (old new : Abouts) (about : About) → SetsAt old new (name_in m) about → IsOrdered name_cmp new → TellsMessages (set ++ m ∷ []) (name_in m) about → Gathers set old → Gathers (set ++ m ∷ []) new
+pub one_more : (set : List Message) (m : Message) (old new : Abouts) (about : About) → SetsAt old new (name_in m) about
+    → IsOrdered name_cmp new → TellsMessages (set ++ m ∷ []) (name_in m) about → Gathers set old → Gathers (set ++ m ∷ []) new
 one_more set m old new about sets ordered told g = record { ordered = ordered; each = λ other. stands other (same_cases (name_in m) other) }
   where
     here : IsToldAt (set ++ m ∷ []) (name_in m) about

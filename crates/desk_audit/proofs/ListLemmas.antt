@@ -23,7 +23,8 @@ from_mapped {X} f (x ∷ xs) y m =
     ]
 
 -- what stands behind each of a list in order is in order after it
-pub pushed_in_order : {X : Type 0} (P : X → X → Type 0) (xs : List X) (x : X) → AreInOrder P xs → ((y : X) → Contains xs y → P y x) → AreInOrder P (xs ++ x ∷ [])
+pub pushed_in_order : {X : Type 0} (P : X → X → Type 0) (xs : List X) (x : X)
+    → AreInOrder P xs → ((y : X) → Contains xs y → P y x) → AreInOrder P (xs ++ x ∷ [])
 pushed_in_order {X} P xs x ordered before =
     ordered_both P xs (x ∷ []) ordered (tt, tt) (λ y z among last.
     elim (Contains-push_cases [] x z last) as (λ _. P y z) [

@@ -1,5 +1,6 @@
 -- The messages of a set's texts, as one text after the other is read.
-use Rattle.std.proofs.Common.{◌≡◌, ◌⊎◌, ◌<◌, ◌+◌, ℕ, List, [], ◌∷◌, ◌++◌, Option, Some, None, String, Global, get_or, length, map, take, refl, sym, ap, ◌∙◌, subst, inl, inr}
+use Rattle.std.proofs.Common.{◌≡◌, ◌⊎◌, ◌<◌, ◌+◌, ℕ, List, [], ◌∷◌, ◌++◌, Option, Some, None, String}
+use Rattle.std.proofs.Common.{Global, get_or, length, map, take, refl, sym, ap, ◌∙◌, subst, inl, inr}
 use Rattle.std.specs.Prelude.{string_bytes}
 use Rattle.std.specs.List.{Contains}
 use Rattle.std.proofs.lemmas.List.{map-append, take_more}
@@ -38,7 +39,8 @@ none_read texts all gathers =
     record { seen = []; texts_are = refl; known = λ m among. absurd (no_member m among); gathered = λ ordered. gathers }
 
 pub one_read : (texts : List (String Global)) (i : ℕ) (text : String Global) (m : Message) (old new : Abouts) → i < length texts → text ≡ get_or texts i text
-    → string_bytes text ≡ wire m → IsMessage m → ((set : List Message) → IsBehind set m → Gathers set old → Gathers (set ++ m ∷ []) new) → IsRead texts i old → IsRead texts (i + 1) new
+    → string_bytes text ≡ wire m → IsMessage m → ((set : List Message) → IsBehind set m → Gathers set old → Gathers (set ++ m ∷ []) new)
+    → IsRead texts i old → IsRead texts (i + 1) new
 one_read texts i text m old new within is says message put was = record {
   seen = longer;
   texts_are = map-append wire was.seen (m ∷ [])
@@ -46,7 +48,8 @@ one_read texts i text m old new within is says message put was = record {
       ∙ ap (λ (t : List ℕ). map string_bytes (take i texts) ++ t ∷ []) (sym says)
       ∙ sym (map-append string_bytes (take i texts) (text ∷ []))
       ∙ ap (map string_bytes) (sym taken);
-  known = λ n among. elim (Contains-push_cases was.seen m n among) as (λ _. IsMessage n) [ inl before ↦ was.known n before | inr same ↦ subst IsMessage same message ];
+  known = λ n among.
+      elim (Contains-push_cases was.seen m n among) as (λ _. IsMessage n) [ inl before ↦ was.known n before | inr same ↦ subst IsMessage same message ];
   gathered = λ ordered.
       let whole : AreInOrder TextPrecedes (map wire was.seen ++ wire m ∷ []) = subst (AreInOrder TextPrecedes) (map-append wire was.seen (m ∷ [])) ordered in
       put was.seen (λ n among. last_behind TextPrecedes (map wire was.seen) (wire m) whole (wire n) (to_mapped wire was.seen n among))
@@ -60,7 +63,8 @@ one_read texts i text m old new within is says message put was = record {
     taken = take_more texts i text within ∙ ap (λ (t : String Global). take i texts ++ t ∷ []) (sym is)
 
 -- the text at a place is one of the texts
-pub among_texts : (texts : List (String Global)) (i : ℕ) (text : String Global) → i < length texts → text ≡ get_or texts i text → Contains (map string_bytes texts) (string_bytes text)
+pub among_texts : (texts : List (String Global)) (i : ℕ) (text : String Global) → i < length texts
+    → text ≡ get_or texts i text → Contains (map string_bytes texts) (string_bytes text)
 among_texts texts i text within is =
     to_mapped string_bytes texts text (subst (Contains texts) (sym is) (Contains-get_or texts i text within))
 

@@ -30,7 +30,8 @@ one_verdict : (v w : VerdictFields) → ◌≡◌ {A = Message} (Verdict v) (Ver
 one_verdict v w e = cc
 
 -- another message is one of the shorter set, where the new one is about another name
-pub was_among : (set : List Message) (m n : Message) (name : RequestName) → (name_in m ≡ name → ⊥) → Contains (set ++ m ∷ []) n → name_in n ≡ name → Contains set n
+pub was_among : (set : List Message) (m n : Message) (name : RequestName)
+    → (name_in m ≡ name → ⊥) → Contains (set ++ m ∷ []) n → name_in n ≡ name → Contains set n
 was_among set m n name differ there named =
     elim (Contains-push_cases set m n there) as (λ _. Contains set n) [
       | inl before ↦ before
@@ -39,7 +40,8 @@ was_among set m n name differ there named =
 
 -- ---- no message is about the name
 
-pub told_none : (set : List Message) (name : RequestName) (about : About) → about.requests.items ≡ [] → about.verdicts.items ≡ [] → NobodySpeaks set name → TellsMessages set name about
+pub told_none : (set : List Message) (name : RequestName) (about : About) → about.requests.items ≡ []
+    → about.verdicts.items ≡ [] → NobodySpeaks set name → TellsMessages set name about
 told_none set name about no_requests no_verdicts nobody = record {
   requests_in_order = subst (AreInOrder RequestPrecedes) (sym no_requests) tt;
   verdicts_in_order = subst (AreInOrder VerdictPrecedes) (sym no_verdicts) tt;
@@ -55,7 +57,8 @@ told_none set name about no_requests no_verdicts nobody = record {
 
 -- ---- a message about another name
 
-pub told_beside : (set : List Message) (m : Message) (name : RequestName) (about : About) → (name_in m ≡ name → ⊥) → TellsMessages set name about → TellsMessages (set ++ m ∷ []) name about
+pub told_beside : (set : List Message) (m : Message) (name : RequestName) (about : About)
+    → (name_in m ≡ name → ⊥) → TellsMessages set name about → TellsMessages (set ++ m ∷ []) name about
 told_beside set m name about differ told = record {
   requests_in_order = told.requests_in_order;
   verdicts_in_order = told.verdicts_in_order;
@@ -71,20 +74,23 @@ told_beside set m name about differ told = record {
 
 -- ---- a request of the name
 
-module _ (set : List Message) (q : RequestFields) (old new : About) (pushed : new.requests.items ≡ old.requests.items ++ q ∷ []) (same : new.verdicts.items ≡ old.verdicts.items) (told : TellsMessages set (name_of q) old) where
+module _ (set : List Message) (q : RequestFields) (old new : About) (pushed : new.requests.items
+    ≡ old.requests.items ++ q ∷ []) (same : new.verdicts.items ≡ old.verdicts.items) (told : TellsMessages set (name_of q) old) where
   abbrev asked : List Message
   asked = set ++ Request q ∷ []
 
   request_from : (r : RequestFields) → Contains new.requests.items r → Contains asked (Request r) × (name_of r ≡ name_of q)
   request_from r among =
-      elim (Contains-push_cases old.requests.items q r (subst (λ (qs : List RequestFields). Contains qs r) pushed among)) as (λ _. Contains asked (Request r) × (name_of r ≡ name_of q)) [
+      elim (Contains-push_cases old.requests.items q r (subst (λ (qs : List RequestFields). Contains qs r) pushed among))
+      as (λ _. Contains asked (Request r) × (name_of r ≡ name_of q)) [
         | inl before ↦ let was = (told.requests r).0 before in (Contains-append_left set (Request q ∷ []) (Request r) was.0, was.1)
         | inr here ↦ (subst (λ (x : RequestFields). Contains asked (Request x)) here (Contains-push set (Request q)), ap name_of (sym here))
       ]
 
   request_to : (r : RequestFields) → Contains asked (Request r) × (name_of r ≡ name_of q) → Contains new.requests.items r
   request_to r there =
-      subst (λ (qs : List RequestFields). Contains qs r) (sym pushed) (elim (Contains-push_cases set (Request q) (Request r) there.0) as (λ _. Contains (old.requests.items ++ q ∷ []) r) [
+      subst (λ (qs : List RequestFields). Contains qs r) (sym pushed)
+      (elim (Contains-push_cases set (Request q) (Request r) there.0) as (λ _. Contains (old.requests.items ++ q ∷ []) r) [
         | inl before ↦ Contains-append_left old.requests.items (q ∷ []) r ((told.requests r).1 (before, there.1))
         | inr here ↦ subst (λ (x : RequestFields). Contains (old.requests.items ++ q ∷ []) x) (one_request q r here) (Contains-push old.requests.items q)
       ])
@@ -109,20 +115,23 @@ module _ (set : List Message) (q : RequestFields) (old new : About) (pushed : ne
 
 -- ---- a verdict about it
 
-module _ (set : List Message) (v : VerdictFields) (old new : About) (pushed : new.verdicts.items ≡ old.verdicts.items ++ v ∷ []) (same : new.requests.items ≡ old.requests.items) (told : TellsMessages set (name_meant v) old) where
+module _ (set : List Message) (v : VerdictFields) (old new : About) (pushed : new.verdicts.items
+    ≡ old.verdicts.items ++ v ∷ []) (same : new.requests.items ≡ old.requests.items) (told : TellsMessages set (name_meant v) old) where
   abbrev given : List Message
   given = set ++ Verdict v ∷ []
 
   verdict_from : (w : VerdictFields) → Contains new.verdicts.items w → Contains given (Verdict w) × (name_meant w ≡ name_meant v)
   verdict_from w among =
-      elim (Contains-push_cases old.verdicts.items v w (subst (λ (vs : List VerdictFields). Contains vs w) pushed among)) as (λ _. Contains given (Verdict w) × (name_meant w ≡ name_meant v)) [
+      elim (Contains-push_cases old.verdicts.items v w (subst (λ (vs : List VerdictFields). Contains vs w) pushed among))
+      as (λ _. Contains given (Verdict w) × (name_meant w ≡ name_meant v)) [
         | inl before ↦ let was = (told.verdicts w).0 before in (Contains-append_left set (Verdict v ∷ []) (Verdict w) was.0, was.1)
         | inr here ↦ (subst (λ (x : VerdictFields). Contains given (Verdict x)) here (Contains-push set (Verdict v)), ap name_meant (sym here))
       ]
 
   verdict_to : (w : VerdictFields) → Contains given (Verdict w) × (name_meant w ≡ name_meant v) → Contains new.verdicts.items w
   verdict_to w there =
-      subst (λ (vs : List VerdictFields). Contains vs w) (sym pushed) (elim (Contains-push_cases set (Verdict v) (Verdict w) there.0) as (λ _. Contains (old.verdicts.items ++ v ∷ []) w) [
+      subst (λ (vs : List VerdictFields). Contains vs w) (sym pushed)
+      (elim (Contains-push_cases set (Verdict v) (Verdict w) there.0) as (λ _. Contains (old.verdicts.items ++ v ∷ []) w) [
         | inl before ↦ Contains-append_left old.verdicts.items (v ∷ []) w ((told.verdicts w).1 (before, there.1))
         | inr here ↦ subst (λ (x : VerdictFields). Contains (old.verdicts.items ++ v ∷ []) x) (one_verdict v w here) (Contains-push old.verdicts.items v)
       ])

@@ -10,13 +10,17 @@ use Rattle.desk_audit.specs.Told.{TellsMessages, name_in}
 use Rattle.desk_audit.specs.declared.entry.Entry.{Entry}
 
 -- A name that a message of the set speaks of, with all its messages, and what they come to.
-pub record TellsName (f : RosterFields Cmnd) (messages : List Message) (entry : Entry) : Type 0 where
+pub record TellsName (f : RosterFields Cmnd)
+    (messages : List Message) (entry : Entry) : Type 0 where
   pub spoken : (m : Message) × Contains messages m × (name_in m ≡ entry.name)
   pub about : TellsMessages messages entry.name entry.about
   pub status : ComesTo f messages entry.name entry.status
 
--- Each name that somebody asks under or that a verdict speaks of, once, in the order of names, and no others.
-pub record IsAudit (f : RosterFields Cmnd) (messages : List Message) (entries : List Entry) : Type 0 where
+-- Each name that somebody asks under or that a verdict speaks of, once, in the order of names, and
+-- no others.
+pub record IsAudit (f : RosterFields Cmnd)
+    (messages : List Message) (entries : List Entry) : Type 0 where
   pub in_order : AreInOrder (λ d e. NamePrecedes d.name e.name) entries
   pub each : (e : Entry) → Contains entries e → TellsName f messages e
-  pub all : (m : Message) → Contains messages m → (e : Entry) × Contains entries e × (e.name ≡ name_in m)
+  pub all : (m : Message) → Contains messages m
+      → (e : Entry) × Contains entries e × (e.name ≡ name_in m)

@@ -16,13 +16,20 @@ abbrev pub name_in : Message → RequestName
 name_in (Request q) = name_of q
 name_in (Verdict v) = name_meant v
 
--- All messages about the name and no others, each once: its requests in the byte order of their texts, and so its verdicts.
-pub record TellsMessages (messages : List Message) (name : RequestName) (about : About) : Type 0 where
-  pub requests_in_order : AreInOrder (λ q r. TextPrecedes (request_text q) (request_text r)) about.requests.items
-  pub verdicts_in_order : AreInOrder (λ v w. TextPrecedes (verdict_text v) (verdict_text w)) about.verdicts.items
-  pub requests : (q : RequestFields) → Contains about.requests.items q ↔ (Contains messages (Request q) × (name_of q ≡ name))
-  pub verdicts : (v : VerdictFields) → Contains about.verdicts.items v ↔ (Contains messages (Verdict v) × (name_meant v ≡ name))
+-- All messages about the name and no others, each once: its requests in the byte order of their
+-- texts, and so its verdicts.
+pub record TellsMessages (messages : List Message)
+    (name : RequestName) (about : About) : Type 0 where
+  pub requests_in_order :
+      AreInOrder (λ q r. TextPrecedes (request_text q) (request_text r)) about.requests.items
+  pub verdicts_in_order :
+      AreInOrder (λ v w. TextPrecedes (verdict_text v) (verdict_text w)) about.verdicts.items
+  pub requests : (q : RequestFields)
+      → Contains about.requests.items q ↔ (Contains messages (Request q) × (name_of q ≡ name))
+  pub verdicts : (v : VerdictFields)
+      → Contains about.verdicts.items v ↔ (Contains messages (Verdict v) × (name_meant v ≡ name))
 
 -- The refusal of a set that has a text of over 16,384 bytes, which no delivery brings.
 abbrev pub IsTooLong : List Message → Refusal → Type 0
-IsTooLong messages e = (e ≡ TooLong) × (m : Message) × Contains messages m × (16_384 < length (wire m))
+IsTooLong messages e =
+    (e ≡ TooLong) × (m : Message) × Contains messages m × (16_384 < length (wire m))

@@ -7,7 +7,8 @@ use messages::Request;
 use std::alloc::{AllocError, Global};
 use sudo_words::{HostName, Moment, Name, NoMemory};
 
-/// A window in which a grant is in force on a host. Windows are in the byte order of hosts, and then by moment and name.
+/// A window in which a grant is in force on a host. Windows are in the byte order of hosts, and
+/// then by moment and name.
 #[derive(Debug, Drop, PartialEq, Eq, PartialOrd, Ord)]
 pub(crate) struct HostWindow {
     pub(crate) host: HostName,

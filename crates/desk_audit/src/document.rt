@@ -1,6 +1,7 @@
 //! What is said, as one document of JSON (RFC 8259).
 //!
-//! Messages stand in it as their own texts, which are JSON; no other text of it has a character that needs an escape.
+//! Messages stand in it as their own texts, which are JSON; no other text of it has a character
+//! that needs an escape.
 
 use crate::by_host::{HostWindow, windows};
 use crate::entry::{Entry, Judged, judge, status_word};

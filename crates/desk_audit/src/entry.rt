@@ -38,14 +38,16 @@ fn entry_of<K: Keeper>(
     name: RequestName,
     about: About,
 ) -> Result<Entry, Refusal>
-    ensures status { (set : List AnyMessage) → K.is_up desk.new.keeper → Lists (K.holds desk.old.keeper) set
+    ensures status { (set : List AnyMessage) → K.is_up desk.new.keeper
+        → Lists (K.holds desk.old.keeper) set
         → IfOk result (λ entry. ComesTo desk.old.roster.says set name entry.status) }
     ensures same { IfOk result (λ entry. (entry.name ≡ name) × (entry.about ≡ about)) }
     ensures err { IfErr result IsWant }
     ensures unchanged { K.is_up desk.new.keeper → K.is_same desk.old.keeper desk.new.keeper }
     ensures roster { desk.new.roster ≡ desk.old.roster }
     ensures base { desk.new.base ≡ desk.old.base }
-    ensures served { Serves K.Keeper desk.old.keeper desk.new.keeper (result ≡ Err refusal.Storage) (IsErr result) }
+    ensures served { Serves K.Keeper desk.old.keeper desk.new.keeper
+        (result ≡ Err refusal.Storage) (IsErr result) }
 {
     let status = desk.status_of(&name)?;
     Ok(Entry {
@@ -61,13 +63,15 @@ fn entries_of<K: Keeper>(
     desk: &mut Desk<K>,
     all: ByName,
 ) -> Result<Vec<Entry>, Refusal>
-    ensures audit { (set : List AnyMessage) → K.is_up desk.new.keeper → K.is_desk desk.new.keeper → Lists (K.holds desk.old.keeper) set
-        → Gathers set all → IfOk result (λ entries. IsAudit desk.old.roster.says set entries.items) }
+    ensures audit { (set : List AnyMessage) → K.is_up desk.new.keeper
+        → K.is_desk desk.new.keeper → Lists (K.holds desk.old.keeper) set → Gathers set all
+        → IfOk result (λ entries. IsAudit desk.old.roster.says set entries.items) }
     ensures err { IfErr result IsWant }
     ensures unchanged { K.is_up desk.new.keeper → K.is_same desk.old.keeper desk.new.keeper }
     ensures roster { desk.new.roster ≡ desk.old.roster }
     ensures base { desk.new.base ≡ desk.old.base }
-    ensures served { Serves K.Keeper desk.old.keeper desk.new.keeper (result ≡ Err refusal.Storage) (IsErr result) }
+    ensures served { Serves K.Keeper desk.old.keeper desk.new.keeper
+        (result ≡ Err refusal.Storage) (IsErr result) }
 {
     let mut entries = Vec::new(alloc);
     for (name, about) in all {
@@ -77,15 +81,18 @@ fn entries_of<K: Keeper>(
     Ok(entries)
 }
 
-/// What is said of each name that somebody asks under or that a verdict speaks of, in the order of names, each once and with all its messages.
+/// What is said of each name that somebody asks under or that a verdict speaks of, in the order of
+/// names, each once and with all its messages.
 ///
-/// Each status is what the messages about the name come to. Beside want of memory and of storage there is one refusal: `TooLong`, where the desk
-/// holds a text of over 16,384 bytes, which no delivery brings. Nothing of the desk changes.
+/// Each status is what the messages about the name come to. Beside want of memory and of storage
+/// there is one refusal: `TooLong`, where the desk holds a text of over 16,384 bytes, which no
+/// delivery brings. Nothing of the desk changes.
 pub fn audit<K: Keeper>(desk: &mut Desk<K>) -> Result<Vec<Entry>, Refusal>
-    ensures audit { (set : List AnyMessage) → K.is_up desk.new.keeper → K.is_desk desk.new.keeper → Lists (K.holds desk.old.keeper) set
+    ensures audit { (set : List AnyMessage) → K.is_up desk.new.keeper
+        → K.is_desk desk.new.keeper → Lists (K.holds desk.old.keeper) set
         → IfOk result (λ entries. IsAudit desk.old.roster.says set entries.items) }
-    ensures refused { (set : List AnyMessage) → K.is_up desk.new.keeper → Lists (K.holds desk.old.keeper) set
-        → IfErr result (λ e. IsWant e ⊎ IsTooLong set e) }
+    ensures refused { (set : List AnyMessage) → K.is_up desk.new.keeper
+        → Lists (K.holds desk.old.keeper) set → IfErr result (λ e. IsWant e ⊎ IsTooLong set e) }
     ensures unchanged { K.is_up desk.new.keeper → K.is_same desk.old.keeper desk.new.keeper }
     ensures roster { desk.new.roster ≡ desk.old.roster }
     ensures base { desk.new.base ≡ desk.old.base }
@@ -180,7 +187,8 @@ impl<'a> Judged<'a> {
         Some(ceiling.needs().saturating_sub(self.approvals.len() as u64))
     }
 
-    /// The moment at which it is asked who may approve it: the one that is given, else that of the request.
+    /// The moment at which it is asked who may approve it: the one that is given, else that of the
+    /// request.
     pub(crate) fn asked_at(&self, until: Option<Moment>) -> Option<Moment> {
         let (request, _) = self.waiting()?;
         match until {

@@ -1,6 +1,7 @@
 //! What the texts of a desk's messages say, name by name.
 
-ghost use Rattle.std.specs.Prelude.{◌≡◌, ◌≢◌, ◌⊎◌, ◌<◌, ◌++◌, ◌∷◌, [], List, map, Contains, IfOk, IfErr, OnOk, length, string_bytes};
+ghost use Rattle.std.specs.Prelude.{◌≡◌, ◌≢◌, ◌⊎◌, ◌<◌, ◌++◌, ◌∷◌, [], List, map};
+ghost use Rattle.std.specs.Prelude.{Contains, IfOk, IfErr, OnOk, length, string_bytes};
 ghost use Rattle.messages.specs.Wire.{wire, IsMessage};
 ghost use Rattle.messages.specs.declared.message.Message.{Message as AnyMessage};
 ghost use Rattle.desk.specs.Refusals.{IsWant};
@@ -50,7 +51,8 @@ fn name_of(message: &Message) -> Result<RequestName, AllocError>
 
 /// Adds a message about the name, whose text stands behind those of the set.
 fn add(about: &mut About, message: Message) -> Result<(), NoMemory>
-    ensures { (set : List AnyMessage) → IsBehind set message → TellsMessages set (name_in message) about.old
+    ensures { (set : List AnyMessage) → IsBehind set message
+        → TellsMessages set (name_in message) about.old
         → OnOk result (TellsMessages (set ++ message ∷ []) (name_in message) about.new) }
 {
     match message {
@@ -62,7 +64,8 @@ fn add(about: &mut About, message: Message) -> Result<(), NoMemory>
 
 /// The first message about a name.
 fn first(alloc: Global, message: Message) -> Result<About, NoMemory>
-    ensures { (set : List AnyMessage) → IsBehind set message → ((m : AnyMessage) → Contains set m → name_in m ≡ name_in message → ⊥)
+    ensures { (set : List AnyMessage) → IsBehind set message
+        → ((m : AnyMessage) → Contains set m → name_in m ≡ name_in message → ⊥)
         → IfOk result (TellsMessages (set ++ message ∷ []) (name_in message)) }
 {
     let mut about = nothing(alloc);
@@ -96,11 +99,13 @@ fn read(alloc: Global, text: &str) -> Result<Message, Refusal>
     Ok(read_message(alloc, text.as_bytes())?)
 }
 
-/// What the texts of a set say about each name. They are read in their order, which is that of their moments where it is the texts' byte order.
+/// What the texts of a set say about each name. They are read in their order, which is that of
+/// their moments where it is the texts' byte order.
 pub(crate) fn gather(alloc: Global, texts: &[String]) -> Result<ByName, Refusal>
-    ensures gathers { (set : List AnyMessage) → ((m : AnyMessage) → Contains set m → IsMessage m) → AreTexts set (map string_bytes texts.now)
-        → IfOk result (Gathers set) }
-    ensures refused { (set : List AnyMessage) → ((m : AnyMessage) → Contains set m → IsMessage m) → AreTexts set (map string_bytes texts.now)
+    ensures gathers { (set : List AnyMessage) → ((m : AnyMessage) → Contains set m → IsMessage m)
+        → AreTexts set (map string_bytes texts.now) → IfOk result (Gathers set) }
+    ensures refused { (set : List AnyMessage) → ((m : AnyMessage) → Contains set m → IsMessage m)
+        → AreTexts set (map string_bytes texts.now)
         → IfErr result (λ e. IsWant e ⊎ IsTooLong set e) }
     ensures unasked { IfErr result (λ e. e ≢ refusal.Storage) }
 {

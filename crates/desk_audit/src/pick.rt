@@ -71,7 +71,8 @@ impl Pick {
         self.has_person(asker) || verdicts.iter().any(|verdict| self.has_person(verdict.by()))
     }
 
-    /// Whether the window of a grant is asked about, or else one that is asked for, or where nobody asks the moment of a verdict.
+    /// Whether the window of a grant is asked about, or else one that is asked for, or where nobody
+    /// asks the moment of a verdict.
     fn has_some_span(&self, about: &About, status: &Option<Status>) -> bool {
         match status {
             Some(Status::Granted(Window { start, end })) => self.has_span(*start, *end),

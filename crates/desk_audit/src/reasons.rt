@@ -45,7 +45,8 @@ impl Weight {
     }
 }
 
-/// Whether the verdict counts under the ceiling: by its author's rights at its own moment (NIST SP 800-53 AC-5).
+/// Whether the verdict counts under the ceiling: by its author's rights at its own moment (NIST SP
+/// 800-53 AC-5).
 pub fn counts(roster: &Roster, ceiling: &Ceiling, verdict: &Verdict) -> bool
     ensures { result ≡ verdicts.counts roster.now.says ceiling.now verdict.now }
 {
@@ -78,7 +79,8 @@ fn is_late(complete: Option<Moment>, verdict: &Verdict) -> bool {
     }
 }
 
-/// What the verdict weighs under the ceiling, where the request was complete at the moment, if it ever was.
+/// What the verdict weighs under the ceiling, where the request was complete at the moment, if it
+/// ever was.
 pub(crate) fn weigh(
     roster: &Roster,
     ceiling: &Ceiling,

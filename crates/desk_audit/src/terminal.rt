@@ -171,7 +171,8 @@ fn push_windows(out: &mut String, list: &[HostWindow]) -> Result<(), NoMemory> {
     Ok(())
 }
 
-/// What is said of the entries, as a text of lines of at most 100 columns, unless a word alone is longer.
+/// What is said of the entries, as a text of lines of at most 100 columns, unless a word alone is
+/// longer.
 pub fn text(
     alloc: Global,
     roster: &Roster,

@@ -189,7 +189,8 @@ fn finish(said: Said) -> Result<Question, WordsFault> {
     }
 }
 
-/// What the words ask, without the program's own name before them: `ROSTER BASE STORE`, and options before, between and after them.
+/// What the words ask, without the program's own name before them: `ROSTER BASE STORE`, and options
+/// before, between and after them.
 pub fn asked_by(alloc: Global, words: &[String]) -> Result<Question, WordsFault> {
     let mut said = nothing(alloc);
     for word in words {

@@ -1,4 +1,5 @@
-//! A store, copied into memory: it is only read, by whoever may read its files, and also while a desk has it.
+//! A store, copied into memory: it is only read, by whoever may read its files, and also while a
+//! desk has it.
 
 ghost use Rattle.std.specs.Prelude.{IfOk, IsTrue};
 ghost use Rattle.sqlite_disk.specs.Memory.{memory_is_usable};
@@ -52,8 +53,10 @@ fn are_same(one: &Pair, other: &Pair) -> bool {
     one.db.as_slice() == other.db.as_slice() && one.log.as_slice() == other.log.as_slice()
 }
 
-/// What both files held at one moment: they are read until they are read twice as the same. Each byte then stood as it was read from the end of the
-/// file's first reading to the beginning of its second, and so all of them did as the log's first reading ended. A process that was killed then would have left them.
+/// What both files held at one moment: they are read until they are read twice as the same. Each
+/// byte then stood as it was read from the end of the file's first reading to the beginning of its
+/// second, and so all of them did as the log's first reading ended. A process that was killed then
+/// would have left them.
 fn settled(rt: &HostRuntime, path: &str) -> Result<Pair, Trouble> {
     let alloc = rt.alloc();
     let log_path = format!(in alloc; "{path}-wal")?;
@@ -103,7 +106,8 @@ fn looked(rt: &HostRuntime, path: &str, mut keeper: Copied) -> Result<Copied, Tr
     }
 }
 
-/// A keeper over a copy of the store at the path. A path without a file, and a file without a desk, are named, and nothing is made there.
+/// A keeper over a copy of the store at the path. A path without a file, and a file without a desk,
+/// are named, and nothing is made there.
 pub(crate) fn copy_of(rt: &HostRuntime, path: &str) -> Result<Copied, Trouble> {
     let pair = settled(rt, path)?;
     let keeper = keeper_of(rt.alloc(), &pair)?;

@@ -1,4 +1,5 @@
-//! The auditor's program: reads its command line, and tells what became of each request that a desk holds.
+//! The auditor's program: reads its command line, and tells what became of each request that a desk
+//! holds.
 #![tactic(auto)]
 
 mod asking;

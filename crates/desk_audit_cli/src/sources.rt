@@ -45,7 +45,8 @@ fn complain(rt: &HostRuntime, number: usize, refusal: Refusal) -> Result<(), Tro
     Ok(())
 }
 
-/// Delivers a line to the desk. One that the desk does not take is named; for want of memory nothing can be told.
+/// Delivers a line to the desk. One that the desk does not take is named; for want of memory
+/// nothing can be told.
 fn take(
     rt: &HostRuntime,
     desk: &mut Desk<MemoryKeeper>,

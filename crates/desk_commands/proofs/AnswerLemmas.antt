@@ -26,14 +26,14 @@ pub of_job : (r : Result Answer Reason) (job own : Job) (files : List (List ℕ)
     → IsOutcome own files k input r before after → IsOutcome job files k input r before after
 of_job r job own files k input before after is outcome = subst (λ j. IsOutcome j files k input r before after) (sym is) outcome
 
-module _ (job : Job) (files : List (List ℕ)) (k : Kept) (input : Option (List ℕ)) (out_before out_after err_before err_between err_after : Option (List ℕ)) where
+module _ (job : Job) (files : List (List ℕ)) (k : Kept) (input : Option (List ℕ))
+    (out_before out_after err_before err_between err_after : Option (List ℕ)) where
   -- what is written of this result, where the job is not refused
   pub concluded : (r : Result Answer Reason) (status : Status) → IsOutcome job files k input r err_before err_between
       → IfOk r (λ a. status ≢ Refused → (status ≡ a.status) × Appends out_before out_after (string_bytes a.text) × (err_after ≡ err_between))
-      → IfErr r (λ _. (status ≡ Refused) × (out_after ≡ out_before))
-      → (Up Clean Still : Type 0) → (Up → Clean → WantsIn job r ⊎ Still)
-      → status ≢ Refused → (text : List ℕ) × (said : List ℕ) × IsAnswer job files k input status text said × Appends out_before out_after text × Appends err_before err_after said
-      × (Up → Clean → TellsWant job text ⊎ Still)
+      → IfErr r (λ _. (status ≡ Refused) × (out_after ≡ out_before)) → (Up Clean Still : Type 0) → (Up → Clean → WantsIn job r ⊎ Still)
+      → status ≢ Refused → (text : List ℕ) × (said : List ℕ) × IsAnswer job files k input status text said
+      × Appends out_before out_after text × Appends err_before err_after said × (Up → Clean → TellsWant job text ⊎ Still)
   concluded (Ok a) status outcome written none Up Clean Still up taken =
       let w = written taken in
       let found = outcome.found in (

@@ -1,5 +1,6 @@
 -- The messages of lines that were delivered, where neither memory nor the storage was wanting.
-use Rattle.std.proofs.Common.{Option, ap, ◌≡◌, ◌⊎◌, ℕ, zero, suc, ◌<◌, true, List, [], ◌∷◌, ◌∙◌, Result, Ok, Err, IsOk, arith, get_or, inl, inr, length, refl, subst, sym}
+use Rattle.std.proofs.Common.{Option, ap, ◌≡◌, ◌⊎◌, ℕ, zero, suc, ◌<◌, true, List, [], ◌∷◌, ◌∙◌}
+use Rattle.std.proofs.Common.{Result, Ok, Err, IsOk, arith, get_or, inl, inr, length, refl, subst, sym}
 use Rattle.std.specs.List.{AllZip, Contains}
 use Rattle.sudo_words.specs.declared.cmnd.Cmnd.{Cmnd}
 use Rattle.messages.specs.Wire.{IsMessage, wire}
@@ -170,8 +171,8 @@ module _ (f : RosterFields Cmnd) where
       )
 
   -- what is taken of an input whose lines were delivered
-  pub taken : (relay : List ℕ) (input : Option (List ℕ)) (read lent : List Delivery) (answers shown : List (Result Ack Refusal)) (Up : Type 0) (old new : Message → Type 0)
-      (text said : List ℕ) → IsFirst f.relays relay → AreRead relay input read → lent ≡ read → shown ≡ answers
+  pub taken : (relay : List ℕ) (input : Option (List ℕ)) (read lent : List Delivery) (answers shown : List (Result Ack Refusal)) (Up : Type 0)
+      (old new : Message → Type 0) (text said : List ℕ) → IsFirst f.relays relay → AreRead relay input read → lent ≡ read → shown ≡ answers
       → AreAnswers f lent answers → (Up → HeldAfterAll old lent answers new) → HadMemory shown → text ≡ complaints 1 shown → said ≡ text
       → (lines : List (List ℕ)) × AreTaken f input lines said × (Up → SameSet (HeldWith f lines old) new)
   taken relay input read lent answers shown Up old new text said first is_read same_read same_answers are after had says same_text =

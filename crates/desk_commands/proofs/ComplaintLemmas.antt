@@ -1,5 +1,6 @@
 -- How the complaints of lines grow, answer by answer.
-use Rattle.std.proofs.Common.{◌≡◌, ℕ, suc, ◌+◌, ◌<◌, List, ◌∷◌, ◌++◌, ◌∙◌, Result, Ok, Err, add-one, append_assoc, arith, drop, drop-cons, get_or, length, subst, sym}
+use Rattle.std.proofs.Common.{◌≡◌, ℕ, suc, ◌+◌, ◌<◌, List, ◌∷◌, ◌++◌, ◌∙◌, Result, Ok, Err, add-one}
+use Rattle.std.proofs.Common.{append_assoc, arith, drop, drop-cons, get_or, length, subst, sym}
 use Rattle.desk_commands.specs.Taking.{HadMemory, complaint, complaints}
 use Rattle.desk.specs.declared.ack.Ack.{Ack}
 use Rattle.desk.specs.declared.refusal.Refusal.{Refusal}

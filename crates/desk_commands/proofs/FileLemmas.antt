@@ -17,8 +17,8 @@ least_of_file file text e same utf8 least = λ other. inr (utf8, subst (λ bytes
 pub no_text : (file : List ℕ) → (IsUtf8 file → ⊥) → IsRosterFault file NotToml
 no_text file never = λ other. inl (refl, never)
 
-pub file_read : {X : Type 0} (text_of : X → List ℕ) (says : X → RosterFields Cmnd) (file text : List ℕ) (read : Result X RosterFault) → text ≡ file → IsUtf8 file
-    → IfOk read (λ r. (text_of r ≡ text) × IsRosterText text (says r)) → IfErr read (λ e. e ≢ NoMemory → IsLeastFault text e)
+pub file_read : {X : Type 0} (text_of : X → List ℕ) (says : X → RosterFields Cmnd) (file text : List ℕ) (read : Result X RosterFault) → text ≡ file
+    → IsUtf8 file → IfOk read (λ r. (text_of r ≡ text) × IsRosterText text (says r)) → IfErr read (λ e. e ≢ NoMemory → IsLeastFault text e)
     → IfOk read (λ r. IsRosterFile file (says r) × (text_of r ≡ file)) × IfErr read (IsRosterFault file)
 file_read text_of says file text (Ok r) same utf8 found least = ((roster_file file text (says r) same utf8 found.1, found.0 ∙ same), tt)
 file_read text_of says file text (Err e) same utf8 found least = (tt, least_of_file file text e same utf8 least)

@@ -1,5 +1,6 @@
 -- What a refused job leaves at the keeper, and on the standard error.
-use Rattle.std.proofs.Common.{◌≡◌, ◌⊎◌, ◌∙◌, ℕ, List, [], ◌∷◌, Option, Some, None, IfSome, Result, Ok, Err, IfErr, MatchResult, inl, inr, refl, string_bytes, subst, sym}
+use Rattle.std.proofs.Common.{◌≡◌, ◌⊎◌, ◌∙◌, ℕ, List, [], ◌∷◌, Option, Some, None, IfSome, Result}
+use Rattle.std.proofs.Common.{Ok, Err, IfErr, MatchResult, inl, inr, refl, string_bytes, subst, sym}
 use Rattle.std.specs.Io.KnownBytes.{Appends}
 use Rattle.std.specs.List.{AllZip}
 use Rattle.messages.specs.declared.message.Message.{Message}
@@ -14,7 +15,8 @@ use Rattle.desk.specs.declared.refusal.Refusal.{Refusal}
 use Rattle.desk_commands.specs.Answers.{HasAnswer, IsAnswer}
 use Rattle.desk_commands.specs.Files.{IsDeskOf}
 use Rattle.desk_commands.specs.Kept.{Kept, held_in, keeps, kept}
-use Rattle.desk_commands.specs.Leaving.{AreSomeTaken, KeepsAfterRefusal, LeavesDelivered, LeavesTaken, OverOpened, SaysTaking, TellsBefore, TellsRefusal, WasOpened}
+use Rattle.desk_commands.specs.Leaving.{AreSomeTaken, KeepsAfterRefusal, LeavesDelivered, LeavesTaken}
+use Rattle.desk_commands.specs.Leaving.{OverOpened, SaysTaking, TellsBefore, TellsRefusal, WasOpened}
 use Rattle.desk_commands.specs.Lines.{AreRead, IsBrought, from_relay, input_lines}
 use Rattle.desk_commands.specs.Taking.{Takes}
 use Rattle.desk_commands.specs.Telling.{AppendsFront, refusal_line}
@@ -162,11 +164,11 @@ module _ (f : RosterFields Cmnd) where
 
 -- ---- a desk that was opened over a keeper, asked, and given up again
 
-module _ {K : Type 0} (is_up is_empty is_desk is_old : K → Type 0) (roster : K → List ℕ) (holds : K → Message → Type 0) (failures : K → ℕ) (before opened after : K)
-    (roster_file base_file : List ℕ) (f : RosterFields Cmnd) (base : List Entry) (made : IsDeskOf roster_file base_file f base)
+module _ {K : Type 0} (is_up is_empty is_desk is_old : K → Type 0) (roster : K → List ℕ) (holds : K → Message → Type 0) (failures : K
+    → ℕ) (before opened after : K) (roster_file base_file : List ℕ) (f : RosterFields Cmnd) (base : List Entry) (made : IsDeskOf roster_file base_file f base)
     (is_kept : is_up after → is_desk after × (roster after ≡ roster_file)) (was_up : is_up after → is_up opened)
-    (opens : is_up opened → SameSet (held_in (is_desk before) (is_old before) (holds before)) (holds opened))
-    (was : is_up opened → WasOpened roster_file (keeps is_empty is_desk is_old roster holds before)) (more : List (List ℕ)) (input : Option (List ℕ)) (Same : Type 0) where
+    (opens : is_up opened → SameSet (held_in (is_desk before) (is_old before) (holds before)) (holds opened)) (was : is_up opened
+    → WasOpened roster_file (keeps is_empty is_desk is_old roster holds before)) (more : List (List ℕ)) (input : Option (List ℕ)) (Same : Type 0) where
   abbrev k : Kept
   k = kept is_up is_empty is_desk is_old roster holds failures before after
 
@@ -181,7 +183,8 @@ module _ {K : Type 0} (is_up is_empty is_desk is_old : K → Type 0) (roster : K
       → IfErr r (λ _. IsLeft (Deliver places relay) (roster_file ∷ base_file ∷ more) k Same input err err)
   left_delivered places relay (Ok a) err left = tt
   left_delivered places relay (Err e) err left = record {
-    kept = λ up. inr (leaves (λ f. LeavesDelivered f relay input) (delivered_over f input relay Old (holds opened) (holds after) (opens (was_up up)) (left up)) up);
+    kept = λ up.
+        inr (leaves (λ f. LeavesDelivered f relay input) (delivered_over f input relay Old (holds opened) (holds after) (opens (was_up up)) (left up)) up);
     told = nothing_said err;
   }
 
@@ -234,8 +237,8 @@ module _ (files : List (List ℕ)) (k : Kept) (Same : Type 0) (input err : Optio
   same_job (Review places at) = same_reviewed places at
 
 -- what is left of this job
-pub left_of_job : (r : Result Answer Reason) (job own : Job) (files : List (List ℕ)) (k : Kept) (Same : Type 0) (input before after : Option (List ℕ)) → job ≡ own
-    → IfErr r (λ _. IsLeft own files k Same input before after) → IfErr r (λ _. IsLeft job files k Same input before after)
+pub left_of_job : (r : Result Answer Reason) (job own : Job) (files : List (List ℕ)) (k : Kept) (Same : Type 0) (input before after : Option (List ℕ))
+    → job ≡ own → IfErr r (λ _. IsLeft own files k Same input before after) → IfErr r (λ _. IsLeft job files k Same input before after)
 left_of_job r job own files k Same input before after is left = subst (λ j. IfErr r (λ _. IsLeft j files k Same input before after)) (sym is) left
 
 -- ---- a job that is refused

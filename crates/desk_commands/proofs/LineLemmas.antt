@@ -1,5 +1,6 @@
 -- How the lines of a text grow as it is read byte by byte.
-use Rattle.std.proofs.Common.{◌≡◌, ◌≢◌, ℕ, ◌+◌, ◌==◌, ◌<◌, ◌≤◌, false, true, List, [], ◌∷◌, ◌++◌, ◌∙◌, add-one, append_assoc, ap, arith, drop, drop-cons, get_or, length, map, refl, subst, sym}
+use Rattle.std.proofs.Common.{◌≡◌, ◌≢◌, ℕ, ◌+◌, ◌==◌, ◌<◌, ◌≤◌, false, true, List, [], ◌∷◌, ◌++◌, ◌∙◌, add-one}
+use Rattle.std.proofs.Common.{append_assoc, ap, arith, drop, drop-cons, get_or, length, map, refl, subst, sym}
 use Rattle.std.proofs.lemmas.Bool.Decides.{nat_tests}
 use Rattle.std.specs.List.{onto_first}
 use Rattle.std.proofs.lemmas.List.{append-nil, drop_all, map_push}
@@ -71,7 +72,8 @@ module _ {X : Type 0} (each : List ℕ → X) where
       let rest = drop (i + 1) text in
       let b = get_or text i 0 in
       rw (same, more) (record {
-        same = ap (λ (tail : List (List ℕ)). ended ++ map each tail) (front_push line b (input_lines rest) ∙ ap (with_front line) (sym (lines-other b rest other)))
+        same =
+            ap (λ (tail : List (List ℕ)). ended ++ map each tail) (front_push line b (input_lines rest) ∙ ap (with_front line) (sym (lines-other b rest other)))
             ∙ step text ended line i lt read;
       })
 

@@ -1,5 +1,6 @@
 -- A job over a desk that was opened over a keeper: what is answered of the set that the desk held is answered of what was kept before.
-use Rattle.std.proofs.Common.{◌≡◌, ◌⊎◌, ◌∙◌, ℕ, ◌≤◌, List, [], ◌∷◌, ap, arith, get_or, length, map, subst, Option, Some, None, Result, Ok, Err, IfErr, IfOk, inl, inr, codes, refl, string_bytes, sym}
+use Rattle.std.proofs.Common.{◌≡◌, ◌⊎◌, ◌∙◌, ℕ, ◌≤◌, List, [], ◌∷◌, ap, arith, get_or, length, map, subst, Option}
+use Rattle.std.proofs.Common.{Some, None, Result, Ok, Err, IfErr, IfOk, inl, inr, codes, refl, string_bytes, sym}
 use Rattle.std.proofs.lemmas.List.{append-nil}
 use Rattle.std.specs.Io.KnownBytes.{Appends}
 use Rattle.sudo_words.specs.declared.cmnd.Cmnd.{Cmnd}
@@ -51,8 +52,10 @@ with_more S T More new same held = set_on (λ m. S m ⊎ More m) (λ m. T m ⊎ 
 
 -- ---- what is answered of one set is answered of the same, and of what is known to be up
 
-module _ (f : RosterFields Cmnd) (base : List Entry) (S T new : Message → Type 0) (Up Known : Type 0) (known : Up → Known) (same : Up → SameSet S T) (input : Option (List ℕ)) where
-  lines_over : (relay : List ℕ) (a : Answer) (Since Failed : Type 0) → (Since → Failed) → DeliversLines f relay T new Known Since input a.status (string_bytes a.text)
+module _ (f : RosterFields Cmnd) (base : List Entry) (S T new : Message
+    → Type 0) (Up Known : Type 0) (known : Up → Known) (same : Up → SameSet S T) (input : Option (List ℕ)) where
+  lines_over : (relay : List ℕ) (a : Answer) (Since Failed : Type 0) → (Since → Failed)
+      → DeliversLines f relay T new Known Since input a.status (string_bytes a.text)
       → DeliversLines f relay S new Up Failed input a.status (string_bytes a.text)
   lines_over relay a Since Failed counted is = record {
     lines = is.lines;
@@ -122,8 +125,8 @@ nothing_said (Some bytes) = sym (append-nil bytes)
 
 -- ---- a desk that is opened over a keeper, asked, and given up again
 
-module _ {K : Type 0} (is_up is_empty is_desk is_old : K → Type 0) (roster : K → List ℕ) (holds : K → Message → Type 0) (failures : K → ℕ) (before opened after : K)
-    (roster_file base_file : List ℕ) (f : RosterFields Cmnd) (base : List Entry) (made : IsDeskOf roster_file base_file f base)
+module _ {K : Type 0} (is_up is_empty is_desk is_old : K → Type 0) (roster : K → List ℕ) (holds : K → Message → Type 0) (failures : K
+    → ℕ) (before opened after : K) (roster_file base_file : List ℕ) (f : RosterFields Cmnd) (base : List Entry) (made : IsDeskOf roster_file base_file f base)
     (keeps : is_up after → is_desk after × (roster after ≡ roster_file)) (was_up : is_up after → is_up opened)
     (opens : is_up opened → SameSet (held_in (is_desk before) (is_old before) (holds before)) (holds opened))
     (counts : failures before ≤ failures opened) (more : List (List ℕ)) (input : Option (List ℕ)) where
@@ -139,8 +142,8 @@ module _ {K : Type 0} (is_up is_empty is_desk is_old : K → Type 0) (roster : K
   abbrev Old : Message → Type 0
   Old = held_in (is_desk before) (is_old before) (holds before)
 
-  pub delivered : (places : Places) (relay : List ℕ) (r : Result Answer Reason) (err : Option (List ℕ))
-      → IfOk r (λ a. DeliversLines f relay (holds opened) (holds after) (is_up after) (HasFailed (failures opened) (failures after)) input a.status (string_bytes a.text))
+  pub delivered : (places : Places) (relay : List ℕ) (r : Result Answer Reason) (err : Option (List ℕ)) → IfOk r (λ a.
+      DeliversLines f relay (holds opened) (holds after) (is_up after) (HasFailed (failures opened) (failures after)) input a.status (string_bytes a.text))
       → IfErr r (λ e. (e ≡ reasons.FileFailed) ⊎ (e ≡ reasons.NoMemory) ⊎ (e ≡ reasons.Desk desk.NoMemory))
       → IsOutcome (Deliver places relay) (roster_file ∷ base_file ∷ more) k input r err err
   delivered places relay (Ok a) err found cause = record {
@@ -183,7 +186,8 @@ module _ {K : Type 0} (is_up is_empty is_desk is_old : K → Type 0) (roster : K
         base,
         made,
         keeps,
-        file_over f base Old (holds opened) (holds after) (is_up after) (is_up after × is_desk after) (λ up. (up, (keeps up).0)) before_is input places.store host moment a
+        file_over f base Old (holds opened) (holds after) (is_up after) (is_up after × is_desk after)
+            (λ up. (up, (keeps up).0)) before_is input places.store host moment a
             found.0 found.1,
       ),
       found.2,
@@ -232,7 +236,8 @@ module _ {K : Type 0} (is_up is_empty is_desk is_old : K → Type 0) (roster : K
         base,
         made,
         keeps,
-        report_over f base Old (holds opened) (holds after) (is_up after) (is_up after × is_desk after) (λ up. (up, (keeps up).0)) before_is input places.store at a
+        report_over f base Old (holds opened) (holds after) (is_up after)
+            (is_up after × is_desk after) (λ up. (up, (keeps up).0)) before_is input places.store at a
             found.0 found.1,
       ),
       found.2,
@@ -264,10 +269,10 @@ module _ {K : Type 0} (is_up is_empty is_desk is_old : K → Type 0) (roster : K
 
 -- ---- a desk that is rebuilt over a keeper, and given up again
 
-module _ {K : Type 0} (is_up is_empty is_desk is_old : K → Type 0) (roster : K → List ℕ) (holds : K → Message → Type 0) (failures : K → ℕ) (before after : K)
-    (roster_file base_file : List ℕ) (f : RosterFields Cmnd) (base : List Entry) (made : IsDeskOf roster_file base_file f base)
-    (keeps : is_up after → is_desk after × (roster after ≡ roster_file))
-    (held : is_up after → SameSet (held_in (is_desk before) (is_old before) (holds before)) (holds after)) (more : List (List ℕ)) (input : Option (List ℕ)) where
+module _ {K : Type 0} (is_up is_empty is_desk is_old : K → Type 0) (roster : K → List ℕ) (holds : K → Message → Type 0) (failures : K
+    → ℕ) (before after : K) (roster_file base_file : List ℕ) (f : RosterFields Cmnd) (base : List Entry) (made : IsDeskOf roster_file base_file f base)
+    (keeps : is_up after → is_desk after × (roster after ≡ roster_file)) (held : is_up after
+    → SameSet (held_in (is_desk before) (is_old before) (holds before)) (holds after)) (more : List (List ℕ)) (input : Option (List ℕ)) where
   pub rebuilt : (places : Places) (a : Answer) (err : Option (List ℕ)) → a.status ≡ Done → string_bytes a.text ≡ codes "ok\n"
       → IsOutcome (Rebuild places) (roster_file ∷ base_file ∷ more) (kept is_up is_empty is_desk is_old roster holds failures before after) input (Ok a) err err
   rebuilt places a err done told = record {

@@ -31,8 +31,8 @@ module _ (f : RosterFields Cmnd) (base : List Entry) (store : Store) (input : Op
   of_mid : MidUp → (messages : List Message) → Lists (HeldWith f lines old) messages → Lists mid messages
   of_mid up messages lists = listed (HeldWith f lines old) mid messages (held up) lists
 
-  pub prints : {A : Type 0} (host : List ℕ) (after : Option ℕ) (result : Result A Refusal) (answer : A) (text : List ℕ) → (Known → Up) → (Up → MidUp) → result ≡ Ok answer
-      → ((result ≡ Err desk.UnknownHost) ↔ (is_among f.hosts host ≡ false))
+  pub prints : {A : Type 0} (host : List ℕ) (after : Option ℕ) (result : Result A Refusal) (answer : A) (text : List ℕ)
+      → (Known → Up) → (Up → MidUp) → result ≡ Ok answer → ((result ≡ Err desk.UnknownHost) ↔ (is_among f.hosts host ≡ false))
       → ((messages : List Message) → Up → Lists mid messages → IsPrinted f base messages host after text)
       → ((messages : List Message) → Up → Lists mid messages → HasRights f base messages host after text)
       → (Known → SameSet mid new) → PrintsHost f base store host after old new Known input Done text said
@@ -60,10 +60,9 @@ module _ (f : RosterFields Cmnd) (base : List Entry) (store : Store) (input : Op
   past : (count : ℕ) → (count ≤ 8_192 → ⊥) → 8_192 < count
   past count few = omega (arith, few)
 
-  pub ends_file : {A : Type 0} (host : List ℕ) (after : Option ℕ) (Failed : Type 0) (result : Result A Refusal) (refusal : Refusal) → (Up → MidUp) → result ≡ Err refusal
-      → ((result ≡ Err desk.UnknownHost) ↔ (is_among f.hosts host ≡ false))
-      → ((messages : List Message) (printed : List Line) → Up → Lists mid messages → AreLines f messages host printed → length (lines_printed after printed) ≤ 8_192
-      → (refusal ≡ desk.UnknownHost) ⊎ IsWant refusal)
+  pub ends_file : {A : Type 0} (host : List ℕ) (after : Option ℕ) (Failed : Type 0) (result : Result A Refusal) (refusal : Refusal) → (Up → MidUp)
+      → result ≡ Err refusal → ((result ≡ Err desk.UnknownHost) ↔ (is_among f.hosts host ≡ false)) → ((messages : List Message) (printed : List Line) → Up
+      → Lists mid messages → AreLines f messages host printed → length (lines_printed after printed) ≤ 8_192 → (refusal ≡ desk.UnknownHost) ⊎ IsWant refusal)
       → (refusal ≡ desk.UnknownHost) ⊎ (refusal ≡ desk.TooManyRules) ⊎ IsWant refusal → (refusal ≡ desk.Storage → Failed)
       → EndsFile f store host after old Up Failed input (reasons.Desk refusal)
   ends_file host after Failed result refusal before is unknown few why cause =
@@ -86,7 +85,8 @@ module _ (f : RosterFields Cmnd) (base : List Entry) (store : Store) (input : Op
         | inr (inr (inr storage)) ↦ subst ends (sym storage) (cause storage)
       ]
 
-pub wants_end_report : (store : Store) (Failed : Type 0) (refusal : Refusal) → IsWant refusal → (refusal ≡ desk.Storage → Failed) → EndsReport store Failed (reasons.Desk refusal)
+pub wants_end_report : (store : Store) (Failed : Type 0) (refusal : Refusal) → IsWant refusal
+    → (refusal ≡ desk.Storage → Failed) → EndsReport store Failed (reasons.Desk refusal)
 wants_end_report store Failed refusal want cause = elim want [
   | inl memory ↦ subst (λ (r : Refusal). EndsReport store Failed (reasons.Desk r)) (sym memory) tt
   | inr storage ↦ subst (λ (r : Refusal). EndsReport store Failed (reasons.Desk r)) (sym storage) (cause storage)

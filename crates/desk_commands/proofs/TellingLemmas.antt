@@ -1,5 +1,6 @@
 -- What several writes come to.
-use Rattle.std.proofs.Common.{◌≡◌, ◌∙◌, ℕ, ◌+◌, ◌-◌, ◌≤◌, List, [], ◌∷◌, ◌++◌, Option, ap, append-nil, append_assoc, arith, drop, le_refl, length, length-drop, subst, sym, take, take_all}
+use Rattle.std.proofs.Common.{◌≡◌, ◌∙◌, ℕ, ◌+◌, ◌-◌, ◌≤◌, List, [], ◌∷◌, ◌++◌, Option, ap, append-nil}
+use Rattle.std.proofs.Common.{append_assoc, arith, drop, le_refl, length, length-drop, subst, sym, take, take_all}
 use Rattle.std.proofs.KnownBytes.{Appends-kept, Appends-trans}
 use Rattle.std.proofs.lemmas.List.{take_rest}
 use Rattle.std.proofs.Math.Seq.{take-add}
@@ -20,7 +21,8 @@ module _ {n : ℕ} where
       (rest.0, rest.1 ∙ ap (λ l. l ++ concat parts) first.1 ∙ append_assoc (inline_text s) x (concat parts))
 
   -- what is written into a text that is empty is its text
-  pub written : (s : InlineText n) (bytes : List ℕ) (t : InlineText n) → inline_text s ≡ [] → IsIntact s → WritesInCalls AppendsIfIntact s bytes t → inline_text t ≡ bytes
+  pub written : (s : InlineText n) (bytes : List ℕ) (t : InlineText n) → inline_text s ≡ []
+      → IsIntact s → WritesInCalls AppendsIfIntact s bytes t → inline_text t ≡ bytes
   written s bytes t none intact wrote =
       (subst (λ l. AppendsIfIntact s l t) wrote.whole (after_calls s wrote.parts t wrote.calls) intact).1 ∙ ap (λ l. l ++ bytes) none
 

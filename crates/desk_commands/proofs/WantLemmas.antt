@@ -21,7 +21,8 @@ wanting_as reason (Ok x) is want = absurd is
 wanting_as reason (Err e) is want = subst IsWanting (sym is) want
 
 -- one that was answered by another call
-pub wanting_still : {A B : Type 0} (reason : Reason) (s : Result B Reason) (r : Result A Reason) → s ≡ Err reason → IsErrAnd r (λ e. e ≡ reason) → IsErrAnd s IsWanting → IsErrAnd r IsWanting
+pub wanting_still : {A B : Type 0} (reason : Reason) (s : Result B Reason) (r : Result A Reason)
+    → s ≡ Err reason → IsErrAnd r (λ e. e ≡ reason) → IsErrAnd s IsWanting → IsErrAnd r IsWanting
 wanting_still {B = B} reason s r was is want = wanting_as reason r is (subst (λ (t : Result B Reason). IsErrAnd t IsWanting) was want)
 
 -- what `deliver` comes to
@@ -41,7 +42,8 @@ wants_refused job (Err e) want = want
 
 -- ---- lines at none of which anything was wanting
 
-none_at : (answers : List (Result Ack Refusal)) (a : Result Ack Refusal) (k : ℕ) → HadMemory answers → k < length answers → slice_index_or answers k a ≡ a → WasWanting a → ⊥
+none_at : (answers : List (Result Ack Refusal)) (a : Result Ack Refusal) (k : ℕ)
+    → HadMemory answers → k < length answers → slice_index_or answers k a ≡ a → WasWanting a → ⊥
 none_at [] a k had lt is want = absurd (omega arith)
 none_at (x ∷ xs) a zero had lt is want = had.0 (subst WasWanting (sym is) want)
 none_at (x ∷ xs) a (suc k) had lt is want = none_at xs a k had.1 (omega arith) is want

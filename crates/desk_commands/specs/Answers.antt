@@ -15,12 +15,15 @@ use Rattle.desk_commands.specs.Printing.{EndsPrinting, PrintsHost}
 use Rattle.desk_commands.specs.Rebuilding.{EndsRebuilding, RebuildsDesk}
 use Rattle.desk_commands.specs.Reviewing.{EndsReviewing, ReviewsDesk}
 use Rattle.desk_commands.specs.declared.refusal.Refusal.{Refusal as Reason}
-use Rattle.desk_commands.specs.declared.refusal.Refusal.TheVariants.{BadWord, Beyond as Compared, Desk, FileFailed, NoMemory, Policy, Roster}
+use Rattle.desk_commands.specs.declared.refusal.Refusal.TheVariants.{BadWord, Beyond as Compared}
+use Rattle.desk_commands.specs.declared.refusal.Refusal.TheVariants.{Desk, FileFailed, NoMemory}
+use Rattle.desk_commands.specs.declared.refusal.Refusal.TheVariants.{Policy, Roster}
 use Rattle.desk_args.specs.declared.status.Status.{Status}
 use Rattle.desk_args.specs.declared.status.Status.TheVariants.{Denied, Done}
 use Rattle.desk_args.specs.declared.task.Store.TheVariants.{Memory}
 use Rattle.desk_args.specs.declared.task.Job.{Job}
-use Rattle.desk_args.specs.declared.task.Job.TheVariants.{Beyond, Check, Decide, Deliver, Print, Rebuild, Review, Serve}
+use Rattle.desk_args.specs.declared.task.Job.TheVariants.{Beyond, Check, Decide, Deliver}
+use Rattle.desk_args.specs.declared.task.Job.TheVariants.{Print, Rebuild, Review, Serve}
 
 -- how the program ends after it
 abbrev pub status_of : Decision → Status
@@ -30,16 +33,19 @@ status_of AllowNoPassword = Done
 
 -- the decision and a newline, with the status that goes with it
 abbrev pub IsDecided : Decision → Status → List ℕ → Type 0
-IsDecided decision status text = (status ≡ status_of decision) × (text ≡ decision_text decision ++ 10 ∷ [])
+IsDecided decision status text =
+    (status ≡ status_of decision) × (text ≡ decision_text decision ++ 10 ∷ [])
 
 -- `check` answers with the canonical text of the policy that the file spells.
 abbrev pub ChecksFile : List ℕ → Status → List ℕ → Type 0
-ChecksFile file status text = (es : List Entry) × Spells file es × (status ≡ Done) × (text ≡ canon es)
+ChecksFile file status text =
+    (es : List Entry) × Spells file es × (status ≡ Done) × (text ≡ canon es)
 
 -- `decide` answers with what the policy that the file spells decides of the invocation.
 abbrev pub DecidesByFile : List ℕ → Invocation → Status → List ℕ → Type 0
 DecidesByFile file invocation status text =
-    (es : List Entry) × (decision : Decision) × Spells file es × Decides es invocation decision × IsDecided decision status text
+    (es : List Entry) × (decision : Decision) × Spells file es
+    × Decides es invocation decision × IsDecided decision status text
 
 -- it is so of the first file
 abbrev pub OfFile : (files : List (List ℕ)) → (List ℕ → Type 0) → Type 0
@@ -51,25 +57,36 @@ abbrev pub OfFiles : (files : List (List ℕ)) → (List ℕ → List ℕ → Ty
 OfFiles (a ∷ b ∷ more) Holds = Holds a b
 OfFiles files Holds = ⊥
 
--- The job over these files, in the order in which it names them, over what the keeper keeps, and over this input, if it is known, is answered by this
--- text, and ends so. Beside the answer this is said. `serve` has no such answer: what it writes depends on who connects.
-abbrev pub IsAnswer : Job → (files : List (List ℕ)) → Kept → (input : Option (List ℕ)) → Status → (text said : List ℕ) → Type 0
-IsAnswer (Check name) files k input status text said = OfFile files (λ file. ChecksFile file status text) × (said ≡ [])
-IsAnswer (Decide name invocation) files k input status text said = OfFile files (λ file. DecidesByFile file invocation status text) × (said ≡ [])
-IsAnswer (Beyond a_name b_name scope) files k input status text said = OfFiles files (λ a b. ComparesFiles scope a b status text) × (said ≡ [])
-IsAnswer (Deliver places relay) files k input status text said = OfFiles files (λ roster base. OverDesk roster base k
-    (λ f b. DeliversLines f relay (held k.before) k.after.holds k.up k.failed input status text)) × (said ≡ [])
-IsAnswer (Print places host after) files k input status text said = OfFiles files (λ roster base. OverDesk roster base k
-    (λ f b. PrintsHost f b places.store host after (held k.before) k.after.holds k.up input status text said))
-IsAnswer (Review places at) files k input status text said = OfFiles files (λ roster base. OverDesk roster base k
-    (λ f b. ReviewsDesk f b places.store at (held k.before) k.after.holds k.up input status text said))
-IsAnswer (Rebuild places) files k input status text said = OfFiles files (λ roster base. OverDesk roster base k
+-- The job over these files, in the order in which it names them, over what the keeper keeps, and
+-- over this input, if it is known, is answered by this text, and ends so. Beside the answer this is
+-- said. `serve` has no such answer: what it writes depends on who connects.
+abbrev pub IsAnswer : Job → (files : List (List ℕ)) → Kept
+    → (input : Option (List ℕ)) → Status → (text said : List ℕ) → Type 0
+IsAnswer (Check name) files k input status text said =
+    OfFile files (λ file. ChecksFile file status text) × (said ≡ [])
+IsAnswer (Decide name invocation) files k input status text said =
+    OfFile files (λ file. DecidesByFile file invocation status text) × (said ≡ [])
+IsAnswer (Beyond a_name b_name scope) files k input status text said =
+    OfFiles files (λ a b. ComparesFiles scope a b status text) × (said ≡ [])
+IsAnswer (Deliver places relay) files k input status text said =
+    OfFiles files (λ roster base. OverDesk roster base k
+    (λ f b. DeliversLines f relay (held k.before) k.after.holds k.up k.failed input status text))
+    × (said ≡ [])
+IsAnswer (Print places host after) files k input status text said =
+    OfFiles files (λ roster base. OverDesk roster base k (λ f b. PrintsHost f b
+    places.store host after (held k.before) k.after.holds k.up input status text said))
+IsAnswer (Review places at) files k input status text said =
+    OfFiles files (λ roster base. OverDesk roster base k (λ f b.
+    ReviewsDesk f b places.store at (held k.before) k.after.holds k.up input status text said))
+IsAnswer (Rebuild places) files k input status text said =
+    OfFiles files (λ roster base. OverDesk roster base k
     (λ f b. RebuildsDesk (held k.before) k.after.holds k.up status text)) × (said ≡ [])
 IsAnswer (Serve places addr requests) files k input status text said = ⊥
 
 -- The job over these files, what is kept and this input has an answer.
 abbrev pub HasAnswer : Job → (files : List (List ℕ)) → Kept → (input : Option (List ℕ)) → Type 0
-HasAnswer job files k input = (status : Status) × (text said : List ℕ) × IsAnswer job files k input status text said
+HasAnswer job files k input =
+    (status : Status) × (text said : List ℕ) × IsAnswer job files k input status text said
 
 -- the job asks a desk, and so a keeper
 abbrev pub IsOnDesk : Job → Type 0
@@ -104,20 +121,27 @@ CauseOfFile (file ∷ more) Ends reason = Ends file reason
 CauseOfFile [] Ends reason = reason ≡ FileFailed
 
 -- a reason of the first two files, or that one is missing
-abbrev pub CauseOfFiles : (files : List (List ℕ)) → (List ℕ → List ℕ → Reason → Type 0) → Reason → Type 0
+abbrev pub CauseOfFiles : (files : List (List ℕ))
+    → (List ℕ → List ℕ → Reason → Type 0) → Reason → Type 0
 CauseOfFiles (a ∷ b ∷ more) Ends reason = Ends a b reason
 CauseOfFiles files Ends reason = reason ≡ FileFailed
 
--- The job over these files, what is kept and this input may be refused for this, before its answer is written. Without its files it is, and so is
--- `serve`, which has no answer.
-abbrev pub IsCause : Job → (files : List (List ℕ)) → Kept → (input : Option (List ℕ)) → Reason → Type 0
+-- The job over these files, what is kept and this input may be refused for this, before its answer
+-- is written. Without its files it is, and so is `serve`, which has no answer.
+abbrev pub IsCause : Job → (files : List (List ℕ))
+    → Kept → (input : Option (List ℕ)) → Reason → Type 0
 IsCause (Check name) files k input reason = CauseOfFile files EndsReading reason
 IsCause (Decide name invocation) files k input reason = CauseOfFile files EndsReading reason
-IsCause (Beyond a_name b_name scope) files k input reason = CauseOfFiles files (EndsComparing scope) reason
-IsCause (Deliver places relay) files k input reason = CauseOfFiles files (λ roster base. EndsDelivering roster base k) reason
-IsCause (Print places host after) files k input reason = CauseOfFiles files (λ roster base. EndsPrinting roster base places.store host after k input) reason
-IsCause (Review places at) files k input reason = CauseOfFiles files (λ roster base. EndsReviewing roster base places.store k) reason
-IsCause (Rebuild places) files k input reason = CauseOfFiles files (λ roster base. EndsRebuilding roster base k) reason
+IsCause (Beyond a_name b_name scope) files k input reason =
+    CauseOfFiles files (EndsComparing scope) reason
+IsCause (Deliver places relay) files k input reason =
+    CauseOfFiles files (λ roster base. EndsDelivering roster base k) reason
+IsCause (Print places host after) files k input reason = CauseOfFiles files
+    (λ roster base. EndsPrinting roster base places.store host after k input) reason
+IsCause (Review places at) files k input reason =
+    CauseOfFiles files (λ roster base. EndsReviewing roster base places.store k) reason
+IsCause (Rebuild places) files k input reason =
+    CauseOfFiles files (λ roster base. EndsRebuilding roster base k) reason
 IsCause (Serve places addr requests) files k input reason = reason ≡ FileFailed
 
 -- it is refused for such a reason

@@ -19,7 +19,8 @@ use Rattle.desk_args.specs.declared.status.Status.TheVariants.{Done, Found}
 abbrev pub spaced : List (List ℕ) → List ℕ
 spaced words = flat_map (λ word. codes " " ++ word) words
 
--- `ann db1 root 20260105093000Z /bin/ls -l`: user, host, target, moment, path and arguments, each as its value is
+-- `ann db1 root 20260105093000Z /bin/ls -l`: user, host, target, moment, path and arguments, each
+-- as its value is
 abbrev pub case_text : Invocation → List ℕ
 case_text i = i.user ++ spaced (i.host ∷ i.runas ∷ stamp i.at ∷ i.path ∷ i.args)
 
@@ -28,9 +29,11 @@ abbrev pub IsShown : Option Invocation → Status → List ℕ → Type 0
 IsShown None status text = (status ≡ Done) × (text ≡ codes "none\n")
 IsShown (Some i) status text = (status ≡ Found) × (text ≡ case_text i ++ codes "\n")
 
--- `beyond` compares the policies a and b that two files spell. It answers `none`, and then a allows no invocation at all in the
--- scope that b refuses; or with one that a allows and b refuses, which is the first of at most 1,000,000 cases.
-pub record ComparesFiles (scope : Scope) (a_file b_file : List ℕ) (status : Status) (text : List ℕ) : Type 0 where
+-- `beyond` compares the policies a and b that two files spell. It answers `none`, and then a allows
+-- no invocation at all in the scope that b refuses; or with one that a allows and b refuses, which
+-- is the first of at most 1,000,000 cases.
+pub record ComparesFiles (scope : Scope) (a_file b_file : List ℕ)
+    (status : Status) (text : List ℕ) : Type 0 where
   pub a : List Entry
   pub b : List Entry
   pub found : Option Invocation
@@ -54,13 +57,16 @@ pub record HaveTooManyCases (scope : Scope) (a_file b_file : List ℕ) : Type 0 
   pub b_spelled : Spells b_file b
   pub many : review.AreTooMany scope a b
 
--- `beyond` may be refused for this, before its answer is written. The second file is looked at where the first spells a policy.
+-- `beyond` may be refused for this, before its answer is written. The second file is looked at
+-- where the first spells a policy.
 abbrev pub EndsComparing : Scope → (a_file b_file : List ℕ) → Reason → Type 0
 EndsComparing scope a_file b_file reasons.FileFailed = ⊥
 EndsComparing scope a_file b_file reasons.BadWord = ⊥
 EndsComparing scope a_file b_file reasons.NoMemory = Unit {0}
 EndsComparing scope a_file b_file (reasons.Roster fault) = ⊥
-EndsComparing scope a_file b_file (reasons.Policy fault) = IsFaultOf a_file fault ⊎ (HoldsPolicy a_file × IsFaultOf b_file fault)
-EndsComparing scope a_file b_file (reasons.Beyond faults.TooManyCases) = HaveTooManyCases scope a_file b_file
+EndsComparing scope a_file b_file (reasons.Policy fault) =
+    IsFaultOf a_file fault ⊎ (HoldsPolicy a_file × IsFaultOf b_file fault)
+EndsComparing scope a_file b_file (reasons.Beyond faults.TooManyCases) =
+    HaveTooManyCases scope a_file b_file
 EndsComparing scope a_file b_file (reasons.Beyond faults.NoMemory) = Unit {0}
 EndsComparing scope a_file b_file (reasons.Desk refusal) = ⊥

@@ -1,5 +1,6 @@
 -- What `deliver` answers.
-use Rattle.std.specs.Prelude.{◌≡◌, ℕ, List, [], ◌∷◌, ◌++◌, Contains, Option, Result, Err, Ok, IfSome, codes, if◌then◌else◌, is_ok}
+use Rattle.std.specs.Prelude.{◌≡◌, ℕ, List, [], ◌∷◌, ◌++◌, Contains, Option}
+use Rattle.std.specs.Prelude.{Result, Err, Ok, IfSome, codes, if◌then◌else◌, is_ok}
 use Rattle.std.specs.List.{list_all}
 use Rattle.sudo_words.specs.declared.cmnd.Cmnd.{Cmnd}
 use Rattle.messages.specs.declared.message.Message.{Message}
@@ -31,9 +32,11 @@ answer_lines (answer ∷ answers) = answer_line answer ++ answer_lines answers
 abbrev pub status_after : List (Result Ack Refusal) → Status
 status_after answers = if list_all is_ok answers then Done else LinesRefused
 
--- `deliver` answers with what the desk answers to each line of the input, in order, as the relay's. What is acknowledged is held then, and nothing else is new. A line
--- is answered `K4 Storage` only where a failure was counted.
-pub record DeliversLines (roster : RosterFields Cmnd) (relay : List ℕ) (old new : Message → Type 0) (Up Failed : Type 0) (input : Option (List ℕ)) (status : Status)
+-- `deliver` answers with what the desk answers to each line of the input, in order, as the relay's.
+-- What is acknowledged is held then, and nothing else is new. A line is answered `K4 Storage` only
+-- where a failure was counted.
+pub record DeliversLines (roster : RosterFields Cmnd) (relay : List ℕ) (old new : Message
+    → Type 0) (Up Failed : Type 0) (input : Option (List ℕ)) (status : Status)
     (text : List ℕ) : Type 0 where
   pub lines : List (List ℕ)
   pub answers : List (Result Ack Refusal)

@@ -22,17 +22,20 @@ pub record IsRosterFile (file : List ℕ) (roster : RosterFields Cmnd) : Type 0 
   pub text : IsRosterText file roster
 
 -- the files make a desk of this roster and this base
-pub record IsDeskOf (roster_file base_file : List ℕ) (roster : RosterFields Cmnd) (base : List Entry) : Type 0 where
+pub record IsDeskOf (roster_file base_file : List ℕ)
+    (roster : RosterFields Cmnd) (base : List Entry) : Type 0 where
   pub roster_is : IsRosterFile roster_file roster
   pub spelled : Spells base_file base
   pub fits : FitsBase base
 
 -- ---- why files make no desk
 
--- Bytes that are not UTF-8 are no TOML; else it is the least fault of the text. Any file may be refused for want of memory.
+-- Bytes that are not UTF-8 are no TOML; else it is the least fault of the text. Any file may be
+-- refused for want of memory.
 abbrev pub IsRosterFault : List ℕ → RosterFault → Type 0
 IsRosterFault file fault =
-    fault ≢ faults.NoMemory → ((fault ≡ faults.NotToml) × (IsUtf8 file → ⊥)) ⊎ (IsUtf8 file × IsLeastFault file fault)
+    fault ≢ faults.NoMemory
+    → ((fault ≡ faults.NotToml) × (IsUtf8 file → ⊥)) ⊎ (IsUtf8 file × IsLeastFault file fault)
 
 -- where the file spells a policy, the fault is want of memory
 abbrev pub IsFaultOf : List ℕ → ReadFault → Type 0
@@ -50,40 +53,52 @@ pub record HasLargeBase (file : List ℕ) : Type 0 where
 
 -- the files make a desk
 abbrev pub MakesDesk : (roster_file base_file : List ℕ) → Type 0
-MakesDesk roster_file base_file = (roster : RosterFields Cmnd) × (base : List Entry) × IsDeskOf roster_file base_file roster base
+MakesDesk roster_file base_file =
+    (roster : RosterFields Cmnd) × (base : List Entry) × IsDeskOf roster_file base_file roster base
 
--- To open the desk of the files over what a keeper keeps may be refused for this: a base past the limits, else what is no desk, a desk of an older form,
--- or one of another roster's text; and want of memory or of the storage anywhere. While the keeper is up there is no other reason.
+-- To open the desk of the files over what a keeper keeps may be refused for this: a base past the
+-- limits, else what is no desk, a desk of an older form, or one of another roster's text; and want
+-- of memory or of the storage anywhere. While the keeper is up there is no other reason.
 abbrev pub EndsOpening : (roster_file base_file : List ℕ) → Kept → Refusal → Type 0
-EndsOpening roster_file base_file k desk.BaseTooLarge = HoldsRoster roster_file × HasLargeBase base_file
-EndsOpening roster_file base_file k desk.NotADesk = k.up → MakesDesk roster_file base_file × (¬ k.before.empty) × (¬ k.before.desk) × (¬ k.before.old)
-EndsOpening roster_file base_file k desk.OldSchema = k.up → MakesDesk roster_file base_file × k.before.old × (¬ k.before.desk)
-EndsOpening roster_file base_file k desk.RosterChanged = k.up → MakesDesk roster_file base_file × k.before.desk × (k.before.roster ≢ roster_file)
+EndsOpening roster_file base_file k desk.BaseTooLarge =
+    HoldsRoster roster_file × HasLargeBase base_file
+EndsOpening roster_file base_file k desk.NotADesk = k.up
+    → MakesDesk roster_file base_file × (¬ k.before.empty) × (¬ k.before.desk) × (¬ k.before.old)
+EndsOpening roster_file base_file k desk.OldSchema =
+    k.up → MakesDesk roster_file base_file × k.before.old × (¬ k.before.desk)
+EndsOpening roster_file base_file k desk.RosterChanged =
+    k.up → MakesDesk roster_file base_file × k.before.desk × (k.before.roster ≢ roster_file)
 EndsOpening roster_file base_file k desk.NoMemory = Unit {0}
 EndsOpening roster_file base_file k desk.Storage = k.failed
 EndsOpening roster_file base_file k _ = ¬ k.up
 
--- To rebuild it may be refused for this: a base past the limits, else what is no desk; and want of memory or of the storage anywhere.
+-- To rebuild it may be refused for this: a base past the limits, else what is no desk; and want of
+-- memory or of the storage anywhere.
 abbrev pub EndsReplacing : (roster_file base_file : List ℕ) → Kept → Refusal → Type 0
-EndsReplacing roster_file base_file k desk.BaseTooLarge = HoldsRoster roster_file × HasLargeBase base_file
-EndsReplacing roster_file base_file k desk.NotADesk = k.up → MakesDesk roster_file base_file × (¬ k.before.empty) × (¬ k.before.desk) × (¬ k.before.old)
+EndsReplacing roster_file base_file k desk.BaseTooLarge =
+    HoldsRoster roster_file × HasLargeBase base_file
+EndsReplacing roster_file base_file k desk.NotADesk = k.up
+    → MakesDesk roster_file base_file × (¬ k.before.empty) × (¬ k.before.desk) × (¬ k.before.old)
 EndsReplacing roster_file base_file k desk.NoMemory = Unit {0}
 EndsReplacing roster_file base_file k desk.Storage = k.failed
 EndsReplacing roster_file base_file k _ = ⊥
 
--- The files may make no desk for this, where a desk of theirs is refused for such reasons. The base is looked at where the other file is a roster's.
+-- The files may make no desk for this, where a desk of theirs is refused for such reasons. The base
+-- is looked at where the other file is a roster's.
 abbrev pub EndsWith : (roster_file base_file : List ℕ) → (Refusal → Type 0) → Reason → Type 0
 EndsWith roster_file base_file Ends reasons.FileFailed = ⊥
 EndsWith roster_file base_file Ends reasons.BadWord = ⊥
 EndsWith roster_file base_file Ends reasons.NoMemory = Unit {0}
 EndsWith roster_file base_file Ends (reasons.Roster fault) = IsRosterFault roster_file fault
-EndsWith roster_file base_file Ends (reasons.Policy fault) = HoldsRoster roster_file × IsFaultOf base_file fault
+EndsWith roster_file base_file Ends (reasons.Policy fault) =
+    HoldsRoster roster_file × IsFaultOf base_file fault
 EndsWith roster_file base_file Ends (reasons.Beyond fault) = ⊥
 EndsWith roster_file base_file Ends (reasons.Desk refusal) = Ends refusal
 
 -- no desk of the files is opened, for this
 abbrev pub EndsMaking : (roster_file base_file : List ℕ) → Kept → Reason → Type 0
-EndsMaking roster_file base_file k reason = EndsWith roster_file base_file (EndsOpening roster_file base_file k) reason
+EndsMaking roster_file base_file k reason =
+    EndsWith roster_file base_file (EndsOpening roster_file base_file k) reason
 
 -- ---- over what a keeper keeps
 
@@ -92,6 +107,8 @@ abbrev pub KeepsDesk : (roster_file : List ℕ) → Kept → Type 0
 KeepsDesk roster_file k = k.up → k.after.desk × (k.after.roster ≡ roster_file)
 
 -- over the desk of the roster and the base that the files make, which the keeper keeps then
-abbrev pub OverDesk : (roster_file base_file : List ℕ) → Kept → (RosterFields Cmnd → List Entry → Type 0) → Type 0
+abbrev pub OverDesk : (roster_file base_file : List ℕ) → Kept
+    → (RosterFields Cmnd → List Entry → Type 0) → Type 0
 OverDesk roster_file base_file k Answered =
-    (roster : RosterFields Cmnd) × (base : List Entry) × IsDeskOf roster_file base_file roster base × KeepsDesk roster_file k × Answered roster base
+    (roster : RosterFields Cmnd) × (base : List Entry)
+    × IsDeskOf roster_file base_file roster base × KeepsDesk roster_file k × Answered roster base

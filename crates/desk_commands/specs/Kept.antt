@@ -1,10 +1,12 @@
--- What a job finds at a keeper, and what it leaves there: as far as its answer and its refusal speak of it.
+-- What a job finds at a keeper, and what it leaves there: as far as its answer and its refusal
+-- speak of it.
 use Rattle.std.specs.Prelude.{◌⊎◌, ℕ, List}
 use Rattle.messages.specs.declared.message.Message.{Message}
 use Rattle.desk_store.specs.Keeping.{HasFailed}
 use Rattle.desk_store.specs.declared.keeper.Keeper.{Ghosts}
 
--- What a keeper keeps: nothing of a desk's, a desk of this roster's text, a desk of an older form, or something else; and a desk's messages.
+-- What a keeper keeps: nothing of a desk's, a desk of this roster's text, a desk of an older form,
+-- or something else; and a desk's messages.
 pub record Keeps : Type 1 where
   pub empty : Type 0
   pub desk : Type 0
@@ -12,7 +14,8 @@ pub record Keeps : Type 1 where
   pub roster : List ℕ
   pub holds : Message → Type 0
 
--- What it keeps as the job begins and as it ends, and what is known of it then: it is up; its count of failures rose or stands at its greatest.
+-- What it keeps as the job begins and as it ends, and what is known of it then: it is up; its count
+-- of failures rose or stands at its greatest.
 pub record Kept : Type 1 where
   pub before : Keeps
   pub after : Keeps
@@ -20,16 +23,36 @@ pub record Kept : Type 1 where
   pub failed : Type 0
 
 -- what a keeper keeps, by its contract
-abbrev pub keeps : {K : Type 0} → (is_empty is_desk is_old : K → Type 0) → (roster : K → List ℕ) → (holds : K → Message → Type 0) → (keeper : K) → Keeps
+abbrev pub keeps : {K : Type 0} → (is_empty is_desk is_old : K → Type 0)
+    → (roster : K → List ℕ) → (holds : K → Message → Type 0) → (keeper : K) → Keeps
 keeps is_empty is_desk is_old roster holds keeper =
-    record { empty = is_empty keeper; desk = is_desk keeper; old = is_old keeper; roster = roster keeper; holds = holds keeper }
+    record {
+      empty = is_empty keeper;
+      desk = is_desk keeper;
+      old = is_old keeper;
+      roster = roster keeper;
+      holds = holds keeper;
+    }
 
 -- the same, by what a keeper's contract says of it
-abbrev pub kept : {K : Type 0} → (is_up is_empty is_desk is_old : K → Type 0) → (roster : K → List ℕ) → (holds : K → Message → Type 0) → (failures : K → ℕ)
+abbrev pub kept : {K : Type 0} → (is_up is_empty is_desk is_old : K → Type 0)
+    → (roster : K → List ℕ) → (holds : K → Message → Type 0) → (failures : K → ℕ)
     → (before after : K) → Kept
 kept is_up is_empty is_desk is_old roster holds failures before after = record {
-  before = record { empty = is_empty before; desk = is_desk before; old = is_old before; roster = roster before; holds = holds before };
-  after = record { empty = is_empty after; desk = is_desk after; old = is_old after; roster = roster after; holds = holds after };
+  before = record {
+    empty = is_empty before;
+    desk = is_desk before;
+    old = is_old before;
+    roster = roster before;
+    holds = holds before;
+  };
+  after = record {
+    empty = is_empty after;
+    desk = is_desk after;
+    old = is_old after;
+    roster = roster after;
+    holds = holds after;
+  };
   up = is_up after;
   failed = HasFailed (failures before) (failures after);
 }

@@ -1,5 +1,6 @@
 -- The lines of an input, as deliveries of a relay, and the messages that they bring.
-use Rattle.std.specs.Prelude.{◌≡◌, ◌==◌, ℕ, List, [], ◌∷◌, Contains, IfSome, Option, if◌then◌else◌, map}
+use Rattle.std.specs.Prelude.{◌≡◌, ◌==◌, ℕ, List, [], ◌∷◌, Contains}
+use Rattle.std.specs.Prelude.{IfSome, Option, if◌then◌else◌, map}
 use Rattle.std.specs.List.{onto_first}
 use Rattle.sudo_words.specs.declared.cmnd.Cmnd.{Cmnd}
 use Rattle.messages.specs.declared.message.Message.{Message}
@@ -8,7 +9,8 @@ use Rattle.grants.specs.Admission.{Admits}
 use Rattle.desk_store.specs.Sets.{Lists}
 use Rattle.desk.specs.Delivery.{Delivery, IsBodyOf}
 
--- The lines of an input: the bytes before each newline, and those after the last one, if there are any.
+-- The lines of an input: the bytes before each newline, and those after the last one, if there are
+-- any.
 unfoldable pub input_lines : List ℕ → List (List ℕ)
 input_lines [] = []
 input_lines (b ∷ bs) = if b == 10 then [] ∷ input_lines bs else onto_first b (input_lines bs)
@@ -18,13 +20,15 @@ abbrev pub from_relay : (relay : List ℕ) → List (List ℕ) → List Delivery
 from_relay relay = map (λ line. record { relay = relay; body = line })
 
 -- the deliveries are the lines of the input, if it is known
-pub record AreRead (relay : List ℕ) (input : Option (List ℕ)) (deliveries : List Delivery) : Type 0 where
+pub record AreRead (relay : List ℕ) (input : Option (List ℕ))
+    (deliveries : List Delivery) : Type 0 where
   pub lines : List (List ℕ)
   pub lines_are : IfSome input (λ bytes. lines ≡ input_lines bytes)
   pub deliveries_are : deliveries ≡ from_relay relay lines
 
 -- some line is the text of the message, which the roster admits
-pub record IsBrought (roster : RosterFields Cmnd) (lines : List (List ℕ)) (message : Message) : Type 0 where
+pub record IsBrought (roster : RosterFields Cmnd)
+    (lines : List (List ℕ)) (message : Message) : Type 0 where
   pub line : List ℕ
   pub among : Contains lines line
   pub body : IsBodyOf line message

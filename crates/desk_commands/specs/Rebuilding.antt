@@ -9,11 +9,14 @@ use Rattle.desk_args.specs.declared.status.Status.{Status}
 use Rattle.desk_args.specs.declared.status.Status.TheVariants.{Done}
 
 -- `rebuild` answers `ok`. What was held is held, also what the new roster does not admit.
-pub record RebuildsDesk (old new : Message → Type 0) (Up : Type 0) (status : Status) (text : List ℕ) : Type 0 where
+pub record RebuildsDesk (old new : Message
+    → Type 0) (Up : Type 0) (status : Status) (text : List ℕ) : Type 0 where
   pub done : status ≡ Done
   pub told : text ≡ codes "ok\n"
   pub stays : Up → SameSet old new
 
--- `rebuild` may be refused for this: never since the desk has another roster's text or an older form.
+-- `rebuild` may be refused for this: never since the desk has another roster's text or an older
+-- form.
 abbrev pub EndsRebuilding : (roster_file base_file : List ℕ) → Kept → Reason → Type 0
-EndsRebuilding roster_file base_file k reason = EndsWith roster_file base_file (EndsReplacing roster_file base_file k) reason
+EndsRebuilding roster_file base_file k reason =
+    EndsWith roster_file base_file (EndsReplacing roster_file base_file k) reason

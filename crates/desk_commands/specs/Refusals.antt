@@ -5,9 +5,12 @@ use Rattle.roster.specs.Faults as roster
 use Rattle.sudo_beyond.specs.Faults as review
 use Rattle.desk.specs.Refusals.{refusal_text}
 use Rattle.desk_commands.specs.declared.refusal.Refusal.{Refusal}
-use Rattle.desk_commands.specs.declared.refusal.Refusal.TheVariants.{BadWord, Beyond, Desk, FileFailed, NoMemory, Policy, Roster}
+use Rattle.desk_commands.specs.declared.refusal.Refusal.TheVariants.{BadWord, Beyond, Desk}
+use Rattle.desk_commands.specs.declared.refusal.Refusal.TheVariants.{FileFailed, NoMemory}
+use Rattle.desk_commands.specs.declared.refusal.Refusal.TheVariants.{Policy, Roster}
 
--- its code and name; a roster's, a comparison's and the desk's as these show them, and a policy's with its line
+-- its code and name; a roster's, a comparison's and the desk's as these show them, and a policy's
+-- with its line
 abbrev pub reason_text : Refusal → List ℕ
 reason_text FileFailed = codes "F1 FileFailed"
 reason_text BadWord = codes "F2 BadWord"

@@ -1,5 +1,7 @@
--- The lines of the input that `print` and `review` take before they ask: all, where a desk is kept in memory alone, and none of one that a database keeps.
-use Rattle.std.specs.Prelude.{◌≡◌, ◌⊎◌, ℕ, suc, List, [], ◌∷◌, ◌++◌, Option, Result, Err, Ok, IfSome, codes, decimal}
+-- The lines of the input that `print` and `review` take before they ask: all, where a desk is kept
+-- in memory alone, and none of one that a database keeps.
+use Rattle.std.specs.Prelude.{◌≡◌, ◌⊎◌, ℕ, suc, List, [], ◌∷◌, ◌++◌, Option}
+use Rattle.std.specs.Prelude.{Result, Err, Ok, IfSome, codes, decimal}
 use Rattle.std.specs.List.{AllZip}
 use Rattle.messages.specs.declared.message.Message.{Message}
 use Rattle.sudo_words.specs.declared.cmnd.Cmnd.{Cmnd}
@@ -15,16 +17,20 @@ use Rattle.desk_args.specs.declared.task.Store.TheVariants.{File, Memory}
 
 -- `line 3: M2 NotCanonical` and a newline
 abbrev pub complaint : ℕ → Refusal → List ℕ
-complaint number refusal = codes "line " ++ decimal number ++ codes ": " ++ refusal_text refusal ++ codes "\n"
+complaint number refusal =
+    codes "line " ++ decimal number ++ codes ": " ++ refusal_text refusal ++ codes "\n"
 
 -- the complaint of each line that is refused, the first of which has this number
 abbrev pub complaints : ℕ → List (Result Ack Refusal) → List ℕ
 complaints number [] = []
 complaints number (Ok ack ∷ answers) = complaints (suc number) answers
-complaints number (Err refusal ∷ answers) = complaint number refusal ++ complaints (suc number) answers
+complaints number (Err refusal ∷ answers) =
+    complaint number refusal ++ complaints (suc number) answers
 
--- The lines of the input are taken, as those of the roster's first relay in byte order, and this is said of them. The messages that they bring can be listed.
-pub record AreTaken (roster : RosterFields Cmnd) (input : Option (List ℕ)) (lines : List (List ℕ)) (said : List ℕ) : Type 0 where
+-- The lines of the input are taken, as those of the roster's first relay in byte order, and this is
+-- said of them. The messages that they bring can be listed.
+pub record AreTaken (roster : RosterFields Cmnd) (input : Option (List ℕ))
+    (lines : List (List ℕ)) (said : List ℕ) : Type 0 where
   pub relay : List ℕ
   pub answers : List (Result Ack Refusal)
   pub messages : List Message
@@ -35,12 +41,14 @@ pub record AreTaken (roster : RosterFields Cmnd) (input : Option (List ℕ)) (li
   pub said_is : said ≡ complaints 1 answers
 
 -- these lines are taken of the input, and this is said of them
-abbrev pub Takes : Store → RosterFields Cmnd → (input : Option (List ℕ)) → (lines : List (List ℕ)) → (said : List ℕ) → Type 0
+abbrev pub Takes : Store → RosterFields Cmnd → (input : Option (List ℕ))
+    → (lines : List (List ℕ)) → (said : List ℕ) → Type 0
 Takes Memory roster input lines said = AreTaken roster input lines said
 Takes (File path) roster input lines said = (lines ≡ []) × (said ≡ [])
 
 -- what is held once these lines are taken: what was held, and what they bring
-abbrev pub HeldWith : RosterFields Cmnd → (lines : List (List ℕ)) → (old : Message → Type 0) → Message → Type 0
+abbrev pub HeldWith : RosterFields Cmnd → (lines : List (List ℕ))
+    → (old : Message → Type 0) → Message → Type 0
 HeldWith roster lines old message = old message ⊎ IsBrought roster lines message
 
 -- taking them may fail: the input cannot be read, or what is to be said not be written

@@ -18,7 +18,8 @@ IsWanting reason = ⊥
 
 -- the text has a line for an answer of want
 abbrev pub ShowsWant : List ℕ → Type 0
-ShowsWant text = (answers : List (Result Ack Refusal)) × (text ≡ answer_lines answers) × WasWantingAmong answers
+ShowsWant text =
+    (answers : List (Result Ack Refusal)) × (text ≡ answer_lines answers) × WasWantingAmong answers
 
 -- An answer tells of want: `deliver` alone answers so, line by line. Any other job is refused then.
 abbrev pub TellsWant : Job → (text : List ℕ) → Type 0

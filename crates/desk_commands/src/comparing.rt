@@ -2,7 +2,8 @@
 
 ghost use Rattle.std.specs.Prelude.{◌≡◌, ◌++◌, ℕ, List, IfErr, IfOk, OnOk, codes, string_bytes};
 ghost use Rattle.sudo_policy.specs.Spelling.{Spells};
-ghost use Rattle.desk_commands.specs.Comparing.{ComparesFiles, EndsComparing, IsShown, case_text, spaced};
+ghost use Rattle.desk_commands.specs.Comparing.{ComparesFiles, EndsComparing};
+ghost use Rattle.desk_commands.specs.Comparing.{IsShown, case_text, spaced};
 
 use crate::answer::Answer;
 use crate::refusal::Refusal;
@@ -57,7 +58,8 @@ fn shown(alloc: Global, found: &Option<Invocation>) -> Result<Answer, AllocError
 fn compare(alloc: Global, a: &Policy, b: &Policy, scope: &Scope) -> Result<Answer, Refusal>
     ensures found { (a_file b_file : List ℕ) → Spells a_file a.now → Spells b_file b.now
         → IfOk result (λ r. ComparesFiles scope.now a_file b_file r.status (string_bytes r.text)) }
-    ensures err { (a_file b_file : List ℕ) → Spells a_file a.now → Spells b_file b.now → IfErr result (EndsComparing scope.now a_file b_file) }
+    ensures err { (a_file b_file : List ℕ) → Spells a_file a.now
+        → Spells b_file b.now → IfErr result (EndsComparing scope.now a_file b_file) }
 {
     let found = beyond(alloc, scope, a, b)?;
     Ok(shown(alloc, &found)?)
@@ -65,19 +67,23 @@ fn compare(alloc: Global, a: &Policy, b: &Policy, scope: &Scope) -> Result<Answe
 
 /// The answer of a policy and that of a file.
 fn compare_with(alloc: Global, a: &Policy, b: &[u8], scope: &Scope) -> Result<Answer, Refusal>
-    ensures found { (a_file : List ℕ) → Spells a_file a.now → IfOk result (λ r. ComparesFiles scope.now a_file b.now r.status (string_bytes r.text)) }
-    ensures err { (a_file : List ℕ) → Spells a_file a.now → IfErr result (EndsComparing scope.now a_file b.now) }
+    ensures found { (a_file : List ℕ) → Spells a_file a.now
+        → IfOk result (λ r. ComparesFiles scope.now a_file b.now r.status (string_bytes r.text)) }
+    ensures err { (a_file : List ℕ) → Spells a_file a.now
+        → IfErr result (EndsComparing scope.now a_file b.now) }
 {
     let b = read_policy(alloc, b)?;
     compare(alloc, a, &b, scope)
 }
 
-/// An invocation in the scope that the first file's policy allows and the second's refuses, or `none`.
+/// An invocation in the scope that the first file's policy allows and the second's refuses, or
+/// `none`.
 ///
-/// The first file is read first. It is refused where a file spells no policy, where the policies have too many cases, and
-/// where memory runs out.
+/// The first file is read first. It is refused where a file spells no policy, where the policies
+/// have too many cases, and where memory runs out.
 pub fn compare_files(alloc: Global, a: &[u8], b: &[u8], scope: &Scope) -> Result<Answer, Refusal>
-    ensures found { IfOk result (λ r. ComparesFiles scope.now a.now b.now r.status (string_bytes r.text)) }
+    ensures found { IfOk result
+        (λ r. ComparesFiles scope.now a.now b.now r.status (string_bytes r.text)) }
     ensures err { IfErr result (EndsComparing scope.now a.now b.now) }
 {
     let a = read_policy(alloc, a)?;

@@ -1,11 +1,13 @@
 //! Delivering the lines of the input, with an answer to each.
 
-ghost use Rattle.std.specs.Prelude.{◌≡◌, ◌⊎◌, ◌++◌, ◌∷◌, ℕ, List, Option, IfErr, IfOk, OnOk, is_ok, map, string_bytes};
+ghost use Rattle.std.specs.Prelude.{◌≡◌, ◌⊎◌, ◌++◌, ◌∷◌, ℕ, List, Option, IfErr};
+ghost use Rattle.std.specs.Prelude.{IfOk, OnOk, is_ok, map, string_bytes};
 ghost use Rattle.std.specs.List.{list_all};
 ghost use Rattle.desk.specs.declared.refusal.Refusal.TheVariants as refusal;
 ghost use Rattle.desk_store.specs.Keeping.{HasFailed};
 ghost use Rattle.desk_store.specs.Serves.{Serves};
-ghost use Rattle.desk_commands.specs.Delivering.{DeliversLines, answer_line, answer_lines, status_after};
+ghost use Rattle.desk_commands.specs.Delivering.{DeliversLines, answer_line};
+ghost use Rattle.desk_commands.specs.Delivering.{answer_lines, status_after};
 ghost use Rattle.desk_commands.specs.Kept.{kept_by};
 ghost use Rattle.desk_commands.specs.Leaving.{LeavesDelivered};
 ghost use Rattle.desk_commands.specs.declared.refusal.Refusal.TheVariants as reasons;
@@ -25,7 +27,8 @@ use std::io::Read;
 
 /// Adds the line of an answer.
 fn add_line(text: &mut String, answer: &Result<Ack, desk::Refusal>) -> Result<(), AllocError>
-    ensures { OnOk result (string_bytes text.new ≡ string_bytes text.old ++ answer_line answer.now) }
+    ensures { OnOk result
+        (string_bytes text.new ≡ string_bytes text.old ++ answer_line answer.now) }
 {
     match answer {
         Ok(_) => Ok(text.push_str("ack\n")?),
@@ -65,19 +68,22 @@ fn status_of(answers: &[Result<Ack, desk::Refusal>]) -> Status
 
 /// What the desk answers to each line of the input, in order, as the relay's.
 ///
-/// A line that the desk refuses is answered by its code and name, and has no other effect but on the status. It is refused
-/// as a whole where the input cannot be read, and where memory runs out.
+/// A line that the desk refuses is answered by its code and name, and has no other effect but on
+/// the status. It is refused as a whole where the input cannot be read, and where memory runs out.
 pub fn deliver_to<K: Keeper, R: Read>(
     alloc: Global,
     desk: &mut Desk<K>,
     relay: &str,
     input: &mut R,
 ) -> Result<Answer, Refusal>
-    ensures found { IfOk result (λ a. DeliversLines desk.old.roster.says relay.now (K.holds desk.old.keeper) (K.holds desk.new.keeper) (K.is_up desk.new.keeper)
-        (HasFailed (K.failures desk.old.keeper) (K.failures desk.new.keeper)) (R.remaining input.old) a.status (string_bytes a.text)) }
-    ensures err { IfErr result (λ e. (e ≡ reasons.FileFailed) ⊎ (e ≡ reasons.NoMemory) ⊎ (e ≡ reasons.Desk refusal.NoMemory)) }
-    ensures left { K.is_up desk.new.keeper → IfErr result
-        (λ _. LeavesDelivered desk.old.roster.says relay.now (R.remaining input.old) (K.holds desk.old.keeper) (K.holds desk.new.keeper)) }
+    ensures found { IfOk result
+        (λ a. DeliversLines desk.old.roster.says relay.now (K.holds desk.old.keeper)
+        (K.holds desk.new.keeper) (K.is_up desk.new.keeper) (HasFailed (K.failures desk.old.keeper)
+        (K.failures desk.new.keeper)) (R.remaining input.old) a.status (string_bytes a.text)) }
+    ensures err { IfErr result (λ e. (e ≡ reasons.FileFailed)
+        ⊎ (e ≡ reasons.NoMemory) ⊎ (e ≡ reasons.Desk refusal.NoMemory)) }
+    ensures left { K.is_up desk.new.keeper → IfErr result (λ _. LeavesDelivered desk.old.roster.says
+        relay.now (R.remaining input.old) (K.holds desk.old.keeper) (K.holds desk.new.keeper)) }
     ensures roster { desk.new.roster ≡ desk.old.roster }
     ensures served { Serves K.Keeper desk.old.keeper desk.new.keeper ⊥ (ShowsWantIn result) }
 {
@@ -89,7 +95,8 @@ pub fn deliver_to<K: Keeper, R: Read>(
     })
 }
 
-/// The same, over the desk that the roster's file and the base's make and the keeper keeps; and the keeper.
+/// The same, over the desk that the roster's file and the base's make and the keeper keeps; and the
+/// keeper.
 fn deliver_over<K: Keeper, R: Read>(
     alloc: Global,
     roster: &[u8],
@@ -98,10 +105,12 @@ fn deliver_over<K: Keeper, R: Read>(
     relay: &str,
     input: &mut R,
 ) -> (Result<Answer, Refusal>, K)
-    ensures outcome { (places : Parts) (more : List (List ℕ)) (err : Option (List ℕ)) → IsOutcome (jobs.Deliver places relay.now) (roster.now ∷ base.now ∷ more)
+    ensures outcome { (places : Parts) (more : List (List ℕ)) (err : Option (List ℕ))
+        → IsOutcome (jobs.Deliver places relay.now) (roster.now ∷ base.now ∷ more)
         (kept_by K.Keeper keeper result.1) (R.remaining input.old) result.0 err err }
-    ensures left { (places : Parts) (more : List (List ℕ)) (err : Option (List ℕ)) → IfErr result.0 (λ _. IsLeft (jobs.Deliver places relay.now) (roster.now ∷ base.now ∷ more)
-        (kept_by K.Keeper keeper result.1) (K.is_same keeper result.1) (R.remaining input.old) err err) }
+    ensures left { (places : Parts) (more : List (List ℕ)) (err : Option (List ℕ)) → IfErr result.0
+        (λ _. IsLeft (jobs.Deliver places relay.now) (roster.now ∷ base.now ∷ more) (kept_by
+        K.Keeper keeper result.1) (K.is_same keeper result.1) (R.remaining input.old) err err) }
     ensures served { Serves K.Keeper keeper result.1 ⊥ (ShowsWantIn result.0) }
 {
     match open_over(alloc, roster, base, keeper) {
@@ -121,10 +130,12 @@ pub fn deliver_lines<K: Keeper, R: Read>(
     relay: &str,
     input: &mut R,
 ) -> (Result<Answer, Refusal>, K)
-    ensures outcome { (places : Parts) (err : Option (List ℕ)) → IsOutcome (jobs.Deliver places relay.now) (map (λ f. f.items) files.now)
+    ensures outcome { (places : Parts) (err : Option (List ℕ))
+        → IsOutcome (jobs.Deliver places relay.now) (map (λ f. f.items) files.now)
         (kept_by K.Keeper keeper result.1) (R.remaining input.old) result.0 err err }
-    ensures left { (places : Parts) (err : Option (List ℕ)) → IfErr result.0 (λ _. IsLeft (jobs.Deliver places relay.now) (map (λ f. f.items) files.now)
-        (kept_by K.Keeper keeper result.1) (K.is_same keeper result.1) (R.remaining input.old) err err) }
+    ensures left { (places : Parts) (err : Option (List ℕ)) → IfErr result.0
+        (λ _. IsLeft (jobs.Deliver places relay.now) (map (λ f. f.items) files.now) (kept_by
+        K.Keeper keeper result.1) (K.is_same keeper result.1) (R.remaining input.old) err err) }
     ensures served { Serves K.Keeper keeper result.1 ⊥ (ShowsWantIn result.0) }
 {
     match files {

@@ -12,16 +12,18 @@ ghost use Rattle.desk_args.specs.declared.status.Status.TheVariants.{Done};
 
 /// Two cases with one line are one, and no case has the line `none`.
 pub fn case_tells()
-    ensures one { (i j : Invocation) → IsInvocation i → IsInvocation j → case_text i ≡ case_text j → i ≡ j }
+    ensures one { (i j : Invocation) → IsInvocation i
+        → IsInvocation j → case_text i ≡ case_text j → i ≡ j }
     ensures not_none { (i : Invocation) → IsInvocation i → case_text i ≡ codes "none" → ⊥ }
 {}
 
-/// Of files that spell two policies, `none` is answered exactly where nothing of the first lies beyond the second. So it is with the status.
+/// Of files that spell two policies, `none` is answered exactly where nothing of the first lies
+/// beyond the second. So it is with the status.
 pub fn none_tells()
-    ensures text { (scope : Scope) (a_file b_file : List ℕ) (a b : List Entry) (status : Status) (text : List ℕ) →
-        ComparesFiles scope a_file b_file status text → Spells a_file a → Spells b_file b →
-        (text ≡ codes "none\n") ↔ (SomethingBeyond scope a b → ⊥) }
-    ensures status { (scope : Scope) (a_file b_file : List ℕ) (a b : List Entry) (status : Status) (text : List ℕ) →
-        ComparesFiles scope a_file b_file status text → Spells a_file a → Spells b_file b →
-        (status ≡ Done) ↔ (SomethingBeyond scope a b → ⊥) }
+    ensures text { (scope : Scope) (a_file b_file : List ℕ) (a b : List Entry) (status : Status)
+        (text : List ℕ) → ComparesFiles scope a_file b_file status text → Spells a_file a
+        → Spells b_file b → (text ≡ codes "none\n") ↔ (SomethingBeyond scope a b → ⊥) }
+    ensures status { (scope : Scope) (a_file b_file : List ℕ) (a b : List Entry)
+        (status : Status) (text : List ℕ) → ComparesFiles scope a_file b_file status text
+        → Spells a_file a → Spells b_file b → (status ≡ Done) ↔ (SomethingBeyond scope a b → ⊥) }
 {}

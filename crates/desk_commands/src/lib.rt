@@ -1,4 +1,5 @@
-//! The program's commands: doing over files, streams and what a keeper keeps what a command line says to do.
+//! The program's commands: doing over files, streams and what a keeper keeps what a command line
+//! says to do.
 #![tactic(auto)]
 
 mod answer;

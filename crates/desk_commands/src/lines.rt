@@ -23,9 +23,11 @@ fn whole<R: Read>(alloc: Global, input: &mut R) -> Result<Vec<u8>, Refusal>
     }
 }
 
-/// The lines of a text, each as the relay's: what stands before each newline, and what stands after the last one, unless that is nothing.
+/// The lines of a text, each as the relay's: what stands before each newline, and what stands after
+/// the last one, unless that is nothing.
 fn lines(alloc: Global, relay: &str, bytes: &[u8]) -> Result<Vec<(String, Vec<u8>)>, AllocError>
-    ensures { IfOk result (λ v. map delivery_of v.items ≡ from_relay relay.now (input_lines bytes.now)) }
+    ensures { IfOk result
+        (λ v. map delivery_of v.items ≡ from_relay relay.now (input_lines bytes.now)) }
 {
     let mut lines = Vec::new(alloc);
     let mut line = Vec::new(alloc);
@@ -49,7 +51,8 @@ pub fn read_lines<R: Read>(
     relay: &str,
     input: &mut R,
 ) -> Result<Vec<(String, Vec<u8>)>, Refusal>
-    ensures read { IfOk result (λ v. AreRead relay.now (R.remaining input.old) (map delivery_of v.items)) }
+    ensures read { IfOk result
+        (λ v. AreRead relay.now (R.remaining input.old) (map delivery_of v.items)) }
     ensures err { IfErr result (λ e. (e ≡ reasons.FileFailed) ⊎ (e ≡ reasons.NoMemory)) }
 {
     let bytes = whole(alloc, input)?;

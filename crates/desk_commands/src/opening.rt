@@ -43,7 +43,8 @@ fn parts(alloc: Global, roster: &[u8], base: &[u8]) -> Result<(Roster, Policy), 
 
 /// The desk of the roster and the base that the files hold, over what the keeper keeps.
 ///
-/// It is refused with the roster's fault, the policy's, or the desk's; a refusal hands the keeper back, with what it keeps as it was.
+/// It is refused with the roster's fault, the policy's, or the desk's; a refusal hands the keeper
+/// back, with what it keeps as it was.
 pub fn open_over<K: Keeper>(
     alloc: Global,
     roster: &[u8],
@@ -52,11 +53,15 @@ pub fn open_over<K: Keeper>(
 ) -> Result<Desk<K>, (Refusal, K)>
     ensures found { IfOk result (λ d. IsDeskOf roster.now base.now d.roster.says d.base) }
     ensures recorded { IfOk result (λ d. d.roster.text ≡ roster.now) }
-    ensures opens { IfOk result (λ d. K.is_up d.keeper → SameSet (held_in (K.is_desk keeper) (K.is_old keeper) (K.holds keeper)) (K.holds d.keeper)) }
-    ensures was { IfOk result (λ d. K.is_up d.keeper → WasOpened roster.now (keeps_by K.Keeper keeper)) }
-    ensures err { IfErr result (λ r. EndsMaking roster.now base.now (kept_by K.Keeper keeper r.1) r.0) }
+    ensures opens { IfOk result (λ d. K.is_up d.keeper → SameSet
+        (held_in (K.is_desk keeper) (K.is_old keeper) (K.holds keeper)) (K.holds d.keeper)) }
+    ensures was { IfOk result
+        (λ d. K.is_up d.keeper → WasOpened roster.now (keeps_by K.Keeper keeper)) }
+    ensures err { IfErr result
+        (λ r. EndsMaking roster.now base.now (kept_by K.Keeper keeper r.1) r.0) }
     ensures unchanged { IfErr result (λ r. K.is_up r.1 → K.is_same keeper r.1) }
-    ensures served { MatchResult result (λ d. Serves K.Keeper keeper d.keeper ⊥ ⊥) (λ r. Serves K.Keeper keeper r.1 ⊥ (IsWanting r.0)) }
+    ensures served { MatchResult result (λ d. Serves K.Keeper keeper d.keeper ⊥ ⊥)
+        (λ r. Serves K.Keeper keeper r.1 ⊥ (IsWanting r.0)) }
 {
     match parts(alloc, roster, base) {
         Ok((roster, base)) => match Desk::open(alloc, roster, base, keeper) {
@@ -67,9 +72,11 @@ pub fn open_over<K: Keeper>(
     }
 }
 
-/// The desk of the roster and the base that the files hold, over the messages that the keeper keeps, whatever roster they were kept under.
+/// The desk of the roster and the base that the files hold, over the messages that the keeper
+/// keeps, whatever roster they were kept under.
 ///
-/// It is refused with the roster's fault, the policy's, or the desk's; a refusal hands the keeper back, with what it keeps as it was.
+/// It is refused with the roster's fault, the policy's, or the desk's; a refusal hands the keeper
+/// back, with what it keeps as it was.
 pub fn rebuild_over<K: Keeper>(
     alloc: Global,
     roster: &[u8],
@@ -78,10 +85,13 @@ pub fn rebuild_over<K: Keeper>(
 ) -> Result<Desk<K>, (Refusal, K)>
     ensures found { IfOk result (λ d. IsDeskOf roster.now base.now d.roster.says d.base) }
     ensures recorded { IfOk result (λ d. d.roster.text ≡ roster.now) }
-    ensures keeps { IfOk result (λ d. K.is_up d.keeper → SameSet (held_in (K.is_desk keeper) (K.is_old keeper) (K.holds keeper)) (K.holds d.keeper)) }
-    ensures err { IfErr result (λ r. EndsRebuilding roster.now base.now (kept_by K.Keeper keeper r.1) r.0) }
+    ensures keeps { IfOk result (λ d. K.is_up d.keeper → SameSet
+        (held_in (K.is_desk keeper) (K.is_old keeper) (K.holds keeper)) (K.holds d.keeper)) }
+    ensures err { IfErr result
+        (λ r. EndsRebuilding roster.now base.now (kept_by K.Keeper keeper r.1) r.0) }
     ensures unchanged { IfErr result (λ r. K.is_up r.1 → K.is_same keeper r.1) }
-    ensures served { MatchResult result (λ d. Serves K.Keeper keeper d.keeper ⊥ ⊥) (λ r. Serves K.Keeper keeper r.1 ⊥ (IsWanting r.0)) }
+    ensures served { MatchResult result (λ d. Serves K.Keeper keeper d.keeper ⊥ ⊥)
+        (λ r. Serves K.Keeper keeper r.1 ⊥ (IsWanting r.0)) }
 {
     match parts(alloc, roster, base) {
         Ok((roster, base)) => match Desk::rebuild(alloc, roster, base, keeper) {

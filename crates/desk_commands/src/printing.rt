@@ -1,6 +1,7 @@
 //! Printing a host's file.
 
-ghost use Rattle.std.specs.Prelude.{◌≡◌, ◌⊎◌, ◌↔◌, ◌≤◌, ◌∷◌, ℕ, List, false, length, map, Err, IfErr, IfOk, IsErrAnd, string_bytes};
+ghost use Rattle.std.specs.Prelude.{◌≡◌, ◌⊎◌, ◌↔◌, ◌≤◌, ◌∷◌, ℕ, List, false, length};
+ghost use Rattle.std.specs.Prelude.{map, Err, IfErr, IfOk, IsErrAnd, string_bytes};
 ghost use Rattle.std.specs.Io.KnownBytes.{Appends};
 ghost use Rattle.messages.specs.declared.message.Message.{Message};
 ghost use Rattle.roster.specs.Rules.{is_among};
@@ -35,17 +36,23 @@ fn file_of<K: Keeper>(
     host: &HostName,
     after: Option<Moment>,
 ) -> Result<String, desk::Refusal>
-    ensures printed { (set : List Message) → K.is_up desk.new.keeper → Lists (K.holds desk.old.keeper) set
-        → IfOk result (λ s. IsPrinted desk.old.roster.says desk.old.base set host.now after (string_bytes s)) }
-    ensures rights { (set : List Message) → K.is_up desk.new.keeper → Lists (K.holds desk.old.keeper) set
-        → IfOk result (λ s. HasRights desk.old.roster.says desk.old.base set host.now after (string_bytes s)) }
+    ensures printed { (set : List Message) → K.is_up desk.new.keeper
+        → Lists (K.holds desk.old.keeper) set → IfOk result
+        (λ s. IsPrinted desk.old.roster.says desk.old.base set host.now after (string_bytes s)) }
+    ensures rights { (set : List Message) → K.is_up desk.new.keeper
+        → Lists (K.holds desk.old.keeper) set → IfOk result
+        (λ s. HasRights desk.old.roster.says desk.old.base set host.now after (string_bytes s)) }
     ensures same { K.is_up desk.new.keeper → K.is_same desk.old.keeper desk.new.keeper }
     ensures roster { desk.new.roster ≡ desk.old.roster }
     ensures served { ServesAs K.Keeper desk.old.keeper desk.new.keeper result }
-    ensures unknown { (result ≡ Err refusal.UnknownHost) ↔ (is_among desk.old.roster.says.hosts host.now ≡ false) }
-    ensures few { (set : List Message) (lines : List Line) → K.is_up desk.new.keeper → Lists (K.holds desk.old.keeper) set → AreLines desk.old.roster.says set host.now lines
-        → length (lines_printed after lines) ≤ 8_192 → IfErr result (λ e. (e ≡ refusal.UnknownHost) ⊎ IsWant e) }
-    ensures err { IfErr result (λ e. (e ≡ refusal.UnknownHost) ⊎ (e ≡ refusal.TooManyRules) ⊎ IsWant e) }
+    ensures unknown { (result ≡ Err refusal.UnknownHost)
+        ↔ (is_among desk.old.roster.says.hosts host.now ≡ false) }
+    ensures few { (set : List Message) (lines : List Line) → K.is_up desk.new.keeper
+        → Lists (K.holds desk.old.keeper) set → AreLines desk.old.roster.says set host.now lines
+        → length (lines_printed after lines) ≤ 8_192
+        → IfErr result (λ e. (e ≡ refusal.UnknownHost) ⊎ IsWant e) }
+    ensures err { IfErr result
+        (λ e. (e ≡ refusal.UnknownHost) ⊎ (e ≡ refusal.TooManyRules) ⊎ IsWant e) }
 {
     match after {
         Some(moment) => desk.host_file_after(host, moment),
@@ -63,14 +70,18 @@ fn print_of<K: Keeper, R: Read, E: Write>(
     input: &mut R,
     err: &mut E,
 ) -> Result<Answer, Refusal>
-    ensures found { IfOk result (λ a. (said : List ℕ) × PrintsHost desk.old.roster.says desk.old.base store.now host.now after
-        (K.holds desk.old.keeper) (K.holds desk.new.keeper) (K.is_up desk.new.keeper × K.is_desk desk.new.keeper) (R.remaining input.old) a.status (string_bytes a.text) said
-        × Appends (E.contents err.old) (E.contents err.new) said) }
-    ensures cause { IfErr result (EndsFile desk.old.roster.says store.now host.now after (K.holds desk.old.keeper)
-        (K.is_up desk.new.keeper) (HasFailed (K.failures desk.old.keeper) (K.failures desk.new.keeper)) (R.remaining input.old)) }
-    ensures said { IfErr result (λ _. SaysTaking store.now desk.old.roster.says (R.remaining input.old) (E.contents err.old) (E.contents err.new)) }
+    ensures found { IfOk result (λ a. (said : List ℕ) × PrintsHost desk.old.roster.says
+        desk.old.base store.now host.now after (K.holds desk.old.keeper) (K.holds desk.new.keeper)
+        (K.is_up desk.new.keeper × K.is_desk desk.new.keeper) (R.remaining input.old) a.status
+        (string_bytes a.text) said × Appends (E.contents err.old) (E.contents err.new) said) }
+    ensures cause { IfErr result (EndsFile desk.old.roster.says store.now host.now after
+        (K.holds desk.old.keeper) (K.is_up desk.new.keeper) (HasFailed (K.failures desk.old.keeper)
+        (K.failures desk.new.keeper)) (R.remaining input.old)) }
+    ensures said { IfErr result (λ _. SaysTaking store.now desk.old.roster.says
+        (R.remaining input.old) (E.contents err.old) (E.contents err.new)) }
     ensures left { K.is_up desk.new.keeper → K.is_desk desk.new.keeper
-        → LeavesTaken store.now desk.old.roster.says (R.remaining input.old) (K.holds desk.old.keeper) (K.holds desk.new.keeper) }
+        → LeavesTaken store.now desk.old.roster.says (R.remaining input.old)
+        (K.holds desk.old.keeper) (K.holds desk.new.keeper) }
     ensures unread { (store.now ≡ stores.Memory → ⊥) → input.new ≡ input.old }
     ensures roster { desk.new.roster ≡ desk.old.roster }
     ensures served { Serves K.Keeper desk.old.keeper desk.new.keeper ⊥ (IsErrAnd result IsWanting) }
@@ -85,7 +96,8 @@ fn print_of<K: Keeper, R: Read, E: Write>(
     }
 }
 
-/// The host's file, over the desk that the roster's file and the base's make and the keeper keeps; and the keeper.
+/// The host's file, over the desk that the roster's file and the base's make and the keeper keeps;
+/// and the keeper.
 fn print_over<K: Keeper, R: Read, E: Write>(
     alloc: Global,
     roster: &[u8],
@@ -97,10 +109,13 @@ fn print_over<K: Keeper, R: Read, E: Write>(
     input: &mut R,
     err: &mut E,
 ) -> (Result<Answer, Refusal>, K)
-    ensures outcome { (more : List (List ℕ)) → IsOutcome (jobs.Print places.now host.now after) (roster.now ∷ base.now ∷ more)
-        (kept_by K.Keeper keeper result.1) (R.remaining input.old) result.0 (E.contents err.old) (E.contents err.new) }
-    ensures left { (more : List (List ℕ)) → IfErr result.0 (λ _. IsLeft (jobs.Print places.now host.now after) (roster.now ∷ base.now ∷ more)
-        (kept_by K.Keeper keeper result.1) (K.is_same keeper result.1) (R.remaining input.old) (E.contents err.old) (E.contents err.new)) }
+    ensures outcome { (more : List (List ℕ)) → IsOutcome (jobs.Print places.now host.now after)
+        (roster.now ∷ base.now ∷ more) (kept_by K.Keeper keeper result.1)
+        (R.remaining input.old) result.0 (E.contents err.old) (E.contents err.new) }
+    ensures left { (more : List (List ℕ))
+        → IfErr result.0 (λ _. IsLeft (jobs.Print places.now host.now after) (roster.now
+        ∷ base.now ∷ more) (kept_by K.Keeper keeper result.1) (K.is_same keeper result.1)
+        (R.remaining input.old) (E.contents err.old) (E.contents err.new)) }
     ensures unread { (places.now.store ≡ stores.Memory → ⊥) → input.new ≡ input.old }
     ensures served { Serves K.Keeper keeper result.1 ⊥ (IsErrAnd result.0 IsWanting) }
 {
@@ -115,9 +130,9 @@ fn print_over<K: Keeper, R: Read, E: Write>(
 
 /// The same, over the job's files.
 ///
-/// A line that the desk does not take is named on `err`, as `line 3: M2 NotCanonical`, and has no other effect. It is
-/// refused where the files make no desk, where the input cannot be read or `err` not be written, where the file would have
-/// too many lines, and where memory runs out.
+/// A line that the desk does not take is named on `err`, as `line 3: M2 NotCanonical`, and has no
+/// other effect. It is refused where the files make no desk, where the input cannot be read or
+/// `err` not be written, where the file would have too many lines, and where memory runs out.
 pub fn print_host<K: Keeper, R: Read, E: Write>(
     alloc: Global,
     files: &[Vec<u8>],
@@ -128,10 +143,12 @@ pub fn print_host<K: Keeper, R: Read, E: Write>(
     input: &mut R,
     err: &mut E,
 ) -> (Result<Answer, Refusal>, K)
-    ensures outcome { IsOutcome (jobs.Print places.now host.now after) (map (λ f. f.items) files.now)
-        (kept_by K.Keeper keeper result.1) (R.remaining input.old) result.0 (E.contents err.old) (E.contents err.new) }
-    ensures left { IfErr result.0 (λ _. IsLeft (jobs.Print places.now host.now after) (map (λ f. f.items) files.now)
-        (kept_by K.Keeper keeper result.1) (K.is_same keeper result.1) (R.remaining input.old) (E.contents err.old) (E.contents err.new)) }
+    ensures outcome { IsOutcome (jobs.Print places.now host.now after)
+        (map (λ f. f.items) files.now) (kept_by K.Keeper keeper result.1)
+        (R.remaining input.old) result.0 (E.contents err.old) (E.contents err.new) }
+    ensures left { IfErr result.0 (λ _. IsLeft (jobs.Print places.now host.now after)
+        (map (λ f. f.items) files.now) (kept_by K.Keeper keeper result.1) (K.is_same keeper
+        result.1) (R.remaining input.old) (E.contents err.old) (E.contents err.new)) }
     ensures unread { (places.now.store ≡ stores.Memory → ⊥) → input.new ≡ input.old }
     ensures served { Serves K.Keeper keeper result.1 ⊥ (IsErrAnd result.0 IsWanting) }
 {

@@ -1,6 +1,7 @@
 //! Giving a desk another roster.
 
-ghost use Rattle.std.specs.Prelude.{◌≡◌, ◌∷◌, ℕ, List, Option, IfOk, codes, map, string_bytes, IfErr, IsErrAnd};
+ghost use Rattle.std.specs.Prelude.{◌≡◌, ◌∷◌, ℕ, List, Option, IfOk, codes};
+ghost use Rattle.std.specs.Prelude.{map, string_bytes, IfErr, IsErrAnd};
 ghost use Rattle.desk_store.specs.Serves.{Serves};
 ghost use Rattle.desk_commands.specs.Kept.{kept_by};
 ghost use Rattle.desk_commands.specs.Wanting.{IsWanting};
@@ -26,17 +27,19 @@ fn ok(alloc: Global) -> Result<Answer, AllocError>
     })
 }
 
-/// Gives the desk that the keeper keeps the roster of the first file, and answers `ok`; and the keeper. The answer is made first: once the desk is
-/// rebuilt, no want of memory refuses it.
+/// Gives the desk that the keeper keeps the roster of the first file, and answers `ok`; and the
+/// keeper. The answer is made first: once the desk is rebuilt, no want of memory refuses it.
 fn rebuilt<K: Keeper>(
     alloc: Global,
     roster: &[u8],
     base: &[u8],
     keeper: K,
 ) -> (Result<Answer, Refusal>, K)
-    ensures outcome { (places : Parts) (more : List (List ℕ)) (input err : Option (List ℕ)) → IsOutcome (jobs.Rebuild places) (roster.now ∷ base.now ∷ more)
-        (kept_by K.Keeper keeper result.1) input result.0 err err }
-    ensures left { (places : Parts) (more : List (List ℕ)) (input err : Option (List ℕ)) → IfErr result.0 (λ _. IsLeft (jobs.Rebuild places) (roster.now ∷ base.now ∷ more)
+    ensures outcome { (places : Parts) (more : List (List ℕ)) (input err : Option (List ℕ))
+        → IsOutcome (jobs.Rebuild places)
+        (roster.now ∷ base.now ∷ more) (kept_by K.Keeper keeper result.1) input result.0 err err }
+    ensures left { (places : Parts) (more : List (List ℕ)) (input err : Option (List ℕ))
+        → IfErr result.0 (λ _. IsLeft (jobs.Rebuild places) (roster.now ∷ base.now ∷ more)
         (kept_by K.Keeper keeper result.1) (K.is_same keeper result.1) input err err) }
     ensures served { Serves K.Keeper keeper result.1 ⊥ (IsErrAnd result.0 IsWanting) }
 {
@@ -55,9 +58,11 @@ pub fn rebuild_desk<K: Keeper>(
     files: &[Vec<u8>],
     keeper: K,
 ) -> (Result<Answer, Refusal>, K)
-    ensures outcome { (places : Parts) (input err : Option (List ℕ)) → IsOutcome (jobs.Rebuild places) (map (λ f. f.items) files.now)
+    ensures outcome { (places : Parts) (input err : Option (List ℕ))
+        → IsOutcome (jobs.Rebuild places) (map (λ f. f.items) files.now)
         (kept_by K.Keeper keeper result.1) input result.0 err err }
-    ensures left { (places : Parts) (input err : Option (List ℕ)) → IfErr result.0 (λ _. IsLeft (jobs.Rebuild places) (map (λ f. f.items) files.now)
+    ensures left { (places : Parts) (input err : Option (List ℕ))
+        → IfErr result.0 (λ _. IsLeft (jobs.Rebuild places) (map (λ f. f.items) files.now)
         (kept_by K.Keeper keeper result.1) (K.is_same keeper result.1) input err err) }
     ensures served { Serves K.Keeper keeper result.1 ⊥ (IsErrAnd result.0 IsWanting) }
 {

@@ -23,7 +23,8 @@ use std::alloc::Global;
 use std::io::{Read, Write};
 use sudo_words::Moment;
 
-/// The report of an open desk at the moment, once it has taken the lines of the input that it takes.
+/// The report of an open desk at the moment, once it has taken the lines of the input that it
+/// takes.
 fn review_of<K: Keeper, R: Read, E: Write>(
     alloc: Global,
     desk: &mut Desk<K>,
@@ -32,13 +33,17 @@ fn review_of<K: Keeper, R: Read, E: Write>(
     input: &mut R,
     err: &mut E,
 ) -> Result<Answer, Refusal>
-    ensures found { IfOk result (λ a. (said : List ℕ) × ReviewsDesk desk.old.roster.says desk.old.base store.now at
-        (K.holds desk.old.keeper) (K.holds desk.new.keeper) (K.is_up desk.new.keeper × K.is_desk desk.new.keeper) (R.remaining input.old) a.status (string_bytes a.text) said
-        × Appends (E.contents err.old) (E.contents err.new) said) }
-    ensures cause { IfErr result (EndsReport store.now (HasFailed (K.failures desk.old.keeper) (K.failures desk.new.keeper))) }
-    ensures said { IfErr result (λ _. SaysTaking store.now desk.old.roster.says (R.remaining input.old) (E.contents err.old) (E.contents err.new)) }
+    ensures found { IfOk result (λ a. (said : List ℕ) × ReviewsDesk desk.old.roster.says
+        desk.old.base store.now at (K.holds desk.old.keeper) (K.holds desk.new.keeper)
+        (K.is_up desk.new.keeper × K.is_desk desk.new.keeper) (R.remaining input.old) a.status
+        (string_bytes a.text) said × Appends (E.contents err.old) (E.contents err.new) said) }
+    ensures cause { IfErr result (EndsReport store.now
+        (HasFailed (K.failures desk.old.keeper) (K.failures desk.new.keeper))) }
+    ensures said { IfErr result (λ _. SaysTaking store.now desk.old.roster.says
+        (R.remaining input.old) (E.contents err.old) (E.contents err.new)) }
     ensures left { K.is_up desk.new.keeper → K.is_desk desk.new.keeper
-        → LeavesTaken store.now desk.old.roster.says (R.remaining input.old) (K.holds desk.old.keeper) (K.holds desk.new.keeper) }
+        → LeavesTaken store.now desk.old.roster.says (R.remaining input.old)
+        (K.holds desk.old.keeper) (K.holds desk.new.keeper) }
     ensures unread { (store.now ≡ stores.Memory → ⊥) → input.new ≡ input.old }
     ensures roster { desk.new.roster ≡ desk.old.roster }
     ensures served { Serves K.Keeper desk.old.keeper desk.new.keeper ⊥ (IsErrAnd result IsWanting) }
@@ -53,7 +58,8 @@ fn review_of<K: Keeper, R: Read, E: Write>(
     }
 }
 
-/// The report, over the desk that the roster's file and the base's make and the keeper keeps; and the keeper.
+/// The report, over the desk that the roster's file and the base's make and the keeper keeps; and
+/// the keeper.
 fn review_over<K: Keeper, R: Read, E: Write>(
     alloc: Global,
     roster: &[u8],
@@ -64,10 +70,12 @@ fn review_over<K: Keeper, R: Read, E: Write>(
     input: &mut R,
     err: &mut E,
 ) -> (Result<Answer, Refusal>, K)
-    ensures outcome { (more : List (List ℕ)) → IsOutcome (jobs.Review places.now at) (roster.now ∷ base.now ∷ more)
-        (kept_by K.Keeper keeper result.1) (R.remaining input.old) result.0 (E.contents err.old) (E.contents err.new) }
-    ensures left { (more : List (List ℕ)) → IfErr result.0 (λ _. IsLeft (jobs.Review places.now at) (roster.now ∷ base.now ∷ more)
-        (kept_by K.Keeper keeper result.1) (K.is_same keeper result.1) (R.remaining input.old) (E.contents err.old) (E.contents err.new)) }
+    ensures outcome { (more : List (List ℕ)) → IsOutcome (jobs.Review places.now at)
+        (roster.now ∷ base.now ∷ more) (kept_by K.Keeper keeper result.1)
+        (R.remaining input.old) result.0 (E.contents err.old) (E.contents err.new) }
+    ensures left { (more : List (List ℕ)) → IfErr result.0 (λ _. IsLeft (jobs.Review places.now at)
+        (roster.now ∷ base.now ∷ more) (kept_by K.Keeper keeper result.1) (K.is_same keeper
+        result.1) (R.remaining input.old) (E.contents err.old) (E.contents err.new)) }
     ensures unread { (places.now.store ≡ stores.Memory → ⊥) → input.new ≡ input.old }
     ensures served { Serves K.Keeper keeper result.1 ⊥ (IsErrAnd result.0 IsWanting) }
 {
@@ -82,8 +90,9 @@ fn review_over<K: Keeper, R: Read, E: Write>(
 
 /// The same, over the job's files.
 ///
-/// A line that the desk does not take is named on `err`, as by `print_host`, and has no other effect. It is refused where the
-/// files make no desk, where the input cannot be read or `err` not be written, and where memory runs out.
+/// A line that the desk does not take is named on `err`, as by `print_host`, and has no other
+/// effect. It is refused where the files make no desk, where the input cannot be read or `err` not
+/// be written, and where memory runs out.
 pub fn review_desk<K: Keeper, R: Read, E: Write>(
     alloc: Global,
     files: &[Vec<u8>],
@@ -94,9 +103,11 @@ pub fn review_desk<K: Keeper, R: Read, E: Write>(
     err: &mut E,
 ) -> (Result<Answer, Refusal>, K)
     ensures outcome { IsOutcome (jobs.Review places.now at) (map (λ f. f.items) files.now)
-        (kept_by K.Keeper keeper result.1) (R.remaining input.old) result.0 (E.contents err.old) (E.contents err.new) }
-    ensures left { IfErr result.0 (λ _. IsLeft (jobs.Review places.now at) (map (λ f. f.items) files.now)
-        (kept_by K.Keeper keeper result.1) (K.is_same keeper result.1) (R.remaining input.old) (E.contents err.old) (E.contents err.new)) }
+        (kept_by K.Keeper keeper result.1) (R.remaining input.old) result.0
+        (E.contents err.old) (E.contents err.new) }
+    ensures left { IfErr result.0 (λ _. IsLeft (jobs.Review places.now at)
+        (map (λ f. f.items) files.now) (kept_by K.Keeper keeper result.1) (K.is_same keeper
+        result.1) (R.remaining input.old) (E.contents err.old) (E.contents err.new)) }
     ensures unread { (places.now.store ≡ stores.Memory → ⊥) → input.new ≡ input.old }
     ensures served { Serves K.Keeper keeper result.1 ⊥ (IsErrAnd result.0 IsWanting) }
 {

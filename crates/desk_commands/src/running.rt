@@ -1,12 +1,16 @@
 //! Doing a job. Its answer is made whole before any of it is written.
 
-ghost use Rattle.std.specs.Prelude.{◌≡◌, ◌≢◌, ◌⊎◌, ℕ, List, [], IfErr, IfOk, map, string_bytes, MatchResult, ⊤};
+ghost use Rattle.std.specs.Prelude.{◌≡◌, ◌≢◌, ◌⊎◌, ℕ, List, [], IfErr, IfOk};
+ghost use Rattle.std.specs.Prelude.{map, string_bytes, MatchResult, ⊤};
 ghost use Rattle.std.specs.Io.Buffered.{writer_buffer, writer_contents};
 ghost use Rattle.std.specs.Io.KnownBytes.{Appends, Keeps};
 ghost use Rattle.sudo_policy.specs.Spelling.{Spells};
 ghost use Rattle.sudo_decide.specs.Decision.{Decides};
 ghost use Rattle.desk_store.specs.Serves.{Serves};
-ghost use Rattle.desk_commands.specs.Answers.{CauseOfFile, CauseOfFiles, ChecksFile, DecidesByFile, EndsReading, HasAnswer, HasCause, IsAnswer, IsDecided, IsOnDesk, OfFile, OfFiles, ReadsInput, status_of};
+ghost use Rattle.desk_commands.specs.Answers.{CauseOfFile, CauseOfFiles, ChecksFile};
+ghost use Rattle.desk_commands.specs.Answers.{DecidesByFile, EndsReading, HasAnswer};
+ghost use Rattle.desk_commands.specs.Answers.{HasCause, IsAnswer, IsDecided, IsOnDesk};
+ghost use Rattle.desk_commands.specs.Answers.{OfFile, OfFiles, ReadsInput, status_of};
 ghost use Rattle.desk_commands.specs.Comparing.{ComparesFiles, EndsComparing};
 ghost use Rattle.desk_commands.specs.Kept.{kept_by};
 ghost use Rattle.desk_commands.specs.Leaving.{KeepsAfterRefusal, TellsRefusal};
@@ -52,7 +56,8 @@ fn decision_line(alloc: Global, decision: Decision) -> Result<Answer, AllocError
     })
 }
 
-/// The policy that a file spells. Nothing reads the file again, so its bytes are given back: what is printed may have their room.
+/// The policy that a file spells. Nothing reads the file again, so its bytes are given back: what
+/// is printed may have their room.
 fn policy_of(alloc: Global, file: &mut Vec<u8>) -> Result<Policy, Refusal>
     ensures err { IfErr result (EndsReading file.old.items) }
     ensures found { IfOk result (λ p. Spells file.old.items p) }
@@ -83,7 +88,8 @@ fn decision_of(alloc: Global, policy: Policy, invocation: &Invocation) -> Result
 
 fn decided(alloc: Global, file: &mut Vec<u8>, invocation: &Invocation) -> Result<Answer, Refusal>
     ensures err { IfErr result (EndsReading file.old.items) }
-    ensures found { IfOk result (λ a. DecidesByFile file.old.items invocation.now a.status (string_bytes a.text)) }
+    ensures found { IfOk result
+        (λ a. DecidesByFile file.old.items invocation.now a.status (string_bytes a.text)) }
 {
     let policy = policy_of(alloc, file)?;
     let decision = decision_of(alloc, policy, invocation)?;
@@ -91,7 +97,8 @@ fn decided(alloc: Global, file: &mut Vec<u8>, invocation: &Invocation) -> Result
 }
 
 fn check_first(alloc: Global, files: &mut [Vec<u8>]) -> Result<Answer, Refusal>
-    ensures found { IfOk result (λ a. OfFile (map (λ f. f.items) files.old) (λ file. ChecksFile file a.status (string_bytes a.text))) }
+    ensures found { IfOk result (λ a. OfFile (map (λ f. f.items) files.old)
+        (λ file. ChecksFile file a.status (string_bytes a.text))) }
     ensures cause { IfErr result (CauseOfFile (map (λ f. f.items) files.old) EndsReading) }
 {
     match files {
@@ -105,7 +112,8 @@ fn decide_by_first(
     files: &mut [Vec<u8>],
     invocation: &Invocation,
 ) -> Result<Answer, Refusal>
-    ensures found { IfOk result (λ a. OfFile (map (λ f. f.items) files.old) (λ file. DecidesByFile file invocation.now a.status (string_bytes a.text))) }
+    ensures found { IfOk result (λ a. OfFile (map (λ f. f.items) files.old)
+        (λ file. DecidesByFile file invocation.now a.status (string_bytes a.text))) }
     ensures cause { IfErr result (CauseOfFile (map (λ f. f.items) files.old) EndsReading) }
 {
     match files {
@@ -115,8 +123,10 @@ fn decide_by_first(
 }
 
 fn compared(alloc: Global, files: &[Vec<u8>], scope: &Scope) -> Result<Answer, Refusal>
-    ensures found { IfOk result (λ r. OfFiles (map (λ f. f.items) files.now) (λ a b. ComparesFiles scope.now a b r.status (string_bytes r.text))) }
-    ensures cause { IfErr result (CauseOfFiles (map (λ f. f.items) files.now) (EndsComparing scope.now)) }
+    ensures found { IfOk result (λ r. OfFiles (map (λ f. f.items) files.now)
+        (λ a b. ComparesFiles scope.now a b r.status (string_bytes r.text))) }
+    ensures cause { IfErr result
+        (CauseOfFiles (map (λ f. f.items) files.now) (EndsComparing scope.now)) }
 {
     match files {
         [a, b, ..] => compare_files(alloc, a.as_slice(), b.as_slice(), scope),
@@ -124,7 +134,8 @@ fn compared(alloc: Global, files: &[Vec<u8>], scope: &Scope) -> Result<Answer, R
     }
 }
 
-/// What the job answers, or why it is refused, and the keeper. What else there is to say is said on `err`.
+/// What the job answers, or why it is refused, and the keeper. What else there is to say is said on
+/// `err`.
 fn answered<K: Keeper, R: Read, E: Write>(
     alloc: Global,
     job: &Job,
@@ -133,10 +144,11 @@ fn answered<K: Keeper, R: Read, E: Write>(
     input: &mut R,
     err: &mut E,
 ) -> (Result<Answer, Refusal>, K)
-    ensures outcome { IsOutcome job.now (map (λ f. f.items) files.old)
-        (kept_by K.Keeper keeper result.1) (R.remaining input.old) result.0 (E.contents err.old) (E.contents err.new) }
+    ensures outcome { IsOutcome job.now (map (λ f. f.items) files.old) (kept_by K.Keeper keeper
+        result.1) (R.remaining input.old) result.0 (E.contents err.old) (E.contents err.new) }
     ensures left { IfErr result.0 (λ _. IsLeft job.now (map (λ f. f.items) files.old)
-        (kept_by K.Keeper keeper result.1) (K.is_same keeper result.1) (R.remaining input.old) (E.contents err.old) (E.contents err.new)) }
+        (kept_by K.Keeper keeper result.1) (K.is_same keeper result.1)
+        (R.remaining input.old) (E.contents err.old) (E.contents err.new)) }
     ensures unasked { (IsOnDesk job.now → ⊥) → result.1 ≡ keeper }
     ensures unread { (ReadsInput job.now → ⊥) → input.new ≡ input.old }
     ensures served { Serves K.Keeper keeper result.1 ⊥ (WantsIn job.now result.0) }
@@ -159,9 +171,11 @@ fn answered<K: Keeper, R: Read, E: Write>(
 
 fn write_answer<W: Write, E: Write>(answer: &Answer, out: &mut W, err: &mut E) -> Status
     ensures status { result ≢ Status.Refused → result ≡ answer.now.status }
-    ensures written { result ≢ Status.Refused → Appends (W.contents out.old) (W.contents out.new) (string_bytes answer.now.text) }
+    ensures written { result ≢ Status.Refused
+        → Appends (W.contents out.old) (W.contents out.new) (string_bytes answer.now.text) }
     ensures quiet { result ≢ Status.Refused → E.contents err.new ≡ E.contents err.old }
-    ensures told { AppendsFront (E.contents err.old) (E.contents err.new) (refusal_line FileFailed) }
+    ensures told { AppendsFront (E.contents err.old)
+        (E.contents err.new) (refusal_line FileFailed) }
 {
     if out.write_all(answer.text.as_bytes()).is_err() {
         return refuse(Refusal::FileFailed, err).0;
@@ -172,9 +186,12 @@ fn write_answer<W: Write, E: Write>(answer: &Answer, out: &mut W, err: &mut E) -
 /// Writes the answer of a job on `out`, or says on `err` why there is none.
 fn conclude<W: Write, E: Write>(answer: Result<Answer, Refusal>, out: &mut W, err: &mut E) -> Status
     ensures answered { IfOk answer (λ a. result ≢ Status.Refused → (result ≡ a.status)
-        × Appends (W.contents out.old) (W.contents out.new) (string_bytes a.text) × (E.contents err.new ≡ E.contents err.old)) }
-    ensures unanswered { IfErr answer (λ _. (result ≡ Status.Refused) × (W.contents out.new ≡ W.contents out.old)) }
-    ensures told { MatchResult answer (λ _. AppendsFront (E.contents err.old) (E.contents err.new) (refusal_line FileFailed))
+        × Appends (W.contents out.old) (W.contents out.new) (string_bytes a.text)
+        × (E.contents err.new ≡ E.contents err.old)) }
+    ensures unanswered { IfErr answer
+        (λ _. (result ≡ Status.Refused) × (W.contents out.new ≡ W.contents out.old)) }
+    ensures told { MatchResult answer
+        (λ _. AppendsFront (E.contents err.old) (E.contents err.new) (refusal_line FileFailed))
         (λ e. AppendsFront (E.contents err.old) (E.contents err.new) (refusal_line e)) }
 {
     match answer {
@@ -183,12 +200,14 @@ fn conclude<W: Write, E: Write>(answer: Result<Answer, Refusal>, out: &mut W, er
     }
 }
 
-/// Does the job over the bytes of the files that it names, in their order, what the keeper keeps, and the input; and hands the keeper on. The answer goes
-/// to `out`, and why there is none to `err`, as does what `print` and `review` say of lines of the input that they do not take.
+/// Does the job over the bytes of the files that it names, in their order, what the keeper keeps,
+/// and the input; and hands the keeper on. The answer goes to `out`, and why there is none to
+/// `err`, as does what `print` and `review` say of lines of the input that they do not take.
 ///
-/// `files` has the bytes of each file that the job names; `check` and `decide` give theirs back once they are read. A job whose STORE is left out or `-`
-/// wants a keeper in memory that is empty. Where a file is missing, or where the input, `out` or what is to be said on `err` fails, the job is refused. Nothing
-/// is written on `out` where the answer cannot be made.
+/// `files` has the bytes of each file that the job names; `check` and `decide` give theirs back
+/// once they are read. A job whose STORE is left out or `-` wants a keeper in memory that is empty.
+/// Where a file is missing, or where the input, `out` or what is to be said on `err` fails, the job
+/// is refused. Nothing is written on `out` where the answer cannot be made.
 pub fn run<K: Keeper, R: Read, W: Write, E: Write>(
     alloc: Global,
     job: &Job,
@@ -199,20 +218,24 @@ pub fn run<K: Keeper, R: Read, W: Write, E: Write>(
     err: &mut E,
 ) -> (Status, K)
     ensures answered { result.0 ≢ Status.Refused → (text : List ℕ) × (said : List ℕ)
-        × IsAnswer job.now (map (λ f. f.items) files.old) (kept_by K.Keeper keeper result.1) (R.remaining input.old) result.0 text said
-        × Appends (W.contents out.old) (W.contents out.new) text
-        × Appends (E.contents err.old) (E.contents err.new) said
+        × IsAnswer job.now (map (λ f. f.items) files.old) (kept_by K.Keeper keeper result.1)
+        (R.remaining input.old) result.0 text said × Appends (W.contents out.old)
+        (W.contents out.new) text × Appends (E.contents err.old) (E.contents err.new) said
         × (K.is_up keeper → K.is_clean result.1 → TellsWant job.now text ⊎ K.is_up result.1) }
-    // A job that is refused leaves what stood on `out`, and there is a reason for it; or it has an answer, which could not be written.
+    // A job that is refused leaves what stood on `out`, and there is a reason for it; or it has an
+    // answer, which could not be written.
     ensures refused { result.0 ≡ Status.Refused → ((W.contents out.new ≡ W.contents out.old)
-        × HasCause job.now (map (λ f. f.items) files.old) (kept_by K.Keeper keeper result.1) (R.remaining input.old))
-        ⊎ HasAnswer job.now (map (λ f. f.items) files.old) (kept_by K.Keeper keeper result.1) (R.remaining input.old) }
+        × HasCause job.now (map (λ f. f.items) files.old) (kept_by K.Keeper keeper result.1)
+        (R.remaining input.old)) ⊎ HasAnswer job.now (map (λ f. f.items) files.old)
+        (kept_by K.Keeper keeper result.1) (R.remaining input.old) }
     // What a refused job leaves at the keeper, and what it says on `err`.
     ensures kept { result.0 ≡ Status.Refused → K.is_up result.1
-        → KeepsAfterRefusal job.now (map (λ f. f.items) files.old) (kept_by K.Keeper keeper result.1) (K.is_same keeper result.1) (R.remaining input.old)
-        ⊎ HasAnswer job.now (map (λ f. f.items) files.old) (kept_by K.Keeper keeper result.1) (R.remaining input.old) }
-    ensures told { result.0 ≡ Status.Refused → TellsRefusal job.now (map (λ f. f.items) files.old) (kept_by K.Keeper keeper result.1)
-        (K.is_up keeper × K.is_clean result.1) (R.remaining input.old) (E.contents err.old) (E.contents err.new) }
+        → KeepsAfterRefusal job.now (map (λ f. f.items) files.old) (kept_by K.Keeper keeper
+        result.1) (K.is_same keeper result.1) (R.remaining input.old) ⊎ HasAnswer job.now
+        (map (λ f. f.items) files.old) (kept_by K.Keeper keeper result.1) (R.remaining input.old) }
+    ensures told { result.0 ≡ Status.Refused → TellsRefusal job.now (map (λ f. f.items) files.old)
+        (kept_by K.Keeper keeper result.1) (K.is_up keeper × K.is_clean result.1)
+        (R.remaining input.old) (E.contents err.old) (E.contents err.new) }
     // Only a job on a desk asks the keeper, and only one that takes lines reads the input.
     ensures unasked { (IsOnDesk job.now → ⊥) → result.1 ≡ keeper }
     ensures unread { (ReadsInput job.now → ⊥) → input.new ≡ input.old }
@@ -235,7 +258,8 @@ pub fn finish<W: Write + Drop, E: Write>(
     ensures written_out { result ≢ Status.Refused → writer_buffer out.new ≡ [] }
     ensures kept { Keeps (writer_contents W.contents out.old) (writer_contents W.contents out.new) }
     ensures quiet { result ≢ Status.Refused → E.contents err.new ≡ E.contents err.old }
-    ensures told { AppendsFront (E.contents err.old) (E.contents err.new) (refusal_line FileFailed) }
+    ensures told { AppendsFront (E.contents err.old)
+        (E.contents err.new) (refusal_line FileFailed) }
 {
     if status == Status::Refused {
         return status;

@@ -1,6 +1,8 @@
-//! Taking the lines of the input before a question: they are delivered to a desk that is kept in memory alone.
+//! Taking the lines of the input before a question: they are delivered to a desk that is kept in
+//! memory alone.
 
-ghost use Rattle.std.specs.Prelude.{◌≡◌, ◌++◌, ℕ, List, Contains, Err, IfErr, IfOk, IsErrAnd, OnOk, string_bytes};
+ghost use Rattle.std.specs.Prelude.{◌≡◌, ◌++◌, ℕ, List, Contains, Err, IfErr};
+ghost use Rattle.std.specs.Prelude.{IfOk, IsErrAnd, OnOk, string_bytes};
 ghost use Rattle.std.specs.Io.KnownBytes.{Appends};
 ghost use Rattle.desk.specs.Refusals.{IsWant};
 ghost use Rattle.desk.specs.declared.refusal.Refusal.TheVariants as refusals;
@@ -9,7 +11,8 @@ ghost use Rattle.desk_store.specs.Serves.{Serves};
 ghost use Rattle.desk_store.specs.Sets.{SameSet};
 ghost use Rattle.desk_commands.specs.Leaving.{AreSomeTaken, LeavesTaken, SaysTaking};
 ghost use Rattle.desk_commands.specs.Telling.{AppendsFront};
-ghost use Rattle.desk_commands.specs.Taking.{AreTaken, HadMemory, HeldWith, Takes, complaint, complaints};
+ghost use Rattle.desk_commands.specs.Taking.{AreTaken, HadMemory, HeldWith};
+ghost use Rattle.desk_commands.specs.Taking.{Takes, complaint, complaints};
 ghost use Rattle.desk_commands.specs.Wanting.{IsWanting};
 ghost use Rattle.desk_commands.specs.private.Outcomes.{EndsInput, EndsTaking};
 ghost use Rattle.desk_args.specs.declared.task.Store.TheVariants as stores;
@@ -25,14 +28,17 @@ use std::io::{Read, Write};
 
 /// Adds why a line is refused.
 fn add_complaint(said: &mut String, number: usize, refusal: desk::Refusal) -> Result<(), AllocError>
-    ensures { OnOk result (string_bytes said.new ≡ string_bytes said.old ++ complaint number refusal) }
+    ensures { OnOk result
+        (string_bytes said.new ≡ string_bytes said.old ++ complaint number refusal) }
 {
     write!(said, "line {number}: {refusal}\n")
 }
 
-/// The same, but where the desk could not take the line for want of memory or storage: then nothing can be printed.
+/// The same, but where the desk could not take the line for want of memory or storage: then nothing
+/// can be printed.
 fn complain(said: &mut String, number: usize, refusal: desk::Refusal) -> Result<(), Refusal>
-    ensures said { OnOk result (string_bytes said.new ≡ string_bytes said.old ++ complaint number refusal) }
+    ensures said { OnOk result
+        (string_bytes said.new ≡ string_bytes said.old ++ complaint number refusal) }
     ensures memory { OnOk result (¬ IsWant refusal) }
     ensures err { IfErr result (EndsTaking (refusal ≡ refusals.Storage)) }
     ensures wanting { IfErr result IsWanting }
@@ -83,20 +89,25 @@ fn say<E: Write>(said: &str, err: &mut E) -> Result<(), Refusal>
     write_whole(said, err)
 }
 
-/// Delivers the lines of the input as those of the roster's first relay in byte order, and says on `err` which the desk does
-/// not take.
+/// Delivers the lines of the input as those of the roster's first relay in byte order, and says on
+/// `err` which the desk does not take.
 fn take_lines<K: Keeper, R: Read, E: Write>(
     alloc: Global,
     desk: &mut Desk<K>,
     input: &mut R,
     err: &mut E,
 ) -> Result<(), Refusal>
-    ensures taken { OnOk result ((lines : List (List ℕ)) × (said : List ℕ) × AreTaken desk.old.roster.says (R.remaining input.old) lines said
+    ensures taken { OnOk result ((lines : List (List ℕ)) × (said : List ℕ)
+        × AreTaken desk.old.roster.says (R.remaining input.old) lines said
         × Appends (E.contents err.old) (E.contents err.new) said
-        × (K.is_up desk.new.keeper → SameSet (HeldWith desk.old.roster.says lines (K.holds desk.old.keeper)) (K.holds desk.new.keeper))) }
-    ensures err { IfErr result (EndsTaking (HasFailed (K.failures desk.old.keeper) (K.failures desk.new.keeper))) }
-    ensures said { IfErr result (λ _. SaysTaking stores.Memory desk.old.roster.says (R.remaining input.old) (E.contents err.old) (E.contents err.new)) }
-    ensures left { K.is_up desk.new.keeper → AreSomeTaken desk.old.roster.says (R.remaining input.old) (K.holds desk.old.keeper) (K.holds desk.new.keeper) }
+        × (K.is_up desk.new.keeper → SameSet (HeldWith desk.old.roster.says lines
+        (K.holds desk.old.keeper)) (K.holds desk.new.keeper))) }
+    ensures err { IfErr result
+        (EndsTaking (HasFailed (K.failures desk.old.keeper) (K.failures desk.new.keeper))) }
+    ensures said { IfErr result (λ _. SaysTaking stores.Memory desk.old.roster.says
+        (R.remaining input.old) (E.contents err.old) (E.contents err.new)) }
+    ensures left { K.is_up desk.new.keeper → AreSomeTaken desk.old.roster.says
+        (R.remaining input.old) (K.holds desk.old.keeper) (K.holds desk.new.keeper) }
     ensures roster { desk.new.roster ≡ desk.old.roster }
     ensures base { desk.new.base ≡ desk.old.base }
     ensures served { Serves K.Keeper desk.old.keeper desk.new.keeper ⊥ (IsErrAnd result IsWanting) }
@@ -107,7 +118,8 @@ fn take_lines<K: Keeper, R: Read, E: Write>(
     say(said.as_str(), err)
 }
 
-/// The same, where the desk is kept in memory alone; one that a database keeps takes no line, and nothing is said.
+/// The same, where the desk is kept in memory alone; one that a database keeps takes no line, and
+/// nothing is said.
 pub fn take_input<K: Keeper, R: Read, E: Write>(
     alloc: Global,
     store: &Store,
@@ -115,13 +127,17 @@ pub fn take_input<K: Keeper, R: Read, E: Write>(
     input: &mut R,
     err: &mut E,
 ) -> Result<(), Refusal>
-    ensures taken { OnOk result ((lines : List (List ℕ)) × (said : List ℕ) × Takes store.now desk.old.roster.says (R.remaining input.old) lines said
+    ensures taken { OnOk result ((lines : List (List ℕ)) × (said : List ℕ)
+        × Takes store.now desk.old.roster.says (R.remaining input.old) lines said
         × Appends (E.contents err.old) (E.contents err.new) said
-        × (K.is_up desk.new.keeper → SameSet (HeldWith desk.old.roster.says lines (K.holds desk.old.keeper)) (K.holds desk.new.keeper))) }
-    ensures err { IfErr result (EndsInput store.now (HasFailed (K.failures desk.old.keeper) (K.failures desk.new.keeper))) }
-    ensures said { IfErr result (λ _. SaysTaking store.now desk.old.roster.says (R.remaining input.old) (E.contents err.old) (E.contents err.new)) }
-    ensures left { K.is_up desk.new.keeper
-        → LeavesTaken store.now desk.old.roster.says (R.remaining input.old) (K.holds desk.old.keeper) (K.holds desk.new.keeper) }
+        × (K.is_up desk.new.keeper → SameSet (HeldWith desk.old.roster.says lines
+        (K.holds desk.old.keeper)) (K.holds desk.new.keeper))) }
+    ensures err { IfErr result (EndsInput store.now
+        (HasFailed (K.failures desk.old.keeper) (K.failures desk.new.keeper))) }
+    ensures said { IfErr result (λ _. SaysTaking store.now desk.old.roster.says
+        (R.remaining input.old) (E.contents err.old) (E.contents err.new)) }
+    ensures left { K.is_up desk.new.keeper → LeavesTaken store.now desk.old.roster.says
+        (R.remaining input.old) (K.holds desk.old.keeper) (K.holds desk.new.keeper) }
     // Of a desk that a database keeps nothing is read, and nothing said.
     ensures unread { (store.now ≡ stores.Memory → ⊥) → input.new ≡ input.old }
     ensures roster { desk.new.roster ≡ desk.old.roster }

@@ -65,7 +65,8 @@ fn is_well(outcome: Outcome) -> bool {
     }
 }
 
-/// Whether both deliveries once more are acknowledged, and lead to what they come to without a fault.
+/// Whether both deliveries once more are acknowledged, and lead to what they come to without a
+/// fault.
 fn is_right(outcome: Outcome) -> bool {
     let kept = outcome.kept;
     is_kept(outcome.made, kept.found)
@@ -101,7 +102,8 @@ fn say_outcome(said: &mut String, calls: u64, outcome: Outcome) -> Result<(), Tr
     Ok(())
 }
 
-/// Adds what the deliveries come to where the keeper fails after so many calls; and whether none failed.
+/// Adds what the deliveries come to where the keeper fails after so many calls; and whether none
+/// failed.
 fn say_failing<K: Keeper + Drop>(
     alloc: Global,
     said: &mut String,
@@ -113,7 +115,8 @@ fn say_failing<K: Keeper + Drop>(
     Ok(outcome.failures == 0)
 }
 
-/// Adds what the two deliveries come to over a keeper in memory that fails after each number of calls, until none fails.
+/// Adds what the two deliveries come to over a keeper in memory that fails after each number of
+/// calls, until none fails.
 pub(crate) fn say_in_memory(alloc: Global, said: &mut String) -> Result<(), Trouble> {
     said.push_str("A keeper in memory fails after so many calls\n")?;
     for calls in 0..MOST {
@@ -125,7 +128,8 @@ pub(crate) fn say_in_memory(alloc: Global, said: &mut String) -> Result<(), Trou
     Ok(())
 }
 
-/// Adds what the two deliveries come to over a database that fails after so many calls: one function over any store.
+/// Adds what the two deliveries come to over a database that fails after so many calls: one
+/// function over any store.
 fn say_stored<S: Alter + Drop>(
     alloc: Global,
     said: &mut String,

@@ -1,4 +1,5 @@
-//! What a desk answers where its keeper fails at each call in turn, and what it answers to the calls that the product's programs do not make.
+//! What a desk answers where its keeper fails at each call in turn, and what it answers to the
+//! calls that the product's programs do not make.
 #![tactic(auto)]
 
 mod failing;

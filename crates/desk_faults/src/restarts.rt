@@ -62,7 +62,8 @@ fn delivery(alloc: Global, given: Given) -> Result<(String, Vec<u8>), Trouble> {
     }
 }
 
-/// An approval before its request, a verdict that nobody asks for, the request, no message, a repeat, and an unknown relay.
+/// An approval before its request, a verdict that nobody asks for, the request, no message, a
+/// repeat, and an unknown relay.
 fn deliveries(alloc: Global) -> Result<Vec<(String, Vec<u8>)>, Trouble> {
     let mut list = Vec::new(alloc);
     for given in [
@@ -110,8 +111,8 @@ fn deliver_many<K: Keeper>(
     }
 }
 
-/// Adds what the desk answers of a number under which nobody asks, and which grants are in force, and which lines are left, as the window ends and a second
-/// later.
+/// Adds what the desk answers of a number under which nobody asks, and which grants are in force,
+/// and which lines are left, as the window ends and a second later.
 fn say_edges<K: Keeper>(
     alloc: Global,
     said: &mut String,
@@ -169,7 +170,8 @@ fn say_again<K: Keeper>(
     }
 }
 
-/// Opens a desk of the roster of before over the keeper that was given back, and adds what it answers.
+/// Opens a desk of the roster of before over the keeper that was given back, and adds what it
+/// answers.
 fn say_given_back<K: Keeper>(
     alloc: Global,
     said: &mut String,
@@ -202,7 +204,8 @@ fn both_parts(
     }
 }
 
-/// Adds what a desk in memory answers after the deliveries, and what one of these parts over its keeper does.
+/// Adds what a desk in memory answers after the deliveries, and what one of these parts over its
+/// keeper does.
 fn again_in_memory(
     alloc: Global,
     said: &mut String,
@@ -218,7 +221,8 @@ fn again_in_memory(
     third
 }
 
-/// Adds what a desk over a database answers after the deliveries, and what one of these parts over the same connection does.
+/// Adds what a desk over a database answers after the deliveries, and what one of these parts over
+/// the same connection does.
 fn again_in_database<S: Alter + Drop>(
     alloc: Global,
     said: &mut String,

@@ -8,7 +8,8 @@ use desk_trial::trouble::Trouble;
 use std::alloc::Global;
 use std::fmt::Write as _;
 
-/// Verdicts on the request, each of a kind, a person and a moment, with a comma between; and a bar between the rows.
+/// Verdicts on the request, each of a kind, a person and a moment, with a comma between; and a bar
+/// between the rows.
 const VERDICTS: &str =
     "|approve bob 20260105083000Z|refuse dave 20260105083000Z,approve bob 20260105083000Z|approve bob 20260105083000Z,refuse dave 20260105083001Z|approve bob 20260105083000Z,refuse carol 20260105080000Z|revoke carol 20260105100000Z,approve bob 20260105083000Z|approve bob 20260105083000Z,revoke ann 19700101000000Z|approve bob 20260105110001Z|approve ann 20260105080000Z";
 
@@ -51,7 +52,8 @@ fn deliver_verdict(alloc: Global, desk: &mut Desk<MemoryKeeper>, row: &str) -> R
     done
 }
 
-/// Delivers the request and these verdicts on it, and adds what it comes to, and how many rules it gives.
+/// Delivers the request and these verdicts on it, and adds what it comes to, and how many rules it
+/// gives.
 fn deliver_row(
     alloc: Global,
     said: &mut String,

@@ -47,10 +47,12 @@ parts Marks = record { p = _; parsed = refl; statement = refl; formats = refl }
 parts Verdicts = record { p = _; parsed = refl; statement = refl; formats = refl }
 parts Parked = record { p = _; parsed = refl; statement = refl; formats = refl }
 
-means : (p : Part) (s : Schema) (at tree : ℕ) → Finds s (name_of p) at (table_at p tree) → Means s (delete_of p) (command.Delete at (record { lets = []; body = scanning (table_at p tree).tree }))
+means : (p : Part) (s : Schema) (at tree : ℕ) → Finds s (name_of p) at (table_at p tree)
+    → Means s (delete_of p) (command.Delete at (record { lets = []; body = scanning (table_at p tree).tree }))
 means p s at tree found = where'.clears s (delete_of p) (name_of p) (parts p) at (table_at p tree) found
 
-deletes : (p : Part) (old new : State) (count : ℕ) → FindsPart old.now.schema p → IsUnreferred old.now.schema (tree_of old.now.schema (name_of p)) → Executes (delete_of p) [] old new (Ok count) → Deletes p old.now new.now
+deletes : (p : Part) (old new : State) (count : ℕ) → FindsPart old.now.schema p
+    → IsUnreferred old.now.schema (tree_of old.now.schema (name_of p)) → Executes (delete_of p) [] old new (Ok count) → Deletes p old.now new.now
 deletes p old new count it alone ran =
     let s = old.now.schema in
     let sql = delete_of p in
@@ -58,8 +60,12 @@ deletes p old new count it alone ran =
     let tree : tree_of s (name_of p) ≡ t.tree = tree_in s p it ∙ sym (tree_is p it.1) in
     let is = means p s it.0 it.1 it.2 in
     let w = runs_as sql [] old new s refl (command.Delete it.0 (record { lets = []; body = scanning t.tree })) is.command is.plain count ran in
-    let done = takes.clears t s it.0 it.2.has it.2.stored (subst (IsUnreferred s) tree alone) old.step_limit (statement_of sql (understood s sql)) old.now.trees new.now w.tally w.changed in
-    record { schema = done.1; others = subst (λ n. AllByRecursion (λ (u : Table). u.tree ≢ n → new.now.trees u.tree ≡ old.now.trees u.tree) s.tables) (sym tree) done.0.others }
+    let done = takes.clears t s it.0 it.2.has it.2.stored (subst (IsUnreferred s) tree alone) old.step_limit
+    (statement_of sql (understood s sql)) old.now.trees new.now w.tally w.changed in
+    record {
+      schema = done.1;
+      others = subst (λ n. AllByRecursion (λ (u : Table). u.tree ≢ n → new.now.trees u.tree ≡ old.now.trees u.tree) s.tables) (sym tree) done.0.others;
+    }
 
 pub deleted : (p : Part) (old new : State) (r : Result ℕ Error) → ExecutesInside 0 (delete_of p) [] old new r → OnOk r (Deleted p old new)
 deleted p old new (Ok count) h = record { inside = h.1; deletes = λ it alone. deletes p old new count it alone h.0 }
@@ -67,7 +73,8 @@ deleted p old new (Err e) h = tt
 
 -- ---- the SELECT
 
-pub rows_shown : (p : Part) (old new : State) (r : Result (Vec Row Global) Error) → IsTrue old.in_transaction → IfOk r (λ rows. Shown (select_of p) [] old new rows.items) → IfOk r (λ rows. Left p rows.items old new)
+pub rows_shown : (p : Part) (old new : State) (r : Result (Vec Row Global) Error) → IsTrue old.in_transaction
+    → IfOk r (λ rows. Shown (select_of p) [] old new rows.items) → IfOk r (λ rows. Left p rows.items old new)
 rows_shown p old new (Ok rows) inside shown = record {
   mode = (asks_inside (select_of p) [] old new rows.items inside shown).mode;
   same = λ it. (shown_same (select_of p) [] old new rows.items (part_plain old p it) shown).0.now_is;
@@ -94,7 +101,8 @@ cleared p a b c rows gone left none = record {
   clears = λ it alone.
       let done = gone.deletes it alone in
       let found : FindsPart b.now.schema p = subst (λ s. FindsPart s p) (sym done.schema) it in
-      subst (λ (d : Database). Clears p a.now d) (sym (left.same found)) (record { schema = done.schema; empty = bare p b.now rows (left.shows found) none; others = done.others });
+      subst (λ (d : Database). Clears p a.now d) (sym (left.same found))
+      (record { schema = done.schema; empty = bare p b.now rows (left.shows found) none; others = done.others });
 }
 
 -- ---- several tables
@@ -107,7 +115,8 @@ none_done : (a : Database) → Empties [] a a
 none_done a = record { schema = refl; empty = tt; others = λ t there apart. refl }
 
 module _ (p : Part) (old a b : Database) (it : FindsPart a.schema p) (gone : Clears p a b) where
-  all_still : (done : List Part) → AllByRecursion (Other a.schema p) done → AllByRecursion (λ q. table_in a (name_of q) ≡ []) done → AllByRecursion (λ q. table_in b (name_of q) ≡ []) done
+  all_still : (done : List Part) → AllByRecursion (Other a.schema p) done
+      → AllByRecursion (λ q. table_in a (name_of q) ≡ []) done → AllByRecursion (λ q. table_in b (name_of q) ≡ []) done
   all_still [] others empty = tt
   all_still (q ∷ done) others empty = (still p q a b it others.0.0 others.0.1 gone.schema gone.others ∙ empty.0, all_still done others.1 empty.1)
 
@@ -115,9 +124,8 @@ module _ (p : Part) (old a b : Database) (it : FindsPart a.schema p) (gone : Cle
   one_more done others e = record {
     schema = gone.schema ∙ e.schema;
     empty = (gone.empty, all_still done others e.empty);
-    others = λ t there apart.
-        all_has (λ (u : Table). u.tree ≢ tree_of a.schema (name_of p) → b.trees u.tree ≡ a.trees u.tree) a.schema.tables t gone.others (subst (λ (s : Schema). Has s.tables t) (sym e.schema) there)
-        (λ same. apart.0 (same ∙ ap (λ s. tree_of s (name_of p)) e.schema))
+    others = λ t there apart. all_has (λ (u : Table). u.tree ≢ tree_of a.schema (name_of p) → b.trees u.tree ≡ a.trees u.tree) a.schema.tables t gone.others
+        (subst (λ (s : Schema). Has s.tables t) (sym e.schema) there) (λ same. apart.0 (same ∙ ap (λ s. tree_of s (name_of p)) e.schema))
         ∙ e.others t there apart.1;
   }
 
@@ -135,7 +143,8 @@ emptied a b c d e one two three four = record {
       let first = one_more Names a.now a.now b.now old.common.names (one.clears old.common.names may.names) [] tt (none_done a.now) in
       let old1 = old_still a.now b.now first.schema old in
       let may1 = may_still a.now b.now first.schema may in
-      let second = one_more Parked a.now b.now c.now old1.common.parked (two.clears old1.common.parked may1.parked) (Names ∷ []) ((old1.common.names, λ e. omega (arith, e)), tt) first in
+      let second = one_more Parked a.now b.now c.now old1.common.parked (two.clears old1.common.parked may1.parked)
+      (Names ∷ []) ((old1.common.names, λ e. omega (arith, e)), tt) first in
       let old2 = old_still a.now c.now second.schema old in
       let may2 = may_still a.now c.now second.schema may in
       let third = one_more Marks a.now c.now d.now old2.marks (three.clears old2.marks may2.marks) (Parked ∷ Names ∷ [])

@@ -31,14 +31,16 @@ use Rattle.desk_migration.proofs.PartLemmas.{finds_by}
 
 -- ---- the roster's row, and the rows of the messages
 
-module _ (roster : List ℕ) (utf8 : IsUtf8 roster) (ms : List Message) (a b c d : Database) (was : IsOldDesk a) (lists : Lists (HoldsText a) ms) (p : Prepares a b) (put : Marks (Says roster) b c) (r : Refills ms c d) where
+module _ (roster : List ℕ) (utf8 : IsUtf8 roster) (ms : List Message) (a b c d : Database) (was : IsOldDesk a)
+    (lists : Lists (HoldsText a) ms) (p : Prepares a b) (put : Marks (Says roster) b c) (r : Refills ms c d) where
   -- none of the three tables has a row yet
   empty : HasRows set.empty c
   empty =
       let names = same_names b c p.tidy put.schema put.others ∙ p.names in
       let verdicts = same_verdicts b c p.tidy put.schema put.others ∙ p.verdicts in
       let parked = same_parked b c p.tidy put.schema put.others ∙ p.parked in
-      no_rows c (λ x there. none_in _ names (there.0 ∷ x) there.1) (λ x there. none_in _ verdicts (there.0 ∷ x) there.1) (λ x there. none_in _ parked (there.0 ∷ x) there.1)
+      no_rows c (λ x there. none_in _ names (there.0 ∷ x) there.1)
+      (λ x there. none_in _ verdicts (there.0 ∷ x) there.1) (λ x there. none_in _ parked (there.0 ∷ x) there.1)
 
   marked : recorded (table_in d (codes "desk")) ≡ Some roster
   marked = ap recorded r.desk ∙ put.row
@@ -55,8 +57,8 @@ module _ (roster : List ℕ) (utf8 : IsUtf8 roster) (ms : List Message) (a b c d
     marked = (roster, marked, utf8);
     texts = ap (list_any is_stray) messages ∙ was.contents.1.texts;
     only = λ text there. was.contents.1.only text (ap (λ (t : Texts). set.contains t text) (sym texts) ∙ there);
-    rows = subst (λ t. HasRows t d) (sym texts)
-        (rows_same (Holds (texts_in ms)) (Holds (content_of a).texts) (replacing.same_messages (content_of a).texts ms lists) (rows_at d (codes "names")) (rows_at d (codes "verdicts")) (rows_at d (codes "parked")) (r.rows empty));
+    rows = subst (λ t. HasRows t d) (sym texts) (rows_same (Holds (texts_in ms)) (Holds (content_of a).texts) (replacing.same_messages (content_of a).texts
+        ms lists) (rows_at d (codes "names")) (rows_at d (codes "verdicts")) (rows_at d (codes "parked")) (r.rows empty));
   }
 
   spares : Spares b d
@@ -68,10 +70,12 @@ module _ (roster : List ℕ) (utf8 : IsUtf8 roster) (ms : List Message) (a b c d
     kept = record { desk = desk; unmarked = unmarked_still b d p.tidy.desk spares (inr p.marks) };
     content = λ i. record { roster = unwrap_or (marked i) []; texts = texts i };
     grown = (p.grown.0, ap (λ s. s.tables) spares.schema ∙ p.grown.1);
-    others = λ t there beside. spares.foreign t (subst (λ ts. Has ts t) (sym p.grown.1) (has_before a.schema.tables _ t there)) (p.foreign t there beside) ∙ p.others t there beside;
+    others = λ t there beside.
+        spares.foreign t (subst (λ ts. Has ts t) (sym p.grown.1) (has_before a.schema.tables _ t there)) (p.foreign t there beside) ∙ p.others t there beside;
   }
 
-pub moved : (roster : List ℕ) (ms : List Message) (a b c d : State) → IsUtf8 roster → Prepared a b → Marked IsBare (Says roster) b c → Refilled ms c d → Moved roster ms a d
+pub moved : (roster : List ℕ) (ms : List Message) (a b c d : State) → IsUtf8 roster
+    → Prepared a b → Marked IsBare (Says roster) b c → Refilled ms c d → Moved roster ms a d
 moved roster ms a b c d utf8 one two three = record {
   mode = three.mode;
   migrates = λ was may lists.
@@ -92,7 +96,12 @@ module _ (a b : Database) (first : IsDatabase a) (second : IsDatabase b) (same :
   unmarked_again : IsUnmarked a → IsUnmarked b
   unmarked_again unmarked = elim unmarked as (λ _. IsUnmarked b) [
     | inl lacks ↦ inl (unused_again a.schema b.schema a.trees first sound (codes "marks") lacks)
-    | inr it ↦ inr (record { at = it.at; tree = it.tree; finds = finds_by a.schema b.schema (codes "marks") it.at _ tables it.finds; empty = ap (λ (db : Trees). db it.tree) same ∙ it.empty })
+    | inr it ↦ inr (record {
+      at = it.at;
+      tree = it.tree;
+      finds = finds_by a.schema b.schema (codes "marks") it.at _ tables it.finds;
+      empty = ap (λ (db : Trees). db it.tree) same ∙ it.empty;
+    })
   ]
 
 pub migrates_again : (roster : List ℕ) (old a b : Database) → IsDatabase b → b.trees ≡ a.trees → Migrates roster old a → Migrates roster old b

@@ -1,5 +1,6 @@
 -- A desk's tables have trees of their own, and stay where they are found.
-use Rattle.std.proofs.Common.{◌≡◌, ◌≢◌, ◌<◌, ◌≤◌, ◌+◌, ◌*◌, ◌==◌, inl, inr, ℕ, max, zero, suc, List, [], ◌∷◌, Some, find, fold, slice_get, slice_index_or, refl, sym, ap, subst, ◌∙◌, arith}
+use Rattle.std.proofs.Common.{◌≡◌, ◌≢◌, ◌<◌, ◌≤◌, ◌+◌, ◌*◌, ◌==◌, inl, inr, ℕ, max, zero, suc, List, [], ◌∷◌}
+use Rattle.std.proofs.Common.{Some, find, fold, slice_get, slice_index_or, refl, sym, ap, subst, ◌∙◌, arith}
 use Rattle.std.specs.List.{position_from}
 use Rattle.sqlite.specs.Schema.{Schema}
 use Rattle.sqlite.specs.Table.{Table}
@@ -47,15 +48,18 @@ apart s p q one two differ same =
     let t = table_at p one.1 in
     let u = table_at q two.1 in
     let trees : t.tree ≡ u.tree = tree_is p one.1 ∙ sym (tree_in s p one) ∙ same ∙ tree_in s q two ∙ sym (tree_is q two.1) in
-    let both : Some (table_at p one.1) ≡ Some (table_at q two.1) = sym one.2.by_tree ∙ ap (λ n. find (λ (v : Table). v.tree == n) s.tables) trees ∙ two.2.by_tree in
+    let both : Some (table_at p one.1) ≡ Some (table_at q two.1) =
+    sym one.2.by_tree ∙ ap (λ n. find (λ (v : Table). v.tree == n) s.tables) trees ∙ two.2.by_tree in
     let is : table_at p one.1 ≡ table_at q two.1 = cc in
     differ (sym (mark_is p one.1) ∙ ap (λ (v : Table). letters v.name) is ∙ mark_is q two.1)
 
 -- a change of one part's table leaves another's as it is
-pub still : (p q : Part) (a b : Database) → FindsPart a.schema p → FindsPart a.schema q → mark_of p ≢ mark_of q → b.schema ≡ a.schema → KeepsBut (name_of p) a b → table_in b (name_of q) ≡ table_in a (name_of q)
+pub still : (p q : Part) (a b : Database) → FindsPart a.schema p → FindsPart a.schema q → mark_of p ≢ mark_of q
+    → b.schema ≡ a.schema → KeepsBut (name_of p) a b → table_in b (name_of q) ≡ table_in a (name_of q)
 still p q a b one two differ schema others =
     let tree : (table_at q two.1).tree ≡ tree_of a.schema (name_of q) = tree_is q two.1 ∙ sym (tree_in a.schema q two) in
-    let same = all_at (λ (v : Table). v.tree ≢ tree_of a.schema (name_of p) → b.trees v.tree ≡ a.trees v.tree) a.schema.tables two.0 (table_at q two.1) two.2.has others
+    let same = all_at (λ (v : Table). v.tree ≢ tree_of a.schema (name_of p) → b.trees v.tree ≡ a.trees v.tree) a.schema.tables two.0
+    (table_at q two.1) two.2.has others
     (λ e. apart a.schema p q one two differ (sym e ∙ tree)) in
     ap (λ s. b.trees (tree_of s (name_of q))) schema ∙ ap b.trees (sym tree) ∙ same ∙ ap a.trees tree
 

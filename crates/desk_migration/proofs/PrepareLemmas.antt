@@ -25,7 +25,8 @@ use Rattle.desk_migration.specs.Migrated.{IsBeside}
 use Rattle.desk_migration.specs.private.Moving.{Emptied, EmptiesAll, Prepared, Prepares}
 use Rattle.desk_migration.proofs.PartLemmas.{apart, below_next, has_got, mark_of}
 
-has_empty : (b : Database) (p : Part) (it : FindsPart b.schema p) → table_in b (name_of p) ≡ [] → IsUnreferred b.schema (tree_of b.schema (name_of p)) → HasEmpty b p
+has_empty : (b : Database) (p : Part) (it : FindsPart b.schema p) → table_in b (name_of p) ≡ []
+    → IsUnreferred b.schema (tree_of b.schema (name_of p)) → HasEmpty b p
 has_empty b p it none alone' = record {
   at = it.0;
   tree = it.1;
@@ -37,7 +38,12 @@ has_empty b p it none alone' = record {
 module _ (b c : Database) (adds : Adds (table_at part.Verdicts 0) b c) where
   -- a table that is found is found still, in its tree
   found_still : (p : Part) → FindsPart b.schema p → FindsPart c.schema p
-  found_still p it = (it.0, it.1, subst (λ (s : Schema). Finds s (name_of p) it.0 (table_at p it.1)) (sym adds.schema) (finds_still b.schema (table_at part.Verdicts 0) (name_of p) it.0 (table_at p it.1) it.2))
+  found_still p it = (
+    it.0,
+    it.1,
+    subst (λ (s : Schema). Finds s (name_of p) it.0 (table_at p it.1)) (sym adds.schema)
+        (finds_still b.schema (table_at part.Verdicts 0) (name_of p) it.0 (table_at p it.1) it.2),
+  )
 
   tree_still : (p : Part) → FindsPart b.schema p → tree_of c.schema (name_of p) ≡ tree_of b.schema (name_of p)
   unfolding found_still
@@ -63,7 +69,10 @@ module _ (a b c : Database) (was : IsOld a.schema) (may_a : IsMigratable a.schem
   begins = record {
     has = (
       has_empty b part.Desk old.common.desk e.empty.0 may.desk,
-      (has_empty b part.Marks old.marks e.empty.1.0 may.marks, (has_empty b part.Parked old.common.parked e.empty.1.1.0 may.parked, (has_empty b part.Names old.common.names e.empty.1.1.1.0 may.names, tt))),
+      (
+        has_empty b part.Marks old.marks e.empty.1.0 may.marks,
+        (has_empty b part.Parked old.common.parked e.empty.1.1.0 may.parked, (has_empty b part.Names old.common.names e.empty.1.1.1.0 may.names, tt)),
+      ),
     );
     open' = (record { lacks = old.verdicts; unnamed = may.verdicts }, tt);
     counted = may.counted;
@@ -92,9 +101,12 @@ module _ (a b c : Database) (was : IsOld a.schema) (may_a : IsMigratable a.schem
 
   tidy : IsTidy c
   tidy = record {
-    desk = desk_of c.schema
-        (record { desk = (d.at, d.tree, d.finds); messages = found_still b c adds part.Messages old.common.messages; names = (n.at, n.tree, n.finds); parked = (p.at, p.tree, p.finds) })
-        (v.at, v.tree, v.finds) (alone c part.Desk d) (alone c part.Names n) (alone c part.Verdicts v) (alone c part.Parked p);
+    desk = desk_of c.schema (record {
+      desk = (d.at, d.tree, d.finds);
+      messages = found_still b c adds part.Messages old.common.messages;
+      names = (n.at, n.tree, n.finds);
+      parked = (p.at, p.tree, p.finds);
+    }) (v.at, v.tree, v.finds) (alone c part.Desk d) (alone c part.Names n) (alone c part.Verdicts v) (alone c part.Parked p);
     names = neat_none 1 _ (none_in _ (bare c part.Names n));
     verdicts = keyed_none _ (none_in _ (bare c part.Verdicts v));
     parked = neat_none 2 _ (none_in _ (bare c part.Parked p));
@@ -105,19 +117,26 @@ module _ (a b c : Database) (was : IsOld a.schema) (may_a : IsMigratable a.schem
   there_now : (t : Table) → Has a.schema.tables t → Has b.schema.tables t
   there_now t there = subst (λ (s : Schema). Has s.tables t) (sym e.schema) there
 
-  rows_kept : (t : Table) → Has a.schema.tables t → AllByRecursion (λ q. t.tree ≢ tree_of a.schema (name_of q)) (part.Desk ∷ part.Marks ∷ part.Parked ∷ part.Names ∷ []) → c.trees t.tree ≡ a.trees t.tree
-  rows_kept t there others = all_has (λ (u : Table). c.trees u.tree ≡ b.trees u.tree) b.schema.tables t adds.others (there_now t there) ∙ e.others t there others
+  rows_kept : (t : Table) → Has a.schema.tables t
+      → AllByRecursion (λ q. t.tree ≢ tree_of a.schema (name_of q)) (part.Desk ∷ part.Marks ∷ part.Parked ∷ part.Names ∷ []) → c.trees t.tree ≡ a.trees t.tree
+  rows_kept t there others =
+      all_has (λ (u : Table). c.trees u.tree ≡ b.trees u.tree) b.schema.tables t adds.others (there_now t there) ∙ e.others t there others
 
   messages_kept : table_in c (codes "messages") ≡ table_in a (codes "messages")
   messages_kept =
       let m = was.common.messages in
       let tree = tree_in a.schema part.Messages m in
-      let other = λ (q : Part) (it : FindsPart a.schema q) (differ : mark_of part.Messages ≢ mark_of q). λ (same : m.1 ≡ tree_of a.schema (name_of q)). apart a.schema part.Messages q m it differ (tree ∙ same) in
-      let now : tree_of c.schema (codes "messages") ≡ m.1 = tree_still b c adds part.Messages old.common.messages ∙ ap (λ s. tree_of s (codes "messages")) e.schema ∙ tree in
+      let other = λ (q : Part) (it : FindsPart a.schema q) (differ : mark_of part.Messages ≢ mark_of q).
+      λ (same : m.1 ≡ tree_of a.schema (name_of q)). apart a.schema part.Messages q m it differ (tree ∙ same) in
+      let now : tree_of c.schema (codes "messages") ≡ m.1 =
+      tree_still b c adds part.Messages old.common.messages ∙ ap (λ s. tree_of s (codes "messages")) e.schema ∙ tree in
       ap c.trees now
       ∙ rows_kept (table_at part.Messages m.1) (has_got a.schema.tables m.0 (table_at part.Messages m.1) m.2.has) (
         other part.Desk was.common.desk (λ e. omega (arith, e)),
-        (other part.Marks was.marks (λ e. omega (arith, e)), (other part.Parked was.common.parked (λ e. omega (arith, e)), (other part.Names was.common.names (λ e. omega (arith, e)), tt))),
+        (
+          other part.Marks was.marks (λ e. omega (arith, e)),
+          (other part.Parked was.common.parked (λ e. omega (arith, e)), (other part.Names was.common.names (λ e. omega (arith, e)), tt)),
+        ),
       )
       ∙ ap a.trees (sym tree)
 
@@ -126,7 +145,9 @@ module _ (a b c : Database) (was : IsOld a.schema) (may_a : IsMigratable a.schem
     desk = λ same. beside.desk (same ∙ tree_before part.Desk old.common.desk);
     messages = λ same. beside.messages (same ∙ tree_before part.Messages old.common.messages);
     names = λ same. beside.names (same ∙ tree_before part.Names old.common.names);
-    verdicts = λ same. let low = below_next b.schema t (there_now t there) in let next : t.tree ≡ next_tree b.schema = same ∙ fresh b c adds old.verdicts in omega (arith, low, next);
+    verdicts = λ same. let low = below_next b.schema t (there_now t there) in
+        let next : t.tree ≡ next_tree b.schema = same ∙ fresh b c adds old.verdicts in
+        omega (arith, low, next);
     parked = λ same. beside.parked (same ∙ tree_before part.Parked old.common.parked);
   }
     where
@@ -142,7 +163,10 @@ module _ (a b c : Database) (was : IsOld a.schema) (may_a : IsMigratable a.schem
     parked = bare c part.Parked p;
     marks = record { at = k.at; tree = k.tree; finds = k.finds; empty = k.empty };
     messages = messages_kept;
-    grown = (next_tree b.schema, ap (λ (s : Schema). s.tables) adds.schema ∙ ap (λ (s : Schema). s.tables ++ table_at part.Verdicts (next_tree b.schema) ∷ []) e.schema);
+    grown = (
+      next_tree b.schema,
+      ap (λ (s : Schema). s.tables) adds.schema ∙ ap (λ (s : Schema). s.tables ++ table_at part.Verdicts (next_tree b.schema) ∷ []) e.schema,
+    );
     others = λ t there beside. rows_kept t there (beside.desk, (beside.marks, (beside.parked, (beside.names, tt))));
     foreign = foreign;
   }

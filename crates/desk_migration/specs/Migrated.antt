@@ -19,13 +19,16 @@ pub record IsBeside (s : Schema) (tree : ℕ) : Type 0 where
 
 -- each table of another name keeps its rows
 abbrev pub KeepsOthers : (old new : Database) → Type 0
-KeepsOthers old new = (t : Table) → Has old.schema.tables t → IsBeside old.schema t.tree → new.trees t.tree ≡ old.trees t.tree
+KeepsOthers old new = (t : Table) → Has old.schema.tables t
+    → IsBeside old.schema t.tree → new.trees t.tree ≡ old.trees t.tree
 
 -- the tables are those that were there, and `verdicts`
 abbrev pub GainsVerdicts : (old new : Database) → Type 0
-GainsVerdicts old new = (tree : ℕ) × (new.schema.tables ≡ old.schema.tables ++ verdicts_at tree ∷ [])
+GainsVerdicts old new =
+    (tree : ℕ) × (new.schema.tables ≡ old.schema.tables ++ verdicts_at tree ∷ [])
 
--- a desk of today, of this roster text and the messages that were there, beside the tables of other names
+-- a desk of today, of this roster text and the messages that were there, beside the tables of other
+-- names
 pub record Migrates (roster : List ℕ) (old new : Database) : Type 0 where
   pub sound : IsDatabase new
   pub kept : IsKept new
@@ -35,4 +38,5 @@ pub record Migrates (roster : List ℕ) (old new : Database) : Type 0 where
 
 -- Whatever database has these trees: it is that desk.
 abbrev pub MigratesAt : List ℕ → Database → Trees → Type 0
-MigratesAt roster old trees = (db : Database) → db.trees ≡ trees → IsDatabase db → Migrates roster old db
+MigratesAt roster old trees =
+    (db : Database) → db.trees ≡ trees → IsDatabase db → Migrates roster old db

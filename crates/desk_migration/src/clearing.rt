@@ -12,10 +12,12 @@ use desk_schema::Part;
 use desk_tables::Fault;
 use sqlite::{Alter, Transaction};
 
-/// Empties the table. A row whose rowid is no whole number stays behind a DELETE: where one is left, it is refused.
+/// Empties the table. A row whose rowid is no whole number stays behind a DELETE: where one is
+/// left, it is refused.
 fn clear<S: Alter>(tx: &mut Transaction<'_, S>, part: Part) -> Result<(), Fault>
     ensures same_reference { tx.new.conn.ghost_name ≡ tx.old.conn.ghost_name }
-    ensures cleared { InStep (state S.Store tx.old.conn.now) (state S.Store tx.new.conn.now) (λ a b. OnOk result (Cleared part a b)) }
+    ensures cleared { InStep (state S.Store tx.old.conn.now)
+        (state S.Store tx.new.conn.now) (λ a b. OnOk result (Cleared part a b)) }
     ensures step { IsStep (state S.Store tx.old.conn.now) (state S.Store tx.new.conn.now) }
 {
     delete(tx, part)?;
@@ -30,7 +32,8 @@ fn clear<S: Alter>(tx: &mut Transaction<'_, S>, part: Part) -> Result<(), Fault>
 /// Empties the tables of an older desk, but its messages.
 pub(crate) fn clear_all<S: Alter>(tx: &mut Transaction<'_, S>) -> Result<(), Fault>
     ensures same_reference { tx.new.conn.ghost_name ≡ tx.old.conn.ghost_name }
-    ensures emptied { InStep (state S.Store tx.old.conn.now) (state S.Store tx.new.conn.now) (λ a b. OnOk result (Emptied a b)) }
+    ensures emptied { InStep (state S.Store tx.old.conn.now)
+        (state S.Store tx.new.conn.now) (λ a b. OnOk result (Emptied a b)) }
     ensures step { IsStep (state S.Store tx.old.conn.now) (state S.Store tx.new.conn.now) }
 {
     clear(tx, Part::Names)?;

@@ -1,6 +1,7 @@
 //! An older desk that becomes one of today, in one commit.
 
-ghost use Rattle.std.specs.Prelude.{◌≡◌, ◌≢◌, ◌↔◌, false, Err, AllPairs, Contains, IsTrue, OnOk, OnErr};
+ghost use Rattle.std.specs.Prelude.{◌≡◌, ◌≢◌, ◌↔◌, false, Err, AllPairs};
+ghost use Rattle.std.specs.Prelude.{Contains, IsTrue, OnOk, OnErr};
 ghost use Rattle.sqlite.specs.State.{HasCleanDisk, Survives};
 ghost use Rattle.sqlite.specs.Held.{state};
 ghost use Rattle.messages.specs.Wire.{IsMessage};
@@ -28,10 +29,11 @@ fn can_migrate<S: Alter>(conn: &Connection<S>) -> bool
     is_migratable(conn.schema())
 }
 
-/// Makes an older desk one of today, with another roster text and the messages that it has, in one commit.
+/// Makes an older desk one of today, with another roster text and the messages that it has, in one
+/// commit.
 ///
-/// Where a foreign key refers to its tables or waits for `verdicts`, or a count lacks its table, it is refused, as
-/// `Fault::Stray`.
+/// Where a foreign key refers to its tables or waits for `verdicts`, or a count lacks its table, it
+/// is refused, as `Fault::Stray`.
 pub fn migrate<S: Alter>(
     alloc: Global,
     conn: &mut Connection<S>,
@@ -41,22 +43,31 @@ pub fn migrate<S: Alter>(
     requires autocommit { conn.old.in_transaction ≡ false }
     requires rests { Rests (state S.Store conn.old) }
     requires desk { IsUp (state S.Store conn.old) → IsOldDesk (state S.Store conn.old).now }
-    requires listed { IsUp (state S.Store conn.old) → Lists (HoldsText (state S.Store conn.old).now) messages.now }
+    requires listed { IsUp (state S.Store conn.old)
+        → Lists (HoldsText (state S.Store conn.old).now) messages.now }
     requires once { AllPairs (λ m n. m ≢ n) messages.now }
     requires messages { (m : AnyMessage) → Contains messages.now m → IsMessage m }
     ensures rests { Rests (state S.Store conn.new) }
     ensures was_up { IsUp (state S.Store conn.new) → IsUp (state S.Store conn.old) }
-    ensures was_clean { HasCleanDisk (state S.Store conn.new) → HasCleanDisk (state S.Store conn.old) }
-    ensures up { IsUp (state S.Store conn.old) → HasCleanDisk (state S.Store conn.new) → OnOk result (IsUp (state S.Store conn.new)) }
-    ensures kept { IsUp (state S.Store conn.new) → OnOk result (IsKept (state S.Store conn.new).now) }
+    ensures was_clean { HasCleanDisk (state S.Store conn.new)
+        → HasCleanDisk (state S.Store conn.old) }
+    ensures up { IsUp (state S.Store conn.old) → HasCleanDisk (state S.Store conn.new)
+        → OnOk result (IsUp (state S.Store conn.new)) }
+    ensures kept { IsUp (state S.Store conn.new)
+        → OnOk result (IsKept (state S.Store conn.new).now) }
     ensures migrated { IsUp (state S.Store conn.new)
-        → OnOk result (content_of (state S.Store conn.new).now ≡ with_roster roster.now (content_of (state S.Store conn.old).now)) }
-    ensures grown { IsUp (state S.Store conn.new) → OnOk result (GainsVerdicts (state S.Store conn.old).now (state S.Store conn.new).now) }
-    ensures others { IsUp (state S.Store conn.new) → OnOk result (KeepsOthers (state S.Store conn.old).now (state S.Store conn.new).now) }
-    ensures refused { ¬ IsMigratable (state S.Store conn.old).now.schema → result ≡ Err fault.Stray }
-    ensures unchanged { IsUp (state S.Store conn.new) → OnErr result ((state S.Store conn.new).now ≡ (state S.Store conn.old).now) }
-    ensures survives { IsUp (state S.Store conn.old)
-        → Survives (state S.Store conn.old) (state S.Store conn.new) (MigratesAt roster.now (state S.Store conn.old).now) }
+        → OnOk result (content_of (state S.Store conn.new).now
+        ≡ with_roster roster.now (content_of (state S.Store conn.old).now)) }
+    ensures grown { IsUp (state S.Store conn.new)
+        → OnOk result (GainsVerdicts (state S.Store conn.old).now (state S.Store conn.new).now) }
+    ensures others { IsUp (state S.Store conn.new)
+        → OnOk result (KeepsOthers (state S.Store conn.old).now (state S.Store conn.new).now) }
+    ensures refused { ¬ IsMigratable (state S.Store conn.old).now.schema
+        → result ≡ Err fault.Stray }
+    ensures unchanged { IsUp (state S.Store conn.new)
+        → OnErr result ((state S.Store conn.new).now ≡ (state S.Store conn.old).now) }
+    ensures survives { IsUp (state S.Store conn.old) → Survives (state S.Store conn.old)
+        (state S.Store conn.new) (MigratesAt roster.now (state S.Store conn.old).now) }
 {
     if !can_migrate(conn) {
         return Err(Fault::Stray);

@@ -18,7 +18,8 @@ use std::alloc::Global;
 /// Makes the tables those of a desk of today, with no row but the messages.
 fn prepare<S: Alter>(tx: &mut Transaction<'_, S>) -> Result<(), Fault>
     ensures same_reference { tx.new.conn.ghost_name ≡ tx.old.conn.ghost_name }
-    ensures prepared { InStep (state S.Store tx.old.conn.now) (state S.Store tx.new.conn.now) (λ a b. OnOk result (Prepared a b)) }
+    ensures prepared { InStep (state S.Store tx.old.conn.now)
+        (state S.Store tx.new.conn.now) (λ a b. OnOk result (Prepared a b)) }
     ensures step { IsStep (state S.Store tx.old.conn.now) (state S.Store tx.new.conn.now) }
 {
     clear_all(tx)?;
@@ -26,7 +27,8 @@ fn prepare<S: Alter>(tx: &mut Transaction<'_, S>) -> Result<(), Fault>
     Ok(())
 }
 
-/// Makes the desk one of today, of this roster text, with the rows of its messages. Each message stands there once.
+/// Makes the desk one of today, of this roster text, with the rows of its messages. Each message
+/// stands there once.
 pub(crate) fn move_within<S: Alter>(
     alloc: Global,
     tx: &mut Transaction<'_, S>,
@@ -36,7 +38,8 @@ pub(crate) fn move_within<S: Alter>(
     requires once { AllPairs (λ m n. m ≢ n) messages.now }
     requires messages { (m : AnyMessage) → Contains messages.now m → IsMessage m }
     ensures same_reference { tx.new.conn.ghost_name ≡ tx.old.conn.ghost_name }
-    ensures moved { InStep (state S.Store tx.old.conn.now) (state S.Store tx.new.conn.now) (λ a b. OnOk result (Moved roster.now messages.now a b)) }
+    ensures moved { InStep (state S.Store tx.old.conn.now) (state S.Store tx.new.conn.now)
+        (λ a b. OnOk result (Moved roster.now messages.now a b)) }
     ensures step { IsStep (state S.Store tx.old.conn.now) (state S.Store tx.new.conn.now) }
 {
     prepare(tx)?;

@@ -27,7 +27,8 @@ fn delete_of(part: Part) -> &'static str
 /// Takes the rows of the table out.
 pub(crate) fn delete<S: Alter>(tx: &mut Transaction<'_, S>, part: Part) -> Result<usize, Error>
     ensures same_reference { tx.new.conn.ghost_name ≡ tx.old.conn.ghost_name }
-    ensures deleted { InStep (state S.Store tx.old.conn.now) (state S.Store tx.new.conn.now) (λ a b. OnOk result (Deleted part a b)) }
+    ensures deleted { InStep (state S.Store tx.old.conn.now)
+        (state S.Store tx.new.conn.now) (λ a b. OnOk result (Deleted part a b)) }
     ensures step { IsStep (state S.Store tx.old.conn.now) (state S.Store tx.new.conn.now) }
 {
     tx.execute(delete_of(part), &[])
@@ -39,7 +40,8 @@ pub(crate) fn rows_left<S: Alter>(
     part: Part,
 ) -> Result<Vec<Row>, Error>
     ensures same_reference { tx.new.conn.ghost_name ≡ tx.old.conn.ghost_name }
-    ensures left { InStep (state S.Store tx.old.conn.now) (state S.Store tx.new.conn.now) (λ a b. IfOk result (λ rows. Left part rows.items a b)) }
+    ensures left { InStep (state S.Store tx.old.conn.now) (state S.Store tx.new.conn.now)
+        (λ a b. IfOk result (λ rows. Left part rows.items a b)) }
     ensures step { IsStep (state S.Store tx.old.conn.now) (state S.Store tx.new.conn.now) }
 {
     tx.query_all(select_of(part), &[])

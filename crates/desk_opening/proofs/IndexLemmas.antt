@@ -1,5 +1,6 @@
 -- What the names in order tell of the messages.
-use Rattle.std.proofs.Common.{◌≡◌, ◌⊎◌, inl, inr, ℕ, ℤ, pos, ◌+◌, ◌<◌, Bool, true, false, true≢false, not, List, [], ◌∷◌, ◌++◌, length, get_or, map, take, Contains, Some, None, refl, sym, ap, subst, ◌∙◌}
+use Rattle.std.proofs.Common.{◌≡◌, ◌⊎◌, inl, inr, ℕ, ℤ, pos, ◌+◌, ◌<◌, Bool, true, false, true≢false, not, List, []}
+use Rattle.std.proofs.Common.{◌∷◌, ◌++◌, length, get_or, map, take, Contains, Some, None, refl, sym, ap, subst, ◌∙◌}
 use Rattle.std.specs.List.{list_any}
 use Rattle.std.specs.List.Sorted.{IsPermutation, IsSorted}
 use Rattle.std.specs.Str.{bytes_eq}
@@ -106,9 +107,11 @@ module _ (ms : List Message) (xs : List Asked) (are : AreAsked ms xs) where
       let name = same_name asker (pos number) n.0 n.2 in
       let by : q.0.by ≡ asker = sym q.2.by ∙ ap (λ (m : Name). m.0.now) (sym a.2) ∙ name.0 in
       let number_is : q.0.no ≡ number = one_number _ _ (sym q.2.number ∙ ap (λ (m : Name). m.1) (sym a.2) ∙ name.1) in
-      some_from (is_named asker number) ms (Request q.0) (has_contained ms (Request q.0) q.1) (and_from _ _ ((bytes_eq-Decides q.0.by asker).1 by) ((Decides-eqb q.0.no number).1 number_is))
+      some_from (is_named asker number) ms (Request q.0) (has_contained ms (Request q.0) q.1)
+      (and_from _ _ ((bytes_eq-Decides q.0.by asker).1 by) ((Decides-eqb q.0.no number).1 number_is))
 
-  named_there : (asker : List ℕ) (number : ℕ) (m : Message) → Has ms m → is_named asker number m ≡ true → list_any (is_at asker (pos number)) (map (λ (a : Asked). a.0) xs) ≡ true
+  named_there : (asker : List ℕ) (number : ℕ) (m : Message) → Has ms m → is_named asker number m ≡ true
+      → list_any (is_at asker (pos number)) (map (λ (a : Asked). a.0) xs) ≡ true
   named_there asker number (Verdict v) there is = absurd (true≢false (sym is))
   named_there asker number (Request q) there is =
       let both = and_parts _ _ is in
@@ -121,7 +124,8 @@ module _ (ms : List Message) (xs : List Asked) (are : AreAsked ms xs) where
       both_or_none (list_any (is_at asker (pos number)) (map (λ (a : Asked). a.0) xs)) (asks ms asker number) (told_by asker number)
       (λ some. let it = some_has (is_named asker number) ms some in named_there asker number it.0 it.1 it.2)
 
-  pub asks_by : (names : List Name) → IsPermutation (map (λ (a : Asked). a.0) xs) names → (asker : List ℕ) (number : ℕ) → list_any (is_at asker (pos number)) names ≡ asks ms asker number
+  pub asks_by : (names : List Name) → IsPermutation (map (λ (a : Asked). a.0) xs) names
+      → (asker : List ℕ) (number : ℕ) → list_any (is_at asker (pos number)) names ≡ asks ms asker number
   asks_by names same asker number = sym (list_any-IsPermutation (is_at asker (pos number)) _ names same) ∙ asked_there asker number
 
   -- ---- a name with two requests
@@ -133,7 +137,8 @@ module _ (ms : List Message) (xs : List Asked) (are : AreAsked ms xs) where
     own : (a : Asked) × Contains xs a × IsFrom q a
     own = are.all q here
 
-    other_is : (p : RequestFields) → Contains ms (Request p) → p.by ≡ q.by → p.no ≡ q.no → bytes_eq (wire (Request p)) (wire (Request q)) ≡ false → is_disputed ms (Request q) ≡ true
+    other_is : (p : RequestFields) → Contains ms (Request p) → p.by ≡ q.by → p.no ≡ q.no
+        → bytes_eq (wire (Request p)) (wire (Request q)) ≡ false → is_disputed ms (Request q) ≡ true
     other_is p there by number apart =
         some_from (is_other (Request q)) ms (Request p) (has_contained ms (Request p) there)
         (and_from _ _ (and_from _ _ ((bytes_eq-Decides p.by q.by).1 by) ((Decides-eqb p.no q.no).1 number)) (ap not apart))
@@ -170,7 +175,8 @@ module _ (ms : List Message) (xs : List Asked) (are : AreAsked ms xs) where
           let name = and_parts _ _ parts.0 in
           let a = are.all p (contains_had ms (Request p) there) in
           let of = of_name p a.0 a.2 ((bytes_eq-Decides p.by q.by).0 name.0) ((Decides-eqb p.no q.no).0 name.1) in
-          let texts = one_text q.by (pos q.no) xs (asked_rising xs sorted) none a.0 own.0 (has_contained xs a.0 a.1) (has_contained xs own.0 own.1) of (of_name q own.0 own.2 refl refl) in
+          let texts = one_text q.by (pos q.no) xs (asked_rising xs sorted) none a.0 own.0
+          (has_contained xs a.0 a.1) (has_contained xs own.0 own.1) of (of_name q own.0 own.2 refl refl) in
           absurd (true≢false (sym ((bytes_eq-Decides (wire (Request p)) (wire (Request q))).1 (sym a.2.text ∙ texts ∙ own.2.text)) ∙ not_true _ parts.1))
     ]
 
@@ -179,9 +185,11 @@ module _ (ms : List Message) (xs : List Asked) (are : AreAsked ms xs) where
         both_or_none (differs q.by (pos q.no) xs) (is_disputed ms (Request q)) two_requests
         (λ some. let it = some_has (is_other (Request q)) ms some in other_there it.0 it.1 it.2)
 
-  pub disputes_by : IsSorted asked_cmp xs → (found disputed : List Name) → ((asker : List ℕ) (number : ℤ) → list_any (is_at asker number) found ≡ differs asker number xs) → IsPermutation found disputed
+  pub disputes_by : IsSorted asked_cmp xs → (found disputed : List Name)
+      → ((asker : List ℕ) (number : ℤ) → list_any (is_at asker number) found ≡ differs asker number xs) → IsPermutation found disputed
       → (q : RequestFields) → Contains ms (Request q) → list_any (is_at q.by (pos q.no)) disputed ≡ is_disputed ms (Request q)
-  disputes_by sorted found disputed each same q here = sym (list_any-IsPermutation (is_at q.by (pos q.no)) found disputed same) ∙ each q.by (pos q.no) ∙ disputed_there sorted q here
+  disputes_by sorted found disputed each same q here =
+      sym (list_any-IsPermutation (is_at q.by (pos q.no)) found disputed same) ∙ each q.by (pos q.no) ∙ disputed_there sorted q here
 
 -- ---- what is looked up
 

@@ -42,7 +42,8 @@ module _ (rows : List Row) where
         let e4 = and_parts _ _ e3.1 in
         same_rows a b ((Decides-eqb (length a) (length b)).0 wide.0) (columns e0.0 e1.0 e2.0 e3.0 e4.0 e4.1)
       where
-        columns : agree (column a 0) (column b 0) ≡ true → agree (column a 1) (column b 1) ≡ true → agree (column a 2) (column b 2) ≡ true → agree (column a 3) (column b 3) ≡ true
+        columns : agree (column a 0) (column b 0) ≡ true → agree (column a 1) (column b 1) ≡ true
+            → agree (column a 2) (column b 2) ≡ true → agree (column a 3) (column b 3) ≡ true
             → agree (column a 4) (column b 4) ≡ true → agree (column a 5) (column b 5) ≡ true → (k : ℕ) → k < length a → column a k ≡ column b k
         columns h0 h1 h2 h3 h4 h5 zero within = agree_is _ _ h0
         columns h0 h1 h2 h3 h4 h5 (suc zero) within = agree_is _ _ h1
@@ -79,4 +80,5 @@ module _ (rows : List Row) where
     ]
 
     pub is_keyed_so : list_all (is_keyed rows) rows ≡ true
-    is_keyed_so = test_from (is_keyed rows) rows (λ r here. and_from _ _ (and_from _ _ (keyed.ints r here) (is_short r (plain r here).0)) (test_from (is_apart r) rows (λ b there. apart r b here there)))
+    is_keyed_so = test_from (is_keyed rows) rows (λ r here.
+        and_from _ _ (and_from _ _ (keyed.ints r here) (is_short r (plain r here).0)) (test_from (is_apart r) rows (λ b there. apart r b here there)))

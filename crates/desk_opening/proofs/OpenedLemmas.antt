@@ -38,12 +38,17 @@ not_old s has old = let e : ◌≡◌ {A = Option ℕ} (Some has.0) None = sym h
 -- ---- a desk of today
 
 -- each of the rows that were read has a rowid
-pub rows_identified : (db : Database) → IsDatabase db → HasCommon db.schema → FindsPart db.schema part.Verdicts → (N V P : List Row) → ShowsRows db N V P → HaveRowids N × HaveRowids V × HaveRowids P
-rows_identified db sound common verdicts N V P rows =
-    (identified db sound part.Names tt common.names N rows.names_are, identified db sound part.Verdicts tt verdicts V rows.verdicts_are, identified db sound part.Parked tt common.parked P rows.parked_are)
+pub rows_identified : (db : Database) → IsDatabase db → HasCommon db.schema → FindsPart db.schema part.Verdicts
+    → (N V P : List Row) → ShowsRows db N V P → HaveRowids N × HaveRowids V × HaveRowids P
+rows_identified db sound common verdicts N V P rows = (
+  identified db sound part.Names tt common.names N rows.names_are,
+  identified db sound part.Verdicts tt verdicts V rows.verdicts_are,
+  identified db sound part.Parked tt common.parked P rows.parked_are,
+)
 
 module _ (db : Database) (sound : IsDatabase db) (common : HasCommon db.schema) (verdicts : FindsPart db.schema part.Verdicts) (unmarked : IsUnmarked db)
-    (D M N V P : List Row) (alone : Bool) (texts : ShowsTexts db D M) (rows : ShowsRows db N V P) (tells : (alone ≡ true → AreUnreferred db.schema) × (AreUnreferred db.schema → alone ≡ true)) where
+    (D M N V P : List Row) (alone : Bool) (texts : ShowsTexts db D M) (rows : ShowsRows db N V P)
+    (tells : (alone ≡ true → AreUnreferred db.schema) × (AreUnreferred db.schema → alone ≡ true)) where
   names_in : SameRows N (table_in db (codes "names"))
   names_in = same_rows_in db sound part.Names tt common.names N rows.names_are
 
@@ -57,7 +62,8 @@ module _ (db : Database) (sound : IsDatabase db) (common : HasCommon db.schema) 
   beside roster contents = record { common = common; verdicts = verdicts; unmarked = unmarked; contents = (roster, contents) }
 
   -- the number of a request is no floating-point number
-  module _ (S : Message → Type 0) (r : AreRows S (IsRow (table_in db (codes "names"))) (IsRow (table_in db (codes "verdicts"))) (IsRow (table_in db (codes "parked")))) where
+  module _ (S : Message
+      → Type 0) (r : AreRows S (IsRow (table_in db (codes "names"))) (IsRow (table_in db (codes "verdicts"))) (IsRow (table_in db (codes "parked")))) where
     whole_names : (x : List Value) → IsRow (table_in db (codes "names")) x → IsNoReal (column x 1)
     whole_names x there = let it = r.names_each x there in subst (λ y. IsNoReal (column y 1)) (sym it.4) tt
 
@@ -104,14 +110,17 @@ module _ (db : Database) (sound : IsDatabase db) (common : HasCommon db.schema) 
   roster_is : (roster : List ℕ) → HasContents 2 db roster → (content_of db).roster ≡ roster
   roster_is roster contents = ap (λ o. unwrap_or o []) (sym (recorded_two (table_in db (codes "desk"))) ∙ contents.marked)
 
-  pub desk_in : (c : Contents) → AreContents 2 D M (string_bytes c.roster) c.messages.items → alone ≡ true → are_kept c.messages.items N V P ≡ true → FoundIn db (found.Desk c)
+  pub desk_in : (c : Contents) → AreContents 2 D M (string_bytes c.roster) c.messages.items
+      → alone ≡ true → are_kept c.messages.items N V P ≡ true → FoundIn db (found.Desk c)
   desk_in c are lone test = (
-    kept (string_bytes c.roster) c.messages.items are (record { alone_is = lone; held = held_where_kept c.messages.items (λ m there. (are.bodies.only m there).message) N V P test }),
+    kept (string_bytes c.roster) c.messages.items are
+        (record { alone_is = lone; held = held_where_kept c.messages.items (λ m there. (are.bodies.only m there).message) N V P test }),
     roster_is (string_bytes c.roster) (contents_there 2 db D M texts (string_bytes c.roster) c.messages.items are),
     messages_listed 2 db D M texts (string_bytes c.roster) c.messages.items are,
   )
 
-  pub damaged_in : (c : Contents) → AreContents 2 D M (string_bytes c.roster) c.messages.items → (alone && are_kept c.messages.items N V P) ≡ false → IsDamaged db
+  pub damaged_in : (c : Contents) → AreContents 2 D M (string_bytes c.roster) c.messages.items
+      → (alone && are_kept c.messages.items N V P) ≡ false → IsDamaged db
   damaged_in c are test =
       let roster = string_bytes c.roster in
       let all = c.messages.items in
@@ -119,13 +128,15 @@ module _ (db : Database) (sound : IsDatabase db) (common : HasCommon db.schema) 
         beside roster (contents_there 2 db D M texts roster all are),
         λ is.
             let it = whole roster all are is in
-            false≢true (sym test ∙ and_from _ _ it.alone_is (kept_where_held all (λ m there. (are.bodies.only m there).message) N V P wide.0 wide.1 wide.2 it.held)),
+            false≢true (sym test
+            ∙ and_from _ _ it.alone_is (kept_where_held all (λ m there. (are.bodies.only m there).message) N V P wide.0 wide.1 wide.2 it.held)),
       )
 
 -- ---- no desk of today
 
 -- its texts show something else
-pub other_in : (db : Database) → HasCommon db.schema → FindsPart db.schema part.Verdicts → (D M : List Row) → ShowsTexts db D M → LackContents 2 D M → FoundIn db found.NotADesk
+pub other_in : (db : Database) → HasCommon db.schema → FindsPart db.schema part.Verdicts
+    → (D M : List Row) → ShowsTexts db D M → LackContents 2 D M → FoundIn db found.NotADesk
 other_in db common verdicts D M texts lack = (
   not_vacant db.schema common,
   λ is. none_there 2 db D M texts lack is.contents.0 is.contents.1,
@@ -134,10 +145,14 @@ other_in db common verdicts D M texts lack = (
 
 -- ---- an older desk
 
-pub old_in : (db : Database) → IsOld db.schema → (D M : List Row) → ShowsTexts db D M → (c : Contents) → AreContents 1 D M (string_bytes c.roster) c.messages.items → FoundIn db (found.Old c)
+pub old_in : (db : Database) → IsOld db.schema → (D M : List Row) → ShowsTexts db D M → (c : Contents)
+    → AreContents 1 D M (string_bytes c.roster) c.messages.items → FoundIn db (found.Old c)
 old_in db old D M texts c are =
-    let contents = contents_there 1 db D M texts (string_bytes c.roster) c.messages.items are in
-    (record { tables = old; contents = (string_bytes c.roster, contents) }, contents.marked, messages_listed 1 db D M texts (string_bytes c.roster) c.messages.items are)
+    let contents = contents_there 1 db D M texts (string_bytes c.roster) c.messages.items are in (
+      record { tables = old; contents = (string_bytes c.roster, contents) },
+      contents.marked,
+      messages_listed 1 db D M texts (string_bytes c.roster) c.messages.items are,
+    )
 
 pub not_old_in : (db : Database) → IsOld db.schema → (D M : List Row) → ShowsTexts db D M → LackContents 1 D M → FoundIn db found.NotADesk
 not_old_in db old D M texts lack = (

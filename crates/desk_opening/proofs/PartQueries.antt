@@ -299,7 +299,8 @@ module _ (s : Schema) (at tree : ℕ) (parts : ShowsFive (select_of Names) (code
   unfolding program
   five_typed = rw (found.stored, found.by_tree) refl
 
-  pub five_means : Means s (select_of Names) (command.Select (record { lets = []; body = showing tree (project_of Names) }) (map (λ (o : Output). o.name) five_d5))
+  pub five_means :
+      Means s (select_of Names) (command.Select (record { lets = []; body = showing tree (project_of Names) }) (map (λ (o : Output). o.name) five_d5))
   unfolding same_name
   five_means =
       let core = (out-Select parts.it.sel).first in
@@ -308,10 +309,13 @@ module _ (s : Schema) (at tree : ℕ) (parts : ShowsFive (select_of Names) (code
       let rc = column_shown s (codes "names") (codes "no") at 1 five_t five_c2 parts.c five_d2 five_s2 parts.c_is refl found.has refl refl in
       let rd = column_shown s (codes "names") (codes "body") at 2 five_t five_c3 parts.d five_d3 five_s3 parts.d_is refl found.has refl refl in
       let re = column_shown s (codes "names") (codes "disputed") at 3 five_t five_c4 parts.e five_d4 five_s4 parts.e_is refl found.has refl refl in
-      let all = result_five lower (outermost s) (level_at (codes "names") at) core parts.a parts.b parts.c parts.d parts.e _ _ _ _ _ begun _ _ _ _ _ parts.are ra rb rc rd re in
-      means s (select_of Names) _ (select_is s (select_of Names) (codes "names") parts.it at five_t five_d5 _ _ found.named found.has all refl refl five_typed) refl refl
+      let all = result_five lower (outermost s)
+      (level_at (codes "names") at) core parts.a parts.b parts.c parts.d parts.e _ _ _ _ _ begun _ _ _ _ _ parts.are ra rb rc rd re in
+      means s (select_of Names) _
+      (select_is s (select_of Names) (codes "names") parts.it at five_t five_d5 _ _ found.named found.has all refl refl five_typed) refl refl
 
-module _ (s : Schema) (at tree : ℕ) (sql table : Name) (key : List ℕ) (parts : ShowsSix sql table) (found : Finds s table at (record (keyed table verdicts.columns key) { tree = tree })) where
+module _ (s : Schema) (at tree : ℕ) (sql table : Name) (key : List ℕ) (parts : ShowsSix sql table)
+    (found : Finds s table at (record (keyed table verdicts.columns key) { tree = tree })) where
   abbrev six_t : Table
   six_t = record (keyed table verdicts.columns key) { tree = tree }
 
@@ -381,7 +385,8 @@ module _ (s : Schema) (at tree : ℕ) (sql table : Name) (key : List ℕ) (parts
       let rd = column_shown s table (codes "person") at 2 six_t six_c3 parts.d six_d3 six_s3 parts.d_is refl found.has refl refl in
       let re = column_shown s table (codes "kind") at 3 six_t six_c4 parts.e six_d4 six_s4 parts.e_is refl found.has refl refl in
       let rf = column_shown s table (codes "at") at 4 six_t six_c5 parts.f six_d5 six_s5 parts.f_is refl found.has refl refl in
-      let all = result_six lower (outermost s) (level_at table at) core parts.a parts.b parts.c parts.d parts.e parts.f _ _ _ _ _ _ begun _ _ _ _ _ _ parts.are ra rb rc rd re rf in
+      let all = result_six lower (outermost s)
+      (level_at table at) core parts.a parts.b parts.c parts.d parts.e parts.f _ _ _ _ _ _ begun _ _ _ _ _ _ parts.are ra rb rc rd re rf in
       means s sql _ (select_is s sql table parts.it at six_t six_d6 _ _ found.named found.has all refl refl six_typed) refl refl
 
 module _ (s : Schema) (at tree : ℕ) (parts : ShowsFour (select_of Parked) (codes "parked")) (found : Finds s (codes "parked") at (parked_at tree)) where
@@ -426,7 +431,8 @@ module _ (s : Schema) (at tree : ℕ) (parts : ShowsFour (select_of Parked) (cod
   unfolding program
   four_typed = rw (found.stored, found.by_tree) refl
 
-  pub four_means : Means s (select_of Parked) (command.Select (record { lets = []; body = showing tree (project_of Parked) }) (map (λ (o : Output). o.name) four_d4))
+  pub four_means :
+      Means s (select_of Parked) (command.Select (record { lets = []; body = showing tree (project_of Parked) }) (map (λ (o : Output). o.name) four_d4))
   unfolding same_name
   four_means =
       let core = (out-Select parts.it.sel).first in
@@ -434,11 +440,14 @@ module _ (s : Schema) (at tree : ℕ) (parts : ShowsFour (select_of Parked) (cod
       let rb = column_shown s (codes "parked") (codes "body") at 0 four_t four_c1 parts.b four_d1 four_s1 parts.b_is refl found.has refl refl in
       let rc = column_shown s (codes "parked") (codes "asker") at 1 four_t four_c2 parts.c four_d2 four_s2 parts.c_is refl found.has refl refl in
       let rd = column_shown s (codes "parked") (codes "no") at 2 four_t four_c3 parts.d four_d3 four_s3 parts.d_is refl found.has refl refl in
-      let all = result_four lower (outermost s) (level_at (codes "parked") at) core parts.a parts.b parts.c parts.d _ _ _ _ begun _ _ _ _ parts.are ra rb rc rd in
-      means s (select_of Parked) _ (select_is s (select_of Parked) (codes "parked") parts.it at four_t four_d4 _ _ found.named found.has all refl refl four_typed) refl refl
+      let all =
+      result_four lower (outermost s) (level_at (codes "parked") at) core parts.a parts.b parts.c parts.d _ _ _ _ begun _ _ _ _ parts.are ra rb rc rd in
+      means s (select_of Parked) _
+      (select_is s (select_of Parked) (codes "parked") parts.it at four_t four_d4 _ _ found.named found.has all refl refl four_typed) refl refl
 
 -- what the part's statement means
-pub means_of : (s : Schema) (p : Part) (at tree : ℕ) → Finds s (name_of p) at (table_at p tree) → (names : List Name) × Means s (select_of p) (command.Select (record { lets = []; body = showing tree (project_of p) }) names)
+pub means_of : (s : Schema) (p : Part) (at tree : ℕ) → Finds s (name_of p) at (table_at p tree)
+    → (names : List Name) × Means s (select_of p) (command.Select (record { lets = []; body = showing tree (project_of p) }) names)
 means_of s Desk at tree found = (roster_names, roster_means s at tree found)
 means_of s Messages at tree found = (codes "body" ∷ [], list_means s at tree found)
 means_of s Names at tree found = (_, five_means s at tree names_parts found)

@@ -17,7 +17,8 @@ text t = inl (t, refl)
 whole : (n : Rattle.std.proofs.Common.ℤ) → IsPlain (Int n)
 whole n = inr (n, refl)
 
-module _ (rows : List Row) (keyed : IsKeyed rows) (wide : HaveRowids rows) (each : (values : List Value) → IsRow rows values → (length values ≤ 5) × ((v : Value) → Has values v → IsPlain v)) where
+module _ (rows : List Row) (keyed : IsKeyed rows) (wide : HaveRowids rows) (each : (values : List Value)
+    → IsRow rows values → (length values ≤ 5) × ((v : Value) → Has values v → IsPlain v)) where
   pub plain_rows : ArePlain rows
   plain_rows r there =
       let w = wide r there in

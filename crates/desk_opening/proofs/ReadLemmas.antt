@@ -1,5 +1,6 @@
 -- What a statement that reads does to a connection, and what it shows.
-use Rattle.std.proofs.Common.{Result, Ok, Err, OnOk, Vec, IfOk, IfErr, nat_le, ◌^◌, false, ◌≡◌, ◌⊎◌, inl, inr, ℕ, List, [], ◌∷◌, map, Option, Some, None, IsTrue, refl, sym, ap, subst, ◌∙◌, arith}
+use Rattle.std.proofs.Common.{Result, Ok, Err, OnOk, Vec, IfOk, IfErr, nat_le, ◌^◌, false, ◌≡◌, ◌⊎◌, inl, inr, ℕ}
+use Rattle.std.proofs.Common.{List, [], ◌∷◌, map, Option, Some, None, IsTrue, refl, sym, ap, subst, ◌∙◌, arith}
 use Rattle.std.specs.List.{flat_map}
 use Rattle.std.specs.List.Sorted.{IsPermutation}
 use Rattle.std.proofs.lemmas.List.Sorted.{IsPermutation-map}
@@ -79,7 +80,8 @@ shown_still sql params old new rows h = go h.0.returning h.2
     go None it = it.3.0.is_open
     go (Some what) it = it.1.shown.is_open
 
-shown_same : (sql : List ℕ) (params : Row) (old new : State) (rows : List Row) → IsPlain (understood old.now.schema sql) → Shown sql params old new rows → IsUnchanged old new
+shown_same : (sql : List ℕ) (params : Row) (old new : State) (rows : List Row)
+    → IsPlain (understood old.now.schema sql) → Shown sql params old new rows → IsUnchanged old new
 unfolding Shown
 shown_same sql params old new rows plain h =
     let none = (subst IsPlain h.1.is plain).0 in
@@ -91,14 +93,16 @@ module _ (sql : List ℕ) (old new : State) where
   answered_up clean (Ok rows) shown = record { clean = clean; is_open = shown_still sql [] old new rows.items shown }
   answered_up clean (Err e) shown = tt
 
-  module _ (P : Trees → Type 0) (lives : Survives old new P) (rests : Rests old) (plain : IsUp old → IsPlain (understood old.now.schema sql)) (up : IsUp new) where
+  module _ (P : Trees → Type 0) (lives : Survives old new P) (rests : Rests old) (plain : IsUp old
+      → IsPlain (understood old.now.schema sql)) (up : IsUp new) where
     pub stays : (r : Result (Vec Row Global) Error) → IfOk r (λ rows. Shown sql [] old new rows.items) → IfErr r (FailsToQuery sql [] old new) → Same old new
     stays (Ok rows) shown fails =
         let before : IsUp old = record { clean = omega (arith, lives.clean, up.clean); is_open = shown_open sql [] old new rows.items shown } in
         same old new before up (rests before) (inl (shown_same sql [] old new rows.items (plain before) shown))
     stays (Err e) shown fails =
         let way = undone sql [] old new e fails in
-        let before : IsUp old = record { clean = omega (arith, lives.clean, up.clean); is_open = elim way [ inl it ↦ it.0.was_open | inr back ↦ back.was_open up.is_open ] } in
+        let before : IsUp old =
+        record { clean = omega (arith, lives.clean, up.clean); is_open = elim way [ inl it ↦ it.0.was_open | inr back ↦ back.was_open up.is_open ] } in
         same old new before up (rests before) way
 
 -- ---- a crash
@@ -115,7 +119,8 @@ survives_as old new P Q each s = record {
 }
 
 -- a query commits nothing
-survives_read : (sql : List ℕ) (old new : State) → IsPlain (understood old.now.schema sql) → Survives old new (CommitsShowing sql [] old) → Survives old new (λ _. ⊥)
+survives_read : (sql : List ℕ) (old new : State) → IsPlain (understood old.now.schema sql)
+    → Survives old new (CommitsShowing sql [] old) → Survives old new (λ _. ⊥)
 survives_read sql old new plain s = survives_as old new (CommitsShowing sql [] old) (λ _. ⊥) (λ db. never_commits sql [] old db plain) s
 
 survives_both : (a b c : State) → Survives a b (λ _. ⊥) → Survives b c (λ _. ⊥) → Survives a c (λ _. ⊥)
@@ -153,19 +158,22 @@ up_ok (Err e) h = tt
 abbrev seen : List Term → Row → Row
 seen project r = eval_all project ([] ∷ r ∷ [])
 
-outputs : (tree : ℕ) (project : List Term) (rows : List Row) → map (λ (o : Output). o.1) (map (output (showing tree project)) (flat_map (λ r. ([] ∷ r ∷ []) ∷ []) rows)) ≡ map (seen project) rows
+outputs : (tree : ℕ) (project : List Term) (rows : List Row)
+    → map (λ (o : Output). o.1) (map (output (showing tree project)) (flat_map (λ r. ([] ∷ r ∷ []) ∷ []) rows)) ≡ map (seen project) rows
 outputs tree project [] = refl
 outputs tree project (r ∷ rs) = ap (λ os. seen project r ∷ os) (outputs tree project rs)
 
 overlay_none : (old : Trees) (tree : ℕ) → nat_le (2 ^ 31) tree ≡ false → overlay old [] tree ≡ old tree
 overlay_none old tree low = rw low refl
 
-shows_all : (old : Trees) (tree : ℕ) (project : List Term) → nat_le (2 ^ 31) tree ≡ false → (rows : List Row) → IsAnswer (showing tree project) (overlay old []) [] rows → IsPermutation (map (seen project) (old tree)) rows
+shows_all : (old : Trees) (tree : ℕ) (project : List Term) → nat_le (2 ^ 31) tree ≡ false → (rows : List Row)
+    → IsAnswer (showing tree project) (overlay old []) [] rows → IsPermutation (map (seen project) (old tree)) rows
 shows_all old tree project low rows a =
     let q = showing tree project in
     let kept = a.distinct ∙ ap (map (output q)) (a.grouped ∙ ap (flat_map (λ r. ([] ∷ r ∷ []) ∷ [])) (overlay_none old tree low)) in
     let shown : map (λ (o : Output). o.1) a.kept ≡ map (seen project) (old tree) = ap (map (λ (o : Output). o.1)) kept ∙ outputs tree project (old tree) in
-    subst (λ l. IsPermutation l rows) shown (subst (IsPermutation (map (λ (o : Output). o.1) a.kept)) (sym a.shown) (IsPermutation-map (λ (o : Output). o.1) a.kept a.ordered a.same))
+    subst (λ l. IsPermutation l rows) shown
+    (subst (IsPermutation (map (λ (o : Output). o.1) a.kept)) (sym a.shown) (IsPermutation-map (λ (o : Output). o.1) a.kept a.ordered a.same))
 
 seen_is : (p : Part) (rows : List Row) → map (seen (project_of p)) rows ≡ map (shown_of p) rows
 seen_is p [] = refl
@@ -190,18 +198,21 @@ stored_tree Marks tree = refl
 stored_tree Verdicts tree = refl
 stored_tree Parked tree = refl
 
-pub part_shown : (old new : State) (p : Part) → FindsPart old.now.schema p → (r : Result (Vec Row Global) Error) → IfOk r (λ rows. Shown (select_of p) [] old new rows.items) → IfOk r (λ rows. ShowsPart p old.now rows.items)
+pub part_shown : (old new : State) (p : Part) → FindsPart old.now.schema p → (r : Result (Vec Row Global) Error)
+    → IfOk r (λ rows. Shown (select_of p) [] old new rows.items) → IfOk r (λ rows. ShowsPart p old.now rows.items)
 part_shown old new p it (Ok rows) shown =
     let s = old.now.schema in
     let means = (means_of s p it.0 it.1 it.2).1 in
     let answer = (reads_as (select_of p) [] old new s refl _ means.command means.plain means.unlisted rows.items shown).answer Null in
     subst (λ t. IsPermutation (map (shown_of p) (old.now.trees t)) rows.items) (sym (tree_in s p it))
-    (subst (λ l. IsPermutation l rows.items) (seen_is p (old.now.trees it.1)) (shows_all old.now.trees it.1 (project_of p) (subst (λ t. nat_le (2 ^ 31) t ≡ false) (stored_tree p it.1) it.2.stored) rows.items answer))
+    (subst (λ l. IsPermutation l rows.items) (seen_is p (old.now.trees it.1))
+    (shows_all old.now.trees it.1 (project_of p) (subst (λ t. nat_le (2 ^ 31) t ≡ false) (stored_tree p it.1) it.2.stored) rows.items answer))
 part_shown old new p it (Err e) shown = tt
 
 -- ---- the statement of a part
 
-module _ (sql : List ℕ) (p : Part) (is : sql ≡ select_of p) (old new : State) (found : IsUp old → FindsPart old.now.schema p) (r : Result (Vec Row Global) Error) where
+module _ (sql : List ℕ) (p : Part) (is : sql ≡ select_of p) (old new : State) (found : IsUp old
+    → FindsPart old.now.schema p) (r : Result (Vec Row Global) Error) where
   plain : IsUp old → IsPlain (understood old.now.schema sql)
   plain up = subst (λ t. IsPlain (understood old.now.schema t)) (sym is) (part_plain old p (found up))
 

@@ -14,12 +14,14 @@ pub written_utf8 : (t : List ℕ) → IsWritten t → IsUtf8 t
 written_utf8 t written = subst IsUtf8 (sym written.2) (text_of_message written.0 written.1).utf8
 
 -- one row and its message more
-pub bodies_more : (rows : List Row) (ms : List Message) (i : ℕ) (r : Row) (m : Message) → AreBodies (take i rows) ms → i < length rows → r ≡ get_or rows i r → (column r 0 ≡ body m) × IsKeepable m → AreBodies (take (i + 1) rows) (ms ++ m ∷ [])
+pub bodies_more : (rows : List Row) (ms : List Message) (i : ℕ) (r : Row) (m : Message) → AreBodies (take i rows) ms
+    → i < length rows → r ≡ get_or rows i r → (column r 0 ≡ body m) × IsKeepable m → AreBodies (take (i + 1) rows) (ms ++ m ∷ [])
 bodies_more rows ms i r m before within is both =
     let first : Row → _ = λ x. column x 0 in
     let more : take (i + 1) rows ≡ take i rows ++ r ∷ [] = take_more rows i r within ∙ ap (λ x. take i rows ++ x ∷ []) (sym is) in
     record {
-      texts = ap (map first) more ∙ map-append first (take i rows) (r ∷ []) ∙ ap (λ vs. vs ++ column r 0 ∷ []) before.texts ∙ ap (λ v. map body ms ++ v ∷ []) both.0 ∙ sym (map-append body ms (m ∷ []));
+      texts = ap (map first) more ∙ map-append first (take i rows) (r ∷ []) ∙ ap (λ vs. vs ++ column r 0 ∷ []) before.texts
+          ∙ ap (λ v. map body ms ++ v ∷ []) both.0 ∙ sym (map-append body ms (m ∷ []));
       only = λ n there. elim (Contains-push_cases ms m n there) as (λ _. IsKeepable n) [
         | inl old ↦ before.only n old
         | inr equal ↦ subst IsKeepable equal both.1
@@ -27,7 +29,8 @@ bodies_more rows ms i r m before within is both =
     }
 
 -- the same lists under other names
-pub held_along : (ms ns : List Message) (N V P N' V' P' : List Row) → ms ≡ ns → N ≡ N' → V ≡ V' → P ≡ P' → AreHeld (λ m. Contains ms m) N V P → AreHeld (λ m. Contains ns m) N' V' P'
+pub held_along : (ms ns : List Message) (N V P N' V' P' : List Row) → ms ≡ ns → N ≡ N' → V ≡ V'
+    → P ≡ P' → AreHeld (λ m. Contains ms m) N V P → AreHeld (λ m. Contains ns m) N' V' P'
 held_along ms ns N V P N' V' P' a b c d h =
-    subst (λ l. AreHeld (λ m. Contains l m) N' V' P') a
-    (subst (λ l. AreHeld (λ m. Contains ms m) l V' P') b (subst (λ l. AreHeld (λ m. Contains ms m) N l P') c (subst (λ l. AreHeld (λ m. Contains ms m) N V l) d h)))
+    subst (λ l. AreHeld (λ m. Contains l m) N' V' P') a (subst (λ l. AreHeld (λ m. Contains ms m) l V' P') b
+    (subst (λ l. AreHeld (λ m. Contains ms m) N l P') c (subst (λ l. AreHeld (λ m. Contains ms m) N V l) d h)))

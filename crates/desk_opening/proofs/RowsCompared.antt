@@ -1,5 +1,6 @@
 -- The test of the rows holds exactly where they are those of the messages.
-use Rattle.std.proofs.Common.{◌≡◌, inl, inr, ℕ, pos, Bool, true, false, true≢false, not, ◌&&◌, ◌||◌, ◌==◌, if◌then◌else◌, List, [], ◌∷◌, length, Contains, refl, sym, ap, subst, ◌∙◌}
+use Rattle.std.proofs.Common.{◌≡◌, inl, inr, ℕ, pos, Bool, true, false, true≢false, not, ◌&&◌, ◌||◌, ◌==◌}
+use Rattle.std.proofs.Common.{if◌then◌else◌, List, [], ◌∷◌, length, Contains, refl, sym, ap, subst, ◌∙◌}
 use Rattle.std.specs.List.{list_all, list_any}
 use Rattle.std.specs.Str.{bytes_eq}
 use Rattle.std.proofs.lemmas.Bool.{and_parts, and_from, cases_Bool}
@@ -20,7 +21,9 @@ use Rattle.messages.proofs.Uniqueness.{one_message}
 use Rattle.desk_tables.specs.Rows.{AreRows, Asks, IsMarked, IsRow, name_row, parked_row, verdict_row}
 use Rattle.desk_schema.specs.declared.part.Part.TheVariants.{Names, Verdicts, Parked}
 use Rattle.desk_opening.specs.Rows.{HaveRowids}
-use Rattle.desk_opening.specs.private.Compare.{agree, are_rows_of, asks, counts, has_name_row, has_parked_row, has_verdict_row, is_disputed, is_name_row, is_named, is_of_name, is_once, is_other, is_parked_row, is_verdict, is_verdict_row, shows_parked, shows_request, shows_verdict, waits}
+use Rattle.desk_opening.specs.private.Compare.{agree, are_rows_of, asks, counts, has_name_row, has_parked_row, has_verdict_row}
+use Rattle.desk_opening.specs.private.Compare.{is_disputed, is_name_row, is_named, is_of_name, is_once, is_other, is_parked_row}
+use Rattle.desk_opening.specs.private.Compare.{is_verdict, is_verdict_row, shows_parked, shows_request, shows_verdict, waits}
 use Rattle.desk_opening.proofs.Compared.{agree_int, agree_is, agree_text, five, four, is_the_number, is_the_text, number_is, six, text_is}
 
 -- the tests of the three tables
@@ -61,17 +64,22 @@ name asker number = record { by = asker; no = number }
 of_name_by : (asker : List ℕ) (number : ℕ) (r : Row) → column r 1 ≡ Text asker → column r 2 ≡ Int (pos number) → is_of_name asker number r ≡ true
 of_name_by asker number r a b = and_from _ _ (is_the_text asker (column r 1) a) (is_the_number number (column r 2) b)
 
-request_by : (ms : List Message) (r : Row) (q : RequestFields) → (length r == 5) ≡ true → column r 1 ≡ Text q.by → column r 2 ≡ Int (pos q.no) → column r 3 ≡ Text (wire (Request q))
-    → column r 4 ≡ Int (pos (if is_disputed ms (Request q) then 1 else 0)) → shows_request ms r (Request q) ≡ true
+request_by : (ms : List Message) (r : Row) (q : RequestFields) → (length r == 5) ≡ true → column r 1 ≡ Text q.by → column r 2 ≡ Int (pos q.no)
+    → column r 3 ≡ Text (wire (Request q)) → column r 4 ≡ Int (pos (if is_disputed ms (Request q) then 1 else 0)) → shows_request ms r (Request q) ≡ true
 request_by ms r q w a b c d =
-    and_from _ _ (and_from _ _ w (and_from _ _ (is_the_text q.by (column r 1) a) (and_from _ _ (is_the_number q.no (column r 2) b) (is_the_text (wire (Request q)) (column r 3) c)))) (is_the_number _ (column r 4) d)
+    and_from _ _ (and_from _ _ w (and_from _ _ (is_the_text q.by (column r 1) a)
+    (and_from _ _ (is_the_number q.no (column r 2) b) (is_the_text (wire (Request q)) (column r 3) c)))) (is_the_number _ (column r 4) d)
 
-verdict_by : (r : Row) (v : VerdictFields) → (length r == 6) ≡ true → column r 1 ≡ Text v.of → column r 2 ≡ Int (pos v.no) → column r 3 ≡ Text v.by → column r 4 ≡ Text (kind_text v.kind) → column r 5 ≡ Int (pos v.at) → is_verdict r v ≡ true
+verdict_by : (r : Row) (v : VerdictFields) → (length r == 6) ≡ true → column r 1 ≡ Text v.of → column r 2 ≡ Int (pos v.no)
+    → column r 3 ≡ Text v.by → column r 4 ≡ Text (kind_text v.kind) → column r 5 ≡ Int (pos v.at) → is_verdict r v ≡ true
 verdict_by r v w a b c d e =
-    and_from _ _ w (and_from _ _ (is_the_text v.of (column r 1) a) (and_from _ _ (is_the_number v.no (column r 2) b) (and_from _ _ (is_the_text v.by (column r 3) c) (and_from _ _ (is_the_text (kind_text v.kind) (column r 4) d) (is_the_number v.at (column r 5) e)))))
+    and_from _ _ w (and_from _ _ (is_the_text v.of (column r 1) a) (and_from _ _ (is_the_number v.no (column r 2) b)
+    (and_from _ _ (is_the_text v.by (column r 3) c) (and_from _ _ (is_the_text (kind_text v.kind) (column r 4) d) (is_the_number v.at (column r 5) e)))))
 
-parked_by : (r : Row) (v : VerdictFields) → (length r == 4) ≡ true → column r 1 ≡ Text (wire (Verdict v)) → column r 2 ≡ Text v.of → column r 3 ≡ Int (pos v.no) → shows_parked r (Verdict v) ≡ true
-parked_by r v w a b c = and_from _ _ w (and_from _ _ (is_the_text (wire (Verdict v)) (column r 1) a) (and_from _ _ (is_the_text v.of (column r 2) b) (is_the_number v.no (column r 3) c)))
+parked_by : (r : Row) (v : VerdictFields) → (length r == 4) ≡ true → column r 1 ≡ Text (wire (Verdict v))
+    → column r 2 ≡ Text v.of → column r 3 ≡ Int (pos v.no) → shows_parked r (Verdict v) ≡ true
+parked_by r v w a b c = and_from _ _ w
+    (and_from _ _ (is_the_text (wire (Verdict v)) (column r 1) a) (and_from _ _ (is_the_text v.of (column r 2) b) (is_the_number v.no (column r 3) c)))
 
 module _ (ms : List Message) (known : (m : Message) → Contains ms m → IsMessage m) where
   abbrev S : Message → Type 0
@@ -83,12 +91,15 @@ module _ (ms : List Message) (known : (m : Message) → Contains ms m → IsMess
   asks_is asker number h = let it = some_has (is_named asker number) ms h in go it.0 it.1 it.2
     where
       go : (m : Message) → Has ms m → is_named asker number m ≡ true → Asks S (record { by = asker; no = number })
-      go (Request q) there is = let both = and_parts _ _ is in (q, contains_had ms (Request q) there, ((bytes_eq-Decides q.by asker).0 both.0, (Decides-eqb q.no number).0 both.1))
+      go (Request q) there is =
+          let both = and_parts _ _ is in
+          (q, contains_had ms (Request q) there, ((bytes_eq-Decides q.by asker).0 both.0, (Decides-eqb q.no number).0 both.1))
       go (Verdict v) there is = absurd (true≢false (sym is))
 
   is_asked : (asker : List ℕ) (number : ℕ) → Asks S (record { by = asker; no = number }) → asks ms asker number ≡ true
   is_asked asker number is =
-      some_from (is_named asker number) ms (Request is.0) (has_contained ms (Request is.0) is.1) (and_from _ _ ((bytes_eq-Decides is.0.by asker).1 is.2.0) ((Decides-eqb is.0.no number).1 is.2.1))
+      some_from (is_named asker number) ms (Request is.0) (has_contained ms (Request is.0) is.1)
+      (and_from _ _ ((bytes_eq-Decides is.0.by asker).1 is.2.0) ((Decides-eqb is.0.no number).1 is.2.1))
 
   not_asked : (asker : List ℕ) (number : ℕ) → (¬ Asks S (record { by = asker; no = number })) → asks ms asker number ≡ false
   not_asked asker number none = elim (cases_Bool (asks ms asker number)) [ inl is ↦ absurd (none (asks_is asker number is)) | inr is ↦ is ]
@@ -158,8 +169,8 @@ module _ (ms : List Message) (known : (m : Message) → Contains ms m → IsMess
       go (Verdict v) there is = absurd (true≢false (sym is))
 
   shows_name : (id : Value) (q : RequestFields) (d : Bool) → S (Request q) → d ≡ is_disputed ms (Request q) → is_name_row ms (id ∷ name_row q d) ≡ true
-  shows_name id q d there is = some_from (shows_request ms (id ∷ name_row q d)) ms (Request q) (has_contained ms (Request q) there)
-      (request_by ms (id ∷ name_row q d) q refl refl refl refl (ap (λ (b : Bool). Int (if b then pos 1 else pos 0)) is ∙ sym (flag (is_disputed ms (Request q)))))
+  shows_name id q d there is = some_from (shows_request ms (id ∷ name_row q d)) ms (Request q) (has_contained ms (Request q) there) (request_by ms
+      (id ∷ name_row q d) q refl refl refl refl (ap (λ (b : Bool). Int (if b then pos 1 else pos 0)) is ∙ sym (flag (is_disputed ms (Request q)))))
 
   pub record IsVerdictRow (r : Row) : Type 0 where
     pub v : VerdictFields
@@ -189,10 +200,16 @@ module _ (ms : List Message) (known : (m : Message) → Contains ms m → IsMess
     where
       go : (m : Message) → Has ms m → (shows_verdict r m && counts ms m) ≡ true → IsVerdictRow r
       go (Request q) there is = absurd (true≢false (sym is))
-      go (Verdict v) there is = let both = and_parts _ _ is in record { v = v; there = contains_had ms (Verdict v) there; asked = both.1; is = verdict_is r v both.0 }
+      go (Verdict v) there is = let both = and_parts _ _ is in record {
+        v = v;
+        there = contains_had ms (Verdict v) there;
+        asked = both.1;
+        is = verdict_is r v both.0;
+      }
 
   shows_counted : (id : Value) (v : VerdictFields) → S (Verdict v) → asks ms v.of v.no ≡ true → is_verdict_row ms (id ∷ verdict_row v) ≡ true
-  shows_counted id v there asked = some_from (λ m. shows_verdict (id ∷ verdict_row v) m && counts ms m) ms (Verdict v) (has_contained ms (Verdict v) there) (and_from _ _ (is_its_row id v) asked)
+  shows_counted id v there asked = some_from (λ m. shows_verdict (id ∷ verdict_row v) m && counts ms m) ms
+      (Verdict v) (has_contained ms (Verdict v) there) (and_from _ _ (is_its_row id v) asked)
 
   pub record IsParkedRow (r : Row) : Type 0 where
     pub v : VerdictFields
@@ -218,10 +235,16 @@ module _ (ms : List Message) (known : (m : Message) → Contains ms m → IsMess
     where
       go : (m : Message) → Has ms m → (shows_parked r m && waits ms m) ≡ true → IsParkedRow r
       go (Request q) there is = absurd (true≢false (sym is))
-      go (Verdict v) there is = let both = and_parts _ _ is in record { v = v; there = contains_had ms (Verdict v) there; asked = not_true _ both.1; is = parked_is r v both.0 }
+      go (Verdict v) there is = let both = and_parts _ _ is in record {
+        v = v;
+        there = contains_had ms (Verdict v) there;
+        asked = not_true _ both.1;
+        is = parked_is r v both.0;
+      }
 
   shows_waiting : (id : Value) (v : VerdictFields) → S (Verdict v) → asks ms v.of v.no ≡ false → is_parked_row ms (id ∷ parked_row v) ≡ true
-  shows_waiting id v there asked = some_from (λ m. shows_parked (id ∷ parked_row v) m && waits ms m) ms (Verdict v) (has_contained ms (Verdict v) there) (and_from _ _ (is_its_parked id v) (is_not _ asked))
+  shows_waiting id v there asked = some_from (λ m. shows_parked (id ∷ parked_row v) m && waits ms m) ms
+      (Verdict v) (has_contained ms (Verdict v) there) (and_from _ _ (is_its_parked id v) (is_not _ asked))
 
   -- ---- where the test holds, they are the rows
 
@@ -259,8 +282,10 @@ module _ (ms : List Message) (known : (m : Message) → Contains ms m → IsMess
 
       name_of_row : (asker : List ℕ) (number : ℕ) (r : Row) → is_of_name asker number r ≡ true → (it : IsNameRow r) → (it.q.by ≡ asker) × (it.q.no ≡ number)
       name_of_row asker number r is it =
-          let both = and_parts _ _ is in
-          (one_text _ _ (ap (λ (x : Row). column x 1) (sym it.is) ∙ text_is _ _ both.0), one_number _ _ (ap (λ (x : Row). column x 2) (sym it.is) ∙ number_is _ _ both.1))
+          let both = and_parts _ _ is in (
+            one_text _ _ (ap (λ (x : Row). column x 1) (sym it.is) ∙ text_is _ _ both.0),
+            one_number _ _ (ap (λ (x : Row). column x 2) (sym it.is) ∙ number_is _ _ both.1),
+          )
 
       names_all : (q : RequestFields) → S (Request q) → (p : RequestFields) × (disputed : Bool) × SameName p q × IsRow N (name_row p disputed)
       names_all q there =
@@ -268,7 +293,8 @@ module _ (ms : List Message) (known : (m : Message) → Contains ms m → IsMess
           let it = name_at found.0 found.1 in
           (it.q, is_disputed ms (Request it.q), name_of_row q.by q.no found.0 found.2 it, (column found.0 0, subst (Has N) it.is found.1))
 
-      once_same : (r s : Row) → is_once r s ≡ true → (a : IsNameRow r) → (b : IsNameRow s) → SameName a.q b.q → name_row a.q (is_disputed ms (Request a.q)) ≡ name_row b.q (is_disputed ms (Request b.q))
+      once_same : (r s : Row) → is_once r s ≡ true → (a : IsNameRow r) → (b : IsNameRow s) → SameName a.q b.q
+          → name_row a.q (is_disputed ms (Request a.q)) ≡ name_row b.q (is_disputed ms (Request b.q))
       once_same r s once a b same =
           let of_a = λ (k : ℕ). ap (λ (x : Row). column x k) a.is in
           let of_b = λ (k : ℕ). ap (λ (x : Row). column x k) b.is in
@@ -291,12 +317,14 @@ module _ (ms : List Message) (known : (m : Message) → Contains ms m → IsMess
 
       has_verdict : (v : VerdictFields) → S (Verdict v) → Asks S (name_meant v) → IsRow V (verdict_row v)
       has_verdict v there asked =
-          let found = some_has (λ r. shows_verdict r (Verdict v)) V (subst (λ (t : Bool). (not t || list_any (λ r. shows_verdict r (Verdict v)) V) ≡ true) (is_asked v.of v.no asked) (verdict_row_of (Verdict v) there)) in
+          let found = some_has (λ r. shows_verdict r (Verdict v)) V (subst (λ (t : Bool). (not t || list_any (λ r. shows_verdict r (Verdict v)) V) ≡ true)
+          (is_asked v.of v.no asked) (verdict_row_of (Verdict v) there)) in
           (column found.0 0, subst (Has V) (verdict_is found.0 v found.2) found.1)
 
       has_parked : (v : VerdictFields) → S (Verdict v) → (¬ Asks S (name_meant v)) → IsRow P (parked_row v)
       has_parked v there none =
-          let found = some_has (λ r. shows_parked r (Verdict v)) P (subst (λ (t : Bool). (not (not t) || list_any (λ r. shows_parked r (Verdict v)) P) ≡ true) (not_asked v.of v.no none) (parked_row_of (Verdict v) there)) in
+          let found = some_has (λ r. shows_parked r (Verdict v)) P (subst (λ (t : Bool). (not (not t) || list_any (λ r. shows_parked r (Verdict v)) P) ≡ true)
+          (not_asked v.of v.no none) (parked_row_of (Verdict v) there)) in
           (column found.0 0, subst (Has P) (parked_is found.0 v found.2) found.1)
 
       pub rows_are : AreRows S (IsRow N) (IsRow V) (IsRow P)
@@ -337,7 +365,8 @@ module _ (ms : List Message) (known : (m : Message) → Contains ms m → IsMess
       has_its_name : (m : Message) → Has ms m → has_name_row N m ≡ true
       has_its_name (Request q) there =
           let it = r.names_all q (contains_had ms (Request q) there) in
-          some_from (is_of_name q.by q.no) N (it.3.0 ∷ name_row it.0 it.1) it.3.1 (of_name_by q.by q.no (it.3.0 ∷ name_row it.0 it.1) (ap Text it.2.0) (ap (λ n. Int (pos n)) it.2.1))
+          some_from (is_of_name q.by q.no) N (it.3.0 ∷ name_row it.0 it.1) it.3.1
+          (of_name_by q.by q.no (it.3.0 ∷ name_row it.0 it.1) (ap Text it.2.0) (ap (λ n. Int (pos n)) it.2.1))
       has_its_name (Verdict v) there = refl
 
       has_its_verdict : (m : Message) → Has ms m → has_verdict_row ms V m ≡ true
@@ -345,7 +374,8 @@ module _ (ms : List Message) (known : (m : Message) → Contains ms m → IsMess
       has_its_verdict (Verdict v) there = elim (cases_Bool (asks ms v.of v.no)) [
         | inr is ↦ subst (λ (t : Bool). (not t || list_any (λ r. shows_verdict r (Verdict v)) V) ≡ true) (sym is) refl
         | inl is ↦ subst (λ (t : Bool). (not t || list_any (λ r. shows_verdict r (Verdict v)) V) ≡ true) (sym is)
-            (let it = r.verdicts_all v (contains_had ms (Verdict v) there) (asks_is v.of v.no is) in some_from (λ r. shows_verdict r (Verdict v)) V (it.0 ∷ verdict_row v) it.1 (is_its_row it.0 v))
+            (let it = r.verdicts_all v (contains_had ms (Verdict v) there) (asks_is v.of v.no is) in
+            some_from (λ r. shows_verdict r (Verdict v)) V (it.0 ∷ verdict_row v) it.1 (is_its_row it.0 v))
       ]
 
       has_its_parked : (m : Message) → Has ms m → has_parked_row ms P m ≡ true
@@ -353,7 +383,8 @@ module _ (ms : List Message) (known : (m : Message) → Contains ms m → IsMess
       has_its_parked (Verdict v) there = elim (cases_Bool (asks ms v.of v.no)) [
         | inl is ↦ subst (λ (t : Bool). (not (not t) || list_any (λ r. shows_parked r (Verdict v)) P) ≡ true) (sym is) refl
         | inr is ↦ subst (λ (t : Bool). (not (not t) || list_any (λ r. shows_parked r (Verdict v)) P) ≡ true) (sym is)
-            (let it = r.parked_all v (contains_had ms (Verdict v) there) (none_asks v.of v.no is) in some_from (λ r. shows_parked r (Verdict v)) P (it.0 ∷ parked_row v) it.1 (is_its_parked it.0 v))
+            (let it = r.parked_all v (contains_had ms (Verdict v) there) (none_asks v.of v.no is) in
+            some_from (λ r. shows_parked r (Verdict v)) P (it.0 ∷ parked_row v) it.1 (is_its_parked it.0 v))
       ]
 
       once_passes : (x y : Row) → Has N x → Has N y → is_once x y ≡ true

@@ -1,5 +1,6 @@
 -- What the rows of a desk that is kept show is shown of the messages that it holds.
-use Rattle.std.proofs.Common.{◌≡◌, ◌⊎◌, ◌<◌, ◌+◌, ◌≤◌, ◌&&◌, ◌==◌, inl, inr, ℕ, pos, zero, suc, Bool, true, false, true≢false, if◌then◌else◌, List, [], ◌∷◌, ◌++◌, length, get_or, map, take, Contains, codes, refl, sym, ap, subst, ◌∙◌, arith}
+use Rattle.std.proofs.Common.{◌≡◌, ◌⊎◌, ◌<◌, ◌+◌, ◌≤◌, ◌&&◌, ◌==◌, inl, inr, ℕ, pos, zero, suc, Bool, true, false, true≢false, if◌then◌else◌}
+use Rattle.std.proofs.Common.{List, [], ◌∷◌, ◌++◌, length, get_or, map, take, Contains, codes, refl, sym, ap, subst, ◌∙◌, arith}
 use Rattle.std.proofs.lemmas.List.{take_all, take_more}
 use Rattle.std.proofs.lemmas.List.Elements.{Contains-append_left, Contains-append_right, Contains-append_cases}
 use Rattle.std.proofs.lemmas.List.Sorted.{IsPermutation-sym}
@@ -40,12 +41,14 @@ use Rattle.desk_opening.proofs.Shown.{has_permuted}
 
 module _ {X : Type 0} (Shows : Row → X → Type 0) where
   -- what the row at a place shows
-  pub shown_at : (rows : List Row) (xs : List X) (i : ℕ) (r : Row) → AreShown Shows rows xs → i < length rows → r ≡ get_or rows i r → (x : X) × Shows r x × (take (i + 1) xs ≡ take i xs ++ x ∷ [])
+  pub shown_at : (rows : List Row) (xs : List X) (i : ℕ) (r : Row) → AreShown Shows rows xs
+      → i < length rows → r ≡ get_or rows i r → (x : X) × Shows r x × (take (i + 1) xs ≡ take i xs ++ x ∷ [])
   shown_at rows xs i r are within is =
       let it = at rows xs i r are within is in
       (it.0, it.1, take_more xs i it.0 it.2 ∙ ap (λ y. take i xs ++ y ∷ []) it.3)
     where
-      at : (rows : List Row) (xs : List X) (i : ℕ) (r : Row) → AreShown Shows rows xs → i < length rows → r ≡ get_or rows i r → (x : X) × Shows r x × (i < length xs) × (get_or xs i x ≡ x)
+      at : (rows : List Row) (xs : List X) (i : ℕ) (r : Row) → AreShown Shows rows xs → i < length rows
+          → r ≡ get_or rows i r → (x : X) × Shows r x × (i < length xs) × (get_or xs i x ≡ x)
       at [] xs i r are within is = absurd (omega (arith, within))
       at (s ∷ rs) [] i r are within is = absurd are
       at (s ∷ rs) (x ∷ xs) zero r are within is = (x, subst (λ y. Shows y x) (sym is) are.0, omega arith, refl)
@@ -84,7 +87,8 @@ module _ {X : Type 0} (Shows : Row → X → Type 0) where
   shown_row (s ∷ rs) (y ∷ ys) are r (inl same) = (y, inl refl, subst (λ x. Shows x y) (sym same) are.0)
   shown_row (s ∷ rs) (y ∷ ys) are r (inr later) = let it = shown_row rs ys are.1 r later in (it.0, inr it.1, it.2)
 
-shown_weaker : {X : Type 0} (P Q : Row → X → Type 0) → ((r : Row) (x : X) → P r x → Q r x) → (rows : List Row) (xs : List X) → AreShown P rows xs → AreShown Q rows xs
+shown_weaker : {X : Type 0} (P Q : Row → X → Type 0) → ((r : Row) (x : X) → P r x → Q r x)
+    → (rows : List Row) (xs : List X) → AreShown P rows xs → AreShown Q rows xs
 shown_weaker P Q each [] [] are = tt
 shown_weaker P Q each [] (x ∷ xs) are = absurd are
 shown_weaker P Q each (r ∷ rs) [] are = absurd are
@@ -125,8 +129,11 @@ abbrev Column : ℕ → List Value → Value
 Column at values = column values at
 
 name_parts : (p q : RequestFields) (a b : Bool) → name_row p a ≡ name_row q b → SameName p q × (wire (Request p) ≡ wire (Request q)) × (a ≡ b)
-name_parts p q a b e =
-    ((one_text p.by q.by (ap (Column 0) e), one_number p.no q.no (ap (Column 1) e)), one_text (wire (Request p)) (wire (Request q)) (ap (Column 2) e), one_flag a b (ap (Column 3) e))
+name_parts p q a b e = (
+  (one_text p.by q.by (ap (Column 0) e), one_number p.no q.no (ap (Column 1) e)),
+  one_text (wire (Request p)) (wire (Request q)) (ap (Column 2) e),
+  one_flag a b (ap (Column 3) e),
+)
 
 one_verdict : (v w : VerdictFields) → verdict_row v ≡ verdict_row w → v ≡ w
 one_verdict v w e =
@@ -139,7 +146,9 @@ one_verdict v w e =
 
 one_parked : (v w : VerdictFields) → IsMessage (Verdict v) → IsMessage (Verdict w) → parked_row v ≡ parked_row w → v ≡ w
 one_parked v w a b e =
-    let same : ◌≡◌ {A = Message} (Verdict v) (Verdict w) = one_message (Verdict v) (Verdict w) a b (one_text (wire (Verdict v)) (wire (Verdict w)) (ap (Column 0) e)) in cc
+    let same : ◌≡◌ {A = Message} (Verdict v) (Verdict w) =
+    one_message (Verdict v) (Verdict w) a b (one_text (wire (Verdict v)) (wire (Verdict w)) (ap (Column 0) e)) in
+    cc
 
 rest_of : (a b : Value) (xs ys : List Value) → ◌≡◌ {A = List Value} (a ∷ xs) (b ∷ ys) → xs ≡ ys
 rest_of a b xs ys e = cc
@@ -155,21 +164,25 @@ named_cases name row = elim (cases_Bool (is_of name row)) as (λ _. IsNamed row.
   | inl is ↦
       let both = and_parts (bytes_eq row.request.by name.by) (row.request.no == name.no) is in
       inl ((bytes_eq-Decides row.request.by name.by).0 both.0, (Decides-eqb row.request.no name.no).0 both.1)
-  | inr other ↦ inr (λ named. true≢false (sym (and_from (bytes_eq row.request.by name.by) (row.request.no == name.no) ((bytes_eq-Decides row.request.by name.by).1 named.0) ((Decides-eqb row.request.no name.no).1 named.1)) ∙ other))
+  | inr other ↦ inr (λ named. true≢false (sym (and_from (bytes_eq row.request.by name.by)
+      (row.request.no == name.no) ((bytes_eq-Decides row.request.by name.by).1 named.0) ((Decides-eqb row.request.no name.no).1 named.1)) ∙ other))
 ]
 
-named_among : (names : List NameRow) (name : RequestName) → ((row : NameRow) × Has names row × IsNamed row.request name) ⊎ ((row : NameRow) → Has names row → ¬ IsNamed row.request name)
+named_among : (names : List NameRow) (name : RequestName)
+    → ((row : NameRow) × Has names row × IsNamed row.request name) ⊎ ((row : NameRow) → Has names row → ¬ IsNamed row.request name)
 named_among [] name = inr (λ row has _. has)
-named_among (r ∷ rs) name = elim (named_cases name r) as (λ _. ((row : NameRow) × Has (r ∷ rs) row × IsNamed row.request name) ⊎ ((row : NameRow) → Has (r ∷ rs) row → ¬ IsNamed row.request name)) [
-  | inl named ↦ inl (r, inl refl, named)
-  | inr other ↦ elim (named_among rs name) as (λ _. ((row : NameRow) × Has (r ∷ rs) row × IsNamed row.request name) ⊎ ((row : NameRow) → Has (r ∷ rs) row → ¬ IsNamed row.request name)) [
-    | inl later ↦ inl (later.0, inr later.1, later.2)
-    | inr none ↦ inr (λ row has named. elim has as (λ _. ⊥) [
-      | inl same ↦ other (subst (λ (x : NameRow). IsNamed x.request name) same named)
-      | inr there ↦ none row there named
-    ])
-  ]
-]
+named_among (r ∷ rs) name = elim (named_cases name r)
+    as (λ _. ((row : NameRow) × Has (r ∷ rs) row × IsNamed row.request name) ⊎ ((row : NameRow) → Has (r ∷ rs) row → ¬ IsNamed row.request name)) [
+      | inl named ↦ inl (r, inl refl, named)
+      | inr other ↦ elim (named_among rs name)
+          as (λ _. ((row : NameRow) × Has (r ∷ rs) row × IsNamed row.request name) ⊎ ((row : NameRow) → Has (r ∷ rs) row → ¬ IsNamed row.request name)) [
+            | inl later ↦ inl (later.0, inr later.1, later.2)
+            | inr none ↦ inr (λ row has named. elim has as (λ _. ⊥) [
+              | inl same ↦ other (subst (λ (x : NameRow). IsNamed x.request name) same named)
+              | inr there ↦ none row there named
+            ])
+          ]
+    ]
 
 -- ---- the desk
 
@@ -235,7 +248,8 @@ module _ (db : Database) (kept : IsKept db) (N V P : List Row) (rows : ShowsRows
         },
       )
 
-  module _ (names : List NameRow) (counted waiting : List VerdictFields) (ns : AreShown Named N names) (vs : AreShown Counted V counted) (ps : AreShown Waiting P waiting) where
+  module _ (names : List NameRow) (counted waiting : List VerdictFields) (ns : AreShown Named N names)
+      (vs : AreShown Counted V counted) (ps : AreShown Waiting P waiting) where
     name_is : (row : NameRow) → Contains names row → (r : Row) × Has N r × Named r row
     name_is row among = row_shown Named N names ns row (has_contained names row among)
 
@@ -254,19 +268,22 @@ module _ (db : Database) (kept : IsKept db) (N V P : List Row) (rows : ShowsRows
         let y = name_is b there in
         let same = tables.names_once a.request b.request a.is_disputed b.is_disputed alike x.2.there y.2.there in
         let parts = name_parts a.request b.request a.is_disputed b.is_disputed same in
-        let both : ◌≡◌ {A = Message} (Request a.request) (Request b.request) = one_message (Request a.request) (Request b.request) x.2.held.0 y.2.held.0 parts.1 in
+        let both : ◌≡◌ {A = Message} (Request a.request) (Request b.request) =
+        one_message (Request a.request) (Request b.request) x.2.held.0 y.2.held.0 parts.1 in
         let request : a.request ≡ b.request = cc in
         λ i. record { request = request i; is_disputed = parts.2 i }
 
     counts : (v : VerdictFields) → S (Verdict v) → Asks S (name_meant v) → Contains counted v
     counts v held asks =
-        let read = read_row Verdicts (table_in db (codes "verdicts")) V kept.desk.tidy.verdicts rows.verdicts_are (verdict_row v) (tables.verdicts_all v held asks) in
+        let read =
+        read_row Verdicts (table_in db (codes "verdicts")) V kept.desk.tidy.verdicts rows.verdicts_are (verdict_row v) (tables.verdicts_all v held asks) in
         let found = shown_row Counted V counted vs _ read.1 in
         subst (Contains counted) (sym (one_verdict v found.0 (rest_of _ _ _ _ found.2.row.is))) (contains_had counted found.0 found.1)
 
     waits : (v : VerdictFields) → S (Verdict v) → (¬ Asks S (name_meant v)) → Contains waiting v
     waits v held none =
-        let read = read_row Parked (table_in db (codes "parked")) P kept.desk.tidy.parked.keyed rows.parked_are (parked_row v) (tables.parked_all v held none) in
+        let read =
+        read_row Parked (table_in db (codes "parked")) P kept.desk.tidy.parked.keyed rows.parked_are (parked_row v) (tables.parked_all v held none) in
         let found = shown_row Waiting P waiting ps _ read.1 in
         subst (Contains waiting) (sym (one_parked v found.0 held.0 found.2.held.0 (rest_of _ _ _ _ found.2.row.is))) (contains_had waiting found.0 found.1)
 

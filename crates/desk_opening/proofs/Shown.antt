@@ -1,5 +1,6 @@
 -- The rows that are read of a desk's tables are the rows of the tables.
-use Rattle.std.proofs.Common.{◌≡◌, ◌==◌, ◌≤◌, inl, inr, ℕ, suc, Bool, true, false, true≢false, not, ◌&&◌, cond, slice_get, List, [], ◌∷◌, length, map, Option, Some, None, codes, refl, sym, ap, subst, ◌∙◌, arith}
+use Rattle.std.proofs.Common.{◌≡◌, ◌==◌, ◌≤◌, inl, inr, ℕ, suc, Bool, true, false, true≢false, not, ◌&&◌, cond, slice_get}
+use Rattle.std.proofs.Common.{List, [], ◌∷◌, length, map, Option, Some, None, codes, refl, sym, ap, subst, ◌∙◌, arith}
 use Rattle.std.specs.List.Sorted.{IsPermutation}
 use Rattle.std.proofs.lemmas.List.Sorted.{IsPermutation-sym, length_permutation}
 use Rattle.std.proofs.lemmas.Bool.Decides.{Decides-eqb}
@@ -40,7 +41,8 @@ SameRows old new = (r : Row) → (Has old r → Has new r) × (Has new r → Has
 
 -- ---- one table
 
-module _ (db : Database) (sound : IsDatabase db) (p : Part) (reads : IsRead p) (it : FindsPart db.schema p) (rows : List Row) (shows : ShowsPart p db rows) where
+module _ (db : Database) (sound : IsDatabase db) (p : Part) (reads : IsRead p)
+    (it : FindsPart db.schema p) (rows : List Row) (shows : ShowsPart p db rows) where
   abbrev table : List Row
   table = table_in db (name_of p)
 
@@ -64,7 +66,8 @@ module _ (db : Database) (sound : IsDatabase db) (p : Part) (reads : IsRead p) (
       subst (Has table) (sym (o.2 ∙ itself p reads o.0 (whole o.0 o.1))) o.1
 
   in_rows : (r : Row) → Has table r → Has rows r
-  in_rows r there = subst (Has rows) (itself p reads r (whole r there)) (has_permuted (map (shown_of p) table) rows (shown_of p r) shows (mapped_has (shown_of p) table r there))
+  in_rows r there = subst (Has rows) (itself p reads r (whole r there))
+      (has_permuted (map (shown_of p) table) rows (shown_of p r) shows (mapped_has (shown_of p) table r there))
 
   pub same_rows_in : SameRows rows table
   same_rows_in r = (in_table r, in_rows r)
@@ -100,7 +103,12 @@ module _ (S : Message → Type 0) (N V P N' V' P' : List Row) (n : SameRows N N'
   }
 
   pub held_too : AreHeld S N V P → AreHeld S N' V' P'
-  held_too h = record { rows = rows_too h.rows; names = keyed_same N N' n h.names; verdicts = keyed_same V V' v h.verdicts; parked = keyed_same P P' p h.parked }
+  held_too h = record {
+    rows = rows_too h.rows;
+    names = keyed_same N N' n h.names;
+    verdicts = keyed_same V V' v h.verdicts;
+    parked = keyed_same P P' p h.parked;
+  }
 
 -- ---- the row of `desk`
 
@@ -116,9 +124,11 @@ many version (r ∷ s ∷ rs) e = refl
 mark_shown : (version : ℕ) (stored rows : List Row) → IsPermutation (map (shown_of Desk) stored) rows → shown_mark version rows ≡ recorded_as version stored
 mark_shown version [] rows h = none version rows (length_permutation [] rows h)
 mark_shown version (r ∷ []) rows h = ap (shown_mark version) (one_permutation (shown_of Desk r) rows h)
-mark_shown version (r ∷ s ∷ rs) rows h = many version rows (let same = length_permutation (shown_of Desk r ∷ shown_of Desk s ∷ map (shown_of Desk) rs) rows h in omega (arith, same))
+mark_shown version (r ∷ s ∷ rs) rows h =
+    many version rows (let same = length_permutation (shown_of Desk r ∷ shown_of Desk s ∷ map (shown_of Desk) rs) rows h in omega (arith, same))
 
-pub mark_is : (version : ℕ) (db : Database) (rows : List Row) → ShowsPart Desk db rows → shown_mark version rows ≡ recorded_as version (table_in db (codes "desk"))
+pub mark_is : (version : ℕ) (db : Database) (rows : List Row) → ShowsPart Desk db rows
+    → shown_mark version rows ≡ recorded_as version (table_in db (codes "desk"))
 mark_is version db rows shows = mark_shown version (table_in db (codes "desk")) rows shows
 
 one_is : (v : Value) → is_number 1 v ≡ is_one v
@@ -159,7 +169,8 @@ filled : (n : ℕ) (empty : Bool) → empty ≡ (n == 0) → not empty ≡ true 
 filled n empty is some none = true≢false (sym ((Decides-eqb n 0).1 (sym none)) ∙ sym is ∙ not_true empty some)
 
 -- two finds of `marks` are of one tree
-one_place : (s : Rattle.sqlite.specs.Schema.Schema) (a b at bt : ℕ) → Finds s (name_of Marks) at (table_at Marks a) → Finds s (name_of Marks) bt (table_at Marks b) → a ≡ b
+one_place : (s : Rattle.sqlite.specs.Schema.Schema) (a b at bt : ℕ)
+    → Finds s (name_of Marks) at (table_at Marks a) → Finds s (name_of Marks) bt (table_at Marks b) → a ≡ b
 one_place s a b at bt x y =
     let place : ◌≡◌ {A = Option ℕ} (Some at) (Some bt) = sym x.named ∙ y.named in
     let one : at ≡ bt = cc in
@@ -168,7 +179,8 @@ one_place s a b at bt x y =
     ap (λ (t : Table). t.tree) both
 
 -- whether a row is shown of them tells whether they have one
-pub tells_marks : (db : Database) (it : FindsPart db.schema Marks) (rows : List Row) → ShowsPart Marks db rows → (empty : Bool) → empty ≡ (length rows == 0) → (not empty ≡ false → IsUnmarked db) × (not empty ≡ true → ¬ IsUnmarked db)
+pub tells_marks : (db : Database) (it : FindsPart db.schema Marks) (rows : List Row) → ShowsPart Marks db rows
+    → (empty : Bool) → empty ≡ (length rows == 0) → (not empty ≡ false → IsUnmarked db) × (not empty ≡ true → ¬ IsUnmarked db)
 tells_marks db it rows shows empty is = (unmarked, marked)
   where
     table : length (map (shown_of Marks) (table_in db (name_of Marks))) ≡ length rows
@@ -188,4 +200,5 @@ tells_marks db it rows shows empty is = (unmarked, marked)
     marked some (inl lacks) = let e : ◌≡◌ {A = Option ℕ} (Some it.0) None = sym it.2.named ∙ lacks.table in absurd cc
     marked some (inr bare) =
         let same = one_place db.schema it.1 bare.tree it.0 bare.at it.2 bare.finds in
-        filled (length rows) empty is some (subst (λ l. length (map (shown_of Marks) l) ≡ length rows) (ap db.trees (tree_in db.schema Marks it ∙ same) ∙ bare.empty) table)
+        filled (length rows) empty is some
+        (subst (λ l. length (map (shown_of Marks) l) ≡ length rows) (ap db.trees (tree_in db.schema Marks it ∙ same) ∙ bare.empty) table)

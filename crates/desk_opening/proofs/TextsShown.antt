@@ -87,7 +87,8 @@ module _ (db : Database) (rows : List Row) (shows : ShowsPart Messages db rows) 
         held there =
             let r = has_row (wire m) there.1 in
             let it = message_at r.0 r.1 in
-            let same : m ≡ it.0 = one_message m it.0 there.0 (are.only it.0 (contains_had all it.0 it.1)).message (one_text (wire m) (wire it.0) (sym r.2 ∙ it.2)) in
+            let same : m ≡ it.0 =
+            one_message m it.0 there.0 (are.only it.0 (contains_had all it.0 it.1)).message (one_text (wire m) (wire it.0) (sym r.2 ∙ it.2)) in
             subst (Contains all) (sym same) (contains_had all it.0 it.1)
 
         back : Contains all m → HoldsText db m

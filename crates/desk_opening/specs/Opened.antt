@@ -1,5 +1,6 @@
 -- What a database is found to keep as it is opened, and what a call that reads leaves as it is.
-use Rattle.std.specs.Prelude.{◌≡◌, ◌&&◌, cond, false, true, Bool, ℕ, pos, List, [], ◌∷◌, Option, Some, None, codes, string_bytes, IsUtf8}
+use Rattle.std.specs.Prelude.{◌≡◌, ◌&&◌, cond, false, true, Bool, ℕ, pos, List, []}
+use Rattle.std.specs.Prelude.{◌∷◌, Option, Some, None, codes, string_bytes, IsUtf8}
 use Rattle.std.specs.List.{list_any}
 use Rattle.std.specs.Ordering.{int_eq}
 use Rattle.sqlite.specs.declared.types.Value.{Value}
@@ -28,7 +29,8 @@ is_number number (Blob b) = false
 -- the roster's text, where there is one row, and it has the id 1 and this schema
 abbrev pub recorded_as : ℕ → List Row → Option (List ℕ)
 recorded_as version [] = None
-recorded_as version (r ∷ []) = cond (is_number 1 (column r 0) && is_number version (column r 2)) (text_at (column r 3)) None
+recorded_as version (r ∷ []) =
+    cond (is_number 1 (column r 0) && is_number version (column r 2)) (text_at (column r 3)) None
 recorded_as version (r ∷ s ∷ rs) = None
 
 -- ---- what is kept
@@ -45,7 +47,8 @@ pub record HasTexts (db : Database) : Type 0 where
   pub texts : list_any is_stray (table_in db (codes "messages")) ≡ false
   pub only : (text : List ℕ) → has (content_of db) text ≡ true → IsWritten text
 
--- A desk of today: its tables, each with the rows of its messages, and nothing in the `marks` of an older desk.
+-- A desk of today: its tables, each with the rows of its messages, and nothing in the `marks` of an
+-- older desk.
 pub record IsKept (db : Database) : Type 0 where
   pub desk : IsDeskDatabase db
   pub unmarked : IsUnmarked db
@@ -67,11 +70,15 @@ pub record IsOldDesk (db : Database) : Type 0 where
 -- what is told of a database
 abbrev pub FoundIn : Database → Found → Type 0
 FoundIn db Empty = IsVacant db.schema
-FoundIn db (Desk c) = IsKept db × ((content_of db).roster ≡ string_bytes c.roster) × Lists (HoldsText db) c.messages.items
-FoundIn db (Old c) = IsOldDesk db × (recorded_as 1 (table_in db (codes "desk")) ≡ Some (string_bytes c.roster)) × Lists (HoldsText db) c.messages.items
+FoundIn db (Desk c) = IsKept db × ((content_of db).roster ≡ string_bytes c.roster)
+    × Lists (HoldsText db) c.messages.items
+FoundIn db (Old c) =
+    IsOldDesk db × (recorded_as 1 (table_in db (codes "desk")) ≡ Some (string_bytes c.roster))
+    × Lists (HoldsText db) c.messages.items
 FoundIn db NotADesk = (¬ IsVacant db.schema) × (¬ IsDeskBesideRows db) × (¬ IsOldDesk db)
 
--- A desk's tables and texts are there, and the rows that follow from these, or foreign keys, are none that a desk writes.
+-- A desk's tables and texts are there, and the rows that follow from these, or foreign keys, are
+-- none that a desk writes.
 abbrev pub IsDamaged : Database → Type 0
 IsDamaged db = IsDeskBesideRows db × (¬ IsKept db)
 

@@ -23,7 +23,8 @@ use sudo_words::{Moment, Name};
 
 /// The name in the column.
 pub(crate) fn name_at(alloc: Global, row: &Row, at: usize) -> Result<Name, Fault>
-    ensures { (name : List ℕ) → is_name name ≡ true → column row.now at ≡ Text name → MatchResult result (λ found. found ≡ name) IsNoStray }
+    ensures { (name : List ℕ) → is_name name ≡ true → column row.now at ≡ Text name
+        → MatchResult result (λ found. found ≡ name) IsNoStray }
 {
     let Some(text) = text_at(alloc, row, at)? else {
         return Err(Fault::Stray);
@@ -36,7 +37,8 @@ pub(crate) fn name_at(alloc: Global, row: &Row, at: usize) -> Result<Name, Fault
 
 /// The number of a request in the column.
 pub(crate) fn number_at(row: &Row, at: usize) -> Result<u32, Fault>
-    ensures { (number : ℕ) → IsNumbered number → column row.now at ≡ Int (pos number) → result ≡ Ok number }
+    ensures { (number : ℕ) → IsNumbered number
+        → column row.now at ≡ Int (pos number) → result ≡ Ok number }
 {
     let Ok(ValueRef::Int(number)) = row.get_ref(at) else {
         return Err(Fault::Stray);
@@ -49,7 +51,8 @@ pub(crate) fn number_at(row: &Row, at: usize) -> Result<u32, Fault>
 
 /// The moment in the column.
 pub(crate) fn moment_at(row: &Row, at: usize) -> Result<Moment, Fault>
-    ensures { (moment : ℕ) → IsMoment moment → column row.now at ≡ Int (pos moment) → result ≡ Ok moment }
+    ensures { (moment : ℕ) → IsMoment moment
+        → column row.now at ≡ Int (pos moment) → result ≡ Ok moment }
 {
     let Ok(ValueRef::Int(secs)) = row.get_ref(at) else {
         return Err(Fault::Stray);
@@ -81,7 +84,8 @@ pub(crate) fn kind_at(row: &Row, at: usize) -> Result<VerdictKind, Fault>
 
 /// Whether the column says yes, by a 1, or no, by a 0.
 pub(crate) fn flag_at(row: &Row, at: usize) -> Result<bool, Fault>
-    ensures { (flag : Bool) → column row.now at ≡ Int (if flag then pos 1 else pos 0) → result ≡ Ok flag }
+    ensures { (flag : Bool) → column row.now at ≡ Int (if flag then pos 1 else pos 0)
+        → result ≡ Ok flag }
 {
     if is_number(row, at, 1) {
         return Ok(true);
@@ -94,7 +98,8 @@ pub(crate) fn flag_at(row: &Row, at: usize) -> Result<bool, Fault>
 
 /// The message whose text is in the column.
 pub(crate) fn message_at(alloc: Global, row: &Row, at: usize) -> Result<Message, Fault>
-    ensures { (m : AnyMessage) → IsKeepable m → column row.now at ≡ body m → MatchResult result (λ found. found ≡ m) IsNoStray }
+    ensures { (m : AnyMessage) → IsKeepable m → column row.now at ≡ body m
+        → MatchResult result (λ found. found ≡ m) IsNoStray }
 {
     let Ok(ValueRef::Text(bytes)) = row.get_ref(at) else {
         return Err(Fault::Stray);

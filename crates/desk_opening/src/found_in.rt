@@ -1,6 +1,7 @@
 //! What a database keeps, as it is opened.
 
-ghost use Rattle.std.specs.Prelude.{◌≡◌, ◌≢◌, ◌↔◌, ◌&&◌, List, true, false, Err, IsTrue, IfOk, OnOk};
+ghost use Rattle.std.specs.Prelude.{◌≡◌, ◌≢◌, ◌↔◌, ◌&&◌, List, true};
+ghost use Rattle.std.specs.Prelude.{false, Err, IsTrue, IfOk, OnOk};
 ghost use Rattle.sqlite.specs.Order.{Row as AnyRow};
 ghost use Rattle.sqlite.specs.State.{HasCleanDisk, IsLive};
 ghost use Rattle.sqlite.specs.Held.{state};
@@ -37,18 +38,22 @@ fn contents_of(alloc: Global, texts: &Texts, version: u32) -> Result<Option<Cont
     Ok(Some(Contents { roster, messages }))
 }
 
-/// The roster's text and the messages, where the database has these and nothing else, in this schema. It stays as it is.
+/// The roster's text and the messages, where the database has these and nothing else, in this
+/// schema. It stays as it is.
 fn contents_in<S: Alter>(
     alloc: Global,
     conn: &mut Connection<S>,
     version: u32,
 ) -> Result<Option<Contents>, Fault>
     requires rests { Rests (state S.Store conn.old) }
-    requires common { IsUp (state S.Store conn.old) → HasCommon (state S.Store conn.old).now.schema }
+    requires common { IsUp (state S.Store conn.old)
+        → HasCommon (state S.Store conn.old).now.schema }
     ensures reads { Reads (state S.Store conn.old) (state S.Store conn.new) }
-    ensures up { IsUp (state S.Store conn.old) → HasCleanDisk (state S.Store conn.new) → OnOk result (IsUp (state S.Store conn.new)) }
-    ensures found { IsUp (state S.Store conn.new) → IfOk result (λ found. (desk messages : List AnyRow)
-        × ShowsTexts (state S.Store conn.old).now desk messages × ShowsContents version desk messages found) }
+    ensures up { IsUp (state S.Store conn.old) → HasCleanDisk (state S.Store conn.new)
+        → OnOk result (IsUp (state S.Store conn.new)) }
+    ensures found { IsUp (state S.Store conn.new)
+        → IfOk result (λ found. (desk messages : List AnyRow) × ShowsTexts
+        (state S.Store conn.old).now desk messages × ShowsContents version desk messages found) }
     ensures not_stray { result ≢ Err fault.Stray }
 {
     let texts = texts_of(conn)?;
@@ -79,13 +84,18 @@ fn both(a: bool, b: bool) -> bool
 /// Looks at a database that has a desk's tables.
 fn look_within<S: Alter>(alloc: Global, conn: &mut Connection<S>) -> Result<Found, Fault>
     requires rests { Rests (state S.Store conn.old) }
-    requires common { IsUp (state S.Store conn.old) → HasCommon (state S.Store conn.old).now.schema }
-    requires verdicts { IsUp (state S.Store conn.old) → FindsPart (state S.Store conn.old).now.schema part.Verdicts }
+    requires common { IsUp (state S.Store conn.old)
+        → HasCommon (state S.Store conn.old).now.schema }
+    requires verdicts { IsUp (state S.Store conn.old)
+        → FindsPart (state S.Store conn.old).now.schema part.Verdicts }
     requires unmarked { IsUp (state S.Store conn.old) → IsUnmarked (state S.Store conn.old).now }
     ensures reads { Reads (state S.Store conn.old) (state S.Store conn.new) }
-    ensures up { IsUp (state S.Store conn.old) → HasCleanDisk (state S.Store conn.new) → OnOk result (IsUp (state S.Store conn.new)) }
-    ensures found { IsUp (state S.Store conn.new) → IfOk result (FoundIn (state S.Store conn.old).now) }
-    ensures damaged { IsUp (state S.Store conn.new) → result ≡ Err fault.Stray → IsDamaged (state S.Store conn.old).now }
+    ensures up { IsUp (state S.Store conn.old) → HasCleanDisk (state S.Store conn.new)
+        → OnOk result (IsUp (state S.Store conn.new)) }
+    ensures found { IsUp (state S.Store conn.new)
+        → IfOk result (FoundIn (state S.Store conn.old).now) }
+    ensures damaged { IsUp (state S.Store conn.new)
+        → result ≡ Err fault.Stray → IsDamaged (state S.Store conn.old).now }
 {
     let alone = is_alone(conn);
     let Some(contents) = contents_in(alloc, conn, 2)? else {
@@ -102,11 +112,15 @@ fn look_within<S: Alter>(alloc: Global, conn: &mut Connection<S>) -> Result<Foun
 /// Whether the older desk's `marks` have a row.
 fn has_marks<S: Alter>(conn: &mut Connection<S>) -> Result<bool, Error>
     requires rests { Rests (state S.Store conn.old) }
-    requires found { IsUp (state S.Store conn.old) → FindsPart (state S.Store conn.old).now.schema part.Marks }
+    requires found { IsUp (state S.Store conn.old)
+        → FindsPart (state S.Store conn.old).now.schema part.Marks }
     ensures reads { Reads (state S.Store conn.old) (state S.Store conn.new) }
-    ensures up { IsUp (state S.Store conn.old) → HasCleanDisk (state S.Store conn.new) → OnOk result (IsUp (state S.Store conn.new)) }
-    ensures none { IsUp (state S.Store conn.new) → IfOk result (λ some. some ≡ false → IsUnmarked (state S.Store conn.old).now) }
-    ensures some { IsUp (state S.Store conn.new) → IfOk result (λ some. some ≡ true → ¬ IsUnmarked (state S.Store conn.old).now) }
+    ensures up { IsUp (state S.Store conn.old) → HasCleanDisk (state S.Store conn.new)
+        → OnOk result (IsUp (state S.Store conn.new)) }
+    ensures none { IsUp (state S.Store conn.new)
+        → IfOk result (λ some. some ≡ false → IsUnmarked (state S.Store conn.old).now) }
+    ensures some { IsUp (state S.Store conn.new)
+        → IfOk result (λ some. some ≡ true → ¬ IsUnmarked (state S.Store conn.old).now) }
 {
     let marks = rows_of(conn, Part::Marks)?;
     Ok(!marks.is_empty())
@@ -115,13 +129,19 @@ fn has_marks<S: Alter>(conn: &mut Connection<S>) -> Result<bool, Error>
 /// Looks at a database that has a desk's tables, and those of the older desk that it was.
 fn look_migrated<S: Alter>(alloc: Global, conn: &mut Connection<S>) -> Result<Found, Fault>
     requires rests { Rests (state S.Store conn.old) }
-    requires common { IsUp (state S.Store conn.old) → HasCommon (state S.Store conn.old).now.schema }
-    requires verdicts { IsUp (state S.Store conn.old) → FindsPart (state S.Store conn.old).now.schema part.Verdicts }
-    requires marks { IsUp (state S.Store conn.old) → FindsPart (state S.Store conn.old).now.schema part.Marks }
+    requires common { IsUp (state S.Store conn.old)
+        → HasCommon (state S.Store conn.old).now.schema }
+    requires verdicts { IsUp (state S.Store conn.old)
+        → FindsPart (state S.Store conn.old).now.schema part.Verdicts }
+    requires marks { IsUp (state S.Store conn.old)
+        → FindsPart (state S.Store conn.old).now.schema part.Marks }
     ensures reads { Reads (state S.Store conn.old) (state S.Store conn.new) }
-    ensures up { IsUp (state S.Store conn.old) → HasCleanDisk (state S.Store conn.new) → OnOk result (IsUp (state S.Store conn.new)) }
-    ensures found { IsUp (state S.Store conn.new) → IfOk result (FoundIn (state S.Store conn.old).now) }
-    ensures damaged { IsUp (state S.Store conn.new) → result ≡ Err fault.Stray → IsDamaged (state S.Store conn.old).now }
+    ensures up { IsUp (state S.Store conn.old) → HasCleanDisk (state S.Store conn.new)
+        → OnOk result (IsUp (state S.Store conn.new)) }
+    ensures found { IsUp (state S.Store conn.new)
+        → IfOk result (FoundIn (state S.Store conn.old).now) }
+    ensures damaged { IsUp (state S.Store conn.new)
+        → result ≡ Err fault.Stray → IsDamaged (state S.Store conn.old).now }
 {
     if has_marks(conn)? {
         return Ok(Found::NotADesk);
@@ -134,8 +154,10 @@ fn look_old<S: Alter>(alloc: Global, conn: &mut Connection<S>) -> Result<Found, 
     requires rests { Rests (state S.Store conn.old) }
     requires old { IsUp (state S.Store conn.old) → IsOld (state S.Store conn.old).now.schema }
     ensures reads { Reads (state S.Store conn.old) (state S.Store conn.new) }
-    ensures up { IsUp (state S.Store conn.old) → HasCleanDisk (state S.Store conn.new) → OnOk result (IsUp (state S.Store conn.new)) }
-    ensures found { IsUp (state S.Store conn.new) → IfOk result (FoundIn (state S.Store conn.old).now) }
+    ensures up { IsUp (state S.Store conn.old) → HasCleanDisk (state S.Store conn.new)
+        → OnOk result (IsUp (state S.Store conn.new)) }
+    ensures found { IsUp (state S.Store conn.new)
+        → IfOk result (FoundIn (state S.Store conn.old).now) }
     ensures not_stray { result ≢ Err fault.Stray }
 {
     match contents_in(alloc, conn, 1)? {
@@ -150,9 +172,12 @@ fn look_old<S: Alter>(alloc: Global, conn: &mut Connection<S>) -> Result<Found, 
 pub fn look<S: Alter>(alloc: Global, conn: &mut Connection<S>) -> Result<Found, Fault>
     requires rests { Rests (state S.Store conn.old) }
     ensures reads { Reads (state S.Store conn.old) (state S.Store conn.new) }
-    ensures up { IsUp (state S.Store conn.old) → HasCleanDisk (state S.Store conn.new) → OnOk result (IsUp (state S.Store conn.new)) }
-    ensures found { IsUp (state S.Store conn.new) → IfOk result (FoundIn (state S.Store conn.old).now) }
-    ensures damaged { IsUp (state S.Store conn.new) → result ≡ Err fault.Stray → IsDamaged (state S.Store conn.old).now }
+    ensures up { IsUp (state S.Store conn.old) → HasCleanDisk (state S.Store conn.new)
+        → OnOk result (IsUp (state S.Store conn.new)) }
+    ensures found { IsUp (state S.Store conn.new)
+        → IfOk result (FoundIn (state S.Store conn.old).now) }
+    ensures damaged { IsUp (state S.Store conn.new)
+        → result ≡ Err fault.Stray → IsDamaged (state S.Store conn.old).now }
 {
     match shape_in(conn) {
         Shape::Free => Ok(Found::Empty),

@@ -1,6 +1,7 @@
 //! Whether the tables that follow from the messages have the rows that these come to.
 //!
-//! The rows of a table are read, compared and freed before those of the next are read: so no more of them than one table's are in memory at a time.
+//! The rows of a table are read, compared and freed before those of the next are read: so no more
+//! of them than one table's are in memory at a time.
 
 ghost use Rattle.std.specs.Prelude.{◌≡◌, ◌≢◌, ◌&&◌, List, Err, IfOk, OnOk};
 ghost use Rattle.sqlite.specs.Order.{Row as AnyRow};
@@ -44,12 +45,15 @@ fn keeps_part<S: Alter>(
     known: &Known<'_>,
 ) -> Result<bool, Fault>
     requires rests { Rests (state S.Store conn.old) }
-    requires found { IsUp (state S.Store conn.old) → FindsPart (state S.Store conn.old).now.schema part }
+    requires found { IsUp (state S.Store conn.old)
+        → FindsPart (state S.Store conn.old).now.schema part }
     requires index { IsIndex known.now.all.now known.now.names.items known.now.disputed.items }
     ensures reads { Reads (state S.Store conn.old) (state S.Store conn.new) }
-    ensures up { IsUp (state S.Store conn.old) → HasCleanDisk (state S.Store conn.new) → OnOk result (IsUp (state S.Store conn.new)) }
-    ensures kept { IsUp (state S.Store conn.new) → IfOk result (λ kept. (rows : List AnyRow)
-        × ShowsPart part (state S.Store conn.old).now rows × (kept ≡ compare.is_kept part known.now.all.now rows)) }
+    ensures up { IsUp (state S.Store conn.old) → HasCleanDisk (state S.Store conn.new)
+        → OnOk result (IsUp (state S.Store conn.new)) }
+    ensures kept { IsUp (state S.Store conn.new)
+        → IfOk result (λ kept. (rows : List AnyRow) × ShowsPart part
+        (state S.Store conn.old).now rows × (kept ≡ compare.is_kept part known.now.all.now rows)) }
     ensures not_stray { result ≢ Err fault.Stray }
 {
     let rows = rows_of(conn, part)?;
@@ -69,13 +73,17 @@ fn keeps_all<S: Alter>(
     known: &Known<'_>,
 ) -> Result<bool, Fault>
     requires rests { Rests (state S.Store conn.old) }
-    requires common { IsUp (state S.Store conn.old) → HasCommon (state S.Store conn.old).now.schema }
-    requires verdicts { IsUp (state S.Store conn.old) → FindsPart (state S.Store conn.old).now.schema part.Verdicts }
+    requires common { IsUp (state S.Store conn.old)
+        → HasCommon (state S.Store conn.old).now.schema }
+    requires verdicts { IsUp (state S.Store conn.old)
+        → FindsPart (state S.Store conn.old).now.schema part.Verdicts }
     requires index { IsIndex known.now.all.now known.now.names.items known.now.disputed.items }
     ensures reads { Reads (state S.Store conn.old) (state S.Store conn.new) }
-    ensures up { IsUp (state S.Store conn.old) → HasCleanDisk (state S.Store conn.new) → OnOk result (IsUp (state S.Store conn.new)) }
-    ensures kept { IsUp (state S.Store conn.new) → IfOk result (λ kept. (names verdicts parked : List AnyRow)
-        × ShowsRows (state S.Store conn.old).now names verdicts parked × (kept ≡ compare.are_kept known.now.all.now names verdicts parked)) }
+    ensures up { IsUp (state S.Store conn.old) → HasCleanDisk (state S.Store conn.new)
+        → OnOk result (IsUp (state S.Store conn.new)) }
+    ensures kept { IsUp (state S.Store conn.new) → IfOk result
+        (λ kept. (names verdicts parked : List AnyRow) × ShowsRows (state S.Store conn.old).now
+        names verdicts parked × (kept ≡ compare.are_kept known.now.all.now names verdicts parked)) }
     ensures not_stray { result ≢ Err fault.Stray }
 {
     let names = keeps_part(alloc, conn, Part::Names, known)?;
@@ -91,12 +99,16 @@ pub(crate) fn keeps_rows<S: Alter>(
     all: &[Stored],
 ) -> Result<bool, Fault>
     requires rests { Rests (state S.Store conn.old) }
-    requires common { IsUp (state S.Store conn.old) → HasCommon (state S.Store conn.old).now.schema }
-    requires verdicts { IsUp (state S.Store conn.old) → FindsPart (state S.Store conn.old).now.schema part.Verdicts }
+    requires common { IsUp (state S.Store conn.old)
+        → HasCommon (state S.Store conn.old).now.schema }
+    requires verdicts { IsUp (state S.Store conn.old)
+        → FindsPart (state S.Store conn.old).now.schema part.Verdicts }
     ensures reads { Reads (state S.Store conn.old) (state S.Store conn.new) }
-    ensures up { IsUp (state S.Store conn.old) → HasCleanDisk (state S.Store conn.new) → OnOk result (IsUp (state S.Store conn.new)) }
-    ensures kept { IsUp (state S.Store conn.new) → IfOk result (λ kept. (names verdicts parked : List AnyRow)
-        × ShowsRows (state S.Store conn.old).now names verdicts parked × (kept ≡ compare.are_kept all.now names verdicts parked)) }
+    ensures up { IsUp (state S.Store conn.old) → HasCleanDisk (state S.Store conn.new)
+        → OnOk result (IsUp (state S.Store conn.new)) }
+    ensures kept { IsUp (state S.Store conn.new) → IfOk result
+        (λ kept. (names verdicts parked : List AnyRow) × ShowsRows (state S.Store conn.old).now
+        names verdicts parked × (kept ≡ compare.are_kept all.now names verdicts parked)) }
     ensures not_stray { result ≢ Err fault.Stray }
 {
     let known = Known::new(alloc, all)?;

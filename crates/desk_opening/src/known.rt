@@ -4,7 +4,8 @@ ghost use Rattle.std.specs.Prelude.{◌≡◌, List, ℕ, map, pos, Contains, If
 ghost use Rattle.std.specs.List.{list_any};
 ghost use Rattle.std.specs.List.Sorted.{IsSorted};
 ghost use Rattle.desk_opening.specs.private.Compare as compare;
-ghost use Rattle.desk_opening.specs.private.Names.{AreAsked, IsIndex, IsTold, is_at, name_cmp, name_of};
+ghost use Rattle.desk_opening.specs.private.Names.{AreAsked, IsIndex, IsTold};
+ghost use Rattle.desk_opening.specs.private.Names.{is_at, name_cmp, name_of};
 
 use crate::names::{disputed, in_order, is_among, texts_in_order};
 use crate::places::{VerdictKey, count_up, key_in, key_of, nowhere};

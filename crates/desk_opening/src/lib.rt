@@ -1,4 +1,5 @@
-//! Opening a database: what it keeps of a desk, and whether its rows are those that its messages come to.
+//! Opening a database: what it keeps of a desk, and whether its rows are those that its messages
+//! come to.
 #![tactic(auto)]
 
 mod cells;

@@ -50,11 +50,15 @@ fn messages_shown(alloc: Global, rows: &[Row]) -> Result<Vec<Message>, Fault>
 /// The messages of the desk that the database keeps, in an order of its own. It stays as it is.
 pub fn messages_of<S: Alter>(alloc: Global, conn: &mut Connection<S>) -> Result<Vec<Message>, Fault>
     requires rests { Rests (state S.Store conn.old) }
-    requires found { IsUp (state S.Store conn.old) → FindsPart (state S.Store conn.old).now.schema part.Messages }
+    requires found { IsUp (state S.Store conn.old)
+        → FindsPart (state S.Store conn.old).now.schema part.Messages }
     ensures reads { Reads (state S.Store conn.old) (state S.Store conn.new) }
-    ensures up { IsUp (state S.Store conn.old) → HasCleanDisk (state S.Store conn.new) → OnOk result (IsUp (state S.Store conn.new)) }
-    ensures whole { IsUp (state S.Store conn.new) → HasTexts (state S.Store conn.old).now → result ≢ Err fault.Stray }
-    ensures listed { IsUp (state S.Store conn.new) → IfOk result (λ ms. Lists (HoldsText (state S.Store conn.old).now) ms.items) }
+    ensures up { IsUp (state S.Store conn.old) → HasCleanDisk (state S.Store conn.new)
+        → OnOk result (IsUp (state S.Store conn.new)) }
+    ensures whole { IsUp (state S.Store conn.new)
+        → HasTexts (state S.Store conn.old).now → result ≢ Err fault.Stray }
+    ensures listed { IsUp (state S.Store conn.new)
+        → IfOk result (λ ms. Lists (HoldsText (state S.Store conn.old).now) ms.items) }
 {
     let rows = rows_of(conn, Part::Messages)?;
     messages_shown(alloc, rows.as_slice())

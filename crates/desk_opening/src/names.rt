@@ -5,7 +5,8 @@
 ghost use Rattle.std.specs.Prelude.{◌≡◌, ◌≤◌, ℕ, ℤ, List, true, IfOk, count_by};
 ghost use Rattle.std.specs.List.{list_any};
 ghost use Rattle.std.specs.List.Sorted.{IsSorted, IsPermutation};
-ghost use Rattle.desk_opening.specs.private.Names.{differ, differs, is_at, name_cmp, asked_cmp, repeats};
+ghost use Rattle.desk_opening.specs.private.Names.{differ, differs, is_at};
+ghost use Rattle.desk_opening.specs.private.Names.{name_cmp, asked_cmp, repeats};
 
 use std::alloc::Global;
 use sudo_words::NoMemory;
@@ -56,7 +57,8 @@ pub(crate) fn disputed<'a>(
     alloc: Global,
     asked: &[((&'a [u8], i64), &'a [u8])],
 ) -> Result<Vec<(&'a [u8], i64)>, NoMemory>
-    ensures { IfOk result (λ names. (asker : List ℕ) (number : ℤ) → list_any (is_at asker number) names.items ≡ differs asker number asked.now) }
+    ensures { IfOk result (λ names. (asker : List ℕ) (number : ℤ)
+        → list_any (is_at asker number) names.items ≡ differs asker number asked.now) }
 {
     let mut names = Vec::new(alloc);
     for i in 1..asked.len() {
@@ -83,7 +85,8 @@ fn repeats(names: &[(&[u8], i64)]) -> bool
 
 /// Whether each name stands once among these.
 pub(crate) fn are_apart(mut names: Vec<(&[u8], i64)>) -> bool
-    ensures { result ≡ true → (asker : List ℕ) (number : ℤ) → count_by (is_at asker number) names.entry.items ≤ 1 }
+    ensures { result ≡ true → (asker : List ℕ) (number : ℤ)
+        → count_by (is_at asker number) names.entry.items ≤ 1 }
 {
     names.sort_unstable();
     !repeats(names.as_slice())

@@ -31,7 +31,8 @@ fn id_in(row: &Row) -> (&[u8], i64)
 }
 
 fn names_in(alloc: Global, rows: &[Row]) -> Result<Vec<(&[u8], i64)>, NoMemory>
-    ensures { IfOk result (λ names. (asker : List ℕ) (number : ℤ) → count_by (is_at asker number) names.items ≡ count_by (name_is asker number) rows.now) }
+    ensures { IfOk result (λ names. (asker : List ℕ) (number : ℤ)
+        → count_by (is_at asker number) names.items ≡ count_by (name_is asker number) rows.now) }
 {
     let mut names = Vec::new(alloc);
     for row in rows {
@@ -41,7 +42,8 @@ fn names_in(alloc: Global, rows: &[Row]) -> Result<Vec<(&[u8], i64)>, NoMemory>
 }
 
 fn ids_in(alloc: Global, rows: &[Row]) -> Result<Vec<(&[u8], i64)>, NoMemory>
-    ensures { IfOk result (λ names. (asker : List ℕ) (number : ℤ) → count_by (is_at asker number) names.items ≡ count_by (id_is asker number) rows.now) }
+    ensures { IfOk result (λ names. (asker : List ℕ) (number : ℤ)
+        → count_by (is_at asker number) names.items ≡ count_by (id_is asker number) rows.now) }
 {
     let mut names = Vec::new(alloc);
     for row in rows {
@@ -58,7 +60,8 @@ fn is_each_once(rows: &[Row]) -> bool
 
 /// Rows of one name have one text.
 pub(crate) fn are_once(alloc: Global, rows: &[Row]) -> Result<bool, NoMemory>
-    ensures { IfOk result (λ are. are ≡ list_all (λ r. list_all (compare.is_once r) rows.now) rows.now) }
+    ensures { IfOk result
+        (λ are. are ≡ list_all (λ r. list_all (compare.is_once r) rows.now) rows.now) }
 {
     let names = names_in(alloc, rows)?;
     if are_apart(names) && is_each_once(rows) {

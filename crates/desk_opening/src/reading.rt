@@ -6,7 +6,8 @@ ghost use Rattle.sqlite.specs.declared.types.Value.TheVariants.{Text};
 ghost use Rattle.sqlite.specs.Order.{column};
 ghost use Rattle.messages.specs.Wire.{wire};
 ghost use Rattle.desk_tables.specs.Stored.{IsWritten};
-ghost use Rattle.desk_opening.specs.private.Reading.{IsForeign, IsKeepable, AreBodies, HasForeign, body, shown_mark};
+ghost use Rattle.desk_opening.specs.private.Reading.{IsForeign, IsKeepable, AreBodies};
+ghost use Rattle.desk_opening.specs.private.Reading.{HasForeign, body, shown_mark};
 
 use crate::compare::is_number;
 use crate::stored::Stored;
@@ -18,8 +19,10 @@ use sudo_words::NoMemory;
 
 /// The text in the column, where it is UTF-8.
 pub(crate) fn text_at(alloc: Global, row: &Row, at: usize) -> Result<Option<String>, NoMemory>
-    ensures text { IfOk result (λ found. IfSome found (λ s. column row.now at ≡ Text (string_bytes s))) }
-    ensures none { IfOk result (λ found. IfNone found ((t : List ℕ) → column row.now at ≡ Text t → ¬ IsUtf8 t)) }
+    ensures text { IfOk result
+        (λ found. IfSome found (λ s. column row.now at ≡ Text (string_bytes s))) }
+    ensures none { IfOk result
+        (λ found. IfNone found ((t : List ℕ) → column row.now at ≡ Text t → ¬ IsUtf8 t)) }
 {
     let Ok(ValueRef::Text(bytes)) = row.get_ref(at) else {
         return Ok(None);
@@ -30,14 +33,17 @@ pub(crate) fn text_at(alloc: Global, row: &Row, at: usize) -> Result<Option<Stri
     }
 }
 
-/// The roster's text, of the rows of `desk`: of its one row, where that has the id 1 and this schema.
+/// The roster's text, of the rows of `desk`: of its one row, where that has the id 1 and this
+/// schema.
 pub(crate) fn roster_of(
     alloc: Global,
     rows: &[Row],
     version: u32,
 ) -> Result<Option<String>, NoMemory>
-    ensures text { IfOk result (λ found. IfSome found (λ s. shown_mark version rows.now ≡ Some (string_bytes s))) }
-    ensures none { IfOk result (λ found. IfNone found ((t : List ℕ) → shown_mark version rows.now ≡ Some t → ¬ IsUtf8 t)) }
+    ensures text { IfOk result
+        (λ found. IfSome found (λ s. shown_mark version rows.now ≡ Some (string_bytes s))) }
+    ensures none { IfOk result
+        (λ found. IfNone found ((t : List ℕ) → shown_mark version rows.now ≡ Some t → ¬ IsUtf8 t)) }
 {
     match rows {
         [row] if is_number(row, 0, 1) && is_number(row, 1, version) => text_at(alloc, row, 2),
@@ -47,7 +53,8 @@ pub(crate) fn roster_of(
 
 /// The message that the bytes are the text of.
 fn message_of(alloc: Global, bytes: &[u8]) -> Result<Option<Message>, NoMemory>
-    ensures message { IfOk result (λ found. IfSome found (λ m. (bytes.now ≡ wire m) × IsKeepable m)) }
+    ensures message { IfOk result
+        (λ found. IfSome found (λ m. (bytes.now ≡ wire m) × IsKeepable m)) }
     ensures none { IfOk result (λ found. IfNone found (¬ IsWritten bytes.now)) }
 {
     match read_message(alloc, bytes) {
@@ -59,7 +66,8 @@ fn message_of(alloc: Global, bytes: &[u8]) -> Result<Option<Message>, NoMemory>
 
 /// The message whose text the row shows.
 pub(crate) fn message_in(alloc: Global, row: &Row) -> Result<Option<Message>, NoMemory>
-    ensures message { IfOk result (λ found. IfSome found (λ m. (column row.now 0 ≡ body m) × IsKeepable m)) }
+    ensures message { IfOk result
+        (λ found. IfSome found (λ m. (column row.now 0 ≡ body m) × IsKeepable m)) }
     ensures none { IfOk result (λ found. IfNone found (IsForeign (column row.now 0))) }
 {
     let Ok(ValueRef::Text(bytes)) = row.get_ref(0) else {
@@ -71,7 +79,8 @@ pub(crate) fn message_in(alloc: Global, row: &Row) -> Result<Option<Message>, No
 /// The message whose text the row shows, with a copy of this text: it is not written again.
 #[tactic(auto, using(crate::proofs::ReadingLemmas::written_utf8))]
 fn stored_in(alloc: Global, row: &Row) -> Result<Option<Stored>, NoMemory>
-    ensures message { IfOk result (λ found. IfSome found (λ m. (column row.now 0 ≡ body m) × IsKeepable m)) }
+    ensures message { IfOk result
+        (λ found. IfSome found (λ m. (column row.now 0 ≡ body m) × IsKeepable m)) }
     ensures none { IfOk result (λ found. IfNone found (IsForeign (column row.now 0))) }
 {
     let Some(body) = text_at(alloc, row, 0)? else {

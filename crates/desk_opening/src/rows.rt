@@ -1,6 +1,7 @@
 //! Whether the rows of a desk's tables are those that its messages come to.
 //!
-//! What a row is compared with is found by halving. Where that does not fit, each message is looked at.
+//! What a row is compared with is found by halving. Where that does not fit, each message is looked
+//! at.
 
 ghost use Rattle.std.specs.Prelude.{◌≡◌, Contains, IfOk};
 ghost use Rattle.std.specs.List.{list_all, list_any};
@@ -154,7 +155,8 @@ fn have_name_rows(all: &[Stored], names: &Table<'_>) -> bool
 
 fn have_verdict_rows(known: &Known<'_>, verdicts: &Table<'_>) -> bool
     requires { IsIndex known.now.all.now known.now.names.items known.now.disputed.items }
-    ensures { result ≡ list_all (compare.has_verdict_row known.now.all.now verdicts.now.rows.now) known.now.all.now }
+    ensures { result ≡ list_all (compare.has_verdict_row known.now.all.now verdicts.now.rows.now)
+        known.now.all.now }
 {
     known
         .all
@@ -164,7 +166,8 @@ fn have_verdict_rows(known: &Known<'_>, verdicts: &Table<'_>) -> bool
 
 fn have_parked_rows(known: &Known<'_>, parked: &Table<'_>) -> bool
     requires { IsIndex known.now.all.now known.now.names.items known.now.disputed.items }
-    ensures { result ≡ list_all (compare.has_parked_row known.now.all.now parked.now.rows.now) known.now.all.now }
+    ensures { result ≡ list_all (compare.has_parked_row known.now.all.now parked.now.rows.now)
+        known.now.all.now }
 {
     known
         .all
@@ -185,7 +188,8 @@ fn are_names(alloc: Global, known: &Known<'_>, rows: &[Row]) -> Result<bool, NoM
 /// The rows, of `verdicts`, are those of the messages.
 fn are_verdicts(alloc: Global, known: &Known<'_>, rows: &[Row]) -> Result<bool, NoMemory>
     requires { IsIndex known.now.all.now known.now.names.items known.now.disputed.items }
-    ensures { IfOk result (λ are. are ≡ compare.are_rows_of part.Verdicts known.now.all.now rows.now) }
+    ensures { IfOk result
+        (λ are. are ≡ compare.are_rows_of part.Verdicts known.now.all.now rows.now) }
 {
     let counted = Table::by_verdict(alloc, rows)?;
     Ok(is_each_verdict_row(known, rows) && have_verdict_rows(known, &counted))
@@ -194,13 +198,15 @@ fn are_verdicts(alloc: Global, known: &Known<'_>, rows: &[Row]) -> Result<bool, 
 /// The rows, of `parked`, are those of the messages.
 fn are_parked(alloc: Global, known: &Known<'_>, rows: &[Row]) -> Result<bool, NoMemory>
     requires { IsIndex known.now.all.now known.now.names.items known.now.disputed.items }
-    ensures { IfOk result (λ are. are ≡ compare.are_rows_of part.Parked known.now.all.now rows.now) }
+    ensures { IfOk result
+        (λ are. are ≡ compare.are_rows_of part.Parked known.now.all.now rows.now) }
 {
     let waiting = Table::by_text(alloc, rows)?;
     Ok(is_each_parked_row(known, rows) && have_parked_rows(known, &waiting))
 }
 
-/// Whether the rows of the table are those that the messages come to: so always for a table that does not follow from them.
+/// Whether the rows of the table are those that the messages come to: so always for a table that
+/// does not follow from them.
 pub(crate) fn are_rows_of(
     alloc: Global,
     part: Part,

@@ -12,7 +12,8 @@ ghost use Rattle.desk_tables.specs.declared.fault.Fault.TheVariants as fault;
 ghost use Rattle.desk_schema.specs.declared.part.Part.TheVariants as part;
 ghost use Rattle.desk_schema.specs.Shapes.{FindsPart, HasCommon};
 ghost use Rattle.desk_opening.specs.Opened.{IsKept, Reads};
-ghost use Rattle.desk_opening.specs.private.Showing.{AreShown, IsNoStray, ShowsName, ShowsParked, ShowsVerdict};
+ghost use Rattle.desk_opening.specs.private.Showing.{AreShown, IsNoStray, ShowsName};
+ghost use Rattle.desk_opening.specs.private.Showing.{ShowsParked, ShowsVerdict};
 
 use crate::cells::{flag_at, kind_at, message_at, moment_at, name_at, number_at};
 use crate::tables::{Rows, rows_beside};
@@ -32,7 +33,8 @@ pub struct ShownSet {
 
 /// What a row of `names` shows.
 fn name_row(alloc: Global, row: &Row) -> Result<NameRow, Fault>
-    ensures { (shown : AnyRow) → ShowsName row.now shown → MatchResult result (λ r. r ≡ shown) IsNoStray }
+    ensures { (shown : AnyRow) → ShowsName row.now shown
+        → MatchResult result (λ r. r ≡ shown) IsNoStray }
 {
     let is_disputed = flag_at(row, 4)?;
     let message = message_at(alloc, row, 3)?;
@@ -47,7 +49,8 @@ fn name_row(alloc: Global, row: &Row) -> Result<NameRow, Fault>
 
 /// What a row of `verdicts` shows.
 fn verdict(alloc: Global, row: &Row) -> Result<Verdict, Fault>
-    ensures { (shown : VerdictFields) → ShowsVerdict row.now shown → MatchResult result (λ v. v ≡ shown) IsNoStray }
+    ensures { (shown : VerdictFields) → ShowsVerdict row.now shown
+        → MatchResult result (λ v. v ≡ shown) IsNoStray }
 {
     let no = number_at(row, 2)?;
     let kind = kind_at(row, 4)?;
@@ -62,7 +65,8 @@ fn verdict(alloc: Global, row: &Row) -> Result<Verdict, Fault>
 
 /// What a row of `parked` shows.
 fn parked(alloc: Global, row: &Row) -> Result<Verdict, Fault>
-    ensures { (shown : VerdictFields) → ShowsParked row.now shown → MatchResult result (λ v. v ≡ shown) IsNoStray }
+    ensures { (shown : VerdictFields) → ShowsParked row.now shown
+        → MatchResult result (λ v. v ≡ shown) IsNoStray }
 {
     let message = message_at(alloc, row, 1)?;
     match message {
@@ -73,7 +77,8 @@ fn parked(alloc: Global, row: &Row) -> Result<Verdict, Fault>
 
 /// What the rows of `names` show.
 fn name_rows(alloc: Global, rows: &[Row]) -> Result<Vec<NameRow>, Fault>
-    ensures { (shown : List AnyRow) → AreShown ShowsName rows.now shown → MatchResult result (λ names. names.items ≡ shown) IsNoStray }
+    ensures { (shown : List AnyRow) → AreShown ShowsName rows.now shown
+        → MatchResult result (λ names. names.items ≡ shown) IsNoStray }
 {
     let mut names = Vec::new(alloc);
     for row in rows {
@@ -109,9 +114,11 @@ fn push_parked(alloc: Global, verdicts: &mut Vec<Verdict>, rows: &[Row]) -> Resu
 
 /// What the rows of the three tables show.
 fn shown_in(alloc: Global, rows: &Rows) -> Result<ShownSet, Fault>
-    ensures { (names : List AnyRow) (counted waiting : List VerdictFields) → AreShown ShowsName rows.now.names.items names
-        → AreShown ShowsVerdict rows.now.verdicts.items counted → AreShown ShowsParked rows.now.parked.items waiting
-        → MatchResult result (λ s. (s.names.items ≡ names) × (s.verdicts.items ≡ counted ++ waiting)) IsNoStray }
+    ensures { (names : List AnyRow) (counted waiting : List VerdictFields)
+        → AreShown ShowsName rows.now.names.items names
+        → AreShown ShowsVerdict rows.now.verdicts.items counted
+        → AreShown ShowsParked rows.now.parked.items waiting → MatchResult result
+        (λ s. (s.names.items ≡ names) × (s.verdicts.items ≡ counted ++ waiting)) IsNoStray }
 {
     let names = name_rows(alloc, rows.names.as_slice())?;
     let mut verdicts = Vec::new(alloc);
@@ -120,18 +127,25 @@ fn shown_in(alloc: Global, rows: &Rows) -> Result<ShownSet, Fault>
     Ok(ShownSet { names, verdicts })
 }
 
-/// What the rows of the desk that the database keeps show of its messages: a row for each name with a request, and all verdicts, from
-/// `verdicts` and from `parked`. `messages` is not read, and the database stays as it is.
+/// What the rows of the desk that the database keeps show of its messages: a row for each name with
+/// a request, and all verdicts, from `verdicts` and from `parked`. `messages` is not read, and the
+/// database stays as it is.
 pub fn shown_of<S: Alter>(alloc: Global, conn: &mut Connection<S>) -> Result<ShownSet, Fault>
     requires rests { Rests (state S.Store conn.old) }
-    requires common { IsUp (state S.Store conn.old) → HasCommon (state S.Store conn.old).now.schema }
-    requires verdicts { IsUp (state S.Store conn.old) → FindsPart (state S.Store conn.old).now.schema part.Verdicts }
+    requires common { IsUp (state S.Store conn.old)
+        → HasCommon (state S.Store conn.old).now.schema }
+    requires verdicts { IsUp (state S.Store conn.old)
+        → FindsPart (state S.Store conn.old).now.schema part.Verdicts }
     ensures reads { Reads (state S.Store conn.old) (state S.Store conn.new) }
-    ensures up { IsUp (state S.Store conn.old) → HasCleanDisk (state S.Store conn.new) → OnOk result (IsUp (state S.Store conn.new)) }
-    // Over a desk that is kept no row is stray, and what is shown is shown of the messages that it holds.
-    ensures whole { IsUp (state S.Store conn.new) → IsKept (state S.Store conn.old).now → result ≢ Err fault.Stray }
+    ensures up { IsUp (state S.Store conn.old) → HasCleanDisk (state S.Store conn.new)
+        → OnOk result (IsUp (state S.Store conn.new)) }
+    // Over a desk that is kept no row is stray, and what is shown is shown of the messages that it
+    // holds.
+    ensures whole { IsUp (state S.Store conn.new)
+        → IsKept (state S.Store conn.old).now → result ≢ Err fault.Stray }
     ensures shown { IsUp (state S.Store conn.new) → IsKept (state S.Store conn.old).now
-        → IfOk result (λ s. ShowSet (HoldsText (state S.Store conn.old).now) s.names.items s.verdicts.items) }
+        → IfOk result
+        (λ s. ShowSet (HoldsText (state S.Store conn.old).now) s.names.items s.verdicts.items) }
 {
     let rows = rows_beside(conn)?;
     shown_in(alloc, &rows)

@@ -28,10 +28,13 @@ pub fn select_of(part: Part) -> &'static str
 /// The rows of the table. The database stays as it is.
 pub(crate) fn rows_of<S: Alter>(conn: &mut Connection<S>, part: Part) -> Result<Vec<Row>, Error>
     requires rests { Rests (state S.Store conn.old) }
-    requires found { IsUp (state S.Store conn.old) → FindsPart (state S.Store conn.old).now.schema part }
+    requires found { IsUp (state S.Store conn.old)
+        → FindsPart (state S.Store conn.old).now.schema part }
     ensures reads { Reads (state S.Store conn.old) (state S.Store conn.new) }
-    ensures up { IsUp (state S.Store conn.old) → HasCleanDisk (state S.Store conn.new) → OnOk result (IsUp (state S.Store conn.new)) }
-    ensures shows { IsUp (state S.Store conn.new) → IfOk result (λ rows. ShowsPart part (state S.Store conn.old).now rows.items) }
+    ensures up { IsUp (state S.Store conn.old) → HasCleanDisk (state S.Store conn.new)
+        → OnOk result (IsUp (state S.Store conn.new)) }
+    ensures shows { IsUp (state S.Store conn.new)
+        → IfOk result (λ rows. ShowsPart part (state S.Store conn.old).now rows.items) }
 {
     conn.query_all(select_of(part), &[])
 }

@@ -33,8 +33,10 @@ pub(crate) fn texts_of<S: Alter>(conn: &mut Connection<S>) -> Result<Texts, Erro
     requires rests { Rests (state S.Store conn.old) }
     requires found { IsUp (state S.Store conn.old) → HasCommon (state S.Store conn.old).now.schema }
     ensures reads { Reads (state S.Store conn.old) (state S.Store conn.new) }
-    ensures up { IsUp (state S.Store conn.old) → HasCleanDisk (state S.Store conn.new) → OnOk result (IsUp (state S.Store conn.new)) }
-    ensures shows { IsUp (state S.Store conn.new) → IfOk result (λ t. ShowsTexts (state S.Store conn.old).now t.desk.items t.messages.items) }
+    ensures up { IsUp (state S.Store conn.old) → HasCleanDisk (state S.Store conn.new)
+        → OnOk result (IsUp (state S.Store conn.new)) }
+    ensures shows { IsUp (state S.Store conn.new)
+        → IfOk result (λ t. ShowsTexts (state S.Store conn.old).now t.desk.items t.messages.items) }
 {
     let desk = rows_of(conn, Part::Desk)?;
     let messages = rows_of(conn, Part::Messages)?;
@@ -44,11 +46,15 @@ pub(crate) fn texts_of<S: Alter>(conn: &mut Connection<S>) -> Result<Texts, Erro
 /// The rows that follow from the messages. The database stays as it is.
 pub(crate) fn rows_beside<S: Alter>(conn: &mut Connection<S>) -> Result<Rows, Error>
     requires rests { Rests (state S.Store conn.old) }
-    requires common { IsUp (state S.Store conn.old) → HasCommon (state S.Store conn.old).now.schema }
-    requires verdicts { IsUp (state S.Store conn.old) → FindsPart (state S.Store conn.old).now.schema part.Verdicts }
+    requires common { IsUp (state S.Store conn.old)
+        → HasCommon (state S.Store conn.old).now.schema }
+    requires verdicts { IsUp (state S.Store conn.old)
+        → FindsPart (state S.Store conn.old).now.schema part.Verdicts }
     ensures reads { Reads (state S.Store conn.old) (state S.Store conn.new) }
-    ensures up { IsUp (state S.Store conn.old) → HasCleanDisk (state S.Store conn.new) → OnOk result (IsUp (state S.Store conn.new)) }
-    ensures shows { IsUp (state S.Store conn.new) → IfOk result (λ t. ShowsRows (state S.Store conn.old).now t.names.items t.verdicts.items t.parked.items) }
+    ensures up { IsUp (state S.Store conn.old) → HasCleanDisk (state S.Store conn.new)
+        → OnOk result (IsUp (state S.Store conn.new)) }
+    ensures shows { IsUp (state S.Store conn.new) → IfOk result (λ t.
+        ShowsRows (state S.Store conn.old).now t.names.items t.verdicts.items t.parked.items) }
 {
     let names = rows_of(conn, Part::Names)?;
     let verdicts = rows_of(conn, Part::Verdicts)?;

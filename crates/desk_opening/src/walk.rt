@@ -1,6 +1,7 @@
 //! Rows and messages compared each with each.
 //!
-//! This answers where halving finds nothing that fits, which is rare: where rows are not those that a desk writes.
+//! This answers where halving finds nothing that fits, which is rare: where rows are not those that
+//! a desk writes.
 
 ghost use Rattle.std.specs.Prelude.{◌≡◌};
 ghost use Rattle.std.specs.List.{list_all, list_any};

@@ -1,4 +1,5 @@
-//! One connection: what has come of its request, what has gone out of its reply, and by when it has to go on. Nothing here waits for the peer.
+//! One connection: what has come of its request, what has gone out of its reply, and by when it has
+//! to go on. Nothing here waits for the peer.
 
 use crate::outgoing::Outgoing;
 use desk::{Desk, Keeper};
@@ -209,7 +210,8 @@ impl Connection {
         }
     }
 
-    /// Goes on as far as its peer lets it, up to a whole request. What it reads comes into the chunk first.
+    /// Goes on as far as its peer lets it, up to a whole request. What it reads comes into the
+    /// chunk first.
     pub(crate) fn go_on(&mut self, routes: &Routes, chunk: &mut [u8], now: u64) -> Next {
         match &mut self.stage {
             Stage::Asking { come, awaited } => {
@@ -242,7 +244,8 @@ impl Connection {
         read_last(&self.stream, chunk, reads)
     }
 
-    /// Has the desk answer the request, and sends what the peer takes of the reply at once; with what is said of a 503.
+    /// Has the desk answer the request, and sends what the peer takes of the reply at once; with
+    /// what is said of a 503.
     pub(crate) fn answer<K: Keeper>(
         &mut self,
         alloc: Global,

@@ -69,12 +69,15 @@ fn count<K: Keeper>(desk: &mut Desk<K>) -> Option<usize> {
     }
 }
 
-/// Serves the desk at the address, `HOST:PORT` with port 0 for any free one: so many connections; without a number, until the process ends. Their exchanges are
-/// made one after the other, each once its request is there.
+/// Serves the desk at the address, `HOST:PORT` with port 0 for any free one: so many connections;
+/// without a number, until the process ends. Their exchanges are made one after the other, each
+/// once its request is there.
 ///
-/// It prints `listening` and the address, once it listens there. On the standard error it says what it serves, of the roster of this digest; a warning where
-/// the address is not loopback; each 503 that is answered; each connection that is let go before its reply is out; and why it ended. It is an error where the
-/// address cannot be listened at, where nothing can be printed, and where a connection cannot be accepted though no other is open.
+/// It prints `listening` and the address, once it listens there. On the standard error it says what
+/// it serves, of the roster of this digest; a warning where the address is not loopback; each 503
+/// that is answered; each connection that is let go before its reply is out; and why it ended. It
+/// is an error where the address cannot be listened at, where nothing can be printed, and where a
+/// connection cannot be accepted though no other is open.
 pub(crate) fn serve_at<K: Keeper>(
     rt: &HostRuntime,
     desk: &mut Desk<K>,

@@ -17,7 +17,8 @@ struct Watch {
     events: Events,
 }
 
-/// Says lines on the standard error, and drops those that it does not take at once: who does not read it does not stop the service.
+/// Says lines on the standard error, and drops those that it does not take at once: who does not
+/// read it does not stop the service.
 #[derive(Drop)]
 pub(crate) struct Log {
     /// None where it always takes them, as a file does.

@@ -4,7 +4,8 @@ use mio::net::TcpStream;
 use std::alloc::Global;
 use std::io::{self, Write};
 
-/// What is said of a reply by the first bytes that are written of it, which are all of a 503. A reply to HEAD has no code.
+/// What is said of a reply by the first bytes that are written of it, which are all of a 503. A
+/// reply to HEAD has no code.
 fn wanting_of(bytes: &[u8]) -> Option<&'static str> {
     if !bytes.starts_with(b"HTTP/1.1 503 ") {
         None

@@ -188,7 +188,8 @@ impl Service {
         }
     }
 
-    /// Keeps a connection that waits for its peer. Where there is no place for it, the oldest is let go.
+    /// Keeps a connection that waits for its peer. Where there is no place for it, the oldest is
+    /// let go.
     fn keep(&mut self, rt: &HostRuntime, log: &mut Log, mut connection: Connection) {
         let place = match self.free_place() {
             Some(at) => Some(at),
@@ -235,7 +236,8 @@ impl Service {
         Ok(())
     }
 
-    /// Accepts what has connected. A connection that cannot be accepted is an error where no other can be let go for it.
+    /// Accepts what has connected. A connection that cannot be accepted is an error where no other
+    /// can be let go for it.
     fn accept<K: Keeper>(
         &mut self,
         rt: &HostRuntime,

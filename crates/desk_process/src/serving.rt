@@ -24,9 +24,11 @@ fn status_of(served: io::Result<()>) -> Result<Status, Refusal> {
     }
 }
 
-/// Serves the desk that the files make over what the keeper keeps, at the address, and hands the keeper on.
+/// Serves the desk that the files make over what the keeper keeps, at the address, and hands the
+/// keeper on.
 ///
-/// It is refused where the files make no desk, and where the address cannot be listened at or accepted from.
+/// It is refused where the files make no desk, and where the address cannot be listened at or
+/// accepted from.
 pub(crate) fn serve<K: Keeper>(
     rt: &HostRuntime,
     files: &[Vec<u8>],

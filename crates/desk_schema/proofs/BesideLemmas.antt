@@ -71,7 +71,8 @@ module _ (s u : Schema) (more : List Table) (tables : u.tables ≡ s.tables ++ m
       let t = table_at p it.1 in
       let was : found_as s (name_of p) ≡ Some t = ap (option_and_then (slice_get s.tables)) it.2.named ∙ it.2.has in
       let named : table_named u (name_of p) ≡ Some it.0 =
-      ap (position_from (λ (v : Table). same_name v.name (name_of p)) 0) tables ∙ position_kept (λ (v : Table). same_name v.name (name_of p)) 0 it.0 s.tables more it.2.named in
+      ap (position_from (λ (v : Table). same_name v.name (name_of p)) 0) tables
+      ∙ position_kept (λ (v : Table). same_name v.name (name_of p)) 0 it.0 s.tables more it.2.named in
       let has : slice_get u.tables it.0 ≡ Some t = ap (λ ts. slice_get ts it.0) tables ∙ get_kept t s.tables more it.0 it.2.has in
       ap (option_and_then (slice_get u.tables)) named ∙ has ∙ sym was
 
@@ -83,7 +84,8 @@ module _ (s u : Schema) (more : List Table) (tables : u.tables ≡ s.tables ++ m
   new_tree p t free it there same =
       let tree = (table_at p it.1).tree in
       let got = found_some (λ (v : Table). v.tree == tree) s.tables t there (ap (λ n. n == tree) (sym same) ∙ same_number tree) in
-      let longer : find (λ (v : Table). v.tree == tree) u.tables ≡ Some got.0 = ap (find (λ (v : Table). v.tree == tree)) tables ∙ find_kept (λ (v : Table). v.tree == tree) got.0 s.tables more got.1 in
+      let longer : find (λ (v : Table). v.tree == tree) u.tables ≡ Some got.0 =
+      ap (find (λ (v : Table). v.tree == tree)) tables ∙ find_kept (λ (v : Table). v.tree == tree) got.0 s.tables more got.1 in
       let two : Some got.0 ≡ Some (table_at p it.1) = sym longer ∙ it.2.by_tree in
       let is : got.0 ≡ table_at p it.1 = cc in
       let named = not_named (λ (v : Table). v.tree == tree) (λ (v : Table). same_name v.name (name_of p)) 0 s.tables got.0 free got.1 in

@@ -19,13 +19,28 @@ use Rattle.desk_schema.proofs.Makes.{adds}
 
 marks_parts : IsCreate (text_of Marks) (codes "marks")
 unfolding everything
-marks_parts = record { p = _; def = _; t = _; parsed = refl; statement = refl; formats = refl; name_is = refl; missing = refl; resolves = refl; defined = refl; whole = refl; reserved = refl; text_is = λ s. refl }
+marks_parts = record {
+  p = _;
+  def = _;
+  t = _;
+  parsed = refl;
+  statement = refl;
+  formats = refl;
+  name_is = refl;
+  missing = refl;
+  resolves = refl;
+  defined = refl;
+  whole = refl;
+  reserved = refl;
+  text_is = λ s. refl;
+}
 
 marks_defined : table_defined_by (text_of Marks) ≡ Ok marks
 unfolding everything
 marks_defined = refl
 
-means : (part : Part) (s : Schema) → Lacks s part → (command_of (understood s (text_of part)) ≡ command.CreateTable) × (statement_of (text_of part) (understood s (text_of part)) ≡ text_of part) × IsPlain (understood s (text_of part))
+means : (part : Part) (s : Schema) → Lacks s part → (command_of (understood s (text_of part)) ≡ command.CreateTable)
+    × (statement_of (text_of part) (understood s (text_of part)) ≡ text_of part) × IsPlain (understood s (text_of part))
 means Desk s free = desk_means s free
 means Messages s free = messages_means s free
 means Names s free = names_means s free
@@ -41,5 +56,7 @@ defines Marks = marks_defined
 defines Verdicts = defined_rows.1
 defines Parked = defined_rows.2
 
-pub adds_part : (part : Part) (old new : State) (count : ℕ) → Lacks old.now.schema part → lacks_sequence old.now.schema ≡ false → Executes (text_of part) [] old new (Ok count) → Adds (table_at part 0) old.now new.now
-adds_part part old new count free none h = adds (text_of part) (table_at part 0) old new count (means part old.now.schema free) (defines part) (counts_not part 0) none h
+pub adds_part : (part : Part) (old new : State) (count : ℕ) → Lacks old.now.schema part → lacks_sequence old.now.schema ≡ false
+    → Executes (text_of part) [] old new (Ok count) → Adds (table_at part 0) old.now new.now
+adds_part part old new count free none h =
+    adds (text_of part) (table_at part 0) old new count (means part old.now.schema free) (defines part) (counts_not part 0) none h

@@ -13,7 +13,8 @@ use Rattle.desk_tables.proofs.TurnLemmas.{clean_before}
 abbrev pub At : (Database → Type 0) → Trees → Type 0
 At Does trees = (db : Database) → db.trees ≡ trees → IsDatabase db → Does db
 
-module _ (Does : Database → Type 0) (again' : (a b : Database) → IsDatabase b → b.trees ≡ a.trees → Does a → Does b) (old last end : State) (rests : Rests old) (step : IsStep (begun old) last) (P : Trees → Type 0) (ends : Survives last end P) where
+module _ (Does : Database → Type 0) (again' : (a b : Database) → IsDatabase b → b.trees ≡ a.trees → Does a
+    → Does b) (old last end : State) (rests : Rests old) (step : IsStep (begun old) last) (P : Trees → Type 0) (ends : Survives last end P) where
   clean_last : HasCleanDisk end → HasCleanDisk last
   clean_last clean = clean_before last end P ends clean
 

@@ -102,7 +102,8 @@ module _ (s : Schema) (part : Part) where
 
       go : (o : Option Table) → parent_of s.tables ref ≡ o → is_in (parent_of more' ref) tree ≡ false
       go None e = ap (λ o. is_in o tree) (find_last (λ (t : Table). same_name t.name ref.parent) s.tables new e) ∙ last (same_name new.name ref.parent)
-      go (Some u) e = ap (λ o. is_in o tree) (find_kept (λ (t : Table). same_name t.name ref.parent) u s.tables (new ∷ []) e) ∙ sym (ap (λ o. is_in o tree) e) ∙ h
+      go (Some u) e =
+          ap (λ o. is_in o tree) (find_kept (λ (t : Table). same_name t.name ref.parent) u s.tables (new ∷ []) e) ∙ sym (ap (λ o. is_in o tree) e) ∙ h
 
   -- what does not name the new table has its parent in another
   new_other : (ref : Reference) → same_name (name_of part) ref.parent ≡ false → is_in (parent_of more' ref) (next_tree s) ≡ false
@@ -113,26 +114,29 @@ module _ (s : Schema) (part : Part) where
 
       go : (o : Option Table) → parent_of s.tables ref ≡ o → is_in (parent_of more' ref) (next_tree s) ≡ false
       go None e = ap (λ o. is_in o (next_tree s)) (find_last (λ (t : Table). same_name t.name ref.parent) s.tables new e ∙ last)
-      go (Some u) e = ap (λ o. is_in o (next_tree s)) (find_kept (λ (t : Table). same_name t.name ref.parent) u s.tables (new ∷ []) e) ∙ other_tree u.tree (next_tree s) (below s (λ (t : Table). same_name t.name ref.parent) u e)
+      go (Some u) e = ap (λ o. is_in o (next_tree s)) (find_kept (λ (t : Table). same_name t.name ref.parent) u s.tables (new ∷ []) e)
+          ∙ other_tree u.tree (next_tree s) (below s (λ (t : Table). same_name t.name ref.parent) u e)
 
   -- the new table has no foreign key
   none_new : (p : Reference → Bool) → list_any p new.references ≡ false
   none_new p = ap (list_any p) (refers_not part 0)
 
   pub unreferred_still : (tree : ℕ) → tree < next_tree s → IsUnreferred s tree → IsUnreferred (created s (table_at part 0)) tree
-  unreferred_still tree low h = any_end (λ (t : Table). list_any (λ ref. is_in (parent_of more' ref) tree) t.references) s.tables new
-      (any_less (λ (t : Table). list_any (λ ref. is_in (parent_of s.tables ref) tree) t.references) (λ (t : Table). list_any (λ ref. is_in (parent_of more' ref) tree) t.references)
+  unreferred_still tree low h = any_end (λ (t : Table). list_any (λ ref. is_in (parent_of more' ref) tree) t.references) s.tables new (any_less (λ (t : Table).
+      list_any (λ ref. is_in (parent_of s.tables ref) tree) t.references) (λ (t : Table). list_any (λ ref. is_in (parent_of more' ref) tree) t.references)
       (λ t. any_less (λ ref. is_in (parent_of s.tables ref) tree) (λ ref. is_in (parent_of more' ref) tree) (still_other tree low) t.references) s.tables h)
       (none_new (λ ref. is_in (parent_of more' ref) tree))
 
   pub unreferred_new : is_parent s (name_of part) ≡ false → IsUnreferred (created s (table_at part 0)) (next_tree s)
   unreferred_new h = any_end (λ (t : Table). list_any (λ ref. is_in (parent_of more' ref) (next_tree s)) t.references) s.tables new
-      (any_less (λ (t : Table). list_any (λ ref. same_name (name_of part) ref.parent) t.references) (λ (t : Table). list_any (λ ref. is_in (parent_of more' ref) (next_tree s)) t.references)
+      (any_less (λ (t : Table). list_any (λ ref. same_name (name_of part) ref.parent) t.references)
+      (λ (t : Table). list_any (λ ref. is_in (parent_of more' ref) (next_tree s)) t.references)
       (λ t. any_less (λ ref. same_name (name_of part) ref.parent) (λ ref. is_in (parent_of more' ref) (next_tree s)) new_other t.references) s.tables h)
       (none_new (λ ref. is_in (parent_of more' ref) (next_tree s)))
 
   pub unnamed_still : (name : List ℕ) → is_parent s name ≡ false → is_parent (created s (table_at part 0)) name ≡ false
-  unnamed_still name h = any_end (λ (t : Table). list_any (λ ref. same_name name ref.parent) t.references) s.tables new h (none_new (λ ref. same_name name ref.parent))
+  unnamed_still name h =
+      any_end (λ (t : Table). list_any (λ ref. same_name name ref.parent) t.references) s.tables new h (none_new (λ ref. same_name name ref.parent))
 
   -- ---- names
 
@@ -140,16 +144,23 @@ module _ (s : Schema) (part : Part) where
   lacks_still other differs free = record {
     table = unused_still s (table_at part 0) (name_of other) free.table (ap (λ n. same_name n (name_of other)) (name_is part 0) ∙ differs.table);
     view = free.view;
-    index = position_none (λ i. same_name i.name (name_of other)) 0 s.indexes _ free.index ∙ subst (λ (t : Table). position_from (λ i. same_name i.name (name_of other)) (0 + length s.indexes) (Rattle.sqlite_catalog.specs.Change.automatics t 0 (t.tree + 1) t.uniques) ≡ None) (sym (moved part 0 (next_tree s)))
-        (subst (λ n. position_from (λ i. same_name i.name (name_of other)) (0 + length s.indexes) (Rattle.sqlite_catalog.specs.Change.automatics (table_at part (next_tree s)) 0 (n + 1) (table_at part (next_tree s)).uniques) ≡ None) (sym (tree_is part (next_tree s))) (differs.index (next_tree s) (0 + length s.indexes)));
+    index = position_none (λ i. same_name i.name (name_of other)) 0 s.indexes _ free.index ∙ subst (λ (t : Table).
+        position_from (λ i. same_name i.name (name_of other)) (0 + length s.indexes) (Rattle.sqlite_catalog.specs.Change.automatics t 0 (t.tree + 1) t.uniques)
+        ≡ None) (sym (moved part 0 (next_tree s))) (subst (λ n. position_from (λ i. same_name i.name (name_of other)) (0 + length s.indexes)
+        (Rattle.sqlite_catalog.specs.Change.automatics (table_at part (next_tree s)) 0 (n + 1) (table_at part (next_tree s)).uniques) ≡ None)
+        (sym (tree_is part (next_tree s))) (differs.index (next_tree s) (0 + length s.indexes)));
   }
 
 -- ---- the step
 
 open_still : (s : Schema) (part other : Part) → Differs part other → IsOpen s other → IsOpen (created s (table_at part 0)) other
-open_still s part other differs free = record { lacks = lacks_still s part other differs free.lacks; unnamed = unnamed_still s part (name_of other) free.unnamed }
+open_still s part other differs free = record {
+  lacks = lacks_still s part other differs free.lacks;
+  unnamed = unnamed_still s part (name_of other) free.unnamed;
+}
 
-all_open : (s : Schema) (part : Part) (rest : List Part) → AllByRecursion (Differs part) rest → AllByRecursion (IsOpen s) rest → AllByRecursion (IsOpen (created s (table_at part 0))) rest
+all_open : (s : Schema) (part : Part) (rest : List Part) → AllByRecursion (Differs part) rest
+    → AllByRecursion (IsOpen s) rest → AllByRecursion (IsOpen (created s (table_at part 0))) rest
 all_open s part [] differ all = tt
 all_open s part (other ∷ rest) differ all = (open_still s part other differ.0 all.0, all_open s part rest differ.1 all.1)
 
@@ -161,9 +172,11 @@ module _ (part : Part) (b c : Database) (adds : Adds (table_at part 0) b c) wher
   has_still other it = record {
     at = it.at;
     tree = it.tree;
-    finds = subst (λ (s : Schema). Finds s (name_of other) it.at (table_at other it.tree)) (sym adds.schema) (finds_still b.schema (table_at part 0) (name_of other) it.at (table_at other it.tree) it.finds);
+    finds = subst (λ (s : Schema). Finds s (name_of other) it.at (table_at other it.tree)) (sym adds.schema)
+        (finds_still b.schema (table_at part 0) (name_of other) it.at (table_at other it.tree) it.finds);
     empty = subst (λ n. c.trees n ≡ b.trees n) (tree_is other it.tree) (kept_at (table_at other it.tree) it.at (name_of other) it.finds) ∙ it.empty;
-    alone = subst (λ (s : Schema). IsUnreferred s it.tree) (sym adds.schema) (unreferred_still b.schema part it.tree (subst (λ n. n < next_tree b.schema) (tree_is other it.tree) (below b.schema _ (table_at other it.tree) it.finds.by_tree)) it.alone);
+    alone = subst (λ (s : Schema). IsUnreferred s it.tree) (sym adds.schema) (unreferred_still b.schema part it.tree
+        (subst (λ n. n < next_tree b.schema) (tree_is other it.tree) (below b.schema _ (table_at other it.tree) it.finds.by_tree)) it.alone);
   }
 
   all_has : (made : List Part) → AllByRecursion (HasEmpty b) made → AllByRecursion (HasEmpty c) made
@@ -175,12 +188,14 @@ module _ (part : Part) (b c : Database) (adds : Adds (table_at part 0) b c) wher
     at = length b.schema.tables;
     tree = next_tree b.schema;
     finds = subst (λ (s : Schema). Finds s (name_of part) (length b.schema.tables) (table_at part (next_tree b.schema))) (sym adds.schema)
-        (subst (λ (t : Table). Finds (created b.schema (table_at part 0)) (name_of part) (length b.schema.tables) t) (moved part 0 (next_tree b.schema)) (finds_new b.schema (table_at part 0) (name_of part) free.lacks.table (same_itself part 0) adds.stored));
+        (subst (λ (t : Table). Finds (created b.schema (table_at part 0)) (name_of part) (length b.schema.tables) t)
+        (moved part 0 (next_tree b.schema)) (finds_new b.schema (table_at part 0) (name_of part) free.lacks.table (same_itself part 0) adds.stored));
     empty = adds.empty;
     alone = subst (λ (s : Schema). IsUnreferred s (next_tree b.schema)) (sym adds.schema) (unreferred_new b.schema part free.unnamed);
   }
 
-keeps_prefix : (ts us : List Table) (one two three : Rattle.sqlite.specs.Tree.Trees) → KeepsRows ts one two → KeepsRows (ts ++ us) two three → KeepsRows ts one three
+keeps_prefix : (ts us : List Table) (one two three : Rattle.sqlite.specs.Tree.Trees)
+    → KeepsRows ts one two → KeepsRows (ts ++ us) two three → KeepsRows ts one three
 keeps_prefix [] us one two three a b = tt
 keeps_prefix (t ∷ ts) us one two three a b = (b.0 ∙ a.0, keeps_prefix ts us one two three a.1 b.1)
 
@@ -189,12 +204,14 @@ append-assoc [] ys zs = refl
 append-assoc (x ∷ xs) ys zs = ap (λ l. x ∷ l) (append-assoc xs ys zs)
 
 -- a part that was open is made
-pub grows_more : (part : Part) (made rest : List Part) (a b c : Database) → AllByRecursion (Differs part) rest → Grows made (part ∷ rest) a b → Adds (table_at part 0) b c → Grows (part ∷ made) rest a c
+pub grows_more : (part : Part) (made rest : List Part) (a b c : Database) → AllByRecursion (Differs part) rest
+    → Grows made (part ∷ rest) a b → Adds (table_at part 0) b c → Grows (part ∷ made) rest a c
 grows_more part made rest a b c differ g adds = record {
   has = (has_new part b c adds g.open'.0, all_has part b c adds made g.has);
   open' = subst (λ (s : Schema). AllByRecursion (IsOpen s) rest) (sym adds.schema) (all_open b.schema part rest differ g.open'.1);
   counted = ap lacks_sequence adds.schema ∙ none_lacking b.schema (table_at part 0) (counts_not part 0) g.counted;
   kept = keeps_prefix a.schema.tables g.more a.trees b.trees c.trees g.kept (subst (λ ts. KeepsRows ts b.trees c.trees) g.tables adds.others);
   more = g.more ++ record (table_at part 0) { tree = next_tree b.schema } ∷ [];
-  tables = ap (λ (s : Schema). s.tables) adds.schema ∙ ap (λ ts. ts ++ record (table_at part 0) { tree = next_tree b.schema } ∷ []) g.tables ∙ append-assoc a.schema.tables g.more _;
+  tables = ap (λ (s : Schema). s.tables) adds.schema
+      ∙ ap (λ ts. ts ++ record (table_at part 0) { tree = next_tree b.schema } ∷ []) g.tables ∙ append-assoc a.schema.tables g.more _;
 }

@@ -1,5 +1,6 @@
 -- What a CREATE TABLE leaves of what a schema finds by name: it adds the table at the end.
-use Rattle.std.proofs.Common.{inl, inr, ◌≡◌, ◌≤◌, ◌<◌, ◌==◌, ◌+◌, ◌^◌, nat_le, max, zero, suc, ℕ, List, [], ◌∷◌, ◌++◌, length, Bool, true, false, cond, find, slice_get, Some, None, refl, ap, ◌∙◌, fold, arith}
+use Rattle.std.proofs.Common.{inl, inr, ◌≡◌, ◌≤◌, ◌<◌, ◌==◌, ◌+◌, ◌^◌, nat_le, max, zero, suc, ℕ, List, [], ◌∷◌, ◌++◌}
+use Rattle.std.proofs.Common.{length, Bool, true, false, cond, find, slice_get, Some, None, refl, ap, ◌∙◌, fold, arith}
 use Rattle.std.specs.List.{position_from}
 use Rattle.std.proofs.lemmas.Bool.{ne_eqb}
 use Rattle.std.proofs.lemmas.Bool.Decides.{eqb_tells}
@@ -17,7 +18,8 @@ module _ {K : Type 0} (p : K → Bool) where
   position_kept i at [] ys h = absurd cc
   position_kept i at (x ∷ xs) ys h = go (p x) h (position_kept (i + 1) at xs ys)
     where
-      go : (b : Bool) → cond b (Some i) (position_from p (i + 1) xs) ≡ Some at → (position_from p (i + 1) xs ≡ Some at → position_from p (i + 1) (xs ++ ys) ≡ Some at)
+      go : (b : Bool)
+          → cond b (Some i) (position_from p (i + 1) xs) ≡ Some at → (position_from p (i + 1) xs ≡ Some at → position_from p (i + 1) (xs ++ ys) ≡ Some at)
           → cond b (Some i) (position_from p (i + 1) (xs ++ ys)) ≡ Some at
       go true e more = e
       go false e more = more e
@@ -26,7 +28,8 @@ module _ {K : Type 0} (p : K → Bool) where
   position_none i [] ys h = ap (λ n. position_from p n ys) (omega arith)
   position_none i (x ∷ xs) ys h = go (p x) h (position_none (i + 1) xs ys)
     where
-      go : (b : Bool) → cond b (Some i) (position_from p (i + 1) xs) ≡ None → (position_from p (i + 1) xs ≡ None → position_from p (i + 1) (xs ++ ys) ≡ position_from p (i + 1 + length xs) ys)
+      go : (b : Bool) → cond b (Some i) (position_from p (i + 1) xs) ≡ None
+          → (position_from p (i + 1) xs ≡ None → position_from p (i + 1) (xs ++ ys) ≡ position_from p (i + 1 + length xs) ys)
           → cond b (Some i) (position_from p (i + 1) (xs ++ ys)) ≡ position_from p (i + suc (length xs)) ys
       go true e more = absurd cc
       go false e more = more e ∙ ap (λ n. position_from p n ys) (omega arith)
@@ -62,7 +65,8 @@ pub grows : (n : ℕ) (ts : List Table) → n ≤ fold (λ n (t : Table). max n 
 grows n [] = omega arith
 grows n (t ∷ ts) = let h = grows (max n (t.tree + 1)) ts in omega arith
 
-none_such : (n k : ℕ) (ts : List Table) → fold (λ n (t : Table). max n (t.tree + 1)) n ts ≤ k → (u : Table) → u.tree ≡ k → find (λ (v : Table). v.tree == k) (ts ++ u ∷ []) ≡ Some u
+none_such : (n k : ℕ) (ts : List Table) → fold (λ n (t : Table). max n (t.tree + 1)) n ts ≤ k
+    → (u : Table) → u.tree ≡ k → find (λ (v : Table). v.tree == k) (ts ++ u ∷ []) ≡ Some u
 none_such n k [] h u is = rw is (rw (same k) refl)
   where
     same : (m : ℕ) → (m == m) ≡ true
@@ -85,7 +89,8 @@ pub finds_new : (s : Schema) (u : Table) (name : Name) → table_named s name �
 finds_new s u name free is low =
     let new : Table = record u { tree = next_tree s } in
     record {
-      named = position_none (λ (v : Table). same_name v.name name) 0 s.tables (new ∷ []) free ∙ ap (λ b. cond b (Some (0 + length s.tables)) None) is ∙ ap Some (omega arith);
+      named = position_none (λ (v : Table). same_name v.name name) 0 s.tables (new ∷ []) free
+          ∙ ap (λ b. cond b (Some (0 + length s.tables)) None) is ∙ ap Some (omega arith);
       has = get_last new s.tables;
       stored = low;
       by_tree = none_such (past_views s) (next_tree s) s.tables (indexes_grow _ s.indexes) new refl;
@@ -94,12 +99,14 @@ finds_new s u name free is low =
 -- another name stays unused
 pub unused_still : (s : Schema) (u : Table) (name : Name) → table_named s name ≡ None → same_name u.name name ≡ false → table_named (created s u) name ≡ None
 unused_still s u name free apart =
-    position_none (λ (v : Table). same_name v.name name) 0 s.tables (record u { tree = next_tree s } ∷ []) free ∙ ap (λ b. cond b (Some (0 + length s.tables)) None) apart
+    position_none (λ (v : Table). same_name v.name name) 0 s.tables (record u { tree = next_tree s } ∷ []) free
+    ∙ ap (λ b. cond b (Some (0 + length s.tables)) None) apart
 
 -- ---- trees
 
 -- each table that is found has a tree below the next
-pub below_all : (q : Table → Bool) (n k : ℕ) (ts : List Table) (u : Table) → find q ts ≡ Some u → fold (λ n (t : Table). max n (t.tree + 1)) n ts ≤ k → u.tree < k
+pub below_all : (q : Table → Bool) (n k : ℕ) (ts : List Table) (u : Table)
+    → find q ts ≡ Some u → fold (λ n (t : Table). max n (t.tree + 1)) n ts ≤ k → u.tree < k
 below_all q n k [] u h low = absurd cc
 below_all q n k (t ∷ ts) u h low = go (q t) h (λ e. below_all q (max n (t.tree + 1)) k ts u e low)
   where
@@ -119,7 +126,8 @@ pub find_last : {K : Type 0} (q : K → Bool) (xs : List K) (y : K) → find q x
 find_last q [] y h = refl
 find_last q (x ∷ xs) y h = go (q x) h (find_last q xs y)
   where
-    go : (b : Bool) → cond b (Some x) (find q xs) ≡ None → (find q xs ≡ None → find q (xs ++ y ∷ []) ≡ cond (q y) (Some y) None) → cond b (Some x) (find q (xs ++ y ∷ [])) ≡ cond (q y) (Some y) None
+    go : (b : Bool) → cond b (Some x) (find q xs) ≡ None → (find q xs ≡ None → find q (xs ++ y ∷ []) ≡ cond (q y) (Some y) None)
+        → cond b (Some x) (find q (xs ++ y ∷ [])) ≡ cond (q y) (Some y) None
     go true e more = absurd cc
     go false e more = more e
 

@@ -45,7 +45,12 @@ module _ (s u : Schema) (listed : IsListedAs s u) where
   }
 
   common_as : HasCommon s → HasCommon u
-  common_as has = record { desk = part_as Desk has.desk; messages = part_as Messages has.messages; names = part_as Names has.names; parked = part_as Parked has.parked }
+  common_as has = record {
+    desk = part_as Desk has.desk;
+    messages = part_as Messages has.messages;
+    names = part_as Names has.names;
+    parked = part_as Parked has.parked;
+  }
 
   pub old_as : IsOld s → IsOld u
   old_as is = record { common = common_as is.common; verdicts = lacks_as Verdicts is.verdicts; marks = part_as Marks is.marks }

@@ -36,15 +36,25 @@ use Rattle.desk_schema.proofs.TableLists.{all_member, all_of, has_before}
 
 differ_desk : AllByRecursion (Differs part.Desk) (part.Messages ∷ part.Names ∷ part.Verdicts ∷ part.Parked ∷ part.Marks ∷ [])
 unfolding same_name
-differ_desk = (record { table = refl; index = λ t k. refl }, (record { table = refl; index = λ t k. refl }, (record { table = refl; index = λ t k. refl }, (record { table = refl; index = λ t k. refl }, (record { table = refl; index = λ t k. refl }, tt)))))
+differ_desk = (
+  record { table = refl; index = λ t k. refl },
+  (
+    record { table = refl; index = λ t k. refl },
+    (record { table = refl; index = λ t k. refl }, (record { table = refl; index = λ t k. refl }, (record { table = refl; index = λ t k. refl }, tt))),
+  ),
+)
 
 differ_messages : AllByRecursion (Differs part.Messages) (part.Names ∷ part.Verdicts ∷ part.Parked ∷ part.Marks ∷ [])
 unfolding same_name
-differ_messages = (record { table = refl; index = λ t k. refl }, (record { table = refl; index = λ t k. refl }, (record { table = refl; index = λ t k. refl }, (record { table = refl; index = λ t k. refl }, tt))))
+differ_messages = (
+  record { table = refl; index = λ t k. refl },
+  (record { table = refl; index = λ t k. refl }, (record { table = refl; index = λ t k. refl }, (record { table = refl; index = λ t k. refl }, tt))),
+)
 
 differ_names : AllByRecursion (Differs part.Names) (part.Verdicts ∷ part.Parked ∷ part.Marks ∷ [])
 unfolding same_name
-differ_names = (record { table = refl; index = λ t k. refl }, (record { table = refl; index = λ t k. refl }, (record { table = refl; index = λ t k. refl }, tt)))
+differ_names =
+    (record { table = refl; index = λ t k. refl }, (record { table = refl; index = λ t k. refl }, (record { table = refl; index = λ t k. refl }, tt)))
 
 differ_verdicts : AllByRecursion (Differs part.Verdicts) (part.Parked ∷ part.Marks ∷ [])
 unfolding same_name
@@ -63,12 +73,21 @@ append_none [] = refl
 append_none (t ∷ ts) = ap (λ us. t ∷ us) (append_none ts)
 
 begins : (a : Database) → IsReady a.schema → Grows [] (part.Desk ∷ part.Messages ∷ part.Names ∷ part.Verdicts ∷ part.Parked ∷ part.Marks ∷ []) a a
-begins a ready = record { has = tt; open' = ready.vacant; counted = ready.counted; kept = keeps_itself a.schema.tables a.trees; more = []; tables = append_none a.schema.tables }
+begins a ready = record {
+  has = tt;
+  open' = ready.vacant;
+  counted = ready.counted;
+  kept = keeps_itself a.schema.tables a.trees;
+  more = [];
+  tables = append_none a.schema.tables;
+}
 
-one : (p : Part) (made rest : List Part) (a : Database) (b c : State) → AllByRecursion (Differs p) rest → AddsPart p b c → Grows made (p ∷ rest) a b.now → Grows (p ∷ made) rest a c.now
+one : (p : Part) (made rest : List Part) (a : Database) (b c : State) → AllByRecursion (Differs p) rest
+    → AddsPart p b c → Grows made (p ∷ rest) a b.now → Grows (p ∷ made) rest a c.now
 one p made rest a b c differ adds g = grows_more p made rest a b.now c.now differ g (adds.adds g.open'.0.lacks g.counted)
 
-pub grown : (a b c d e f : State) → AddsPart part.Desk a b → AddsPart part.Messages b c → AddsPart part.Names c d → AddsPart part.Verdicts d e → AddsPart part.Parked e f → GrownWhole a f
+pub grown : (a b c d e f : State) → AddsPart part.Desk a b → AddsPart part.Messages b c
+    → AddsPart part.Names c d → AddsPart part.Verdicts d e → AddsPart part.Parked e f → GrownWhole a f
 grown a b c d e f p q r s t = record {
   mode = t.inside.mode;
   grows = λ ready.
@@ -164,7 +183,8 @@ module _ (a b : Database) (g : GrowsWhole a b) where
         texts = ap (list_any is_stray) nothing;
         only = λ text there. absurd (none_held text there);
         rows = subst (λ texts. Rattle.desk_tables.specs.Kept.HasRows texts c) (sym (ap (λ (x : Rattle.desk_tables.specs.Stored.Content). x.texts) content))
-            (no_rows c (λ r there. none_in _ names_none (there.0 ∷ r) there.1) (λ r there. none_in _ verdicts_none (there.0 ∷ r) there.1) (λ r there. none_in _ parked_none (there.0 ∷ r) there.1));
+            (no_rows c (λ r there. none_in _ names_none (there.0 ∷ r) there.1)
+            (λ r there. none_in _ verdicts_none (there.0 ∷ r) there.1) (λ r there. none_in _ parked_none (there.0 ∷ r) there.1));
       };
       marks = subst (λ (s : Schema). Lacks s part.Marks) (sym put.schema) g.open'.0.lacks;
       content = content;
@@ -183,17 +203,19 @@ module _ (roster : List ℕ) (a b c : Database) (ready : IsReady a.schema) (g : 
       new_tree a.schema b.schema g.more g.tables part.Desk t ready.vacant.0.lacks.table (it.at, it.tree, it.finds) there (sym (same ∙ tree_in b part.Desk it))
 
   pub keeps_whole : KeepsRows a.schema.tables a.trees c.trees
-  keeps_whole = all_of (λ (t : Table). c.trees t.tree ≡ a.trees t.tree) a.schema.tables (λ t there.
-      all_member (λ (u : Table). u.tree ≢ desk_tree → c.trees u.tree ≡ b.trees u.tree) b.schema.tables t (subst (λ ts. Has ts t) (sym g.tables) (has_before a.schema.tables g.more t there)) put.others (apart_from t there)
-      ∙ all_member (λ (u : Table). b.trees u.tree ≡ a.trees u.tree) a.schema.tables t there g.kept)
+  keeps_whole = all_of (λ (t : Table). c.trees t.tree ≡ a.trees t.tree) a.schema.tables (λ t there. all_member (λ (u : Table). u.tree ≢ desk_tree
+      → c.trees u.tree ≡ b.trees u.tree) b.schema.tables t (subst (λ ts. Has ts t) (sym g.tables) (has_before a.schema.tables g.more t there)) put.others
+      (apart_from t there) ∙ all_member (λ (u : Table). b.trees u.tree ≡ a.trees u.tree) a.schema.tables t there g.kept)
 
   -- ---- the tables of other names
 
   abbrev grown_tables : c.schema.tables ≡ a.schema.tables ++ g.more
   grown_tables = ap (λ (s : Schema). s.tables) put.schema ∙ g.tables
 
-  came : (p : Part) (t : Table) → table_named a.schema (name_of p) ≡ None → HasEmpty b p → Has a.schema.tables t → is_in (found_as c.schema (name_of p)) t.tree ≡ false
-  came p t free it there = other_new a.schema c.schema g.more grown_tables p t free (subst (λ (s : Schema). FindsPart s p) (sym put.schema) (it.at, it.tree, it.finds)) there
+  came : (p : Part) (t : Table) → table_named a.schema (name_of p) ≡ None → HasEmpty b p
+      → Has a.schema.tables t → is_in (found_as c.schema (name_of p)) t.tree ≡ false
+  came p t free it there =
+      other_new a.schema c.schema g.more grown_tables p t free (subst (λ (s : Schema). FindsPart s p) (sym put.schema) (it.at, it.tree, it.finds)) there
 
   other_than : (t : Table) → Has a.schema.tables t → IsOther c.schema t.tree
   other_than t there part.Desk = came part.Desk t ready.vacant.0.lacks.table (d a b g) there
@@ -213,7 +235,10 @@ module _ (roster : List ℕ) (a b c : Database) (ready : IsReady a.schema) (g : 
 pub filled : (roster : List ℕ) → IsUtf8 roster → (a b c : State) → GrownWhole a b → Marked IsBare (Says roster) b c → Filled roster a c
 filled roster utf8 a b c grown put = record {
   mode = put.inside.mode;
-  founds = λ ready. let g = grown.grows ready in record { makes = makes a.now b.now g roster utf8 c.now (marks ready); kept = keeps_whole roster a.now b.now c.now ready g (marks ready) };
+  founds = λ ready. let g = grown.grows ready in record {
+    makes = makes a.now b.now g roster utf8 c.now (marks ready);
+    kept = keeps_whole roster a.now b.now c.now ready g (marks ready);
+  };
   beside = λ ready. keeps_beside roster a.now b.now c.now ready (grown.grows ready) (marks ready);
 }
   where
@@ -226,7 +251,12 @@ pub makes_again : (roster : List ℕ) (a b : Database) → IsDatabase b → b.tr
 makes_again roster a b sound same makes =
     let it = again a b makes.sound sound same in
     let sound' = subst (λ (t : Rattle.sqlite.specs.Tree.Trees). Rattle.sqlite_catalog.specs.Listing.IsSound b.schema t) same sound in
-    record { sound = sound; desk = it.desk makes.desk; marks = unused_again a.schema b.schema a.trees makes.sound sound' (codes "marks") makes.marks; content = it.content ∙ makes.content }
+    record {
+      sound = sound;
+      desk = it.desk makes.desk;
+      marks = unused_again a.schema b.schema a.trees makes.sound sound' (codes "marks") makes.marks;
+      content = it.content ∙ makes.content;
+    }
 
 pub founds_again : (roster : List ℕ) (old a b : Database) → IsDatabase b → b.trees ≡ a.trees → Founds roster old a → Founds roster old b
 founds_again roster old a b sound same founds = record {

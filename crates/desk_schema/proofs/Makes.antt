@@ -1,5 +1,6 @@
 -- What the statements that make a desk do to a database that has tables of other names.
-use Rattle.std.proofs.Common.{◌≡◌, ◌<◌, ◌^◌, ◌++◌, ◌∷◌, ◌||◌, ◌&&◌, not, ℕ, Bool, List, [], codes, true, false, Option, None, Some, is_some, slice_get, Ok, refl, sym, ap, subst, ◌∙◌, arith}
+use Rattle.std.proofs.Common.{◌≡◌, ◌<◌, ◌^◌, ◌++◌, ◌∷◌, ◌||◌, ◌&&◌, not, ℕ, Bool, List, [], codes, true, false}
+use Rattle.std.proofs.Common.{Option, None, Some, is_some, slice_get, Ok, refl, sym, ap, subst, ◌∙◌, arith}
 use Rattle.std.specs.List.{list_any, filter, AllZip}
 use Rattle.std.proofs.lemmas.Bool.{lt-leb}
 use Rattle.std.proofs.lemmas.List.Folds.{list_any-append}
@@ -27,11 +28,13 @@ use Rattle.desk_schema.proofs.Grown.{get_kept, position_kept}
 counts_still : (s : Schema) (u : Table) → is_some (sequence s) ≡ true → is_some (sequence (created s u)) ≡ true
 counts_still s u there = go (table_named s (codes "sqlite_sequence")) refl
   where
-    found : (at : ℕ) → table_named s (codes "sqlite_sequence") ≡ Some at → (o : Option Table) → slice_get s.tables at ≡ o → is_some (sequence (created s u)) ≡ true
+    found : (at : ℕ) → table_named s (codes "sqlite_sequence") ≡ Some at → (o : Option Table)
+        → slice_get s.tables at ≡ o → is_some (sequence (created s u)) ≡ true
     found at named None is = absurd (let e = rw (named, is) at there in cc)
     found at named (Some t) is =
         let new : Table = record u { tree = next_tree s } in
-        let named' : table_named (created s u) (codes "sqlite_sequence") ≡ Some at = position_kept (λ (v : Table). same_name v.name (codes "sqlite_sequence")) 0 at s.tables (new ∷ []) named in
+        let named' : table_named (created s u) (codes "sqlite_sequence") ≡ Some at =
+        position_kept (λ (v : Table). same_name v.name (codes "sqlite_sequence")) 0 at s.tables (new ∷ []) named in
         rw (named', get_kept t s.tables (new ∷ []) at is) refl
 
     go : (o : Option ℕ) → table_named s (codes "sqlite_sequence") ≡ o → is_some (sequence (created s u)) ≡ true
@@ -71,8 +74,9 @@ listed_low db ts t sound is =
     let rows = filter is_table_row (db.trees catalog_tree) in
     last_low rows ts t (subst (λ us. AllZip IsTableRow rows us) is sound.lists.listed.tables)
 
-pub adds : (sql : List ℕ) (table : Table) (old new : State) (count : ℕ) → (command_of (understood old.now.schema sql) ≡ CreateTable) × (statement_of sql (understood old.now.schema sql) ≡ sql) × IsPlain (understood old.now.schema sql)
-    → table_defined_by sql ≡ Ok table → table.is_counted ≡ false → lacks_sequence old.now.schema ≡ false → Executes sql [] old new (Ok count) → Adds table old.now new.now
+pub adds : (sql : List ℕ) (table : Table) (old new : State) (count : ℕ) → (command_of (understood old.now.schema sql) ≡ CreateTable)
+    × (statement_of sql (understood old.now.schema sql) ≡ sql) × IsPlain (understood old.now.schema sql) → table_defined_by sql ≡ Ok table
+    → table.is_counted ≡ false → lacks_sequence old.now.schema ≡ false → Executes sql [] old new (Ok count) → Adds table old.now new.now
 adds sql table old new count means defined uncounted none h =
     let before = old.now.schema in
     let w = subst (λ t. Writes old new None CreateTable t [] count) means.1 (runs_as sql [] old new before refl CreateTable means.0 means.2 count h) in

@@ -1,5 +1,6 @@
 -- A table that is found by name is a desk's, where the schema has that.
-use Rattle.std.proofs.Common.{arith, inl, inr, ◌≡◌, ◌≤◌, ◌<◌, [], ◌∷◌, slice_index_or, ◌==◌, ◌^◌, nat_le, ℕ, List, length, false, find, slice_get, option_copied, Option, Some, None, refl, sym, ap, subst, ◌∙◌, IsTrue}
+use Rattle.std.proofs.Common.{arith, inl, inr, ◌≡◌, ◌≤◌, ◌<◌, [], ◌∷◌, slice_index_or, ◌==◌, ◌^◌, nat_le, ℕ, List, length}
+use Rattle.std.proofs.Common.{false, find, slice_get, option_copied, Option, Some, None, refl, sym, ap, subst, ◌∙◌, IsTrue}
 use Rattle.std.proofs.lemmas.Bool.{eqb-true}
 use Rattle.std.proofs.lemmas.Bool.Decides.{eqb_tells}
 use Rattle.std.proofs.lemmas.Option.{slice_get_read}
@@ -25,7 +26,8 @@ lent_at ts all at (Some x) t same item is =
 
 module _ (name : List ℕ) (made : ℕ → Table) (tree_is : (n : ℕ) → (made n).tree ≡ n) where
   -- what is found by name is found by its tree, and is the table that it should be
-  pub the_table : (s : Schema) (at : ℕ) (t : Table) (tree there : ℕ) → Finds s name there (made tree) → table_named s name ≡ Some at → slice_get s.tables at ≡ Some t
+  pub the_table : (s : Schema) (at : ℕ) (t : Table) (tree there : ℕ) → Finds s name there (made tree)
+      → table_named s name ≡ Some at → slice_get s.tables at ≡ Some t
       → (find (λ (u : Table). u.tree == t.tree) s.tables ≡ Some t) × (t ≡ made t.tree) × (nat_le (2 ^ 31) t.tree ≡ false)
   the_table s at t tree there it named has =
       let both : Some there ≡ Some at = sym it.named ∙ named in
@@ -36,19 +38,22 @@ module _ (name : List ℕ) (made : ℕ → Table) (tree_is : (n : ℕ) → (made
       subst P same (it.by_tree, ap made (sym (tree_is tree)), it.stored)
 
   -- the first table of that tree is then this one
-  pub the_first : (s : Schema) (ts : List Table) (at tree there : ℕ) (got : Option (Bor Table)) (t : Bor Table) (first : Option (Bor Table)) → ts ≡ s.tables → Finds s name there (made tree)
-      → table_named s name ≡ Some at → IsItemAt ts at got → got ≡ Some t → option_copied first ≡ find (λ (u : Table). u.tree == t.now.tree) ts → (option_copied first ≡ Some t.now) × (t.now ≡ made t.now.tree)
+  pub the_first : (s : Schema) (ts : List Table) (at tree there : ℕ) (got : Option (Bor Table)) (t : Bor Table) (first : Option (Bor Table))
+      → ts ≡ s.tables → Finds s name there (made tree) → table_named s name ≡ Some at → IsItemAt ts at got → got ≡ Some t
+      → option_copied first ≡ find (λ (u : Table). u.tree == t.now.tree) ts → (option_copied first ≡ Some t.now) × (t.now ≡ made t.now.tree)
   the_first s ts at tree there got t first same it named item is found =
       let all = the_table s at t.now tree there it named (lent_at ts s.tables at got t same item is) in
       (found ∙ ap (find (λ (u : Table). u.tree == t.now.tree)) same ∙ all.0, all.1)
 
   -- and a table that is found by its name, and is the first of its tree, is found by both
-  pub found_by_both : (s : Schema) (ts : List Table) (at : ℕ) (got : Option (Bor Table)) (t : Bor Table) (first : Option (Bor Table)) (f : Bor Table) → ts ≡ s.tables → table_named s name ≡ Some at → IsItemAt ts at got → got ≡ Some t
-      → t.now ≡ made t.now.tree → nat_le (2 ^ 31) t.now.tree ≡ false → option_copied first ≡ find (λ (u : Table). u.tree == t.now.tree) ts → first ≡ Some f → f.now ≡ made f.now.tree → IsTrue (f.now.tree == t.now.tree)
-      → (at : ℕ) × (tree : ℕ) × Finds s name at (made tree)
+  pub found_by_both : (s : Schema) (ts : List Table) (at : ℕ) (got : Option (Bor Table)) (t : Bor Table) (first : Option (Bor Table)) (f : Bor Table)
+      → ts ≡ s.tables → table_named s name ≡ Some at → IsItemAt ts at got → got ≡ Some t
+      → t.now ≡ made t.now.tree → nat_le (2 ^ 31) t.now.tree ≡ false → option_copied first ≡ find (λ (u : Table). u.tree == t.now.tree) ts
+      → first ≡ Some f → f.now ≡ made f.now.tree → IsTrue (f.now.tree == t.now.tree) → (at : ℕ) × (tree : ℕ) × Finds s name at (made tree)
   found_by_both s ts at got t first f same named item is made_is stored found first_is first_made trees =
       let one : f.now ≡ t.now = first_made ∙ ap made (eqb-true f.now.tree t.now.tree trees) ∙ sym made_is in
-      let by_tree : find (λ (u : Table). u.tree == t.now.tree) s.tables ≡ Some t.now = ap (find (λ (u : Table). u.tree == t.now.tree)) (sym same) ∙ sym found ∙ ap option_copied first_is ∙ ap (λ (x : Table). Some x) one in
+      let by_tree : find (λ (u : Table). u.tree == t.now.tree) s.tables ≡ Some t.now =
+      ap (find (λ (u : Table). u.tree == t.now.tree)) (sym same) ∙ sym found ∙ ap option_copied first_is ∙ ap (λ (x : Table). Some x) one in
       let P : Table → Type 0 = λ x. Finds s name at x in
       (at, t.now.tree, subst P made_is (record { named = named; has = lent_at ts s.tables at got t same item is; stored = stored; by_tree = by_tree }))
 
@@ -69,15 +74,18 @@ tree_is Marks n = refl
 tree_is Verdicts n = refl
 tree_is Parked n = refl
 
-pub first_part : (part : Part) (s : Schema) (ts : List Table) (at : ℕ) (got : Option (Bor Table)) (t : Bor Table) (first : Option (Bor Table)) → ts ≡ s.tables → FindsPart s part → table_named s (name_of part) ≡ Some at
-    → IsItemAt ts at got → got ≡ Some t → option_copied first ≡ find (λ (u : Table). u.tree == t.now.tree) ts → (option_copied first ≡ Some t.now) × (t.now ≡ table_at part t.now.tree) × (nat_le (2 ^ 31) t.now.tree ≡ false)
+pub first_part : (part : Part) (s : Schema) (ts : List Table) (at : ℕ) (got : Option (Bor Table)) (t : Bor Table) (first : Option (Bor Table))
+    → ts ≡ s.tables → FindsPart s part → table_named s (name_of part) ≡ Some at → IsItemAt ts at got
+    → got ≡ Some t → option_copied first ≡ find (λ (u : Table). u.tree == t.now.tree) ts
+    → (option_copied first ≡ Some t.now) × (t.now ≡ table_at part t.now.tree) × (nat_le (2 ^ 31) t.now.tree ≡ false)
 first_part part s ts at got t first same it named item is found =
     let all = the_table (name_of part) (table_at part) (tree_is part) s at t.now it.1 it.0 it.2 named (lent_at ts s.tables at got t same item is) in
     let one = the_first (name_of part) (table_at part) (tree_is part) s ts at it.1 it.0 got t first same it.2 named item is found in
     (one.0, one.1, all.2)
 
 -- a list of four
-pub four : (cs : List Column) (a b c d : Column) → 4 ≤ length cs → length cs < 5 → a ≡ slice_index_or cs 0 a → b ≡ slice_index_or cs 1 b → c ≡ slice_index_or cs 2 c → d ≡ slice_index_or cs 3 d → cs ≡ a ∷ b ∷ c ∷ d ∷ []
+pub four : (cs : List Column) (a b c d : Column) → 4 ≤ length cs → length cs < 5 → a ≡ slice_index_or cs 0 a
+    → b ≡ slice_index_or cs 1 b → c ≡ slice_index_or cs 2 c → d ≡ slice_index_or cs 3 d → cs ≡ a ∷ b ∷ c ∷ d ∷ []
 four [] a b c d low high ea eb ec ed = absurd (omega (arith, low))
 four (p ∷ []) a b c d low high ea eb ec ed = absurd (omega (arith, low))
 four (p ∷ q ∷ []) a b c d low high ea eb ec ed = absurd (omega (arith, low))

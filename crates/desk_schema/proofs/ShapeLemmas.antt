@@ -15,7 +15,8 @@ found_in : (s : Schema) (p : Part) (it : FindsPart s p) → Finds s (name_of p) 
 found_in s p it = subst (λ n. Finds s (name_of p) it.0 (table_at p n)) (sym (tree_in s p it)) it.2
 
 -- five tables to which no foreign key refers are a desk's
-pub desk_of : (s : Schema) → HasCommon s → FindsPart s part.Verdicts → IsUnreferred s (tree_of s (codes "desk")) → IsUnreferred s (tree_of s (codes "names")) → IsUnreferred s (tree_of s (codes "verdicts")) → IsUnreferred s (tree_of s (codes "parked")) → HasDesk s
+pub desk_of : (s : Schema) → HasCommon s → FindsPart s part.Verdicts → IsUnreferred s (tree_of s (codes "desk"))
+    → IsUnreferred s (tree_of s (codes "names")) → IsUnreferred s (tree_of s (codes "verdicts")) → IsUnreferred s (tree_of s (codes "parked")) → HasDesk s
 desk_of s has verdicts a b c d = record {
   d = has.desk.0;
   m = has.messages.0;

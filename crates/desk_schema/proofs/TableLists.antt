@@ -23,7 +23,8 @@ module _ (q : Table → Bool) where
   not_named p i [] u none h = absurd cc
   not_named p i (x ∷ ts) u none h = go (p x) refl (q x) none h (λ n e. not_named p (i + 1) ts u n e)
     where
-      go : (b : Bool) → p x ≡ b → (c : Bool) → cond b (Some i) (position_from p (i + 1) ts) ≡ None → cond c (Some x) (find q ts) ≡ Some u → (position_from p (i + 1) ts ≡ None → find q ts ≡ Some u → p u ≡ false) → p u ≡ false
+      go : (b : Bool) → p x ≡ b → (c : Bool) → cond b (Some i) (position_from p (i + 1) ts) ≡ None
+          → cond c (Some x) (find q ts) ≡ Some u → (position_from p (i + 1) ts ≡ None → find q ts ≡ Some u → p u ≡ false) → p u ≡ false
       go true e c n f more = absurd cc
       go false e true n f more = let same : x ≡ u = cc in ap p (sym same) ∙ e
       go false e false n f more = more n f

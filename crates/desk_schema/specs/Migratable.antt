@@ -5,7 +5,8 @@ use Rattle.sqlite.specs.Does.{lacks_sequence}
 use Rattle.desk_tables.specs.Stored.{IsUnreferred, tree_of}
 use Rattle.desk_schema.specs.Ready.{is_parent}
 
--- No foreign key refers to the tables that lose rows, or waits for `verdicts`; and where a table counts by AUTOINCREMENT, the table of the counts is there.
+-- No foreign key refers to the tables that lose rows, or waits for `verdicts`; and where a table
+-- counts by AUTOINCREMENT, the table of the counts is there.
 pub record IsMigratable (s : Schema) : Type 0 where
   pub desk : IsUnreferred s (tree_of s (codes "desk"))
   pub names : IsUnreferred s (tree_of s (codes "names"))

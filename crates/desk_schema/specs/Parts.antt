@@ -2,12 +2,15 @@
 use Rattle.std.specs.Prelude.{[], ◌∷◌, codes, List, ℕ}
 use Rattle.sqlite.specs.Table.{Table}
 use Rattle.sqlite_schema.specs.declared.schema.Column.{Column}
-use Rattle.desk_tables.specs.DeskTables.{desk, messages, names, verdicts, parked, keyed, desk_at, messages_at, names_at, verdicts_at, parked_at}
+use Rattle.desk_tables.specs.DeskTables.{desk, messages, names, verdicts, parked, keyed}
+use Rattle.desk_tables.specs.DeskTables.{desk_at, messages_at, names_at, verdicts_at, parked_at}
 use Rattle.desk_schema.specs.declared.part.Part.{Part}
-use Rattle.desk_schema.specs.declared.part.Part.TheVariants.{Desk, Messages, Names, Marks, Verdicts, Parked}
+use Rattle.desk_schema.specs.declared.part.Part.TheVariants.{Desk, Messages, Names}
+use Rattle.desk_schema.specs.declared.part.Part.TheVariants.{Marks, Verdicts, Parked}
 
--- The table of an older desk, which kept one moment of each person and kind.
--- CREATE TABLE marks (asker TEXT NOT NULL, no INTEGER NOT NULL, person TEXT NOT NULL, kind TEXT NOT NULL, at INTEGER NOT NULL, PRIMARY KEY (asker, no, person, kind)) STRICT
+-- The table of an older desk, which kept one moment of each person and kind. CREATE TABLE marks
+-- (asker TEXT NOT NULL, no INTEGER NOT NULL, person TEXT NOT NULL, kind TEXT NOT NULL, at INTEGER
+-- NOT NULL, PRIMARY KEY (asker, no, person, kind)) STRICT
 abbrev pub marks : Table
 marks = keyed (codes "marks") verdicts.columns (1 ∷ 2 ∷ 3 ∷ 4 ∷ [])
 

@@ -4,7 +4,8 @@ use Rattle.sqlite.specs.Schema.{Schema}
 use Rattle.sqlite.specs.Effect.{Database}
 use Rattle.desk_tables.specs.Stored.{Finds, IsUnused}
 use Rattle.desk_schema.specs.declared.part.Part.{Part}
-use Rattle.desk_schema.specs.declared.part.Part.TheVariants.{Desk, Messages, Names, Marks, Verdicts, Parked}
+use Rattle.desk_schema.specs.declared.part.Part.TheVariants.{Desk, Messages, Names}
+use Rattle.desk_schema.specs.declared.part.Part.TheVariants.{Marks, Verdicts, Parked}
 use Rattle.desk_schema.specs.declared.shape.Shape.{Shape}
 use Rattle.desk_schema.specs.declared.shape.Shape.TheVariants as shape
 use Rattle.desk_schema.specs.Parts.{name_of, table_at}

@@ -35,7 +35,8 @@ fn is_number(column: &Column, name: &[u8]) -> bool
 
 /// The name of a request: who asks, and the number.
 fn are_name(asker: &Column, no: &Column) -> bool
-    ensures { IsTrue result ↔ ((asker.now ≡ column_of (codes "asker") kind_of.Text true) × (no.now ≡ column_of (codes "no") kind_of.Integer true)) }
+    ensures { IsTrue result ↔ ((asker.now ≡ column_of (codes "asker") kind_of.Text true)
+        × (no.now ≡ column_of (codes "no") kind_of.Integer true)) }
 {
     is_text(asker, b"asker") && is_number(no, b"no")
 }

@@ -8,7 +8,8 @@ ghost use Rattle.desk_tables.specs.private.Stepping.{InStep};
 ghost use Rattle.desk_tables.specs.private.Steps.{IsStep};
 ghost use Rattle.desk_schema.specs.Beside.{KeepsBeside};
 ghost use Rattle.desk_schema.specs.Ready.{IsReady};
-ghost use Rattle.desk_schema.specs.private.Making.{AddsPart, Filled, Founds, FoundsAt, GrownWhole, text_of};
+ghost use Rattle.desk_schema.specs.private.Making.{AddsPart, Filled, Founds};
+ghost use Rattle.desk_schema.specs.private.Making.{FoundsAt, GrownWhole, text_of};
 
 use crate::part::Part;
 use desk_tables::put_roster;
@@ -41,7 +42,8 @@ fn text_of(part: Part) -> &'static str
 /// Adds the table, which is empty.
 pub fn add_table<S: Alter>(tx: &mut Transaction<'_, S>, part: Part) -> Result<usize, Error>
     ensures same_reference { tx.new.conn.ghost_name ≡ tx.old.conn.ghost_name }
-    ensures added { InStep (state S.Store tx.old.conn.now) (state S.Store tx.new.conn.now) (λ a b. OnOk result (AddsPart part a b)) }
+    ensures added { InStep (state S.Store tx.old.conn.now)
+        (state S.Store tx.new.conn.now) (λ a b. OnOk result (AddsPart part a b)) }
     ensures step { IsStep (state S.Store tx.old.conn.now) (state S.Store tx.new.conn.now) }
 {
     tx.execute(text_of(part), &[])
@@ -50,7 +52,8 @@ pub fn add_table<S: Alter>(tx: &mut Transaction<'_, S>, part: Part) -> Result<us
 /// Adds a desk's five tables, which are empty.
 fn add_tables<S: Alter>(tx: &mut Transaction<'_, S>) -> Result<(), Error>
     ensures same_reference { tx.new.conn.ghost_name ≡ tx.old.conn.ghost_name }
-    ensures grown { InStep (state S.Store tx.old.conn.now) (state S.Store tx.new.conn.now) (λ a b. OnOk result (GrownWhole a b)) }
+    ensures grown { InStep (state S.Store tx.old.conn.now)
+        (state S.Store tx.new.conn.now) (λ a b. OnOk result (GrownWhole a b)) }
     ensures step { IsStep (state S.Store tx.old.conn.now) (state S.Store tx.new.conn.now) }
 {
     add_table(tx, Part::Desk)?;
@@ -63,7 +66,8 @@ fn add_tables<S: Alter>(tx: &mut Transaction<'_, S>) -> Result<(), Error>
 
 fn fill<S: Alter>(tx: &mut Transaction<'_, S>, roster: &str) -> Result<(), Error>
     ensures same_reference { tx.new.conn.ghost_name ≡ tx.old.conn.ghost_name }
-    ensures filled { InStep (state S.Store tx.old.conn.now) (state S.Store tx.new.conn.now) (λ a b. OnOk result (Filled roster.now a b)) }
+    ensures filled { InStep (state S.Store tx.old.conn.now)
+        (state S.Store tx.new.conn.now) (λ a b. OnOk result (Filled roster.now a b)) }
     ensures step { IsStep (state S.Store tx.old.conn.now) (state S.Store tx.new.conn.now) }
 {
     add_tables(tx)?;
@@ -78,13 +82,18 @@ pub fn make<S: Alter>(conn: &mut Connection<S>, roster: &str) -> Result<(), Erro
     requires ready { IsUp (state S.Store conn.old) → IsReady (state S.Store conn.old).now.schema }
     ensures rests { Rests (state S.Store conn.new) }
     ensures was_up { IsUp (state S.Store conn.new) → IsUp (state S.Store conn.old) }
-    ensures was_clean { HasCleanDisk (state S.Store conn.new) → HasCleanDisk (state S.Store conn.old) }
-    ensures up { IsUp (state S.Store conn.old) → HasCleanDisk (state S.Store conn.new) → OnOk result (IsUp (state S.Store conn.new)) }
-    ensures unmade { IsUp (state S.Store conn.new) → OnErr result ((state S.Store conn.new).now ≡ (state S.Store conn.old).now) }
-    ensures made { IsUp (state S.Store conn.new) → OnOk result (Founds roster.now (state S.Store conn.old).now (state S.Store conn.new).now) }
-    ensures beside { IsUp (state S.Store conn.new) → OnOk result (KeepsBeside (state S.Store conn.old).now (state S.Store conn.new).now) }
-    ensures survives { IsUp (state S.Store conn.old)
-        → Survives (state S.Store conn.old) (state S.Store conn.new) (FoundsAt roster.now (state S.Store conn.old).now) }
+    ensures was_clean { HasCleanDisk (state S.Store conn.new)
+        → HasCleanDisk (state S.Store conn.old) }
+    ensures up { IsUp (state S.Store conn.old) → HasCleanDisk (state S.Store conn.new)
+        → OnOk result (IsUp (state S.Store conn.new)) }
+    ensures unmade { IsUp (state S.Store conn.new)
+        → OnErr result ((state S.Store conn.new).now ≡ (state S.Store conn.old).now) }
+    ensures made { IsUp (state S.Store conn.new) → OnOk result
+        (Founds roster.now (state S.Store conn.old).now (state S.Store conn.new).now) }
+    ensures beside { IsUp (state S.Store conn.new)
+        → OnOk result (KeepsBeside (state S.Store conn.old).now (state S.Store conn.new).now) }
+    ensures survives { IsUp (state S.Store conn.old) → Survives (state S.Store conn.old)
+        (state S.Store conn.new) (FoundsAt roster.now (state S.Store conn.old).now) }
 {
     let mut tx = conn.transaction();
     fill(&mut tx, roster)?;

@@ -8,8 +8,8 @@ use crate::ready::{is_parent, lacks_sequence};
 use crate::references::is_unreferred;
 use sqlite_schema::schema::Schema;
 
-/// Whether an older desk can become one of today: no foreign key refers to the tables that lose rows, or waits for
-/// `verdicts`, and no count lacks its table.
+/// Whether an older desk can become one of today: no foreign key refers to the tables that lose
+/// rows, or waits for `verdicts`, and no count lacks its table.
 pub fn is_migratable(schema: &Schema) -> bool
     ensures { IsTrue result ↔ IsMigratable schema.now }
 {

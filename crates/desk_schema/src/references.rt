@@ -29,7 +29,8 @@ fn is_to(tables: &[Table], reference: &Reference, tree: u32) -> bool
 }
 
 fn has_one_to(tables: &[Table], table: &Table, tree: u32) -> bool
-    ensures { result ≡ list_any (λ ref. is_in (parent_of tables.now ref) tree) table.now.references }
+    ensures { result
+        ≡ list_any (λ ref. is_in (parent_of tables.now ref) tree) table.now.references }
 {
     table
         .references

@@ -50,7 +50,8 @@ fn are_orders(orders: &[Order]) -> bool
 
 /// Whether the table has this name, this unique key, and nothing else that its columns do not say.
 fn is_keyed(table: &Table, name: &[u8], places: &[usize]) -> bool
-    ensures { IsTrue result ↔ (table.now ≡ record (keyed name.now table.now.columns places.now) { tree = table.now.tree }) }
+    ensures { IsTrue result ↔ (table.now
+        ≡ record (keyed name.now table.now.columns places.now) { tree = table.now.tree }) }
 {
     table.name.as_slice() == name
         && table.key.is_none()
@@ -62,7 +63,8 @@ fn is_keyed(table: &Table, name: &[u8], places: &[usize]) -> bool
 
 /// The same of `desk`, whose key is its rowid.
 fn is_by_rowid(table: &Table, name: &[u8]) -> bool
-    ensures { IsTrue result ↔ (table.now ≡ record (framed name.now table.now.columns) { tree = table.now.tree }) }
+    ensures { IsTrue result
+        ↔ (table.now ≡ record (framed name.now table.now.columns) { tree = table.now.tree }) }
 {
     table.name.as_slice() == name
         && table.key == Some(0)
@@ -86,7 +88,8 @@ fn key_of(part: Part) -> &'static [usize]
 }
 
 fn has_frame(table: &Table, part: Part) -> bool
-    ensures { IsTrue result ↔ (table.now ≡ record (table_at part table.now.tree) { columns = table.now.columns }) }
+    ensures { IsTrue result
+        ↔ (table.now ≡ record (table_at part table.now.tree) { columns = table.now.columns }) }
 {
     match part {
         Part::Desk => is_by_rowid(table, name_of(part)),

@@ -257,7 +257,8 @@ fn add_outcome(rows: &mut Vec<Row>, calls: u64, outcome: Outcome) -> Result<(), 
     Ok(())
 }
 
-/// Adds what the stops after each number of calls of the file come to, until the call ends untouched.
+/// Adds what the stops after each number of calls of the file come to, until the call ends
+/// untouched.
 fn add_stops(
     alloc: Global,
     rows: &mut Vec<Row>,
@@ -276,8 +277,8 @@ fn add_stops(
     Ok(())
 }
 
-/// Whether the next opening may find this after what was made: where a call was refused, the state before it or after its first commit; after two deliveries
-/// one that goes with their answers.
+/// Whether the next opening may find this after what was made: where a call was refused, the state
+/// before it or after its first commit; after two deliveries one that goes with their answers.
 fn may_find(made: Made, found: State, case: Case) -> bool {
     match made {
         Made::Called(Answer::Done) => found == case.second,
@@ -290,7 +291,8 @@ fn may_find(made: Made, found: State, case: Case) -> bool {
     }
 }
 
-/// Whether what was found may be found, and the same call once more is acknowledged and leads to the second state.
+/// Whether what was found may be found, and the same call once more is acknowledged and leads to
+/// the second state.
 fn is_seen_right(made: Made, seen: Seen, case: Case) -> bool {
     may_find(made, seen.found, case) && seen.again == Answer::Done && seen.then == case.second
 }

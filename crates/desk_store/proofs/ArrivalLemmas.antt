@@ -12,15 +12,16 @@ use Rattle.desk_schema.proofs.MarksLemmas.{unmarked_still}
 use Rattle.desk_opening.specs.Opened.{IsKept}
 
 -- by the text that was given, where this is the message's
-pub content_wired : (old new : Database) (m : Message) (text : List ℕ) → text ≡ wire m → content_of new ≡ with_text text (content_of old) → content_of new ≡ with_text (wire m) (content_of old)
+pub content_wired : (old new : Database) (m : Message) (text : List ℕ) → text ≡ wire m
+    → content_of new ≡ with_text text (content_of old) → content_of new ≡ with_text (wire m) (content_of old)
 content_wired old new m text is content = content ∙ ap (λ t. with_text t (content_of old)) is
 
 pub held_wired : (db : Database) (m : Message) (text : List ℕ) → text ≡ wire m → HoldsText db m → has (content_of db) text ≡ true
 held_wired db m text is held = ap (has (content_of db)) is ∙ held.1
 
 -- a desk stays one
-pub arrival_keeps : {A E : Type 0} (old new : State) (r : Result A E) → (IsUp old → IsKept old.now) → (IsUp new → IsUp old) → (IsUp new → IsDeskDatabase new.now)
-    → (IsUp new → OnOk r (Spares old.now new.now)) → (IsUp new → OnErr r (new.now ≡ old.now)) → IsUp new → IsKept new.now
+pub arrival_keeps : {A E : Type 0} (old new : State) (r : Result A E) → (IsUp old → IsKept old.now) → (IsUp new → IsUp old)
+    → (IsUp new → IsDeskDatabase new.now) → (IsUp new → OnOk r (Spares old.now new.now)) → (IsUp new → OnErr r (new.now ≡ old.now)) → IsUp new → IsKept new.now
 arrival_keeps old new (Ok x) kept was_up desk others unchanged up =
     let was = kept (was_up up) in
     record { desk = desk up; unmarked = unmarked_still old.now new.now was.desk.tidy.desk (others up) was.unmarked }

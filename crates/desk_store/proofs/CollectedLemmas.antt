@@ -1,5 +1,6 @@
 -- A message put into a list beside the texts.
-use Rattle.std.proofs.Common.{◌≡◌, ◌≢◌, ◌⊎◌, ℕ, ◌<◌, List, [], ◌∷◌, ◌++◌, length, get_or, Bool, true, false, ◌||◌, Ordering, Less, Equal, Greater, Global, refl, sym, ap, ◌∙◌, subst, inl, inr}
+use Rattle.std.proofs.Common.{◌≡◌, ◌≢◌, ◌⊎◌, ℕ, ◌<◌, List, [], ◌∷◌, ◌++◌, length, get_or, Bool, true, false}
+use Rattle.std.proofs.Common.{◌||◌, Ordering, Less, Equal, Greater, Global, refl, sym, ap, ◌∙◌, subst, inl, inr}
 use Rattle.std.specs.Prelude.{String, Contains}
 use Rattle.std.specs.BTreeMap.{is_at}
 use Rattle.std.specs.BTreeSet.{insert_key}
@@ -109,6 +110,7 @@ module _ (ms : List Message) (ks : List Text) (m : Message) (kept : IsKept ms ks
   pub is_there : has_text ks (wire m) ≡ true → Contains ms m
   is_there known = kept.found m is known
 
-  pub put_kept : (k : Text) (new : List Text) → string_bytes k ≡ wire m → has_text ks (wire m) ≡ false → new ≡ insert_key string_cmp ks k → IsKept (ms ++ m ∷ []) new
+  pub put_kept : (k : Text) (new : List Text) → string_bytes k ≡ wire m
+      → has_text ks (wire m) ≡ false → new ≡ insert_key string_cmp ks k → IsKept (ms ++ m ∷ []) new
   put_kept k new text missing keys =
       subst (λ (x : List Text). IsKept (ms ++ m ∷ []) x) (sym keys) (stays_kept ms ks m k kept is text (is_absent missing))

@@ -33,7 +33,8 @@ push_same xs old new x same (inr (absent, is)) m = (
 )
 
 -- one message more
-pub put_more : (all old new : List Message) (i : ℕ) (x : Message) → i < length all → x ≡ get_or all i x → AreSame (take i all) old → IsPut old x new → AreSame (take (i + 1) all) new
+pub put_more : (all old new : List Message) (i : ℕ) (x : Message) → i < length all
+    → x ≡ get_or all i x → AreSame (take i all) old → IsPut old x new → AreSame (take (i + 1) all) new
 put_more all old new i x within is same put =
     let more : take (i + 1) all ≡ take i all ++ x ∷ [] = take_more all i x within ∙ ap (λ y. take i all ++ y ∷ []) (sym is) in
     subst (λ l. AreSame l new) (sym more) (push_same (take i all) old new x same put)

@@ -18,7 +18,8 @@ use Rattle.desk_schema.specs.Shapes.{IsVacant}
 use Rattle.desk_schema.specs.private.Making.{FoundsAt, Makes, fresh}
 use Rattle.desk_schema.proofs.MarksLemmas.{unmarked_spared}
 use Rattle.desk_opening.specs.Opened.{IsKept, IsOldDesk}
-use Rattle.desk_store.specs.Left.{Left, Nothing, ADesk, AnOldDesk, NoDesk, HoldsIn, IsAsKept, IsDeskOf, IsFoundAs, IsNothingOrFresh, IsOldDeskOf, IsReplacedOrNot, IsWithOrWithout}
+use Rattle.desk_store.specs.Left.{Left, Nothing, ADesk, AnOldDesk, NoDesk, HoldsIn, IsAsKept, IsDeskOf}
+use Rattle.desk_store.specs.Left.{IsFoundAs, IsNothingOrFresh, IsOldDeskOf, IsReplacedOrNot, IsWithOrWithout}
 use Rattle.desk_store.specs.Crash.{IsFound, MayLeave}
 use Rattle.desk_store.specs.private.Replacing.{Becomes, BecomesAt}
 use Rattle.desk_store.specs.private.Survival.{IsAgain, Settled}
@@ -33,7 +34,8 @@ same_texts a b same = λ m. (
   (λ held. (held.0, ap (λ t. set.contains t (wire m)) (sym same) ∙ held.1)),
 )
 
-pub with_message : (a b : Database) (m : Message) → IsMessage m → content_of b ≡ with_text (wire m) (content_of a) → SameSet (With (HoldsText a) m) (HoldsText b)
+pub with_message : (a b : Database) (m : Message) → IsMessage m
+    → content_of b ≡ with_text (wire m) (content_of a) → SameSet (With (HoldsText a) m) (HoldsText b)
 with_message a b m is content =
     let texts : (content_of b).texts ≡ set.insert (content_of a).texts (wire m) = ap (λ (c : Content). c.texts) content in
     λ n. (
@@ -44,7 +46,9 @@ with_message a b m is content =
 -- a desk that was made holds no message
 pub holds_nothing : (db : Database) (roster : List ℕ) → content_of db ≡ fresh roster → IsNothing (HoldsText db)
 holds_nothing db roster content m held =
-    let none : false ≡ true = sym (set.contains-empty (slice_cmp nat_cmp) (wire m)) ∙ sym (ap (λ (c : Content). set.contains c.texts (wire m)) content) ∙ held.1 in cc
+    let none : false ≡ true =
+    sym (set.contains-empty (slice_cmp nat_cmp) (wire m)) ∙ sym (ap (λ (c : Content). set.contains c.texts (wire m)) content) ∙ held.1 in
+    cc
 
 -- ---- desks
 
@@ -52,14 +56,18 @@ pub made_kept : (roster : List ℕ) (db : Database) → Makes roster db → IsKe
 made_kept roster db makes = record { desk = makes.desk; unmarked = inl makes.marks }
 
 pub arrived_kept : (text : List ℕ) (old new : Database) → IsKept old → Arrives text old new → IsKept new
-arrived_kept text old new is arrives = record { desk = arrives.desk; unmarked = unmarked_spared old new arrives.listed is.desk.tidy.desk arrives.foreign is.unmarked }
+arrived_kept text old new is arrives = record {
+  desk = arrives.desk;
+  unmarked = unmarked_spared old new arrives.listed is.desk.tidy.desk arrives.foreign is.unmarked;
+}
 
 -- ---- what a look at a database finds
 
 module _ (db : Database) where
   found_desk : (left : Left) → IsFound db left → IsKept db → IsDeskOf (content_of db).roster (HoldsText db) left
   found_desk Nothing vacant desk = absurd (kept_not_vacant db desk vacant)
-  found_desk (ADesk c) is desk = (ap (λ (x : Content). x.roster) is.1, subst (λ (x : Content). SameSet (HoldsText db) (HoldsIn x)) (sym is.1) (λ m. (λ h. h, λ h. h)))
+  found_desk (ADesk c) is desk =
+      (ap (λ (x : Content). x.roster) is.1, subst (λ (x : Content). SameSet (HoldsText db) (HoldsIn x)) (sym is.1) (λ m. (λ h. h, λ h. h)))
   found_desk (AnOldDesk c) is desk = absurd (kept_not_old db desk is.0)
   found_desk NoDesk none desk = absurd (none.1 desk)
 
@@ -78,10 +86,19 @@ module _ (db : Database) where
   -- what a look finds is what is kept
   pub found_as : (left : Left) → IsFound db left → IsFoundAs (IsVacant db.schema) (IsKept db) (IsOldDesk db) (content_of db).roster (HoldsText db) left
   found_as Nothing is = (is, λ kept. kept_not_vacant db kept is, λ old. old_not_vacant db old is)
-  found_as (ADesk c) is =
-      (is.0, kept_not_vacant db is.0, kept_not_old db is.0, ap (λ (x : Content). x.roster) (sym is.1), subst (λ (x : Content). SameSet (HoldsText db) (HoldsIn x)) (sym is.1) (λ m. (λ h. h, λ h. h)))
-  found_as (AnOldDesk c) is =
-      (is.0, old_not_vacant db is.0, λ kept. kept_not_old db kept is.0, subst (λ (x : Content). SameSet (HoldsText db) (HoldsIn x)) (sym is.1) (λ m. (λ h. h, λ h. h)))
+  found_as (ADesk c) is = (
+    is.0,
+    kept_not_vacant db is.0,
+    kept_not_old db is.0,
+    ap (λ (x : Content). x.roster) (sym is.1),
+    subst (λ (x : Content). SameSet (HoldsText db) (HoldsIn x)) (sym is.1) (λ m. (λ h. h, λ h. h)),
+  )
+  found_as (AnOldDesk c) is = (
+    is.0,
+    old_not_vacant db is.0,
+    λ kept. kept_not_old db kept is.0,
+    subst (λ (x : Content). SameSet (HoldsText db) (HoldsIn x)) (sym is.1) (λ m. (λ h. h, λ h. h)),
+  )
   found_as NoDesk is = is
 
 -- what is kept of the database, for the next opening
@@ -95,25 +112,28 @@ module _ (a db : Database) (left : Left) (found : IsFound db left) where
       let set' = same_texts a db (ap (λ (c : Content). c.texts) same.content) in
       record {
         empty = λ vacant. found_nothing db left found (same.empty vacant);
-        desk = λ is. same_left (content_of a).roster (content_of db).roster (HoldsText a) (HoldsText db) left (ap (λ (c : Content). c.roster) same.content) set' (found_desk db left found (same.desk is));
+        desk = λ is. same_left (content_of a).roster (content_of db).roster (HoldsText a) (HoldsText db) left
+            (ap (λ (c : Content). c.roster) same.content) set' (found_desk db left found (same.desk is));
         old = λ is. same_old_left (HoldsText a) (HoldsText db) left set' (found_old db left found (same.old is));
       }
 
   -- where it has a message more
   arrives_left : (m : Message) → IsMessage m → IsKept a → Arrives (wire m) a db → IsDeskOf (content_of a).roster (With (HoldsText a) m) left
   arrives_left m is kept arrives =
-      same_left (content_of a).roster (content_of db).roster (With (HoldsText a) m) (HoldsText db) left (ap (λ (c : Content). c.roster) arrives.content) (with_message a db m is arrives.content)
-      (found_desk db left found (arrived_kept (wire m) a db kept arrives))
+      same_left (content_of a).roster (content_of db).roster (With (HoldsText a) m) (HoldsText db) left (ap (λ (c : Content). c.roster) arrives.content)
+      (with_message a db m is arrives.content) (found_desk db left found (arrived_kept (wire m) a db kept arrives))
 
   -- where it has another roster text
   becomes_left : (roster : List ℕ) → Becomes roster a db → IsDeskOf roster (HoldsText a) left
   becomes_left roster it =
-      same_left roster (content_of db).roster (HoldsText a) (HoldsText db) left (ap (λ (c : Content). c.roster) it.content) (same_texts a db (ap (λ (c : Content). c.texts) it.content)) (found_desk db left found it.desk)
+      same_left roster (content_of db).roster (HoldsText a) (HoldsText db) left (ap (λ (c : Content). c.roster) it.content)
+      (same_texts a db (ap (λ (c : Content). c.texts) it.content)) (found_desk db left found it.desk)
 
 made_left : (roster : List ℕ) (db : Database) (left : Left) → IsFound db left → Makes roster db → IsDeskOf roster (λ _. ⊥) left
 made_left roster db left found made =
     let none = holds_nothing db roster made.content in
-    same_left roster (content_of db).roster (λ _. ⊥) (HoldsText db) left (ap (λ (c : Content). c.roster) made.content) (λ m. (λ h. absurd h, none m)) (found_desk db left found (made_kept roster db made))
+    same_left roster (content_of db).roster (λ _. ⊥) (HoldsText db) left (ap (λ (c : Content). c.roster) made.content)
+    (λ m. (λ h. absurd h, none m)) (found_desk db left found (made_kept roster db made))
 
 -- ---- the store of a database
 
@@ -132,11 +152,13 @@ module _ (old new : State) (settled : Settled old) (up : IsUp old) (clean : HasC
     | inr none ↦ absurd none
   ]
 
-  pub with_or_without : (m : Message) → IsMessage m → IsKept old.now → Survives old new (ArrivesAt (wire m) old.now) → IsWithOrWithout (content_of old.now).roster (HoldsText old.now) m left
-  with_or_without m is desk lives = elim (before_or (ArrivesAt (wire m) old.now) lives) as (λ _. IsWithOrWithout (content_of old.now).roster (HoldsText old.now) m left) [
-    | inl same ↦ inl ((again_left old.now may.0 left may.2 same).desk desk)
-    | inr arrives ↦ inr (arrives_left old.now may.0 left may.2 m is desk (arrives may.0 refl may.1.sound))
-  ]
+  pub with_or_without : (m : Message) → IsMessage m → IsKept old.now → Survives old new (ArrivesAt (wire m) old.now)
+      → IsWithOrWithout (content_of old.now).roster (HoldsText old.now) m left
+  with_or_without m is desk lives =
+      elim (before_or (ArrivesAt (wire m) old.now) lives) as (λ _. IsWithOrWithout (content_of old.now).roster (HoldsText old.now) m left) [
+        | inl same ↦ inl ((again_left old.now may.0 left may.2 same).desk desk)
+        | inr arrives ↦ inr (arrives_left old.now may.0 left may.2 m is desk (arrives may.0 refl may.1.sound))
+      ]
 
   pub nothing_or_made : (roster : List ℕ) → IsVacant old.now.schema → Survives old new (FoundsAt roster old.now) → IsNothingOrFresh roster left
   nothing_or_made roster vacant lives = elim (before_or (FoundsAt roster old.now) lives) as (λ _. IsNothingOrFresh roster left) [
@@ -144,11 +166,14 @@ module _ (old new : State) (settled : Settled old) (up : IsUp old) (clean : HasC
     | inr founds ↦ inr (made_left roster may.0 left may.2 (founds may.0 refl may.1.sound).makes)
   ]
 
-  pub replaced_or_not : (roster : List ℕ) → Survives old new (BecomesAt roster old.now) → IsReplacedOrNot (IsKept old.now) (IsOldDesk old.now) (content_of old.now).roster roster (HoldsText old.now) left
-  replaced_or_not roster lives = elim (before_or (BecomesAt roster old.now) lives) as (λ _. IsReplacedOrNot (IsKept old.now) (IsOldDesk old.now) (content_of old.now).roster roster (HoldsText old.now) left) [
-    | inl same ↦ (let it = again_left old.now may.0 left may.2 same in record { desk = λ is. inl (it.desk is); old = λ is. inl (it.old is) })
-    | inr becomes ↦ (let it = becomes_left old.now may.0 left may.2 roster (becomes may.0 refl may.1.sound) in record { desk = λ is. inr it; old = λ is. inr it })
-  ]
+  pub replaced_or_not : (roster : List ℕ) → Survives old new (BecomesAt roster old.now)
+      → IsReplacedOrNot (IsKept old.now) (IsOldDesk old.now) (content_of old.now).roster roster (HoldsText old.now) left
+  replaced_or_not roster lives = elim (before_or (BecomesAt roster old.now) lives)
+      as (λ _. IsReplacedOrNot (IsKept old.now) (IsOldDesk old.now) (content_of old.now).roster roster (HoldsText old.now) left) [
+        | inl same ↦ (let it = again_left old.now may.0 left may.2 same in record { desk = λ is. inl (it.desk is); old = λ is. inl (it.old is) })
+        | inr becomes ↦
+            (let it = becomes_left old.now may.0 left may.2 roster (becomes may.0 refl may.1.sound) in record { desk = λ is. inr it; old = λ is. inr it })
+      ]
 
 -- ---- behind a commit
 
@@ -160,12 +185,16 @@ module _ (s : State) (settled : Settled s) (up : IsUp s) (left : Left) (may : Ma
   pub made_lasts : (roster : List ℕ) → Makes roster s.now → IsDeskOf roster (λ _. ⊥) left
   made_lasts roster made =
       let none = holds_nothing s.now roster made.content in
-      same_left roster (content_of s.now).roster (λ _. ⊥) (HoldsText s.now) left (ap (λ (c : Content). c.roster) made.content) (λ m. (λ h. absurd h, none m)) (up_left.desk (made_kept roster s.now made))
+      same_left roster (content_of s.now).roster (λ _. ⊥) (HoldsText s.now) left (ap (λ (c : Content). c.roster) made.content)
+      (λ m. (λ h. absurd h, none m)) (up_left.desk (made_kept roster s.now made))
 
-  pub arrival_lasts : (old : Database) (m : Message) → IsMessage m → IsKept s.now → content_of s.now ≡ with_text (wire m) (content_of old) → IsDeskOf (content_of old).roster (With (HoldsText old) m) left
+  pub arrival_lasts : (old : Database) (m : Message) → IsMessage m → IsKept s.now
+      → content_of s.now ≡ with_text (wire m) (content_of old) → IsDeskOf (content_of old).roster (With (HoldsText old) m) left
   arrival_lasts old m is desk content =
-      same_left (content_of old).roster (content_of s.now).roster (With (HoldsText old) m) (HoldsText s.now) left (ap (λ (c : Content). c.roster) content) (with_message old s.now m is content) (up_left.desk desk)
+      same_left (content_of old).roster (content_of s.now).roster (With (HoldsText old) m) (HoldsText s.now) left
+      (ap (λ (c : Content). c.roster) content) (with_message old s.now m is content) (up_left.desk desk)
 
   pub roster_lasts : (roster : List ℕ) (old : Database) → Becomes roster old s.now → IsDeskOf roster (HoldsText old) left
   roster_lasts roster old it =
-      same_left roster (content_of s.now).roster (HoldsText old) (HoldsText s.now) left (ap (λ (c : Content). c.roster) it.content) (same_texts old s.now (ap (λ (c : Content). c.texts) it.content)) (up_left.desk it.desk)
+      same_left roster (content_of s.now).roster (HoldsText old) (HoldsText s.now) left (ap (λ (c : Content). c.roster) it.content)
+      (same_texts old s.now (ap (λ (c : Content). c.texts) it.content)) (up_left.desk it.desk)

@@ -33,7 +33,14 @@ found_older db f c is told = subst (FoundIn db) is told
 
 -- a call that did nothing
 survives_same : (s : State) (P : Trees → Type 0) → Survives s s P
-survives_same s P = record { clean = le_refl _; shield = λ h. h; counts = le_refl _; limit = refl; closes = λ clean open'. inl open'; crash = λ clean db left. inl left }
+survives_same s P = record {
+  clean = le_refl _;
+  shield = λ h. h;
+  counts = le_refl _;
+  limit = refl;
+  closes = λ clean open'. inl open';
+  crash = λ clean db left. inl left;
+}
 
 pub nothing_done : {A E : Type 0} (roster : List ℕ) (s : State) (e : E) → Rests s → Replaces {A = A} roster s s (Err e)
 nothing_done roster s e rests = record {
@@ -81,8 +88,8 @@ module _ {A E : Type 0} (roster : List ℕ) (a b : State) (reads : Reads a b) wh
     unchanged = λ up. subst (λ (d : Database). OnErr r (c.now ≡ d)) (reads.same (two.was_up up)) (two.unchanged up);
     survives = λ up clean.
         let mid = still up (two.was_clean clean) in
-        survives_then a b c (λ _. ⊥) (BecomesAt roster b.now) (BecomesAt roster a.now) (λ _ db none. absurd none) (λ _ db is. subst (λ (d : Database). BecomesAt roster d db) (reads.same mid) is)
-        (reads.survives up (two.was_clean clean)) (two.survives mid clean);
+        survives_then a b c (λ _. ⊥) (BecomesAt roster b.now) (BecomesAt roster a.now) (λ _ db none. absurd none)
+        (λ _ db is. subst (λ (d : Database). BecomesAt roster d db) (reads.same mid) is) (reads.survives up (two.was_clean clean)) (two.survives mid clean);
   }
 
 -- ---- a desk of today
@@ -100,10 +107,12 @@ ok_then (Ok x) p on = on p
 ok_then (Err e) p on = tt
 
 module _ {A E : Type 0} (roster : List ℕ) (old new : State) (r : Result A E) (kept : IsUp old → IsKept old.now) (was_up : IsUp new → IsUp old) where
-  pub today_becomes : (up : IsUp new) → IsDeskDatabase new.now → OnOk r (content_of new.now ≡ with_roster roster (content_of old.now)) → OnOk r (Spares old.now new.now) → OnOk r (Becomes roster old.now new.now)
+  pub today_becomes : (up : IsUp new) → IsDeskDatabase new.now → OnOk r (content_of new.now ≡ with_roster roster (content_of old.now))
+      → OnOk r (Spares old.now new.now) → OnOk r (Becomes roster old.now new.now)
   today_becomes up desk content spares =
       let was = kept (was_up up) in
-      both_ok r content spares (λ c s. record { desk = record { desk = desk; unmarked = unmarked_still old.now new.now was.desk.tidy.desk s was.unmarked }; content = c })
+      both_ok r content spares
+      (λ c s. record { desk = record { desk = desk; unmarked = unmarked_still old.now new.now was.desk.tidy.desk s was.unmarked }; content = c })
 
   pub today_beside : IsUp new → OnOk r (Spares old.now new.now) → OnOk r (KeepsBeside old.now new.now)
   today_beside up spares = ok_then r spares (spared_beside old.now new.now (kept (was_up up)).desk.tidy.desk)
@@ -112,7 +121,10 @@ module _ {A E : Type 0} (roster : List ℕ) (old new : State) (r : Result A E) (
   today_survives up lives =
       let was = kept up in
       survives_weaker old new (ChangesAt roster old.now) (BecomesAt roster old.now) (λ _ trees at db same sound.
-      let it = at db same sound in record { desk = record { desk = it.desk; unmarked = unmarked_spared old.now db it.listed was.desk.tidy.desk it.foreign was.unmarked }; content = it.content }) lives
+      let it = at db same sound in record {
+        desk = record { desk = it.desk; unmarked = unmarked_spared old.now db it.listed was.desk.tidy.desk it.foreign was.unmarked };
+        content = it.content;
+      }) lives
 
 -- ---- a desk of an older form
 
@@ -123,11 +135,13 @@ module _ (old new : Database) (was : IsOldDesk old) (is : IsKept new) (grown : G
   -- a part that was there is found still, and `verdicts` has a tree of its own
   other_still_all : (t : Table) → Has old.schema.tables t → IsOther old.schema t.tree → IsOther new.schema t.tree
   other_still_all t there other part.Desk = other_still old.schema new.schema more grown.1 part.Desk t.tree was.tables.common.desk (other part.Desk)
-  other_still_all t there other part.Messages = other_still old.schema new.schema more grown.1 part.Messages t.tree was.tables.common.messages (other part.Messages)
+  other_still_all t there other part.Messages =
+      other_still old.schema new.schema more grown.1 part.Messages t.tree was.tables.common.messages (other part.Messages)
   other_still_all t there other part.Names = other_still old.schema new.schema more grown.1 part.Names t.tree was.tables.common.names (other part.Names)
   other_still_all t there other part.Parked = other_still old.schema new.schema more grown.1 part.Parked t.tree was.tables.common.parked (other part.Parked)
   other_still_all t there other part.Marks = other_still old.schema new.schema more grown.1 part.Marks t.tree was.tables.marks (other part.Marks)
-  other_still_all t there other part.Verdicts = other_new old.schema new.schema more grown.1 part.Verdicts t was.tables.verdicts.table (common_of new.schema is.desk.tidy.desk).1 there
+  other_still_all t there other part.Verdicts =
+      other_new old.schema new.schema more grown.1 part.Verdicts t was.tables.verdicts.table (common_of new.schema is.desk.tidy.desk).1 there
 
   stands_apart : (tree : ℕ) → IsOther old.schema tree → IsBeside old.schema tree
   stands_apart tree other = record {
@@ -149,8 +163,11 @@ module _ {A E : Type 0} (roster : List ℕ) (old new : State) (r : Result A E) w
   pub older_becomes : OnOk r (IsKept new.now) → OnOk r (content_of new.now ≡ with_roster roster (content_of old.now)) → OnOk r (Becomes roster old.now new.now)
   older_becomes kept content = both_ok r kept content (λ k c. record { desk = k; content = c })
 
-  pub older_beside : IsOldDesk old.now → OnOk r (IsKept new.now) → OnOk r (GainsVerdicts old.now new.now) → OnOk r (KeepsOthers old.now new.now) → OnOk r (KeepsBeside old.now new.now)
+  pub older_beside : IsOldDesk old.now → OnOk r (IsKept new.now) → OnOk r (GainsVerdicts old.now new.now)
+      → OnOk r (KeepsOthers old.now new.now) → OnOk r (KeepsBeside old.now new.now)
   older_beside was kept grown others = all_ok r kept grown others (migrated_beside old.now new.now was)
 
   pub older_survives : Survives old new (MigratesAt roster old.now) → Survives old new (BecomesAt roster old.now)
-  older_survives lives = survives_weaker old new (MigratesAt roster old.now) (BecomesAt roster old.now) (λ _ trees at db same sound. let it = at db same sound in record { desk = it.kept; content = it.content }) lives
+  older_survives lives =
+      survives_weaker old new (MigratesAt roster old.now) (BecomesAt roster old.now) (λ _ trees at db same sound. let it = at db same sound in
+      record { desk = it.kept; content = it.content }) lives

@@ -41,7 +41,8 @@ module _ {K : Type 0} {is_up is_clean : K → Type 0} {failures : K → ℕ} {be
   }
 
   -- the same call, told by another answer
-  pub served_as : {a b : K} {S W : Type 0} (S' W' : Type 0) → (S' → S) → (W → W') → IsServed is_up is_clean failures beside a b S W → IsServed is_up is_clean failures beside a b S' W'
+  pub served_as : {a b : K} {S W : Type 0} (S' W' : Type 0) → (S' → S) → (W → W')
+      → IsServed is_up is_clean failures beside a b S W → IsServed is_up is_clean failures beside a b S' W'
   served_as S' W' storage want s = record {
     was_up = s.was_up;
     was_clean = s.was_clean;
@@ -87,10 +88,11 @@ module _ {K : Type 0} {is_up is_clean : K → Type 0} {failures : K → ℕ} {be
       served_as T V (λ told. inr told) (λ told. elim told as (λ _. V) [ inl sooner ↦ want sooner | inr later ↦ later ]) (served_both first second)
 
   -- after a call that was answered by an Ok
-  pub served_after : {a b c : K} {S T V : Type 0} → IsServed is_up is_clean failures beside a b S (false ≡ true) → IsServed is_up is_clean failures beside b c T V
-      → IsServed is_up is_clean failures beside a c T V
+  pub served_after : {a b c : K} {S T V : Type 0} → IsServed is_up is_clean failures beside a b S (false ≡ true)
+      → IsServed is_up is_clean failures beside b c T V → IsServed is_up is_clean failures beside a c T V
   served_after first second = served_then (λ want. absurd cc) first second
 
   -- such a call, told by an answer that tells of nothing
-  pub served_at_ok : {a b : K} {S : Type 0} (Storage Want : Type 0) → (Storage → ⊥) → IsServed is_up is_clean failures beside a b S (false ≡ true) → IsServed is_up is_clean failures beside a b Storage Want
+  pub served_at_ok : {a b : K} {S : Type 0} (Storage Want : Type 0) → (Storage → ⊥)
+      → IsServed is_up is_clean failures beside a b S (false ≡ true) → IsServed is_up is_clean failures beside a b Storage Want
   served_at_ok Storage Want other s = served_as Storage Want (λ is. absurd (other is)) (λ want. absurd cc) s

@@ -32,7 +32,10 @@ module _ (db : Database) where
         common = has.0;
         verdicts = has.1;
         unmarked = is.unmarked;
-        contents = (marked.0, record { marked = recorded_two (table_in db (codes "desk")) ∙ marked.1; utf8 = marked.2; texts = is.desk.texts; only = is.desk.only });
+        contents = (
+          marked.0,
+          record { marked = recorded_two (table_in db (codes "desk")) ∙ marked.1; utf8 = marked.2; texts = is.desk.texts; only = is.desk.only },
+        );
       }
 
   abbrev TellsOf : Found → Type 0

@@ -10,7 +10,8 @@ use Rattle.desk_store.specs.Left.{Left, Nothing, ADesk, AnOldDesk, NoDesk, IsDes
 
 -- ---- a database
 
--- A database that an opening after a crash may show: a crash may leave its trees, and they list its schema and obey it.
+-- A database that an opening after a crash may show: a crash may leave its trees, and they list its
+-- schema and obey it.
 pub record MayShow (s : State) (db : Database) : Type 0 where
   pub left : s.may_leave db.trees
   pub sound : IsDatabase db

@@ -9,7 +9,8 @@ use Rattle.desk_store.specs.declared.found.Found.TheVariants as found
 -- exactly one of the four, and a desk's roster
 abbrev pub Tells : (Empty Desk Old : Type 0) → (roster : List ℕ) → Found → Type 0
 Tells Empty Desk Old roster found.Empty = Empty × (¬ Desk) × (¬ Old)
-Tells Empty Desk Old roster (found.Desk text) = Desk × (¬ Empty) × (¬ Old) × (string_bytes text ≡ roster)
+Tells Empty Desk Old roster (found.Desk text) =
+    Desk × (¬ Empty) × (¬ Old) × (string_bytes text ≡ roster)
 Tells Empty Desk Old roster found.OldDesk = Old × (¬ Empty) × (¬ Desk)
 Tells Empty Desk Old roster found.NotADesk = (¬ Empty) × (¬ Desk) × (¬ Old)
 

@@ -5,7 +5,8 @@ use Rattle.messages.specs.declared.message.Message.{Message}
 use Rattle.desk_tables.specs.Sets.{SameSet, With}
 use Rattle.desk_tables.specs.Stored.{Content, has}
 
--- Nothing of a desk's, a desk with all that it keeps, a desk of an older form with its messages, or something of a desk's that is no desk.
+-- Nothing of a desk's, a desk with all that it keeps, a desk of an older form with its messages, or
+-- something of a desk's that is no desk.
 pub data Left : Type 0 where
   Nothing : Left
   ADesk : Content → Left
@@ -30,8 +31,10 @@ IsOldDeskOf S (ADesk c) = ⊥
 IsOldDeskOf S (AnOldDesk c) = SameSet S (HoldsIn c)
 IsOldDeskOf S NoDesk = ⊥
 
--- What is left is what was kept: nothing of a desk's, the whole desk, or the whole desk of an older form.
-pub record IsAsKept (Empty Desk Old : Type 0) (roster : List ℕ) (S : Message → Type 0) (left : Left) : Type 0 where
+-- What is left is what was kept: nothing of a desk's, the whole desk, or the whole desk of an older
+-- form.
+pub record IsAsKept (Empty Desk Old : Type 0) (roster : List ℕ) (S : Message
+    → Type 0) (left : Left) : Type 0 where
   pub empty : Empty → left ≡ Nothing
   pub desk : Desk → IsDeskOf roster S left
   pub old : Old → IsOldDeskOf S left
@@ -41,18 +44,24 @@ abbrev pub IsNothingOrFresh : (roster : List ℕ) → Left → Type 0
 IsNothingOrFresh roster left = (left ≡ Nothing) ⊎ IsDeskOf roster (λ _. ⊥) left
 
 -- the whole desk without the message, or the whole desk with it
-abbrev pub IsWithOrWithout : (roster : List ℕ) → (messages : Message → Type 0) → Message → Left → Type 0
+abbrev pub IsWithOrWithout : (roster : List ℕ)
+    → (messages : Message → Type 0) → Message → Left → Type 0
 IsWithOrWithout roster S m left = IsDeskOf roster S left ⊎ IsDeskOf roster (With S m) left
 
--- the desk as it was, of either form, or the whole desk with the new roster text and the messages that it had
-pub record IsReplacedOrNot (Desk Old : Type 0) (recorded text : List ℕ) (S : Message → Type 0) (left : Left) : Type 0 where
+-- the desk as it was, of either form, or the whole desk with the new roster text and the messages
+-- that it had
+pub record IsReplacedOrNot (Desk Old : Type 0) (recorded text : List ℕ) (S : Message
+    → Type 0) (left : Left) : Type 0 where
   pub desk : Desk → IsDeskOf recorded S left ⊎ IsDeskOf text S left
   pub old : Old → IsOldDeskOf S left ⊎ IsDeskOf text S left
 
--- What a keeper keeps is what was left: nothing of a desk's, the whole desk, one of an older form, or what is no desk.
-abbrev pub IsFoundAs : (Empty Desk Old : Type 0) → (roster : List ℕ) → (messages : Message → Type 0) → Left → Type 0
+-- What a keeper keeps is what was left: nothing of a desk's, the whole desk, one of an older form,
+-- or what is no desk.
+abbrev pub IsFoundAs : (Empty Desk Old : Type 0) → (roster : List ℕ)
+    → (messages : Message → Type 0) → Left → Type 0
 IsFoundAs Empty Desk Old roster S Nothing = Empty × (¬ Desk) × (¬ Old)
-IsFoundAs Empty Desk Old roster S (ADesk c) = Desk × (¬ Empty) × (¬ Old) × (roster ≡ c.roster) × SameSet S (HoldsIn c)
+IsFoundAs Empty Desk Old roster S (ADesk c) =
+    Desk × (¬ Empty) × (¬ Old) × (roster ≡ c.roster) × SameSet S (HoldsIn c)
 IsFoundAs Empty Desk Old roster S (AnOldDesk c) = Old × (¬ Empty) × (¬ Desk) × SameSet S (HoldsIn c)
 IsFoundAs Empty Desk Old roster S NoDesk = (¬ Empty) × (¬ Desk) × (¬ Old)
 

@@ -17,13 +17,18 @@ pub stays_empty : (a b : MemoryContent) → b ≡ a → a.roster ≡ None → b.
 stays_empty a b same none = ap (λ (k : MemoryContent). k.roster) same ∙ none
 
 pub stays_desk : (a b : MemoryContent) → b ≡ a → IsSome a.roster → IsSome b.roster
-stays_desk a b same some = let P : MemoryContent → Type 0 = λ k. IsSome k.roster in subst P (sym same) some
+stays_desk a b same some =
+    let P : MemoryContent → Type 0 = λ k. IsSome k.roster in
+    subst P (sym same) some
 
 pub stays_old : (a b : MemoryContent) → b ≡ a → ⊥ → ⊥ × SameSet (Holds a) (Holds b)
 stays_old a b same none = absurd none
 
-pub stays_roster : (a b : MemoryContent) → b ≡ a → IsSome a.roster → unwrap_or b.roster [] ≡ unwrap_or a.roster []
+pub stays_roster : (a b : MemoryContent) → b ≡ a → IsSome a.roster
+    → unwrap_or b.roster [] ≡ unwrap_or a.roster []
 stays_roster a b same some = ap (λ (k : MemoryContent). unwrap_or k.roster []) same
 
 pub stays_set : (a b : MemoryContent) → b ≡ a → IsSome a.roster → SameSet (Holds a) (Holds b)
-stays_set a b same some = let P : MemoryContent → Type 0 = λ k. SameSet (Holds a) (Holds k) in subst P (sym same) (λ m. (λ h. h, λ h. h))
+stays_set a b same some =
+    let P : MemoryContent → Type 0 = λ k. SameSet (Holds a) (Holds k) in
+    subst P (sym same) (λ m. (λ h. h, λ h. h))

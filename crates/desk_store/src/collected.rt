@@ -1,6 +1,7 @@
 //! Messages, each once.
 
-ghost use Rattle.std.specs.Prelude.{◌≡◌, ◌≢◌, ◌<◌, [], AllPairs, Contains, IfOk, OnOk, OnErr, IfErr, string_bytes, vec_len, vec_capacity};
+ghost use Rattle.std.specs.Prelude.{◌≡◌, ◌≢◌, ◌<◌, [], AllPairs, Contains, IfOk, OnOk};
+ghost use Rattle.std.specs.Prelude.{OnErr, IfErr, string_bytes, vec_len, vec_capacity};
 ghost use Rattle.std.specs.BTreeSet.{insert_key};
 ghost use Rattle.std.specs.String.{string_cmp};
 ghost use Rattle.messages.specs.Wire.{IsMessage, wire};
@@ -83,7 +84,8 @@ impl Collected {
         }
     }
 
-    /// Puts a copy of the message, whose text this is, after the others, unless it is there already.
+    /// Puts a copy of the message, whose text this is, after the others, unless it is there
+    /// already.
     pub(crate) fn put(&mut self, message: &Message, text: &str) -> Result<(), KeeperError>
         requires message { IsMessage message.now }
         requires text { text.now ≡ wire message.now }
@@ -95,7 +97,8 @@ impl Collected {
             return Ok(());
         }
         let (copy, key) = copies(self.alloc, &mut self.messages, message, text)?;
-        // A call drops the copy: where an exit drops it in line, each of its fields is proved again there.
+        // A call drops the copy: where an exit drops it in line, each of its fields is proved again
+        // there.
         match add_text(&mut self.texts, key) {
             Ok(()) => {
                 self.messages.push_reserved(copy);

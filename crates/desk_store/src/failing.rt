@@ -29,7 +29,8 @@ fn count(failed: &mut u64)
 
 /// Counts a failure, and tells its cause: want of memory, or the storage.
 ///
-/// Want of memory is counted too: what it stops is undone, and the disk may fail there, which shuts the store.
+/// Want of memory is counted too: what it stops is undone, and the disk may fail there, which shuts
+/// the store.
 pub(crate) fn told(failed: &mut u64, fault: Fault) -> KeeperError
     ensures failed { HasFailed failed.old failed.new }
     ensures counts { failed.old ≤ failed.new }

@@ -11,10 +11,11 @@ use crate::keeper::Keeper;
 use messages::Message;
 use outcomes::Gathered;
 
-/// Any keeper, of which so many calls succeed or fail as they would, and each later one is refused before it comes to it.
+/// Any keeper, of which so many calls succeed or fail as they would, and each later one is refused
+/// before it comes to it.
 ///
-/// It shows what a caller does when its storage fails at a given call. What is kept stays as it was at the last call that came through.
-/// Calls that only lend are never refused, and are not counted.
+/// It shows what a caller does when its storage fails at a given call. What is kept stays as it was
+/// at the last call that came through. Calls that only lend are never refused, and are not counted.
 #[derive(Drop)]
 pub struct FailingKeeper<K: Keeper> {
     kept: K,

@@ -14,7 +14,8 @@ use outcomes::Gathered;
 use sqlite::{Alter, Connection};
 use std::alloc::Global;
 
-/// What is known of the messages of the desk that the database keeps, by the rows that follow from them. It stays as it is.
+/// What is known of the messages of the desk that the database keeps, by the rows that follow from
+/// them. It stays as it is.
 pub(crate) fn gather_in<S: Alter>(
     alloc: Global,
     conn: &mut Connection<S>,
@@ -22,8 +23,10 @@ pub(crate) fn gather_in<S: Alter>(
     requires rests { Rests (state S.Store conn.old) }
     requires kept { IsUp (state S.Store conn.old) → IsKept (state S.Store conn.old).now }
     ensures reads { Reads (state S.Store conn.old) (state S.Store conn.new) }
-    ensures up { IsUp (state S.Store conn.old) → HasCleanDisk (state S.Store conn.new) → OnOk result (IsUp (state S.Store conn.new)) }
-    ensures known { IsUp (state S.Store conn.new) → IfOk result (IsKnownOf (HoldsText (state S.Store conn.old).now)) }
+    ensures up { IsUp (state S.Store conn.old) → HasCleanDisk (state S.Store conn.new)
+        → OnOk result (IsUp (state S.Store conn.new)) }
+    ensures known { IsUp (state S.Store conn.new)
+        → IfOk result (IsKnownOf (HoldsText (state S.Store conn.old).now)) }
 {
     let shown = shown_of(alloc, conn)?;
     let names = shown.names.as_slice();

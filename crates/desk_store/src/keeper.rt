@@ -6,7 +6,8 @@ ghost use Rattle.messages.specs.declared.message.Message.{Message as AnyMessage}
 ghost use Rattle.desk_schema.specs.Beside.{TableWithRows};
 ghost use Rattle.desk_tables.specs.Sets.{IsNothing, SameSet, IsWith, Lists, With};
 ghost use Rattle.desk_store.specs.Keeping.{IsKnownOf, Tells};
-ghost use Rattle.desk_store.specs.Left.{Left, IsAsKept, IsDeskOf, IsNothingOrFresh, IsReplacedOrNot, IsWithOrWithout, LeavesOnly};
+ghost use Rattle.desk_store.specs.Left.{Left, IsAsKept, IsDeskOf, IsNothingOrFresh};
+ghost use Rattle.desk_store.specs.Left.{IsReplacedOrNot, IsWithOrWithout, LeavesOnly};
 ghost use Rattle.desk_store.specs.Serving.{IsServed};
 
 use crate::error::KeeperError;
@@ -14,18 +15,20 @@ use crate::found::Found;
 use messages::Message;
 use outcomes::Gathered;
 
-/// What keeps a desk: nothing of a desk's, or a desk's roster text and the set of its messages, or what is no desk.
+/// What keeps a desk: nothing of a desk's, or a desk's roster text and the set of its messages, or
+/// what is no desk.
 ///
-/// Each call that changes what is kept does it whole, in one commit, or not at all, and takes the memory that it needs
-/// before. A clause of what is kept holds where the keeper is up as the call ends: its storage has been honest, and no
-/// failure has shut it. A keeper in memory is always up. `Storage` is answered only where the count of failures rose in
-/// that call, or stands at the greatest number of 64 bits. A clause `served` says this of each call, with whether the keeper
-/// is up then, and that what else its storage keeps stays as it was.
+/// Each call that changes what is kept does it whole, in one commit, or not at all, and takes the
+/// memory that it needs before. A clause of what is kept holds where the keeper is up as the call
+/// ends: its storage has been honest, and no failure has shut it. A keeper in memory is always up.
+/// `Storage` is answered only where the count of failures rose in that call, or stands at the
+/// greatest number of 64 bits. A clause `served` says this of each call, with whether the keeper is
+/// up then, and that what else its storage keeps stays as it was.
 ///
-/// A clause `crash` holds at each exit of its call, also after a failure, as long as the storage has been honest: what a
-/// crash may leave then, for the next opening, is all that was kept as the call began, or all that the call was to commit.
-/// A clause `lasting` says that after Ok it is the latter alone, and a clause `durable` that it is what the keeper keeps,
-/// as long as that is up.
+/// A clause `crash` holds at each exit of its call, also after a failure, as long as the storage
+/// has been honest: what a crash may leave then, for the next opening, is all that was kept as the
+/// call began, or all that the call was to commit. A clause `lasting` says that after Ok it is the
+/// latter alone, and a clause `durable` that it is what the keeper keeps, as long as that is up.
 pub trait Keeper {
     /// It keeps nothing of a desk's.
     ghost is_empty: { Self → Type 0 };
@@ -62,10 +65,14 @@ pub trait Keeper {
 
     /// Tells what it keeps. That stays as it is.
     fn look(&mut self) -> Result<Found, KeeperError>
-        ensures found { is_up self.new → IfOk result (Tells (is_empty self.old) (is_desk self.old) (is_old self.old) (roster self.old)) }
+        ensures found { is_up self.new → IfOk result
+            (Tells (is_empty self.old) (is_desk self.old) (is_old self.old) (roster self.old)) }
         ensures same { is_up self.new → is_same self.old self.new }
-        ensures served { IsServed is_up is_clean failures beside self.old self.new (result ≡ Err KeeperError.Storage) (IsErr result) }
-        ensures crash { is_up self.old → is_clean self.new → LeavesOnly (may_leave self.new) (IsAsKept (is_empty self.old) (is_desk self.old) (is_old self.old) (roster self.old) (holds self.old)) };
+        ensures served { IsServed is_up is_clean failures beside self.old self.new
+            (result ≡ Err KeeperError.Storage) (IsErr result) }
+        ensures crash { is_up self.old → is_clean self.new
+            → LeavesOnly (may_leave self.new) (IsAsKept (is_empty self.old)
+            (is_desk self.old) (is_old self.old) (roster self.old) (holds self.old)) };
 
     /// Makes a desk of this roster text, without messages, in one commit.
     fn make(&mut self, text: &str) -> Result<(), KeeperError>
@@ -74,67 +81,88 @@ pub trait Keeper {
         ensures recorded { is_up self.new → OnOk result (roster self.new ≡ text.now) }
         ensures nothing { is_up self.new → OnOk result (IsNothing (holds self.new)) }
         ensures unmade { is_up self.new → OnErr result (is_same self.old self.new) }
-        ensures served { IsServed is_up is_clean failures beside self.old self.new (result ≡ Err KeeperError.Storage) (IsErr result) }
-        ensures crash { is_up self.old → is_clean self.new → LeavesOnly (may_leave self.new) (IsNothingOrFresh text.now) }
-        ensures lasting { is_up self.old → is_clean self.new → OnOk result (LeavesOnly (may_leave self.new) (IsDeskOf text.now (λ _. ⊥))) }
-        ensures durable { is_up self.new → LeavesOnly (may_leave self.new) (IsAsKept (is_empty self.new) (is_desk self.new) (is_old self.new) (roster self.new) (holds self.new)) };
+        ensures served { IsServed is_up is_clean failures beside self.old self.new
+            (result ≡ Err KeeperError.Storage) (IsErr result) }
+        ensures crash { is_up self.old → is_clean self.new
+            → LeavesOnly (may_leave self.new) (IsNothingOrFresh text.now) }
+        ensures lasting { is_up self.old → is_clean self.new
+            → OnOk result (LeavesOnly (may_leave self.new) (IsDeskOf text.now (λ _. ⊥))) }
+        ensures durable { is_up self.new
+            → LeavesOnly (may_leave self.new) (IsAsKept (is_empty self.new)
+            (is_desk self.new) (is_old self.new) (roster self.new) (holds self.new)) };
 
-    /// Adds the message, whose text this is, to the desk's, in one commit. One that the desk has already changes nothing.
+    /// Adds the message, whose text this is, to the desk's, in one commit. One that the desk has
+    /// already changes nothing.
     fn add(&mut self, message: &Message, text: &str) -> Result<(), KeeperError>
         requires desk { is_up self.old → is_desk self.old }
         requires message { IsMessage message.now }
         requires text { text.now ≡ wire message.now }
         requires short { length text.now ≤ 16_384 }
-        ensures added { is_up self.new → OnOk result (IsWith (holds self.old) message.now (holds self.new)) }
-        ensures repeated { is_up self.new → holds self.old message.now → OnOk result (is_same self.old self.new) }
+        ensures added { is_up self.new
+            → OnOk result (IsWith (holds self.old) message.now (holds self.new)) }
+        ensures repeated { is_up self.new → holds self.old message.now
+            → OnOk result (is_same self.old self.new) }
         ensures unchanged { is_up self.new → OnErr result (is_same self.old self.new) }
         ensures desk { is_up self.new → is_desk self.new }
         ensures roster { is_up self.new → roster self.new ≡ roster self.old }
-        ensures served { IsServed is_up is_clean failures beside self.old self.new (result ≡ Err KeeperError.Storage) (IsErr result) }
-        ensures crash { is_up self.old → is_clean self.new → LeavesOnly (may_leave self.new) (IsWithOrWithout (roster self.old) (holds self.old) message.now) }
-        ensures lasting { is_up self.old → is_clean self.new → OnOk result (LeavesOnly (may_leave self.new) (IsDeskOf (roster self.old) (With (holds self.old) message.now))) }
-        ensures durable { is_up self.new → LeavesOnly (may_leave self.new) (IsDeskOf (roster self.new) (holds self.new)) };
+        ensures served { IsServed is_up is_clean failures beside self.old self.new
+            (result ≡ Err KeeperError.Storage) (IsErr result) }
+        ensures crash { is_up self.old → is_clean self.new → LeavesOnly (may_leave self.new)
+            (IsWithOrWithout (roster self.old) (holds self.old) message.now) }
+        ensures lasting { is_up self.old → is_clean self.new → OnOk result (LeavesOnly
+            (may_leave self.new) (IsDeskOf (roster self.old) (With (holds self.old) message.now))) }
+        ensures durable { is_up self.new
+            → LeavesOnly (may_leave self.new) (IsDeskOf (roster self.new) (holds self.new)) };
 
-    /// Replaces the desk's roster text, in one commit, and makes what is kept beside the messages anew from them. A desk of an older form
-    /// becomes one of today's. The messages stay.
+    /// Replaces the desk's roster text, in one commit, and makes what is kept beside the messages
+    /// anew from them. A desk of an older form becomes one of today's. The messages stay.
     fn replace(&mut self, text: &str) -> Result<(), KeeperError>
         requires { is_up self.old → is_desk self.old ⊎ is_old self.old }
         ensures desk { is_up self.new → OnOk result (is_desk self.new) }
         ensures recorded { is_up self.new → OnOk result (roster self.new ≡ text.now) }
         ensures held { is_up self.new → OnOk result (SameSet (holds self.old) (holds self.new)) }
         ensures unchanged { is_up self.new → OnErr result (is_same self.old self.new) }
-        ensures served { IsServed is_up is_clean failures beside self.old self.new (result ≡ Err KeeperError.Storage) (IsErr result) }
+        ensures served { IsServed is_up is_clean failures beside self.old self.new
+            (result ≡ Err KeeperError.Storage) (IsErr result) }
         ensures crash { is_up self.old → is_clean self.new
-            → LeavesOnly (may_leave self.new) (IsReplacedOrNot (is_desk self.old) (is_old self.old) (roster self.old) text.now (holds self.old)) }
-        ensures lasting { is_up self.old → is_clean self.new → OnOk result (LeavesOnly (may_leave self.new) (IsDeskOf text.now (holds self.old))) }
+            → LeavesOnly (may_leave self.new) (IsReplacedOrNot (is_desk self.old)
+            (is_old self.old) (roster self.old) text.now (holds self.old)) }
+        ensures lasting { is_up self.old → is_clean self.new
+            → OnOk result (LeavesOnly (may_leave self.new) (IsDeskOf text.now (holds self.old))) }
         ensures durable { is_up self.new
-            → LeavesOnly (may_leave self.new) (IsAsKept (is_empty self.new) (is_desk self.new) (is_old self.new) (roster self.new) (holds self.new)) };
+            → LeavesOnly (may_leave self.new) (IsAsKept (is_empty self.new)
+            (is_desk self.new) (is_old self.new) (roster self.new) (holds self.new)) };
 
-    /// What is known of the desk's messages: a summary for each name that somebody asks under, and the verdicts that wait for their request.
-    /// What is kept stays as it is.
+    /// What is known of the desk's messages: a summary for each name that somebody asks under, and
+    /// the verdicts that wait for their request. What is kept stays as it is.
     fn gather(&mut self) -> Result<Gathered, KeeperError>
         requires { is_up self.old → is_desk self.old }
         ensures known { is_up self.new → IfOk result (IsKnownOf (holds self.old)) }
         ensures same { is_up self.new → is_same self.old self.new }
-        ensures served { IsServed is_up is_clean failures beside self.old self.new (result ≡ Err KeeperError.Storage) (IsErr result) }
-        ensures crash { is_up self.old → is_clean self.new → LeavesOnly (may_leave self.new) (IsDeskOf (roster self.old) (holds self.old)) };
+        ensures served { IsServed is_up is_clean failures beside self.old self.new
+            (result ≡ Err KeeperError.Storage) (IsErr result) }
+        ensures crash { is_up self.old → is_clean self.new
+            → LeavesOnly (may_leave self.new) (IsDeskOf (roster self.old) (holds self.old)) };
 
     /// The desk's messages, in an order of the keeper's own. What is kept stays as it is.
     fn messages(&mut self) -> Result<Vec<Message>, KeeperError>
         requires { is_up self.old → is_desk self.old }
         ensures listed { is_up self.new → IfOk result (λ list. Lists (holds self.old) list.items) }
         ensures same { is_up self.new → is_same self.old self.new }
-        ensures served { IsServed is_up is_clean failures beside self.old self.new (result ≡ Err KeeperError.Storage) (IsErr result) }
-        ensures crash { is_up self.old → is_clean self.new → LeavesOnly (may_leave self.new) (IsDeskOf (roster self.old) (holds self.old)) };
+        ensures served { IsServed is_up is_clean failures beside self.old self.new
+            (result ≡ Err KeeperError.Storage) (IsErr result) }
+        ensures crash { is_up self.old → is_clean self.new
+            → LeavesOnly (may_leave self.new) (IsDeskOf (roster self.old) (holds self.old)) };
 
     /// How many failures it has counted, up to the greatest number of 64 bits.
     fn failures(&self) -> u64
         ensures { result ≡ Self.failures self.now };
 
-    /// While it is up, a crash leaves what it keeps, for the next opening. It does nothing: a keeper over another names it.
+    /// While it is up, a crash leaves what it keeps, for the next opening. It does nothing: a
+    /// keeper over another names it.
     fn lasts(&self)
-        ensures { is_up self.now
-            → LeavesOnly (may_leave self.now) (IsAsKept (is_empty self.now) (is_desk self.now) (is_old self.now) (roster self.now) (holds self.now)) };
+        ensures { is_up self.now → LeavesOnly (may_leave self.now) (IsAsKept (is_empty self.now)
+            (is_desk self.now) (is_old self.now) (roster self.now) (holds self.now)) };
 
     /// Each message that is held is one that a desk knows.
     ghost holds_messages: { (k : Self) → (m : AnyMessage) → holds k m → IsMessage m };
@@ -156,7 +184,8 @@ pub trait Keeper {
     ghost stays_desk: { (a b : Self) → is_same a b → is_desk a → is_desk b };
 
     /// Where a desk of an older form is kept, the same is one too, and of the same messages.
-    ghost stays_old: { (a b : Self) → is_same a b → is_old a → is_old b × SameSet (holds a) (holds b) };
+    ghost stays_old: { (a b : Self) → is_same a b → is_old a
+        → is_old b × SameSet (holds a) (holds b) };
 
     ghost stays_roster: { (a b : Self) → is_same a b → is_desk a → roster b ≡ roster a };
 

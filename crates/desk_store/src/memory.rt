@@ -17,7 +17,8 @@ use outcomes::Gathered;
 use std::alloc::Global;
 use std::marker::Model;
 
-/// A desk in memory, or nothing of a desk's. It is always up, never answers `Storage`, and keeps no desk of an older form.
+/// A desk in memory, or nothing of a desk's. It is always up, never answers `Storage`, and keeps no
+/// desk of an older form.
 #[derive(Drop)]
 pub struct MemoryKeeper {
     alloc: Global,
@@ -31,7 +32,10 @@ impl Model for MemoryKeeper {
 
     ghost Value = { MemoryContent };
 
-    ghost view = { λ k. record { roster = option_map string_bytes k.roster; messages = k.messages } };
+    ghost view = { λ k. record {
+      roster = option_map string_bytes k.roster;
+      messages = k.messages;
+    } };
 }
 
 impl MemoryKeeper {
@@ -130,7 +134,8 @@ impl Keeper for MemoryKeeper {
         ensures once { IfOk result (λ list. AllPairs (λ m n. m ≢ n) list.items) }
         ensures same { self.new ≡ self.old }
         ensures cause { result ≡ Err errors.Storage → HasFailed 0 0 }
-        ensures crash { LeavesOnly (LeavesContent self.new) (IsDeskOf (unwrap_or self.old.roster []) (memory.Holds self.old)) }
+        ensures crash { LeavesOnly (LeavesContent self.new)
+            (IsDeskOf (unwrap_or self.old.roster []) (memory.Holds self.old)) }
     {
         self.messages.copied()
     }

@@ -39,7 +39,8 @@ fn replace_today<S: Alter>(
 ) -> Result<(), Fault>
     requires rests { Rests (state S.Store conn.old) }
     requires desk { IsUp (state S.Store conn.old) → IsKept (state S.Store conn.old).now }
-    requires listed { IsUp (state S.Store conn.old) → Lists (HoldsText (state S.Store conn.old).now) contents.now.messages.items }
+    requires listed { IsUp (state S.Store conn.old)
+        → Lists (HoldsText (state S.Store conn.old).now) contents.now.messages.items }
     ensures { Replaces roster.now (state S.Store conn.old) (state S.Store conn.new) result }
 {
     if !conn.is_autocommit() {
@@ -49,7 +50,8 @@ fn replace_today<S: Alter>(
     replace(alloc, conn, roster, messages.as_slice())
 }
 
-/// Replaces the roster's text of a desk of an older form, whose contents these are. It becomes one of today.
+/// Replaces the roster's text of a desk of an older form, whose contents these are. It becomes one
+/// of today.
 fn replace_older<S: Alter>(
     alloc: Global,
     conn: &mut Connection<S>,
@@ -58,7 +60,8 @@ fn replace_older<S: Alter>(
 ) -> Result<(), Fault>
     requires rests { Rests (state S.Store conn.old) }
     requires desk { IsUp (state S.Store conn.old) → IsOldDesk (state S.Store conn.old).now }
-    requires listed { IsUp (state S.Store conn.old) → Lists (HoldsText (state S.Store conn.old).now) contents.now.messages.items }
+    requires listed { IsUp (state S.Store conn.old)
+        → Lists (HoldsText (state S.Store conn.old).now) contents.now.messages.items }
     ensures { Replaces roster.now (state S.Store conn.old) (state S.Store conn.new) result }
 {
     if !conn.is_autocommit() {
@@ -68,7 +71,8 @@ fn replace_older<S: Alter>(
     migrate(alloc, conn, roster, messages.as_slice())
 }
 
-/// Replaces the roster's text of what the database keeps. A desk of an older form becomes one of today.
+/// Replaces the roster's text of what the database keeps. A desk of an older form becomes one of
+/// today.
 pub(crate) fn replace_in<S: Alter>(
     alloc: Global,
     conn: &mut Connection<S>,

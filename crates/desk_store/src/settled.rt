@@ -6,7 +6,8 @@ ghost use Rattle.desk_store.specs.private.Survival.{Settled};
 
 use sqlite::{Alter, Connection};
 
-/// While the store is up, a crash leaves what the connection shows. It reads nothing: a proof names it.
+/// While the store is up, a crash leaves what the connection shows. It reads nothing: a proof names
+/// it.
 pub(crate) fn settles<S: Alter>(conn: &Connection<S>)
     requires { Rests (state S.Store conn.now) }
     ensures { Settled (state S.Store conn.now) }

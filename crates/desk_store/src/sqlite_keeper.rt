@@ -30,10 +30,11 @@ use outcomes::Gathered;
 use sqlite::{Alter, Connection};
 use std::alloc::Global;
 
-/// A desk in a database over any store, or a database that has none. Between calls all that it shows is committed.
+/// A desk in a database over any store, or a database that has none. Between calls all that it
+/// shows is committed.
 ///
-/// It counts a failure for each call that is refused, for whatever reason: so for a look at a desk whose rows are none that its
-/// messages come to, and for want of memory.
+/// It counts a failure for each call that is refused, for whatever reason: so for a look at a desk
+/// whose rows are none that its messages come to, and for want of memory.
 pub struct SqliteKeeper<S: Alter> {
     alloc: Global,
     conn: Connection<S>,
@@ -42,7 +43,8 @@ pub struct SqliteKeeper<S: Alter> {
 }
 
 impl<S: Alter> SqliteKeeper<S> {
-    /// A keeper of what the database keeps. The connection is in no transaction, unless a failure has shut its store. It takes no memory.
+    /// A keeper of what the database keeps. The connection is in no transaction, unless a failure
+    /// has shut its store. It takes no memory.
     pub fn new(alloc: Global, conn: Connection<S>) -> SqliteKeeper<S>
         requires { IsUp (state S.Store conn) → conn.in_transaction ≡ false }
         ensures same { result.conn ≡ conn }
@@ -69,18 +71,26 @@ impl<S: Alter> SqliteKeeper<S> {
         conn
     }
 
-    /// Gives the connection up, and makes a keeper of it anew: what another keeper finds over the same connection.
+    /// Gives the connection up, and makes a keeper of it anew: what another keeper finds over the
+    /// same connection.
     ///
-    /// It keeps what this one did, and is up exactly where this one was. Its count of failures begins again.
+    /// It keeps what this one did, and is up exactly where this one was. Its count of failures
+    /// begins again.
     pub fn renewed(self) -> SqliteKeeper<S>
         ensures database { (state S.Store result.conn).now ≡ (state S.Store self.conn).now }
         ensures up { IsUp (state S.Store result.conn) ↔ IsUp (state S.Store self.conn) }
-        ensures clean { HasCleanDisk (state S.Store result.conn) ↔ HasCleanDisk (state S.Store self.conn) }
-        ensures empty { IsVacant (state S.Store result.conn).now.schema ↔ IsVacant (state S.Store self.conn).now.schema }
-        ensures desk { IsKept (state S.Store result.conn).now ↔ IsKept (state S.Store self.conn).now }
-        ensures old { IsOldDesk (state S.Store result.conn).now ↔ IsOldDesk (state S.Store self.conn).now }
-        ensures roster { (content_of (state S.Store result.conn).now).roster ≡ (content_of (state S.Store self.conn).now).roster }
-        ensures set { SameSet (HoldsText (state S.Store self.conn).now) (HoldsText (state S.Store result.conn).now) }
+        ensures clean { HasCleanDisk (state S.Store result.conn)
+            ↔ HasCleanDisk (state S.Store self.conn) }
+        ensures empty { IsVacant (state S.Store result.conn).now.schema
+            ↔ IsVacant (state S.Store self.conn).now.schema }
+        ensures desk { IsKept (state S.Store result.conn).now
+            ↔ IsKept (state S.Store self.conn).now }
+        ensures old { IsOldDesk (state S.Store result.conn).now
+            ↔ IsOldDesk (state S.Store self.conn).now }
+        ensures roster { (content_of (state S.Store result.conn).now).roster
+            ≡ (content_of (state S.Store self.conn).now).roster }
+        ensures set { SameSet (HoldsText (state S.Store self.conn).now)
+            (HoldsText (state S.Store result.conn).now) }
         ensures none { result.failed ≡ 0 }
     {
         let alloc = self.alloc;
@@ -169,8 +179,8 @@ impl<S: Alter> Keeper for SqliteKeeper<S> {
         }
     }
 
-    /// A database is refused, as what fails is, where a foreign key waits for a desk's tables, and where a table counts by
-    /// AUTOINCREMENT without the table of the counts.
+    /// A database is refused, as what fails is, where a foreign key waits for a desk's tables, and
+    /// where a table counts by AUTOINCREMENT without the table of the counts.
     fn make(&mut self, text: &str) -> Result<(), KeeperError> {
         settles(&self.conn);
         if !self.conn.is_autocommit() || !is_ready(self.conn.schema()) {

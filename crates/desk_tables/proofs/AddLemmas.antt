@@ -24,8 +24,8 @@ same_sets = set.same_set nat_list_cmp_total (slice_cmp-IsAntisymmetric nat_cmp-I
 -- the rows have one text more
 one_more : (rows news : List Row) (text : List ℕ) → ((q : List ℕ) → list_any (has_text q) news ≡ (same_text q text || list_any (has_text q) rows))
     → set.from_list {R = slice_cmp nat_cmp} (bodies news) ≡ set.insert (set.from_list (bodies rows)) text
-one_more rows news text each = same_sets _ _ (λ q.
-    contains_bodies q news ∙ each q ∙ ap (λ b. same_text q text || b) (sym (contains_bodies q rows)) ∙ sym (set.contains-insert nat_list_cmp_total (set.from_list (bodies rows)) text q))
+one_more rows news text each = same_sets _ _ (λ q. contains_bodies q news ∙ each q ∙ ap (λ b. same_text q text || b) (sym (contains_bodies q rows))
+    ∙ sym (set.contains-insert nat_list_cmp_total (set.from_list (bodies rows)) text q))
 
 pub is_same : (q text : List ℕ) → same_text q text ≡ true → q ≡ text
 is_same q text h = slice_cmp-IsAntisymmetric nat_cmp-IsAntisymmetric q text ((Equal-is (slice_cmp nat_cmp q text)).0 h)
@@ -44,12 +44,14 @@ all_at P (y ∷ xs) zero x e h = let same : y ≡ x = cc in subst P same h.0
 all_at P (y ∷ xs) (suc i) x e h = all_at P xs i x e h.1
 
 -- a text that was put behind a fresh rowid is one more, and the bodies are texts as before
-module _ (n : ℤ) (text : List ℕ) (old new : List Row) (fresh : are_fresh old ((Int n ∷ Text text ∷ []) ∷ []) ≡ true) (is : new ≡ put_all old ((Int n ∷ Text text ∷ []) ∷ [])) where
+module _ (n : ℤ) (text : List ℕ) (old new : List Row)
+    (fresh : are_fresh old ((Int n ∷ Text text ∷ []) ∷ []) ≡ true) (is : new ≡ put_all old ((Int n ∷ Text text ∷ []) ∷ [])) where
   abbrev row : Row
   row = Int n ∷ Text text ∷ []
 
   pub text_more : texts_of new ≡ set.insert (texts_of old) text
-  text_more = one_more old new text (λ q. ap (list_any (has_text q)) is ∙ any_put (has_text q) old row fresh ∙ ap (λ b. b || list_any (has_text q) old) (or-false (same_text q text)))
+  text_more = one_more old new text
+      (λ q. ap (list_any (has_text q)) is ∙ any_put (has_text q) old row fresh ∙ ap (λ b. b || list_any (has_text q) old) (or-false (same_text q text)))
 
   pub typed_still : list_any is_stray old ≡ false → list_any is_stray new ≡ false
   typed_still was = ap (list_any is_stray) is ∙ any_put is_stray old row fresh ∙ was

@@ -31,7 +31,8 @@ pub record IsCreate (text : List ℕ) (name : Name) : Type 0 where
   pub defined : define.table [] def ≡ Ok t
   pub whole : (length t.computed == length t.stamps.places) ≡ true
   pub reserved : is_reserved name ≡ false
-  pub text_is : (s : Schema) → statement_of text (Ok (record { command = command.CreateTable; returning = None; names = p.names; formats = []; start = p.start; end = p.end; tail = p.tail })) ≡ text
+  pub text_is : (s : Schema) → statement_of text
+      (Ok (record { command = command.CreateTable; returning = None; names = p.names; formats = []; start = p.start; end = p.end; tail = p.tail })) ≡ text
 
 module _ (s : Schema) (text : List ℕ) (name : Name) (it : IsCreate text name) (free : IsUnused s name) where
   untimed : timed s it.p.formats it.p.statement ≡ []
@@ -60,16 +61,46 @@ messages_text = codes "CREATE TABLE messages (body TEXT PRIMARY KEY NOT NULL) ST
 
 desk_parts : IsCreate desk_text (codes "desk")
 unfolding everything
-desk_parts = record { p = _; def = _; t = _; parsed = refl; statement = refl; formats = refl; name_is = refl; missing = refl; resolves = refl; defined = refl; whole = refl; reserved = refl; text_is = λ s. refl }
+desk_parts = record {
+  p = _;
+  def = _;
+  t = _;
+  parsed = refl;
+  statement = refl;
+  formats = refl;
+  name_is = refl;
+  missing = refl;
+  resolves = refl;
+  defined = refl;
+  whole = refl;
+  reserved = refl;
+  text_is = λ s. refl;
+}
 
 messages_parts : IsCreate messages_text (codes "messages")
 unfolding everything
-messages_parts = record { p = _; def = _; t = _; parsed = refl; statement = refl; formats = refl; name_is = refl; missing = refl; resolves = refl; defined = refl; whole = refl; reserved = refl; text_is = λ s. refl }
+messages_parts = record {
+  p = _;
+  def = _;
+  t = _;
+  parsed = refl;
+  statement = refl;
+  formats = refl;
+  name_is = refl;
+  missing = refl;
+  resolves = refl;
+  defined = refl;
+  whole = refl;
+  reserved = refl;
+  text_is = λ s. refl;
+}
 
-pub desk_means : (s : Schema) → IsUnused s (codes "desk") → (command_of (understood s desk_text) ≡ command.CreateTable) × (statement_of desk_text (understood s desk_text) ≡ desk_text) × IsPlain (understood s desk_text)
+pub desk_means : (s : Schema) → IsUnused s (codes "desk") → (command_of (understood s desk_text) ≡ command.CreateTable)
+    × (statement_of desk_text (understood s desk_text) ≡ desk_text) × IsPlain (understood s desk_text)
 desk_means s free = create_is s desk_text (codes "desk") desk_parts free
 
-pub messages_means : (s : Schema) → IsUnused s (codes "messages") → (command_of (understood s messages_text) ≡ command.CreateTable) × (statement_of messages_text (understood s messages_text) ≡ messages_text) × IsPlain (understood s messages_text)
+pub messages_means : (s : Schema) → IsUnused s (codes "messages") → (command_of (understood s messages_text) ≡ command.CreateTable)
+    × (statement_of messages_text (understood s messages_text) ≡ messages_text) × IsPlain (understood s messages_text)
 messages_means s free = create_is s messages_text (codes "messages") messages_parts free
 
 pub defined : (table_defined_by desk_text ≡ Ok desk) × (table_defined_by messages_text ≡ Ok (record messages { tree = 0 }))
@@ -77,33 +108,80 @@ unfolding everything
 defined = (refl, refl)
 
 abbrev pub names_text : List ℕ
-names_text = codes "CREATE TABLE names (asker TEXT NOT NULL, no INTEGER NOT NULL, body TEXT NOT NULL, disputed INTEGER NOT NULL, PRIMARY KEY (asker, no)) STRICT"
+names_text =
+    codes "CREATE TABLE names (asker TEXT NOT NULL, no INTEGER NOT NULL, body TEXT NOT NULL, disputed INTEGER NOT NULL, PRIMARY KEY (asker, no)) STRICT"
 
 abbrev pub verdicts_text : List ℕ
-verdicts_text = codes "CREATE TABLE verdicts (asker TEXT NOT NULL, no INTEGER NOT NULL, person TEXT NOT NULL, kind TEXT NOT NULL, at INTEGER NOT NULL, PRIMARY KEY (asker, no, person, kind, at)) STRICT"
+verdicts_text =
+    codes "CREATE TABLE verdicts (asker TEXT NOT NULL, no INTEGER NOT NULL, person TEXT NOT NULL, kind TEXT NOT NULL, at INTEGER NOT NULL, PRIMARY KEY (asker, no, person, kind, at)) STRICT"
 
 abbrev pub parked_text : List ℕ
 parked_text = codes "CREATE TABLE parked (body TEXT PRIMARY KEY NOT NULL, asker TEXT NOT NULL, no INTEGER NOT NULL) STRICT"
 
 names_parts : IsCreate names_text (codes "names")
 unfolding everything
-names_parts = record { p = _; def = _; t = _; parsed = refl; statement = refl; formats = refl; name_is = refl; missing = refl; resolves = refl; defined = refl; whole = refl; reserved = refl; text_is = λ s. refl }
+names_parts = record {
+  p = _;
+  def = _;
+  t = _;
+  parsed = refl;
+  statement = refl;
+  formats = refl;
+  name_is = refl;
+  missing = refl;
+  resolves = refl;
+  defined = refl;
+  whole = refl;
+  reserved = refl;
+  text_is = λ s. refl;
+}
 
 verdicts_parts : IsCreate verdicts_text (codes "verdicts")
 unfolding everything
-verdicts_parts = record { p = _; def = _; t = _; parsed = refl; statement = refl; formats = refl; name_is = refl; missing = refl; resolves = refl; defined = refl; whole = refl; reserved = refl; text_is = λ s. refl }
+verdicts_parts = record {
+  p = _;
+  def = _;
+  t = _;
+  parsed = refl;
+  statement = refl;
+  formats = refl;
+  name_is = refl;
+  missing = refl;
+  resolves = refl;
+  defined = refl;
+  whole = refl;
+  reserved = refl;
+  text_is = λ s. refl;
+}
 
 parked_parts : IsCreate parked_text (codes "parked")
 unfolding everything
-parked_parts = record { p = _; def = _; t = _; parsed = refl; statement = refl; formats = refl; name_is = refl; missing = refl; resolves = refl; defined = refl; whole = refl; reserved = refl; text_is = λ s. refl }
+parked_parts = record {
+  p = _;
+  def = _;
+  t = _;
+  parsed = refl;
+  statement = refl;
+  formats = refl;
+  name_is = refl;
+  missing = refl;
+  resolves = refl;
+  defined = refl;
+  whole = refl;
+  reserved = refl;
+  text_is = λ s. refl;
+}
 
-pub names_means : (s : Schema) → IsUnused s (codes "names") → (command_of (understood s names_text) ≡ command.CreateTable) × (statement_of names_text (understood s names_text) ≡ names_text) × IsPlain (understood s names_text)
+pub names_means : (s : Schema) → IsUnused s (codes "names") → (command_of (understood s names_text) ≡ command.CreateTable)
+    × (statement_of names_text (understood s names_text) ≡ names_text) × IsPlain (understood s names_text)
 names_means s free = create_is s names_text (codes "names") names_parts free
 
-pub verdicts_means : (s : Schema) → IsUnused s (codes "verdicts") → (command_of (understood s verdicts_text) ≡ command.CreateTable) × (statement_of verdicts_text (understood s verdicts_text) ≡ verdicts_text) × IsPlain (understood s verdicts_text)
+pub verdicts_means : (s : Schema) → IsUnused s (codes "verdicts") → (command_of (understood s verdicts_text) ≡ command.CreateTable)
+    × (statement_of verdicts_text (understood s verdicts_text) ≡ verdicts_text) × IsPlain (understood s verdicts_text)
 verdicts_means s free = create_is s verdicts_text (codes "verdicts") verdicts_parts free
 
-pub parked_means : (s : Schema) → IsUnused s (codes "parked") → (command_of (understood s parked_text) ≡ command.CreateTable) × (statement_of parked_text (understood s parked_text) ≡ parked_text) × IsPlain (understood s parked_text)
+pub parked_means : (s : Schema) → IsUnused s (codes "parked") → (command_of (understood s parked_text) ≡ command.CreateTable)
+    × (statement_of parked_text (understood s parked_text) ≡ parked_text) × IsPlain (understood s parked_text)
 parked_means s free = create_is s parked_text (codes "parked") parked_parts free
 
 pub defined_rows : (table_defined_by names_text ≡ Ok names) × (table_defined_by verdicts_text ≡ Ok verdicts) × (table_defined_by parked_text ≡ Ok parked)

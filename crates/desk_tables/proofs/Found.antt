@@ -1,5 +1,6 @@
 -- The SELECT of a text among the messages, for any schema that finds the messages by name.
-use Rattle.std.proofs.Common.{arith, ne_eqb, suc, None, true, false, pos, ◌≡◌, ◌==◌, ◌^◌, nat_le, nat_lt, List, [], ◌∷◌, ◌-◌, ℕ, Ok, Bool, not, codes, refl, map, length, sym, ap, subst, ◌∙◌, inl}
+use Rattle.std.proofs.Common.{arith, ne_eqb, suc, None, true, false, pos, ◌≡◌, ◌==◌, ◌^◌, nat_le, nat_lt, List}
+use Rattle.std.proofs.Common.{[], ◌∷◌, ◌-◌, ℕ, Ok, Bool, not, codes, refl, map, length, sym, ap, subst, ◌∙◌, inl}
 use Rattle.std.specs.List.{list_all, list_any}
 use Rattle.sqlite.specs.declared.types.Value.TheVariants.{Null, Int, Text}
 use Rattle.sqlite.specs.Order.{Row, column}
@@ -61,7 +62,8 @@ record IsByBody (e : Expr) : Type 0 where
   pub e_hands : passes e ≡ Nothing
   pub b_hands : passes b ≡ Nothing
 
-parts : (it : IsFiltered text_select (codes "messages")) × (a : Written) × ((out-Core (out-Select it.sel).first).shown ≡ a ∷ []) × IsColumn a (codes "body") × IsByBody it.e
+parts : (it : IsFiltered text_select (codes "messages")) × (a : Written)
+    × ((out-Core (out-Select it.sel).first).shown ≡ a ∷ []) × IsColumn a (codes "body") × IsByBody it.e
 unfolding everything
 parts = (
   record {
@@ -104,20 +106,28 @@ looking tree = record {
 }
 
 module _ (s : Schema) (at tree : ℕ) (found : Finds s (codes "messages") at (messages_at tree)) where
-  same_term : (shown : List Shown') → compared (scope_of s (codes "messages") at shown) (Compare Eq Binary) (col 1 1) (col 0 0) ≡ op2 (Compare Eq Binary) (col 1 1) (col 0 0)
+  same_term : (shown : List Shown')
+      → compared (scope_of s (codes "messages") at shown) (Compare Eq Binary) (col 1 1) (col 0 0) ≡ op2 (Compare Eq Binary) (col 1 1) (col 0 0)
   unfolding compared affinity_of of_column converted spelled may_be_text is_parameter
   same_term shown = rw found.has refl
 
-  body_lowered : (shown : List Shown') (e : Expr) → IsByBody e → (st : State) → nat_lt 1 st.budget ≡ true → nat_lt 1 (st.budget - 1) ≡ true → nat_lt 1 (st.budget - 1 - 1) ≡ true
-      → IsLowered (scope_of s (codes "messages") at shown) e missing_test st
+  body_lowered : (shown : List Shown') (e : Expr) → IsByBody e → (st : State) → nat_lt 1 st.budget ≡ true → nat_lt 1 (st.budget - 1) ≡ true
+      → nat_lt 1 (st.budget - 1 - 1) ≡ true → IsLowered (scope_of s (codes "messages") at shown) e missing_test st
   unfolding same_name chosen first_found
   body_lowered shown e it st rich0 rich1 rich2 =
       let t = messages_at tree in
       let cx = scope_of s (codes "messages") at shown in
-      let column = lower_column 698 cx it.a (codes "body") 1 at 0 t (column_of (codes "body") kind.Text true) (opening st) it.column rich1 (find_one s (codes "messages") (codes "body") at 1 0 t [] shown false true found.has refl) found.has refl in
+      let column = lower_column 698 cx it.a (codes "body") 1 at 0 t (column_of (codes "body") kind.Text true) (opening st) it.column rich1
+      (find_one s (codes "messages") (codes "body") at 1 0 t [] shown false true found.has refl) found.has refl in
       let parameter = lower_node 698 cx it.b Nothing (col 0 0) _ _ rich2 it.b_hands (opened_parameter (lower_to 698) cx it.b 1 _ it.parameter) in
-      let equal = lower_node 699 cx e Nothing _ st _ rich0 it.e_hands (opened_equal (lower_to 699) cx e it.a it.b (col 1 1) (col 0 0) (opening st) _ _ it.equals column parameter) in
-      record { after = _; tests_is = tests_some lower cx e (op2 (Compare Eq Binary) (col 1 1) (col 0 0)) st _ (rw (same_term shown) at equal); steps = refl; aggregates = refl }
+      let equal = lower_node 699 cx e Nothing _ st _ rich0 it.e_hands
+      (opened_equal (lower_to 699) cx e it.a it.b (col 1 1) (col 0 0) (opening st) _ _ it.equals column parameter) in
+      record {
+        after = _;
+        tests_is = tests_some lower cx e (op2 (Compare Eq Binary) (col 1 1) (col 0 0)) st _ (rw (same_term shown) at equal);
+        steps = refl;
+        aggregates = refl;
+      }
 
   typed : program s [] (draft_where tree missing_test (col 1 1 ∷ [])) ≡ Ok (record { lets = []; body = looking tree })
   unfolding program
@@ -133,12 +143,13 @@ module _ (s : Schema) (at tree : ℕ) (found : Finds s (codes "messages") at (me
       let one = column_shown s (codes "messages") (codes "body") at 0 t c parts.1 [] begun parts.3 refl found.has refl refl in
       let st = after_column t 0 c begun in
       let columns = shown_column t 0 c ∷ [] in
-      filtered_is s text_select (codes "messages") it at t columns missing_test st _ found.named found.has (result_one lower (outermost s) (level_at (codes "messages") at) core parts.1 columns begun st parts.2 one) refl refl
-      (body_lowered columns it.e parts.4 st refl refl refl) typed
+      filtered_is s text_select (codes "messages") it at t columns missing_test st _ found.named found.has (result_one lower (outermost s)
+      (level_at (codes "messages") at) core parts.1 columns begun st parts.2 one) refl refl (body_lowered columns it.e parts.4 st refl refl refl) typed
 
 -- ---- what it shows
 
-module _ (text : List ℕ) (tree : ℕ) (old : Trees) (low : nat_le (2 ^ 31) tree ≡ false) (rows : List Row) (a : IsAnswer (looking tree) (overlay old []) (Text text ∷ []) rows) where
+module _ (text : List ℕ) (tree : ℕ) (old : Trees) (low : nat_le (2 ^ 31) tree ≡ false) (rows : List Row)
+    (a : IsAnswer (looking tree) (overlay old []) (Text text ∷ []) rows) where
   abbrev env : Row → Env
   env r = (Text text ∷ []) ∷ r ∷ []
 
@@ -163,7 +174,8 @@ module _ (text : List ℕ) (tree : ℕ) (old : Trees) (low : nat_le (2 ^ 31) tre
   there h =
       let x = some rows h in
       let o = has_mapped (λ (k : Output). k.1) a.ordered x.0 (subst (λ l. Has l x.0) a.shown x.1) in
-      let e = has_mapped (output (looking tree)) (picked is_found env (old tree)) o.0 (subst (λ l. Has l o.0) kept_is (has_permuted a.ordered a.kept o.0 (IsPermutation-sym _ _ a.same) o.1)) in
+      let e = has_mapped (output (looking tree)) (picked is_found env (old tree)) o.0
+      (subst (λ l. Has l o.0) kept_is (has_permuted a.ordered a.kept o.0 (IsPermutation-sym _ _ a.same) o.1)) in
       let r = has_picked is_found env (old tree) e.0 e.1 in
       some_from (has_text text) (old tree) r.0 r.1 (sym (hit_is text r.0) ∙ r.2)
 
@@ -178,9 +190,10 @@ module _ (text : List ℕ) (tree : ℕ) (old : Trees) (low : nat_le (2 ^ 31) tre
   told_is : not (length rows == 0) ≡ list_any (has_text text) (old tree)
   told_is = same_test _ _ there back
 
-pub text_told : (text : List ℕ) (at tree : ℕ) (old new : Store) (rows : List Row) → Finds old.now.schema (codes "messages") at (messages_at tree) → Shown text_select (Text text ∷ []) old new rows
-    → not (length rows == 0) ≡ list_any (has_text text) (old.now.trees tree)
+pub text_told : (text : List ℕ) (at tree : ℕ) (old new : Store) (rows : List Row) → Finds old.now.schema (codes "messages") at (messages_at tree)
+    → Shown text_select (Text text ∷ []) old new rows → not (length rows == 0) ≡ list_any (has_text text) (old.now.trees tree)
 text_told text at tree old new rows found shown =
     let s = old.now.schema in
     let means = text_selects s at tree found in
-    told_is text tree old.now.trees found.stored rows ((reads_as text_select (Text text ∷ []) old new s refl _ means.command means.plain means.unlisted rows shown).answer Null)
+    told_is text tree old.now.trees found.stored rows
+    ((reads_as text_select (Text text ∷ []) old new s refl _ means.command means.plain means.unlisted rows shown).answer Null)

@@ -28,25 +28,28 @@ pub record IsInsert (text : List ℕ) (table : Name) (columns : List Name) : Typ
   pub statement : p.statement ≡ written.Insert conflict.Abort table columns rows [] []
   pub formats : p.formats ≡ []
 
-untimed_insert : (s : Schema) (text : List ℕ) (table : Name) (columns : List Name) (it : IsInsert text table columns) (at : ℕ) (t : Table) → table_named s table ≡ Some at → slice_get s.tables at ≡ Some t → t.stamps.formats ≡ []
-    → timed s it.p.formats it.p.statement ≡ []
+untimed_insert : (s : Schema) (text : List ℕ) (table : Name) (columns : List Name) (it : IsInsert text table columns) (at : ℕ) (t : Table)
+    → table_named s table ≡ Some at → slice_get s.tables at ≡ Some t → t.stamps.formats ≡ [] → timed s it.p.formats it.p.statement ≡ []
 unfolding timed
 untimed_insert s text table columns it at t named has unstamped = rw (it.statement, it.formats, named, has, unstamped) refl
 
-plain_insert : (s : Schema) (text : List ℕ) (table : Name) (columns : List Name) (it : IsInsert text table columns) (base : ℕ) → returning s base it.p.statement ≡ Ok None
+plain_insert : (s : Schema) (text : List ℕ) (table : Name) (columns : List Name) (it : IsInsert text table columns) (base : ℕ)
+    → returning s base it.p.statement ≡ Ok None
 unfolding returning shows
 plain_insert s text table columns it base = rw it.statement refl
 
-command_insert : (s : Schema) (text : List ℕ) (table : Name) (columns : List Name) (it : IsInsert text table columns) (base at : ℕ) (t : Table) (src : Source) → table_named s table ≡ Some at → slice_get s.tables at ≡ Some t
+command_insert : (s : Schema) (text : List ℕ) (table : Name) (columns : List Name) (it : IsInsert text table columns) (base at : ℕ) (t : Table) (src : Source)
+    → table_named s table ≡ Some at → slice_get s.tables at ≡ Some t
     → new_rows s t base columns it.rows ≡ Ok src → command_in s it.p.formats base it.p.statement ≡ Ok (command.Insert at src)
 unfolding command_in insert insert_or_abort
 command_insert s text table columns it base at t src named has rows = rw (it.statement, named, has, rows) refl
 
-pub insert_is : (s : Schema) (text : List ℕ) (table : Name) (columns : List Name) (it : IsInsert text table columns) (at : ℕ) (t : Table) (src : Source) → table_named s table ≡ Some at → slice_get s.tables at ≡ Some t → t.stamps.formats ≡ []
+pub insert_is : (s : Schema) (text : List ℕ) (table : Name) (columns : List Name) (it : IsInsert text table columns) (at : ℕ) (t : Table) (src : Source)
+    → table_named s table ≡ Some at → slice_get s.tables at ≡ Some t → t.stamps.formats ≡ []
     → new_rows s t (small it.p.names + 0) columns it.rows ≡ Ok src → Means s text (command.Insert at src)
 insert_is s text table columns it at t src named has unstamped rows =
-    means s text _ (compiled_is s text it.p (command.Insert at src) it.parsed (untimed_insert s text table columns it at t named has unstamped) (plain_insert s text table columns it _)
-    (command_insert s text table columns it _ at t src named has rows)) refl refl
+    means s text _ (compiled_is s text it.p (command.Insert at src) it.parsed (untimed_insert s text table columns it at t named has unstamped)
+    (plain_insert s text table columns it _) (command_insert s text table columns it _ at t src named has rows)) refl refl
 
 abbrev pub roster_text : List ℕ
 roster_text = codes "INSERT INTO desk (id, schema, roster) VALUES (1, 2, ?1)"
@@ -55,13 +58,14 @@ abbrev pub roster_terms : List Term
 roster_terms = lit (Int (pos 1)) ∷ lit Null ∷ lit (Int (pos 2)) ∷ col 0 0 ∷ []
 
 -- the rows are read with no look at the schema
-roster_parts : (it : IsInsert roster_text (codes "desk") (codes "id" ∷ codes "schema" ∷ codes "roster" ∷ []))
-    × ((s : Schema) (tree : ℕ) → new_rows s (desk_at tree) (small it.p.names + 0) (codes "id" ∷ codes "schema" ∷ codes "roster" ∷ []) it.rows ≡ Ok (Values roster_terms 4))
+roster_parts : (it : IsInsert roster_text (codes "desk") (codes "id" ∷ codes "schema" ∷ codes "roster" ∷ [])) × ((s : Schema) (tree : ℕ)
+    → new_rows s (desk_at tree) (small it.p.names + 0) (codes "id" ∷ codes "schema" ∷ codes "roster" ∷ []) it.rows ≡ Ok (Values roster_terms 4))
 unfolding everything
 roster_parts = (record { p = _; rows = _; parsed = refl; statement = refl; formats = refl }, λ s tree. refl)
 
 pub roster_put : (s : Schema) (at tree : ℕ) → Finds s (codes "desk") at (desk_at tree) → Means s roster_text (command.Insert at (Values roster_terms 4))
-roster_put s at tree it = insert_is s roster_text (codes "desk") _ roster_parts.0 at (desk_at tree) (Values roster_terms 4) it.named it.has refl (roster_parts.1 s tree)
+roster_put s at tree it =
+    insert_is s roster_text (codes "desk") _ roster_parts.0 at (desk_at tree) (Values roster_terms 4) it.named it.has refl (roster_parts.1 s tree)
 
 -- ---- the INSERTs of the messages and of the three tables of rows
 
@@ -101,30 +105,39 @@ verdict_columns = codes "asker" ∷ codes "no" ∷ codes "person" ∷ codes "kin
 abbrev parked_columns : List Name
 parked_columns = codes "body" ∷ codes "asker" ∷ codes "no" ∷ []
 
-text_parts : (it : IsInsert text_insert (codes "messages") text_columns) × ((s : Schema) (tree : ℕ) → new_rows s (messages_at tree) (small it.p.names + 0) text_columns it.rows ≡ Ok (Values text_terms 2))
+text_parts : (it : IsInsert text_insert (codes "messages") text_columns)
+    × ((s : Schema) (tree : ℕ) → new_rows s (messages_at tree) (small it.p.names + 0) text_columns it.rows ≡ Ok (Values text_terms 2))
 unfolding everything
 text_parts = (record { p = _; rows = _; parsed = refl; statement = refl; formats = refl }, λ s tree. refl)
 
-name_parts : (it : IsInsert name_insert (codes "names") name_columns) × ((s : Schema) (tree : ℕ) → new_rows s (names_at tree) (small it.p.names + 0) name_columns it.rows ≡ Ok (Values name_terms 5))
+name_parts : (it : IsInsert name_insert (codes "names") name_columns)
+    × ((s : Schema) (tree : ℕ) → new_rows s (names_at tree) (small it.p.names + 0) name_columns it.rows ≡ Ok (Values name_terms 5))
 unfolding everything
 name_parts = (record { p = _; rows = _; parsed = refl; statement = refl; formats = refl }, λ s tree. refl)
 
-verdict_parts : (it : IsInsert verdict_insert (codes "verdicts") verdict_columns) × ((s : Schema) (tree : ℕ) → new_rows s (verdicts_at tree) (small it.p.names + 0) verdict_columns it.rows ≡ Ok (Values verdict_terms 6))
+verdict_parts : (it : IsInsert verdict_insert (codes "verdicts") verdict_columns)
+    × ((s : Schema) (tree : ℕ) → new_rows s (verdicts_at tree) (small it.p.names + 0) verdict_columns it.rows ≡ Ok (Values verdict_terms 6))
 unfolding everything
 verdict_parts = (record { p = _; rows = _; parsed = refl; statement = refl; formats = refl }, λ s tree. refl)
 
-parked_parts : (it : IsInsert parked_insert (codes "parked") parked_columns) × ((s : Schema) (tree : ℕ) → new_rows s (parked_at tree) (small it.p.names + 0) parked_columns it.rows ≡ Ok (Values parked_terms 4))
+parked_parts : (it : IsInsert parked_insert (codes "parked") parked_columns)
+    × ((s : Schema) (tree : ℕ) → new_rows s (parked_at tree) (small it.p.names + 0) parked_columns it.rows ≡ Ok (Values parked_terms 4))
 unfolding everything
 parked_parts = (record { p = _; rows = _; parsed = refl; statement = refl; formats = refl }, λ s tree. refl)
 
 pub text_put : (s : Schema) (at tree : ℕ) → Finds s (codes "messages") at (messages_at tree) → Means s text_insert (command.Insert at (Values text_terms 2))
-text_put s at tree it = insert_is s text_insert (codes "messages") _ text_parts.0 at (messages_at tree) (Values text_terms 2) it.named it.has refl (text_parts.1 s tree)
+text_put s at tree it =
+    insert_is s text_insert (codes "messages") _ text_parts.0 at (messages_at tree) (Values text_terms 2) it.named it.has refl (text_parts.1 s tree)
 
 pub name_put : (s : Schema) (at tree : ℕ) → Finds s (codes "names") at (names_at tree) → Means s name_insert (command.Insert at (Values name_terms 5))
-name_put s at tree it = insert_is s name_insert (codes "names") _ name_parts.0 at (names_at tree) (Values name_terms 5) it.named it.has refl (name_parts.1 s tree)
+name_put s at tree it =
+    insert_is s name_insert (codes "names") _ name_parts.0 at (names_at tree) (Values name_terms 5) it.named it.has refl (name_parts.1 s tree)
 
-pub verdict_put : (s : Schema) (at tree : ℕ) → Finds s (codes "verdicts") at (verdicts_at tree) → Means s verdict_insert (command.Insert at (Values verdict_terms 6))
-verdict_put s at tree it = insert_is s verdict_insert (codes "verdicts") _ verdict_parts.0 at (verdicts_at tree) (Values verdict_terms 6) it.named it.has refl (verdict_parts.1 s tree)
+pub verdict_put : (s : Schema) (at tree : ℕ) → Finds s (codes "verdicts") at (verdicts_at tree)
+    → Means s verdict_insert (command.Insert at (Values verdict_terms 6))
+verdict_put s at tree it =
+    insert_is s verdict_insert (codes "verdicts") _ verdict_parts.0 at (verdicts_at tree) (Values verdict_terms 6) it.named it.has refl (verdict_parts.1 s tree)
 
 pub parked_put : (s : Schema) (at tree : ℕ) → Finds s (codes "parked") at (parked_at tree) → Means s parked_insert (command.Insert at (Values parked_terms 4))
-parked_put s at tree it = insert_is s parked_insert (codes "parked") _ parked_parts.0 at (parked_at tree) (Values parked_terms 4) it.named it.has refl (parked_parts.1 s tree)
+parked_put s at tree it =
+    insert_is s parked_insert (codes "parked") _ parked_parts.0 at (parked_at tree) (Values parked_terms 4) it.named it.has refl (parked_parts.1 s tree)

@@ -24,7 +24,8 @@ or-false true = refl
 or-false false = refl
 
 -- SQL's = finds the text alone
-pub finds_text : (text : List ℕ) (v : Value) → is_true (binary (Compare Eq Binary) v (Text text)) ≡ list_any (same_text text) (Rattle.desk_tables.specs.Stored.text_in v)
+pub finds_text : (text : List ℕ) (v : Value)
+    → is_true (binary (Compare Eq Binary) v (Text text)) ≡ list_any (same_text text) (Rattle.desk_tables.specs.Stored.text_in v)
 unfolding binary
 finds_text text Null = refl
 finds_text text (Int n) = ap (λ o. is_true (from_truth (Some (is_eq o)))) (value_cmp-apart (Int n) (Text text) (λ e. omega (arith, e)))

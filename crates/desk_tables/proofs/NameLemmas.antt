@@ -1,5 +1,6 @@
 -- What a query by the name shows of the rows of a table, and what is left without the rows that it finds.
-use Rattle.std.proofs.Common.{arith, ◌≡◌, ◌⊎◌, inl, inr, ℕ, suc, ℤ, pos, ◌^◌, nat_le, List, [], ◌∷◌, ◌++◌, map, Bool, true, false, cond, not, Some, refl, sym, ap, subst, ◌∙◌, true≢false}
+use Rattle.std.proofs.Common.{arith, ◌≡◌, ◌⊎◌, inl, inr, ℕ, suc, ℤ, pos, ◌^◌, nat_le, List, [], ◌∷◌, ◌++◌}
+use Rattle.std.proofs.Common.{map, Bool, true, false, cond, not, Some, refl, sym, ap, subst, ◌∙◌, true≢false}
 use Rattle.std.proofs.lemmas.Bool.{and_parts, not-true}
 use Rattle.std.specs.List.{list_all, list_any, flat_map}
 use Rattle.std.specs.List.Sorted.{IsPermutation}
@@ -49,7 +50,8 @@ module _ {X Y : Type 0} (p : X → Bool) (f : X → Y) where
   has_picked [] y h = absurd h
   has_picked (x ∷ xs) y h = go (p x) refl h (has_picked xs y)
     where
-      go : (b : Bool) → p x ≡ b → Has (cond b (f x ∷ []) [] ++ picked xs) y → (Has (picked xs) y → (z : X) × Has xs z × (p z ≡ true) × (y ≡ f z)) → (z : X) × Has (x ∷ xs) z × (p z ≡ true) × (y ≡ f z)
+      go : (b : Bool) → p x ≡ b → Has (cond b (f x ∷ []) [] ++ picked xs) y
+          → (Has (picked xs) y → (z : X) × Has xs z × (p z ≡ true) × (y ≡ f z)) → (z : X) × Has (x ∷ xs) z × (p z ≡ true) × (y ≡ f z)
       go true is (inl same) later = (x, inl refl, is, same)
       go true is (inr there) later = let r = later there in (r.0, inr r.1, r.2, r.3)
       go false is there later = let r = later there in (r.0, inr r.1, r.2, r.3)
@@ -74,8 +76,10 @@ unfolding binary
 finds_int n Null plain h = absurd (true≢false (sym h))
 finds_int n (Int m) plain h = ap Int (int_equal m n (sym (value_cmp-Int m n) ∙ (Equal-is (value_cmp (Int m) (Int n))).0 (sym (truth_is _) ∙ h)))
 finds_int n (Real x) plain h = absurd plain
-finds_int n (Text t) plain h = absurd (true≢false (sym h ∙ ap (λ o. is_true (from_truth (Some (is_eq o)))) (value_cmp-apart (Text t) (Int n) (λ e. omega (arith, e)))))
-finds_int n (Blob b) plain h = absurd (true≢false (sym h ∙ ap (λ o. is_true (from_truth (Some (is_eq o)))) (value_cmp-apart (Blob b) (Int n) (λ e. omega (arith, e)))))
+finds_int n (Text t) plain h =
+    absurd (true≢false (sym h ∙ ap (λ o. is_true (from_truth (Some (is_eq o)))) (value_cmp-apart (Text t) (Int n) (λ e. omega (arith, e)))))
+finds_int n (Blob b) plain h =
+    absurd (true≢false (sym h ∙ ap (λ o. is_true (from_truth (Some (is_eq o)))) (value_cmp-apart (Blob b) (Int n) (λ e. omega (arith, e)))))
 
 int_found : (n : ℤ) → is_true (binary (Compare Eq Binary) (Int n) (Int n)) ≡ true
 unfolding binary
@@ -123,7 +127,8 @@ module _ (name : RequestName) (at : ℕ) where
   none_found : is_found [] ≡ true → ⊥
   none_found h = let is = finds_that name.by Null (and_parts _ _ h).0 in cc
 
-module _ (name : RequestName) (at tree : ℕ) (project : List Term) (old : Trees) (low : nat_le (2 ^ 31) tree ≡ false) (plain : (values : List Value) → IsRow (old tree) values → IsNoReal (column values (suc at))) where
+module _ (name : RequestName) (at tree : ℕ) (project : List Term) (old : Trees) (low : nat_le (2 ^ 31) tree ≡ false) (plain : (values : List Value)
+    → IsRow (old tree) values → IsNoReal (column values (suc at))) where
   abbrev q : Query
   q = reading tree at project
 
@@ -141,14 +146,16 @@ module _ (name : RequestName) (at tree : ℕ) (project : List Term) (old : Trees
     kept_is = a.distinct ∙ ap (map (output q)) (a.grouped ∙ ap (picked (is_found name at) (env name at)) overlay_none)
 
     -- what is shown is of a row of the name
-    pub answered : (x : Row) → Has rows x → (id : Value) × (values : List Value) × Has (old tree) (id ∷ values) × OfName at name values × (x ≡ shown (id ∷ values))
+    pub answered : (x : Row) → Has rows x
+        → (id : Value) × (values : List Value) × Has (old tree) (id ∷ values) × OfName at name values × (x ≡ shown (id ∷ values))
     answered x h =
         let o = has_mapped (λ (k : Output). k.1) a.ordered x (subst (λ l. Has l x) a.shown h) in
         let e = has_mapped (output q) all o.0 (subst (λ l. Has l o.0) kept_is (has_permuted a.ordered a.kept o.0 (IsPermutation-sym _ _ a.same) o.1)) in
         let r = has_picked (is_found name at) (env name at) (old tree) e.0 e.1 in
         go r.0 r.1 r.2 (o.2 ∙ ap (λ (k : Output). k.1) (e.2 ∙ ap (output q) r.3))
       where
-        go : (r : Row) → Has (old tree) r → is_found name at r ≡ true → x ≡ shown r → (id : Value) × (values : List Value) × Has (old tree) (id ∷ values) × OfName at name values × (x ≡ shown (id ∷ values))
+        go : (r : Row) → Has (old tree) r → is_found name at r ≡ true → x ≡ shown r
+            → (id : Value) × (values : List Value) × Has (old tree) (id ∷ values) × OfName at name values × (x ≡ shown (id ∷ values))
         go [] there found is = absurd (none_found name at found)
         go (id ∷ values) there found is = (id, values, there, found_is name at id values (plain values (id, there)) found, is)
 
@@ -206,7 +213,8 @@ loses_name name at old rows keyed sound complete = record { each = each; kept = 
         )
 
     kept : (r : List Value) → IsRow old r → (¬ OfName at name r) → IsRow (without_all old (ids_of rows)) r
-    kept r (id, has) other = (id, stays_left (ids_of rows) old (id ∷ r) has (λ i there. go i (has_rowid i (id ∷ r)) refl (has_mapped (λ x. id_in (rowid x)) rows i there)))
+    kept r (id, has) other =
+        (id, stays_left (ids_of rows) old (id ∷ r) has (λ i there. go i (has_rowid i (id ∷ r)) refl (has_mapped (λ x. id_in (rowid x)) rows i there)))
       where
         go : (i : ℤ) (b : Bool) → has_rowid i (id ∷ r) ≡ b → (x : Row) × Has rows x × (i ≡ id_in (rowid x)) → has_rowid i (id ∷ r) ≡ false
         go i false is it = is
@@ -229,7 +237,8 @@ keyed_less old ids keyed = record {
 }
 
 -- a row behind a fresh rowid keeps the table keyed
-pub keyed_more : (n : ℤ) (values : List Value) (old new : List Row) → are_fresh old ((Int n ∷ values) ∷ []) ≡ true → new ≡ put_all old ((Int n ∷ values) ∷ []) → IsKeyed old → IsKeyed new
+pub keyed_more : (n : ℤ) (values : List Value) (old new : List Row) → are_fresh old ((Int n ∷ values) ∷ []) ≡ true
+    → new ≡ put_all old ((Int n ∷ values) ∷ []) → IsKeyed old → IsKeyed new
 keyed_more n values old new fresh is keyed = record {
   ints = λ r there. elim (whence r there) [ inl same ↦ ap (λ x. is_int (rowid x)) same | inr was ↦ keyed.ints r was ];
   once = λ a b here there same. go a b (whence a here) (whence b there) same;
@@ -247,7 +256,8 @@ keyed_more n values old new fresh is keyed = record {
     not_there : (r : Row) → Has old r → rowid r ≡ Int n → ⊥
     not_there r was same =
         let free = not-true (is_taken old row) (and_parts _ _ fresh).0 in
-        let taken = some_from (λ (x : Row). is_eq (value_cmp (rowid x) (Int n))) old r was (ap (λ v. is_eq (value_cmp v (Int n))) same ∙ ap is_eq (tied_itself value_cmp_total (Int n))) in
+        let taken = some_from (λ (x : Row). is_eq (value_cmp (rowid x) (Int n))) old r was
+        (ap (λ v. is_eq (value_cmp v (Int n))) same ∙ ap is_eq (tied_itself value_cmp_total (Int n))) in
         true≢false (sym taken ∙ free)
 
     go : (a b : Row) → (a ≡ row) ⊎ Has old a → (b ≡ row) ⊎ Has old b → rowid a ≡ rowid b → a ≡ b
@@ -265,9 +275,11 @@ module _ (tree : ℕ) (old : Trees) (low : nat_le (2 ^ 31) tree ≡ false) (rows
       let env : Row → Env = λ x. [] ∷ x ∷ [] in
       let p : Row → Bool = λ x. true in
       let below : overlay old [] tree ≡ old tree = rw low refl in
-      let kept : a.kept ≡ map (output (scanning tree)) (picked p env (old tree)) = a.distinct ∙ ap (map (output (scanning tree))) (a.grouped ∙ ap (picked p env) below) in
+      let kept : a.kept ≡ map (output (scanning tree)) (picked p env (old tree)) =
+      a.distinct ∙ ap (map (output (scanning tree))) (a.grouped ∙ ap (picked p env) below) in
       let o = output (scanning tree) (env r) in
-      let found = subst (λ l. Has l o) (sym kept) (mapped_has (output (scanning tree)) (picked p env (old tree)) (env r) (picked_has p env (old tree) r there refl)) in
+      let found =
+      subst (λ l. Has l o) (sym kept) (mapped_has (output (scanning tree)) (picked p env (old tree)) (env r) (picked_has p env (old tree) r there refl)) in
       subst (λ l. Has l (rowid r ∷ [])) (sym a.shown) (mapped_has (λ (k : Output). k.1) a.ordered o (has_permuted a.kept a.ordered o a.same found))
 
 -- Without the rowids that were found no row is left.

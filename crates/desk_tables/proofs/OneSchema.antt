@@ -18,7 +18,8 @@ use Rattle.desk_tables.specs.private.Survival.{IsAgain}
 
 -- ---- lists that go with the same rows
 
-zip_same : {A B : Type 0} (R : A → B → Type 0) → ((x : A) (y z : B) → R x y → R x z → y ≡ z) → (xs : List A) (ys zs : List B) → AllZip R xs ys → AllZip R xs zs → ys ≡ zs
+zip_same : {A B : Type 0} (R : A → B → Type 0) → ((x : A) (y z : B) → R x y → R x z → y ≡ z)
+    → (xs : List A) (ys zs : List B) → AllZip R xs ys → AllZip R xs zs → ys ≡ zs
 zip_same R one [] [] [] p q = refl
 zip_same R one [] [] (z ∷ zs) p q = absurd q
 zip_same R one [] (y ∷ ys) zs p q = absurd p
@@ -27,14 +28,16 @@ zip_same R one (x ∷ xs) (y ∷ ys) [] p q = absurd q
 zip_same R one (x ∷ xs) (y ∷ ys) (z ∷ zs) p q = λ i. one x y z p.0 q.0 i ∷ zip_same R one xs ys zs p.1 q.1 i
 
 -- what is told alike of each is found at the same place
-zip_position : {A B : Type 0} (R S : A → B → Type 0) (t : B → Bool) → ((x : A) (y z : B) → R x y → S x z → t y ≡ t z) → (i : ℕ) (xs : List A) (ys zs : List B) → AllZip R xs ys → AllZip S xs zs → position_from t i ys ≡ position_from t i zs
+zip_position : {A B : Type 0} (R S : A → B → Type 0) (t : B → Bool) → ((x : A) (y z : B) → R x y → S x z → t y ≡ t z)
+    → (i : ℕ) (xs : List A) (ys zs : List B) → AllZip R xs ys → AllZip S xs zs → position_from t i ys ≡ position_from t i zs
 zip_position R S t alike i [] [] [] p q = refl
 zip_position R S t alike i [] [] (z ∷ zs) p q = absurd q
 zip_position R S t alike i [] (y ∷ ys) zs p q = absurd p
 zip_position R S t alike i (x ∷ xs) [] zs p q = absurd p
 zip_position R S t alike i (x ∷ xs) (y ∷ ys) [] p q = absurd q
 zip_position R S t alike i (x ∷ xs) (y ∷ ys) (z ∷ zs) p q =
-    ap (λ b. if b then Some i else position_from t (i + 1) ys) (alike x y z p.0 q.0) ∙ ap (λ o. if t z then Some i else o) (zip_position R S t alike (i + 1) xs ys zs p.1 q.1)
+    ap (λ b. if b then Some i else position_from t (i + 1) ys) (alike x y z p.0 q.0)
+    ∙ ap (λ o. if t z then Some i else o) (zip_position R S t alike (i + 1) xs ys zs p.1 q.1)
 
 -- ---- a row has one table and one name
 
@@ -120,7 +123,13 @@ module _ (s u : Schema) (trees : Trees) where
   }
 
   desk_as : IsDeskDatabase (record { schema = mixed; trees = trees }) → IsDeskDatabase (record { schema = u; trees = trees })
-  desk_as is = record { tidy = record { desk = has_as is.tidy.desk; names = is.tidy.names; verdicts = is.tidy.verdicts; parked = is.tidy.parked }; marked = is.marked; texts = is.texts; only = is.only; rows = is.rows }
+  desk_as is = record {
+    tidy = record { desk = has_as is.tidy.desk; names = is.tidy.names; verdicts = is.tidy.verdicts; parked = is.tidy.parked };
+    marked = is.marked;
+    texts = is.texts;
+    only = is.only;
+    rows = is.rows;
+  }
 
   pub kept_again : s.tables ≡ u.tables → IsDeskDatabase (record { schema = s; trees = trees }) → IsDeskDatabase (record { schema = u; trees = trees })
   kept_again same is = let P : List Table → Type 0 = λ ts. IsDeskDatabase (with_tables s ts trees) in desk_as (subst P same is)

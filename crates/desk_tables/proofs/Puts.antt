@@ -1,5 +1,6 @@
 -- What an INSERT of one row of values does to the rows of its table.
-use Rattle.std.proofs.Common.{◌≡◌, ◌≢◌, ◌⊎◌, inl, inr, ℕ, ℤ, List, [], ◌∷◌, ◌/◌, length, map, drop, true, Option, Some, None, slice_get, Ok, refl, sym, ap, subst, ◌∙◌, append-nil, codes}
+use Rattle.std.proofs.Common.{◌≡◌, ◌≢◌, ◌⊎◌, inl, inr, ℕ, ℤ, List, [], ◌∷◌, ◌/◌, length, map, drop, true}
+use Rattle.std.proofs.Common.{Option, Some, None, slice_get, Ok, refl, sym, ap, subst, ◌∙◌, append-nil, codes}
 use Rattle.std.specs.List.{AllByRecursion}
 use Rattle.sqlite.specs.declared.types.Value.{Value}
 use Rattle.sqlite.specs.declared.types.Value.TheVariants.{Null, Int, Text}
@@ -38,7 +39,8 @@ behind : (a b : Value) (r values : List Value) → ◌≡◌ {A = List Value} (a
 behind a b r values e = cc
 
 -- A row that was put behind a fresh rowid is one row more.
-pub one_more : (n : ℤ) (values : List Value) (old new : List Row) → are_fresh old ((Int n ∷ values) ∷ []) ≡ true → new ≡ put_all old ((Int n ∷ values) ∷ []) → Gains values (IsRow old) (IsRow new)
+pub one_more : (n : ℤ) (values : List Value) (old new : List Row) → are_fresh old ((Int n ∷ values) ∷ []) ≡ true
+    → new ≡ put_all old ((Int n ∷ values) ∷ []) → Gains values (IsRow old) (IsRow new)
 one_more n values old new fresh is = record { each = each; kept = kept; there = there }
   where
     row : Row
@@ -69,14 +71,17 @@ keyed_at name columns key tree = record (keyed name columns key) { tree = tree }
 
 -- the values are kept as they are given
 abbrev pub AreKept : List ℕ → List Column → List ℕ → List Term → ℕ → (params values : Row) → Type 0
-AreKept name columns key terms width params values = map (λ r. cast_row (keyed_at name columns key 0) (drop 0 r)) (value_rows params width (length terms / width) terms) ≡ (Null ∷ values) ∷ []
+AreKept name columns key terms width params values =
+    map (λ r. cast_row (keyed_at name columns key 0) (drop 0 r)) (value_rows params width (length terms / width) terms) ≡ (Null ∷ values) ∷ []
 
 module _ (name : List ℕ) (columns : List Column) (key : List ℕ) (tree : ℕ) where
   abbrev t : Table
   t = keyed_at name columns key tree
 
-  pub puts : (s : Schema) (at : ℕ) (terms : List Term) (width : ℕ) (params values : Row) → AreKept name columns key terms width params values → slice_get s.tables at ≡ Some t → (limit : Option ℕ) (stmt : List ℕ) (old : Trees) (after : Database) (tally : Tally)
-      → Does limit mode params (record { schema = s; trees = old }) stmt None (command.Insert at (Values terms width)) (Ok (tally, after)) → Puts s tree values old after.trees × (after.schema ≡ s)
+  pub puts : (s : Schema) (at : ℕ) (terms : List Term) (width : ℕ) (params values : Row) → AreKept name columns key terms width params values
+      → slice_get s.tables at ≡ Some t → (limit : Option ℕ) (stmt : List ℕ) (old : Trees) (after : Database) (tally : Tally)
+      → Does limit mode params (record { schema = s; trees = old }) stmt None (command.Insert at (Values terms width)) (Ok (tally, after))
+      → Puts s tree values old after.trees × (after.schema ≡ s)
   puts s at terms width params values kept has limit stmt old after tally does' =
       let does = rw (has, append-nil params) at does' in
       let done = went does in
@@ -84,7 +89,8 @@ module _ (name : List ℕ) (columns : List Column) (key : List ℕ) (tree : ℕ)
       let given = went done.1 in
       let written = went (went given.2).2 in
       let counted = went written.2 in
-      let trees : after.trees ≡ written.0 = ap (λ (p : Tally × Database). p.1.trees) last ∙ ap (λ (it : Written). it.trees) (same_value counted.2) ∙ same_value counted.1 in
+      let trees : after.trees ≡ written.0 =
+      ap (λ (p : Tally × Database). p.1.trees) last ∙ ap (λ (it : Written). it.trees) (same_value counted.2) ∙ same_value counted.1 in
       let edit : Edit = edit_of old t [] Chosen 0 given.0 in
       let step = one_step s Enforced old written.0 edit (no_works s Enforced 0 tree edit.news) written.1 in
       let row : Row = Int (next_rowid (old tree)) ∷ values in
@@ -103,11 +109,14 @@ module _ (name : List ℕ) (columns : List Column) (key : List ℕ) (tree : ℕ)
 pub text_kept : (t : List ℕ) → AreKept (codes "messages") messages.columns messages.primary text_terms 2 (Text t ∷ []) (Text t ∷ [])
 text_kept t = rw cast_null refl
 
-pub name_kept : (a b : List ℕ) (n d : ℤ) → AreKept (codes "names") names.columns names.primary name_terms 5 (Text a ∷ Int n ∷ Text b ∷ Int d ∷ []) (Text a ∷ Int n ∷ Text b ∷ Int d ∷ [])
+pub name_kept : (a b : List ℕ) (n d : ℤ)
+    → AreKept (codes "names") names.columns names.primary name_terms 5 (Text a ∷ Int n ∷ Text b ∷ Int d ∷ []) (Text a ∷ Int n ∷ Text b ∷ Int d ∷ [])
 name_kept a b n d = rw (cast_null, cast_int n, cast_int d) refl
 
-pub verdict_kept : (a p k : List ℕ) (n m : ℤ) → AreKept (codes "verdicts") verdicts.columns verdicts.primary verdict_terms 6 (Text a ∷ Int n ∷ Text p ∷ Text k ∷ Int m ∷ []) (Text a ∷ Int n ∷ Text p ∷ Text k ∷ Int m ∷ [])
+pub verdict_kept : (a p k : List ℕ) (n m : ℤ) → AreKept (codes "verdicts") verdicts.columns verdicts.primary verdict_terms 6
+    (Text a ∷ Int n ∷ Text p ∷ Text k ∷ Int m ∷ []) (Text a ∷ Int n ∷ Text p ∷ Text k ∷ Int m ∷ [])
 verdict_kept a p k n m = rw (cast_null, cast_int n, cast_int m) refl
 
-pub parked_kept : (b a : List ℕ) (n : ℤ) → AreKept (codes "parked") parked.columns parked.primary parked_terms 4 (Text b ∷ Text a ∷ Int n ∷ []) (Text b ∷ Text a ∷ Int n ∷ [])
+pub parked_kept : (b a : List ℕ) (n : ℤ)
+    → AreKept (codes "parked") parked.columns parked.primary parked_terms 4 (Text b ∷ Text a ∷ Int n ∷ []) (Text b ∷ Text a ∷ Int n ∷ [])
 parked_kept b a n = rw (cast_null, cast_int n) refl

@@ -25,7 +25,8 @@ undone sql params old new e (inr ran) = go ran.0.returning ran.2
     go (Some what) (inl refused) = inl refused.1
     go (Some what) (inr failed) = inr failed.3
 
-pub shown_same : (sql : List ℕ) (params : Row) (old new : State) (rows : List Row) → IsPlain (understood old.now.schema sql) → Shown sql params old new rows → IsUnchanged old new
+pub shown_same : (sql : List ℕ) (params : Row) (old new : State) (rows : List Row)
+    → IsPlain (understood old.now.schema sql) → Shown sql params old new rows → IsUnchanged old new
 unfolding Shown
 shown_same sql params old new rows plain h =
     let none = (subst IsPlain h.1.is plain).0 in
@@ -36,7 +37,8 @@ keeps : (old new : State) → IsUnchanged old new ⊎ IsRolledBack old new → K
 keeps old new (inl same) = record { was_open = λ is_open. same.0.was_open; committed = λ is_open. same.0.committed_is }
 keeps old new (inr back) = record { was_open = back.was_open; committed = λ is_open. (back.undone is_open).1 }
 
-shown_keeps : (sql : List ℕ) (params : Row) (old new : State) (rows : List Row) → IsTrue old.in_transaction → Shown sql params old new rows → KeepsCommit old new
+shown_keeps : (sql : List ℕ) (params : Row) (old new : State) (rows : List Row)
+    → IsTrue old.in_transaction → Shown sql params old new rows → KeepsCommit old new
 unfolding Shown
 shown_keeps sql params old new rows inside h = go h.0.returning h.2
   where
@@ -44,13 +46,16 @@ shown_keeps sql params old new rows inside h = go h.0.returning h.2
     go None it = keeps old new (inl it.3)
     go (Some what) it = record { was_open = λ is_open. it.1.shown.was_open; committed = λ is_open. rw inside at it.1.shown.committed_is }
 
-pub keeps_query : (sql : List ℕ) (params : Row) (old new : State) (r : Result (Vec Row Global) Error) → IsTrue old.in_transaction → IfOk r (λ rows. Shown sql params old new rows.items) → IfErr r (λ e. FailsToQuery sql params old new e ⊎ IsTooLate sql params old new e) → KeepsCommit old new
+pub keeps_query : (sql : List ℕ) (params : Row) (old new : State) (r : Result (Vec Row Global) Error)
+    → IsTrue old.in_transaction → IfOk r (λ rows. Shown sql params old new rows.items)
+    → IfErr r (λ e. FailsToQuery sql params old new e ⊎ IsTooLate sql params old new e) → KeepsCommit old new
 keeps_query sql params old new (Ok rows) inside shown fails = shown_keeps sql params old new rows.items inside shown
 keeps_query sql params old new (Err e) inside shown (inl fails) = keeps old new (undone sql params old new e fails)
 keeps_query sql params old new (Err e) inside shown (inr late) = keeps old new (inl late.5)
 
 -- the transaction goes on
-pub asks_inside : (sql : List ℕ) (params : Row) (old new : State) (rows : List Row) → IsTrue old.in_transaction → Shown sql params old new rows → IsOpenInside old new
+pub asks_inside : (sql : List ℕ) (params : Row) (old new : State) (rows : List Row)
+    → IsTrue old.in_transaction → Shown sql params old new rows → IsOpenInside old new
 unfolding Shown
 asks_inside sql params old new rows inside h = go h.0.returning h.2
   where

@@ -59,7 +59,8 @@ module _ (a b : Database) (text : List ℕ) (adds : AddsText text a b) (is : IsD
             marked = (is.marked.0, ap recorded desk_same ∙ is.marked.1, is.marked.2);
             texts = ap (list_any is_stray) settles.messages ∙ adds.typed is.texts;
             only = λ q there.
-                let one : (same_text q text || has (content_of a) q) ≡ true = sym (set.contains-insert nat_list_cmp_total texts text q) ∙ sym (ap (λ (d : Content). has d q) content_same) ∙ there in
+                let one : (same_text q text || has (content_of a) q) ≡ true =
+                sym (set.contains-insert nat_list_cmp_total texts text q) ∙ sym (ap (λ (d : Content). has d q) content_same) ∙ there in
                 elim (or_cases _ _ one) [
                   | inl same ↦ subst IsWritten (sym (is_same q text same)) written
                   | inr before ↦ is.only q before
@@ -88,7 +89,8 @@ again text told a b is finds = record {
   repeats = λ desk there. finds.same desk.tidy;
 }
 
-pub anew : (text : List ℕ) (told : Bool) (m : Message) (a z b c : State) → IsWritten text → text ≡ wire m → told ≡ false → FindsText text told a z → WroteText text z b → Settled m b c → Received text a c
+pub anew : (text : List ℕ) (told : Bool) (m : Message) (a z b c : State) → IsWritten text → text ≡ wire m
+    → told ≡ false → FindsText text told a z → WroteText text z b → Settled m b c → Received text a c
 anew text told m a z b c written wired is finds wrote settled = record {
   mode = settled.mode;
   receives = λ sound desk.

@@ -1,5 +1,6 @@
 -- How the rows of one message after another become those of all.
-use Rattle.std.proofs.Common.{◌≡◌, ◌≢◌, inl, inr, ℕ, zero, suc, ◌<◌, List, Contains, [], ◌∷◌, ◌++◌, take, map, length, get_or, slice_index_or, codes, Bool, true, false, ◌||◌, IsTrue, refl, sym, ap, subst, ◌∙◌, arith}
+use Rattle.std.proofs.Common.{◌≡◌, ◌≢◌, inl, inr, ℕ, zero, suc, ◌<◌, List, Contains, [], ◌∷◌, ◌++◌, take, map, length, get_or}
+use Rattle.std.proofs.Common.{slice_index_or, codes, Bool, true, false, ◌||◌, IsTrue, refl, sym, ap, subst, ◌∙◌, arith}
 use Rattle.std.proofs.lemmas.Bool.{cases_Bool, or_cases}
 use Rattle.std.specs.List.{list_any}
 use Rattle.std.specs.Cmp.Lexicographic.{nat_list_cmp_total}
@@ -30,9 +31,11 @@ use Rattle.desk_tables.proofs.TurnLemmas.{clean_before, rows_at, spares_then, th
 pub in_texts : (ms : List Message) (q : List ℕ) → set.contains (texts_in ms) q ≡ list_any (same_text q) (map wire ms)
 in_texts ms q = set.contains-from_list nat_list_cmp_total (map wire ms) q
 
-any_one_more : (q : List ℕ) (ms : List Message) (m : Message) → list_any (same_text q) (map wire (ms ++ m ∷ [])) ≡ (same_text q (wire m) || list_any (same_text q) (map wire ms))
+any_one_more : (q : List ℕ) (ms : List Message) (m : Message)
+    → list_any (same_text q) (map wire (ms ++ m ∷ [])) ≡ (same_text q (wire m) || list_any (same_text q) (map wire ms))
 any_one_more q [] m = refl
-any_one_more q (n ∷ ms) m = ap (λ b. same_text q (wire n) || b) (any_one_more q ms m) ∙ swapped (same_text q (wire n)) (same_text q (wire m)) (list_any (same_text q) (map wire ms))
+any_one_more q (n ∷ ms) m =
+    ap (λ b. same_text q (wire n) || b) (any_one_more q ms m) ∙ swapped (same_text q (wire n)) (same_text q (wire m)) (list_any (same_text q) (map wire ms))
   where
     swapped : (a b c : Bool) → (a || (b || c)) ≡ (b || (a || c))
     swapped true true c = refl
@@ -40,7 +43,8 @@ any_one_more q (n ∷ ms) m = ap (λ b. same_text q (wire n) || b) (any_one_more
     swapped false b c = refl
 
 texts_more : (ms : List Message) (m : Message) → set.insert (texts_in ms) (wire m) ≡ texts_in (ms ++ m ∷ [])
-texts_more ms m = same_sets _ _ (λ q. set.contains-insert nat_list_cmp_total (texts_in ms) (wire m) q ∙ ap (λ b. same_text q (wire m) || b) (in_texts ms q) ∙ sym (any_one_more q ms m) ∙ sym (in_texts (ms ++ m ∷ []) q))
+texts_more ms m = same_sets _ _ (λ q. set.contains-insert nat_list_cmp_total (texts_in ms) (wire m) q
+    ∙ ap (λ b. same_text q (wire m) || b) (in_texts ms q) ∙ sym (any_one_more q ms m) ∙ sym (in_texts (ms ++ m ∷ []) q))
 
 pub found_among : (ms : List Message) (q : List ℕ) → list_any (same_text q) (map wire ms) ≡ true → (n : Message) × Has ms n × (q ≡ wire n)
 found_among [] q h = absurd (let e : false ≡ true = h in cc)
@@ -60,11 +64,14 @@ none_such ms m is others = elim (cases_Bool (set.contains (texts_in ms) (wire m)
 ]
 
 -- what stands before a place differs from what stands there
-pub before_differs : (ms : List Message) (i : ℕ) (m : Message) → ((a b : ℕ) (d : Message) → a < b → b < length ms → slice_index_or ms a d ≢ slice_index_or ms b d) → i < length ms → m ≡ get_or ms i m → (x : Message) → Has (take i ms) x → x ≢ m
+pub before_differs : (ms : List Message) (i : ℕ) (m : Message)
+    → ((a b : ℕ) (d : Message) → a < b → b < length ms → slice_index_or ms a d ≢ slice_index_or ms b d)
+    → i < length ms → m ≡ get_or ms i m → (x : Message) → Has (take i ms) x → x ≢ m
 before_differs [] i m pairs within at x there = absurd (omega arith)
 before_differs (y ∷ ms) zero m pairs within at x there = absurd there
 before_differs (y ∷ ms) (suc i) m pairs within at x (inl same) = λ e. pairs 0 (suc i) m (omega arith) within (sym same ∙ e ∙ at)
-before_differs (y ∷ ms) (suc i) m pairs within at x (inr later) = before_differs ms i m (λ a b d low high. pairs (suc a) (suc b) d (omega (arith, low)) (omega (arith, high))) (omega (arith, within)) at x later
+before_differs (y ∷ ms) (suc i) m pairs within at x (inr later) =
+    before_differs ms i m (λ a b d low high. pairs (suc a) (suc b) d (omega (arith, low)) (omega (arith, high))) (omega (arith, within)) at x later
 
 -- ---- the loop
 
@@ -73,7 +80,8 @@ pub record Refilling (messages : List Message) (old now : State) : Type 0 where
   pub step : IsStep old now
   pub refilled : HasCleanDisk now → IsTrue old.in_transaction → Refilled messages old now
 
-one_more : (ms more : List Message) (m : Message) (a b c : Database) → more ≡ ms ++ m ∷ [] → set.contains (texts_in ms) (wire m) ≡ false → Refills ms a b → Settles m b c → Refills more a c
+one_more : (ms more : List Message) (m : Message) (a b c : Database) → more ≡ ms ++ m ∷ []
+    → set.contains (texts_in ms) (wire m) ≡ false → Refills ms a b → Settles m b c → Refills more a c
 one_more ms more m a b c is missing one two = record {
   sound = λ s. two.sound (one.sound s);
   schema = two.schema ∙ one.schema;
@@ -84,14 +92,19 @@ one_more ms more m a b c is missing one two = record {
   spares = spares_then a b c one.spares two.spares;
 }
 
-pub refilling_more : (ms more : List Message) (m : Message) (a b c : State) → more ≡ ms ++ m ∷ [] → IsMessage m → ((n : Message) → Has ms n → IsMessage n × (n ≢ m)) → Refilling ms a b → IsStep b c
+pub refilling_more : (ms more : List Message) (m : Message) (a b c : State) → more ≡ ms ++ m ∷ []
+    → IsMessage m → ((n : Message) → Has ms n → IsMessage n × (n ≢ m)) → Refilling ms a b → IsStep b c
     → (HasCleanDisk c → IsTrue b.in_transaction → Settled m b c) → Refilling more a c
 refilling_more ms more m a b c is message others one step next = record {
   step = then_step a b c one.step (λ clean inside. (one.refilled clean inside).mode) step;
   refilled = λ clean inside.
       let first = one.refilled (clean_before b c _ step.survives clean) inside in
       let settled = next clean first.mode in
-      record { mode = settled.mode; refills = λ tidy. let before = first.refills tidy in one_more ms more m a.now b.now c.now is (none_such ms m message others) before (settled.settles before.tidy) };
+      record {
+        mode = settled.mode;
+        refills = λ tidy. let before = first.refills tidy in
+            one_more ms more m a.now b.now c.now is (none_such ms m message others) before (settled.settles before.tidy);
+      };
 }
 
 has_taken : (xs : List Message) (i : ℕ) (x : Message) → Has (take i xs) x → Has xs x
@@ -113,7 +126,8 @@ known_before ms i n known there = known n (contains_had ms n (has_taken ms i n t
 
 -- ---- after all rows are gone
 
-all_gone : (a b c d : Database) → Turns (Rowwise IsEmptied) Stays Stays a b → Turns Stays (Rowwise IsEmptied) Stays b c → Turns Stays Stays (Rowwise IsEmptied) c d → Turns (Rowwise IsEmptied) (Rowwise IsEmptied) (Rowwise IsEmptied) a d
+all_gone : (a b c d : Database) → Turns (Rowwise IsEmptied) Stays Stays a b → Turns Stays (Rowwise IsEmptied) Stays b c
+    → Turns Stays Stays (Rowwise IsEmptied) c d → Turns (Rowwise IsEmptied) (Rowwise IsEmptied) (Rowwise IsEmptied) a d
 all_gone a b c d one two three = record {
   sound = λ s. three.sound (two.sound (one.sound s));
   schema = three.schema ∙ two.schema ∙ one.schema;
@@ -126,17 +140,21 @@ all_gone a b c d one two three = record {
   spares = spares_then a c d (spares_then a b c one.spares two.spares) three.spares;
 }
 
-pub cleared : (a b c d : State) → Wrote (codes "names") IsEmptied a b → Wrote (codes "verdicts") IsEmptied b c → Wrote (codes "parked") IsEmptied c d → Turned (Rowwise IsEmptied) (Rowwise IsEmptied) (Rowwise IsEmptied) a d
+pub cleared : (a b c d : State) → Wrote (codes "names") IsEmptied a b → Wrote (codes "verdicts") IsEmptied b c
+    → Wrote (codes "parked") IsEmptied c d → Turned (Rowwise IsEmptied) (Rowwise IsEmptied) (Rowwise IsEmptied) a d
 cleared a b c d names verdicts parked =
     let one = turned_names a b IsEmptied names in
     let two = turned_verdicts b c IsEmptied verdicts in
     let three = turned_parked c d IsEmptied parked in
     record {
       mode = three.mode;
-      turns = λ tidy. let first = one.turns tidy in let second = two.turns first.tidy in all_gone a.now b.now c.now d.now first second (three.turns second.tidy);
+      turns = λ tidy. let first = one.turns tidy in
+          let second = two.turns first.tidy in
+          all_gone a.now b.now c.now d.now first second (three.turns second.tidy);
     }
 
-pub no_rows : (db : Database) → ((r : List Value) → ¬ rows_at db (codes "names") r) → ((r : List Value) → ¬ rows_at db (codes "verdicts") r) → ((r : List Value) → ¬ rows_at db (codes "parked") r) → HasRows set.empty db
+pub no_rows : (db : Database) → ((r : List Value) → ¬ rows_at db (codes "names") r)
+    → ((r : List Value) → ¬ rows_at db (codes "verdicts") r) → ((r : List Value) → ¬ rows_at db (codes "parked") r) → HasRows set.empty db
 no_rows db names verdicts parked =
     rows_of_nothing (Holds set.empty) (rows_at db (codes "names")) (rows_at db (codes "verdicts")) (rows_at db (codes "parked"))
     (λ m held. let e : false ≡ true = sym (set.contains-empty (slice_cmp nat_cmp) (wire m)) ∙ held.1 in absurd cc) names verdicts parked

@@ -29,7 +29,8 @@ use Rattle.desk_tables.proofs.TurnLemmas.{clean_before, itself, or_true_left, or
 
 there_among : (ms : List Message) (m : Message) → Has ms m → list_any (same_text (wire m)) (map wire ms) ≡ true
 there_among [] m there = absurd there
-there_among (n ∷ ms) m (inl same) = or_true_left (same_text (wire m) (wire n)) (list_any (same_text (wire m)) (map wire ms)) (ap (λ x. same_text (wire m) (wire x)) (sym same) ∙ itself (wire m))
+there_among (n ∷ ms) m (inl same) = or_true_left (same_text (wire m) (wire n))
+    (list_any (same_text (wire m)) (map wire ms)) (ap (λ x. same_text (wire m) (wire x)) (sym same) ∙ itself (wire m))
 there_among (n ∷ ms) m (inr later) = or_true_right (same_text (wire m) (wire n)) (list_any (same_text (wire m)) (map wire ms)) (there_among ms m later)
 
 -- the texts of the listed messages are the texts of the set
@@ -41,7 +42,8 @@ same_messages texts ms lists m = (
   (λ held. (held.0, in_texts ms (wire m) ∙ there_among ms m (has_contained ms m ((lists m).0 held)))),
 )
 
-replaces : (roster : List ℕ) (ms : List Message) (a b c : Database) → IsUtf8 roster → IsDeskDatabase a → Lists (HoldsText a) ms → Records roster a b → Renews ms b c → Replaces roster a c
+replaces : (roster : List ℕ) (ms : List Message) (a b c : Database) → IsUtf8 roster → IsDeskDatabase a
+    → Lists (HoldsText a) ms → Records roster a b → Renews ms b c → Replaces roster a c
 replaces roster ms a b c utf8 is lists one two = record {
   sound = two.sound one.sound;
   desk = record {
@@ -49,7 +51,8 @@ replaces roster ms a b c utf8 is lists one two = record {
     marked = (roster, marked, utf8);
     texts = ap (list_any is_stray) messages ∙ is.texts;
     only = λ text there. is.only text (ap (λ (t : Texts). set.contains t text) (sym texts) ∙ there);
-    rows = subst (λ t. HasRows t c) (sym texts) (rows_same (Holds (texts_in ms)) (Holds (content_of a).texts) (same_messages (content_of a).texts ms lists) (rows_at c (codes "names")) (rows_at c (codes "verdicts")) (rows_at c (codes "parked")) two.rows);
+    rows = subst (λ t. HasRows t c) (sym texts) (rows_same (Holds (texts_in ms)) (Holds (content_of a).texts)
+        (same_messages (content_of a).texts ms lists) (rows_at c (codes "names")) (rows_at c (codes "verdicts")) (rows_at c (codes "parked")) two.rows);
   };
   content = λ i. record { roster = Rattle.std.specs.Prelude.unwrap_or (marked i) []; texts = texts i };
   spares = spares_then a b c one.spares two.spares;
@@ -87,7 +90,8 @@ module _ (roster : List ℕ) (old last end : State) (rests : Rests old) (step : 
 
   -- ---- it was committed
 
-  module _ (ms : List Message) (received : HasCleanDisk last → Replaced roster ms (begun old) last) (desk : IsUp old → IsDeskDatabase old.now) (lists : IsUp old → Lists (HoldsText old.now) ms) where
+  module _ (ms : List Message) (received : HasCleanDisk last → Replaced roster ms (begun old) last) (desk : IsUp old
+      → IsDeskDatabase old.now) (lists : IsUp old → Lists (HoldsText old.now) ms) where
     does : IsUp old → HasCleanDisk last → Replaces roster old.now last.now
     does up clean = (received clean).replaces (desk up) (lists up)
 
@@ -95,7 +99,12 @@ module _ (roster : List ℕ) (old last end : State) (rests : Rests old) (step : 
     pub replace_survives : ((db : Trees) → P db → db ≡ last.now.trees) → IsUp old → Survives old end (ChangesAt roster old.now)
     replace_survives only up = survives_then old last end _ _ (ChangesAt roster old.now) (λ _ db no_such. absurd no_such)
         (λ clean db left. let it = does up (clean_last clean) in subst (ChangesAt roster old.now) (sym (only db left)) (λ b same sound.
-        let again' = again last.now b it.sound sound same in record { desk = again'.desk it.desk; content = again'.content ∙ it.content; foreign = λ t there foreign. ap (λ (db : Trees). db t.tree) same ∙ it.spares.foreign t there foreign; listed = subst (λ s. IsListedAs s b.schema) it.spares.schema (listed_again last.now b it.sound sound same) })) survives_from ends
+        let again' = again last.now b it.sound sound same in record {
+          desk = again'.desk it.desk;
+          content = again'.content ∙ it.content;
+          foreign = λ t there foreign. ap (λ (db : Trees). db t.tree) same ∙ it.spares.foreign t there foreign;
+          listed = subst (λ s. IsListedAs s b.schema) it.spares.schema (listed_again last.now b it.sound sound same);
+        })) survives_from ends
 
     module _ (ok : HasCleanDisk end → IsTrue last.in_transaction × Shows last end last.now last.now false) where
       pub commit_ends : Ends old end

@@ -19,13 +19,15 @@ use Rattle.desk_tables.specs.Kept.{HasRows, Holds, IsTidy}
 use Rattle.desk_tables.specs.private.Changes.{Gains, Joins, Loses, Names, Tells}
 use Rattle.desk_tables.specs.private.Stepping.{Finds, FindsParked, ShowsParked, Wrote, name_values}
 use Rattle.desk_tables.specs.private.Steps.{IsStep}
-use Rattle.desk_tables.specs.private.Turning.{JoinedParked, JoinsAll, JoinsOne, JoinsParked, Renames, Rowwise, Settled, Settles, ShowsVerdict, Stays, Turned, Turns}
+use Rattle.desk_tables.specs.private.Turning.{JoinedParked, JoinsAll, JoinsOne, JoinsParked, Renames}
+use Rattle.desk_tables.specs.private.Turning.{Rowwise, Settled, Settles, ShowsVerdict, Stays, Turned, Turns}
 use Rattle.desk_tables.proofs.RowSets.{asked, rows_same}
 use Rattle.desk_tables.proofs.TurnLemmas.{clean_before, rows_at, spares_then, then_step, turned_names, turned_parked, with_one}
 
 -- ---- the name's row
 
-names_anew : (q : RequestFields) (told : Bool) (A B C : RowSet) → Tells A (name_of q) told → Loses (OfName 0 (name_of q)) A B → Gains (name_row q told) B C → Names q told A C
+names_anew : (q : RequestFields) (told : Bool) (A B C : RowSet) → Tells A (name_of q) told
+    → Loses (OfName 0 (name_of q)) A B → Gains (name_row q told) B C → Names q told A C
 names_anew q told A B C tells loses gains = record {
   told = tells;
   each = λ r there. elim (gains.each r there) [ inl before ↦ inl (loses.each r before) | inr is ↦ inr is ];
@@ -33,7 +35,8 @@ names_anew q told A B C tells loses gains = record {
   there = gains.there;
 }
 
-names_turned : (q : RequestFields) (told : Bool) (a b c : Database) → Tells (rows_at a (codes "names")) (name_of q) told → Turns (Rowwise (Loses (OfName 0 (name_of q)))) Stays Stays a b
+names_turned : (q : RequestFields) (told : Bool) (a b c : Database) → Tells (rows_at a (codes "names")) (name_of q) told
+    → Turns (Rowwise (Loses (OfName 0 (name_of q)))) Stays Stays a b
     → Turns (Rowwise (Gains (name_row q told))) Stays Stays b c → Turns (Rowwise (Renames q)) Stays Stays a c
 names_turned q told a b c tells one two = record {
   sound = λ s. two.sound (one.sound s);
@@ -48,7 +51,8 @@ names_turned q told a b c tells one two = record {
 }
 
 pub renamed : (q : RequestFields) (body asker : List ℕ) (n : ℕ) (told : Bool) (a b c d : State) → body ≡ wire (Request q) → asker ≡ q.by → n ≡ q.no
-    → Finds (name_of q) told a b → Wrote (codes "names") (Loses (OfName 0 (name_of q))) b c → Wrote (codes "names") (Gains (name_values asker n body told)) c d → Turned (Rowwise (Renames q)) Stays Stays a d
+    → Finds (name_of q) told a b → Wrote (codes "names") (Loses (OfName 0 (name_of q))) b c
+    → Wrote (codes "names") (Gains (name_values asker n body told)) c d → Turned (Rowwise (Renames q)) Stays Stays a d
 renamed q body asker n told a b c d text by number finds lost put =
     let same : name_values asker n body told ≡ name_row q told = rw (by, number, text) refl in
     let one = turned_names b c (Loses (OfName 0 (name_of q))) lost in
@@ -58,7 +62,8 @@ renamed q body asker n told a b c d text by number finds lost put =
       turns = λ tidy.
           let is = finds.same tidy in
           let first = one.turns (subst IsTidy (sym is) tidy) in
-          names_turned q told a.now c.now d.now (finds.tells tidy) (subst (λ x. Turns (Rowwise (Loses (OfName 0 (name_of q)))) Stays Stays x c.now) is first) (two.turns first.tidy);
+          names_turned q told a.now c.now d.now (finds.tells tidy)
+          (subst (λ x. Turns (Rowwise (Loses (OfName 0 (name_of q)))) Stays Stays x c.now) is first) (two.turns first.tidy);
     }
 
 -- ---- the parked verdicts
@@ -89,7 +94,8 @@ one_more rows x A B C all one = record { each = each; kept = λ r was. one.2.kep
       ]
     ]
 
-pub joined_more : (rows more : List Row) (x : Row) (a b c : State) → more ≡ rows ++ x ∷ [] → Turned Stays (Rowwise (JoinsAll rows)) Stays a b → Turned Stays (Rowwise (JoinsOne x)) Stays b c → Turned Stays (Rowwise (JoinsAll more)) Stays a c
+pub joined_more : (rows more : List Row) (x : Row) (a b c : State) → more ≡ rows ++ x ∷ [] → Turned Stays (Rowwise (JoinsAll rows)) Stays a b
+    → Turned Stays (Rowwise (JoinsOne x)) Stays b c → Turned Stays (Rowwise (JoinsAll more)) Stays a c
 joined_more rows more x a b c is one two = record {
   mode = two.mode;
   turns = λ tidy.
@@ -100,8 +106,8 @@ joined_more rows more x a b c is one two = record {
         schema = second.schema ∙ first.schema;
         tidy = second.tidy;
         names = second.names ∙ first.names;
-        verdicts = subst (λ rs. JoinsAll rs (rows_at a.now (codes "verdicts")) (rows_at c.now (codes "verdicts"))) (sym is)
-            (one_more rows x (rows_at a.now (codes "verdicts")) (rows_at b.now (codes "verdicts")) (rows_at c.now (codes "verdicts")) first.verdicts second.verdicts);
+        verdicts = subst (λ rs. JoinsAll rs (rows_at a.now (codes "verdicts")) (rows_at c.now (codes "verdicts"))) (sym is) (one_more rows x
+            (rows_at a.now (codes "verdicts")) (rows_at b.now (codes "verdicts")) (rows_at c.now (codes "verdicts")) first.verdicts second.verdicts);
         parked = second.parked ∙ first.parked;
         desk = second.desk ∙ first.desk;
         messages = second.messages ∙ first.messages;
@@ -109,7 +115,8 @@ joined_more rows more x a b c is one two = record {
       };
 }
 
-pub joining_more : (rows more : List Row) (x : Row) (a b c : State) → more ≡ rows ++ x ∷ [] → Joining rows a b → IsStep b c → (HasCleanDisk c → IsTrue b.in_transaction → Turned Stays (Rowwise (JoinsOne x)) Stays b c) → Joining more a c
+pub joining_more : (rows more : List Row) (x : Row) (a b c : State) → more ≡ rows ++ x ∷ [] → Joining rows a b → IsStep b c
+    → (HasCleanDisk c → IsTrue b.in_transaction → Turned Stays (Rowwise (JoinsOne x)) Stays b c) → Joining more a c
 joining_more rows more x a b c is one step next = record {
   step = then_step a b c one.step (λ clean inside. (one.turned clean inside).mode) step;
   turned = λ clean inside.
@@ -129,8 +136,8 @@ shown_joins name rows P V W shows all = record {
   joined = λ p there of_name. let it = all.joined (column p 0 ∷ []) (shows.all p there of_name) in (it.0, it.1, it.2);
 }
 
-parked_joined : (name : RequestName) (rows : List Row) (a b c : Database) → ShowsParked name (rows_at a (codes "parked")) rows → Turns Stays (Rowwise (JoinsAll rows)) Stays a b
-    → Turns Stays Stays (Rowwise (Loses (OfName 1 name))) b c → JoinsParked name a c
+parked_joined : (name : RequestName) (rows : List Row) (a b c : Database) → ShowsParked name (rows_at a (codes "parked")) rows
+    → Turns Stays (Rowwise (JoinsAll rows)) Stays a b → Turns Stays Stays (Rowwise (Loses (OfName 1 name))) b c → JoinsParked name a c
 parked_joined name rows a b c shows one two = record {
   sound = λ s. two.sound (one.sound s);
   schema = two.schema ∙ one.schema;
@@ -144,7 +151,8 @@ parked_joined name rows a b c shows one two = record {
   spares = spares_then a b c one.spares two.spares;
 }
 
-pub joins_parked : (name : RequestName) (rows : List Row) (a b c d : State) → FindsParked name rows a b → Turned Stays (Rowwise (JoinsAll rows)) Stays b c → Wrote (codes "parked") (Loses (OfName 1 name)) c d → JoinedParked name a d
+pub joins_parked : (name : RequestName) (rows : List Row) (a b c d : State) → FindsParked name rows a b
+    → Turned Stays (Rowwise (JoinsAll rows)) Stays b c → Wrote (codes "parked") (Loses (OfName 1 name)) c d → JoinedParked name a d
 joins_parked name rows a b c d finds one lost =
     let two = turned_parked c d (Loses (OfName 1 name)) lost in
     record {
@@ -152,12 +160,14 @@ joins_parked name rows a b c d finds one lost =
       joins = λ tidy.
           let is = finds.same tidy in
           let first = one.turns (subst IsTidy (sym is) tidy) in
-          parked_joined name rows a.now c.now d.now (finds.shows tidy) (subst (λ x. Turns Stays (Rowwise (JoinsAll rows)) Stays x c.now) is first) (two.turns first.tidy);
+          parked_joined name rows a.now c.now d.now (finds.shows tidy)
+          (subst (λ x. Turns Stays (Rowwise (JoinsAll rows)) Stays x c.now) is first) (two.turns first.tidy);
     }
 
 -- ---- a request settles
 
-settles_asked : (q : RequestFields) → IsRequest q → (a b c : Database) → Turns (Rowwise (Renames q)) Stays Stays a b → JoinsParked (name_of q) b c → Settles (Request q) a c
+settles_asked : (q : RequestFields) → IsRequest q → (a b c : Database)
+    → Turns (Rowwise (Renames q)) Stays Stays a b → JoinsParked (name_of q) b c → Settles (Request q) a c
 settles_asked q is a b c one two = record {
   sound = λ s. two.sound (one.sound s);
   schema = two.schema ∙ one.schema;
@@ -176,13 +186,16 @@ settles_asked q is a b c one two = record {
         let V = rows_at a (codes "verdicts") in
         let P = rows_at a (codes "parked") in
         let none : (Holds texts (Request q) → ⊥) = λ held. absurd (let e : true ≡ false = sym held.1 ∙ new in cc) in
-        let joins = subst (λ p. Joins (name_of q) (IsRow p) V verdicts) one.parked (subst (λ v. Joins (name_of q) (rows_at b (codes "parked")) (IsRow v) verdicts) one.verdicts two.verdicts) in
+        let joins = subst (λ p. Joins (name_of q) (IsRow p) V verdicts) one.parked
+        (subst (λ v. Joins (name_of q) (rows_at b (codes "parked")) (IsRow v) verdicts) one.verdicts two.verdicts) in
         let loses = subst (λ p. Loses (OfName 1 (name_of q)) (IsRow p) parked) one.parked two.parked in
         let now = asked (Holds texts) q (λ m held. held.0) none (rows_at a (codes "names")) V P has one.names.0 names one.names.1 verdicts parked joins loses in
         let all = subst (λ n. AreRows (With (Holds texts) (Request q)) (IsRow n) verdicts parked) (sym two.names) now in
-        rows_same (With (Holds texts) (Request q)) (Holds (set.insert texts (wire (Request q)))) (with_one texts (Request q) is) (rows_at c (codes "names")) verdicts parked all
+        rows_same (With (Holds texts) (Request q)) (Holds (set.insert texts (wire (Request q))))
+        (with_one texts (Request q) is) (rows_at c (codes "names")) verdicts parked all
 
-pub request_settled : (q : RequestFields) → IsRequest q → (a b c : State) → Turned (Rowwise (Renames q)) Stays Stays a b → JoinedParked (name_of q) b c → Settled (Request q) a c
+pub request_settled : (q : RequestFields) → IsRequest q → (a b c : State)
+    → Turned (Rowwise (Renames q)) Stays Stays a b → JoinedParked (name_of q) b c → Settled (Request q) a c
 request_settled q is a b c one two = record {
   mode = two.mode;
   settles = λ tidy. let first = one.turns tidy in settles_asked q is a.now b.now c.now first (two.joins first.tidy);

@@ -1,5 +1,6 @@
 -- The roster's row, in place of the one before.
-use Rattle.std.proofs.Common.{◌≡◌, ◌≢◌, ℕ, pos, List, [], ◌∷◌, ◌&&◌, cond, Bool, true, Option, Some, None, Ok, codes, inl, inr, refl, sym, ap, subst, ◌∙◌, arith}
+use Rattle.std.proofs.Common.{◌≡◌, ◌≢◌, ℕ, pos, List, [], ◌∷◌, ◌&&◌, cond, Bool, true, Option}
+use Rattle.std.proofs.Common.{Some, None, Ok, codes, inl, inr, refl, sym, ap, subst, ◌∙◌, arith}
 use Rattle.std.specs.List.{AllByRecursion}
 use Rattle.sqlite.specs.declared.types.Value.{Value}
 use Rattle.sqlite.specs.declared.types.Value.TheVariants.{Null, Int, Real, Text, Blob}
@@ -79,13 +80,16 @@ module _ (old new : Database) (tidy : IsTidy old) (schema : new.schema ≡ old.s
     parked = subst (IsNeat 2) (sym same_parked) tidy.parked;
   }
 
-pub desk_emptied : (old new : State) (count : ℕ) → IsTidy old.now → IsKeyed (table_in old.now (codes "desk")) → Executes desk_clear [] old new (Ok count) → Marks IsBare old.now new.now
+pub desk_emptied : (old new : State) (count : ℕ) → IsTidy old.now → IsKeyed (table_in old.now (codes "desk"))
+    → Executes desk_clear [] old new (Ok count) → Marks IsBare old.now new.now
 desk_emptied old new count tidy keyed ran =
     let s = old.now.schema in
     let tree = tree_of s (codes "desk") in
     let means = desk_clears s tidy.desk.d tree tidy.desk.desk in
-    let w = runs_as desk_clear [] old new s refl (command.Delete tidy.desk.d (record { lets = []; body = scanning tree })) means.command means.plain count ran in
-    let it = clears (desk_at tree) s tidy.desk.d tidy.desk.desk.has tidy.desk.desk.stored tidy.desk.desk_alone old.step_limit (statement_of desk_clear (understood s desk_clear)) old.now.trees new.now w.tally w.changed in
+    let w =
+    runs_as desk_clear [] old new s refl (command.Delete tidy.desk.d (record { lets = []; body = scanning tree })) means.command means.plain count ran in
+    let it = clears (desk_at tree) s tidy.desk.d tidy.desk.desk.has tidy.desk.desk.stored tidy.desk.desk_alone old.step_limit
+    (statement_of desk_clear (understood s desk_clear)) old.now.trees new.now w.tally w.changed in
     record {
       sound = w.sound;
       schema = it.1;
@@ -94,7 +98,8 @@ desk_emptied old new count tidy keyed ran =
       tidy = tidy_still old.now new.now tidy it.1 it.0.others;
     }
 
-pub roster_written : (old new : State) (roster : List ℕ) (count : ℕ) → IsTidy old.now → table_in old.now (codes "desk") ≡ [] → Executes roster_text (Text roster ∷ []) old new (Ok count) → Marks (Says roster) old.now new.now
+pub roster_written : (old new : State) (roster : List ℕ) (count : ℕ) → IsTidy old.now → table_in old.now (codes "desk") ≡ []
+    → Executes roster_text (Text roster ∷ []) old new (Ok count) → Marks (Says roster) old.now new.now
 roster_written old new roster count tidy none h =
     let params = Text roster ∷ [] in
     let s = old.now.schema in
@@ -109,11 +114,13 @@ roster_written old new roster count tidy none h =
     let given = went done.1 in
     let written = went (went given.2).2 in
     let counted = went written.2 in
-    let trees : new.now.trees ≡ written.0 = ap (λ (p : Tally × Database). p.1.trees) last ∙ ap (λ (it : Written). it.trees) (same_value counted.2) ∙ same_value counted.1 in
+    let trees : new.now.trees ≡ written.0 =
+    ap (λ (p : Tally × Database). p.1.trees) last ∙ ap (λ (it : Written). it.trees) (same_value counted.2) ∙ same_value counted.1 in
     let edit : Edit = edit_of db (desk_at tree) [] Chosen 0 given.0 in
     let step = one_step s Enforced db written.0 edit (no_works s Enforced 0 tree edit.news) written.1 in
     let row : Row = Int (pos 1) ∷ Null ∷ Int (pos 2) ∷ Text roster ∷ [] in
-    let is : edited db edit ≡ row ∷ [] = ap (λ all. edited db (edit_of db (desk_at tree) [] Chosen 0 all)) given.1.1 ∙ rw (none, cast_int (pos 1), cast_int (pos 2), cast_null) refl in
+    let is : edited db edit ≡ row ∷ [] =
+    ap (λ all. edited db (edit_of db (desk_at tree) [] Chosen 0 all)) given.1.1 ∙ rw (none, cast_int (pos 1), cast_int (pos 2), cast_null) refl in
     let schema = ap (λ (p : Tally × Database). p.1.schema) last in
     let others = subst (λ (next : Trees). AllByRecursion (λ (t : Table). t.tree ≢ tree → next t.tree ≡ db t.tree) s.tables) (sym trees) step.tables in
     record {

@@ -83,7 +83,8 @@ module _ (S T : Message → Type 0) (same : SameSet S T) where
   }
 
 -- no message, no row
-pub rows_of_nothing : (S : Message → Type 0) (N V P : RowSet) → IsNothing S → ((x : List Value) → ¬ N x) → ((x : List Value) → ¬ V x) → ((x : List Value) → ¬ P x) → AreRows S N V P
+pub rows_of_nothing : (S : Message → Type 0) (N V P : RowSet) → IsNothing S → ((x : List Value) → ¬ N x)
+    → ((x : List Value) → ¬ V x) → ((x : List Value) → ¬ P x) → AreRows S N V P
 rows_of_nothing S N V P none names verdicts parked = record {
   names_each = λ x there. absurd (names x there);
   names_all = λ q there. absurd (none (Request q) there);
@@ -122,10 +123,12 @@ module _ (S : Message → Type 0) (v : VerdictFields) where
   still_marked q true m = (m.0, inl m.1, m.2, m.3)
   still_marked q false m = λ p there. elim there [ inl before ↦ m p before | inr e ↦ λ same. absurd (no_request v p (sym e)) ]
 
-  names_still : (N V P : RowSet) → AreRows S N V P → (x : List Value) → N x → (q : RequestFields) × (d : Bool) × With S (Verdict v) (Request q) × IsMarked (With S (Verdict v)) q d × (x ≡ name_row q d)
+  names_still : (N V P : RowSet) → AreRows S N V P → (x : List Value) → N x
+      → (q : RequestFields) × (d : Bool) × With S (Verdict v) (Request q) × IsMarked (With S (Verdict v)) q d × (x ≡ name_row q d)
   names_still N V P r x there = let it = r.names_each x there in (it.0, it.1, inl it.2, still_marked it.0 it.1 it.3, it.4)
 
-  names_for : (N V P : RowSet) → AreRows S N V P → (q : RequestFields) → With S (Verdict v) (Request q) → (p : RequestFields) × (d : Bool) × SameName p q × N (name_row p d)
+  names_for : (N V P : RowSet) → AreRows S N V P → (q : RequestFields) → With S (Verdict v) (Request q)
+      → (p : RequestFields) × (d : Bool) × SameName p q × N (name_row p d)
   names_for N V P r q (inl there) = r.names_all q there
   names_for N V P r q (inr e) = absurd (no_request v q (sym e))
 
@@ -147,7 +150,8 @@ module _ (S : Message → Type 0) (v : VerdictFields) where
       parked_each = λ x there. let it = r.parked_each x there in (it.0, inl it.1, (λ asks. it.2 (asked_before (name_meant it.0) asks)), it.3);
       parked_all = λ w there none. elim there [
         | inl before ↦ r.parked_all w before (λ asks. none (still_asks (name_meant w) asks))
-        | inr e ↦ absurd (none (still_asks (name_meant w) (subst (λ u. Asks S (name_meant u)) (sym (one_verdict w v e)) (told_true S N V P (name_meant v) r told))))
+        | inr e ↦
+            absurd (none (still_asks (name_meant w) (subst (λ u. Asks S (name_meant u)) (sym (one_verdict w v e)) (told_true S N V P (name_meant v) r told))))
       ];
     }
 
@@ -174,7 +178,8 @@ module _ (S : Message → Type 0) (v : VerdictFields) where
 
 -- ---- a request
 
-module _ (S : Message → Type 0) (q : RequestFields) (only : (m : Message) → S m → IsMessage m) (new : ¬ S (Request q)) (N V P : RowSet) (r : AreRows S N V P) (d : Bool) (N' : RowSet) (names : Names q d N N') where
+module _ (S : Message → Type 0) (q : RequestFields) (only : (m : Message) → S m
+    → IsMessage m) (new : ¬ S (Request q)) (N V P : RowSet) (r : AreRows S N V P) (d : Bool) (N' : RowSet) (names : Names q d N N') where
   abbrev More : Message → Type 0
   More = With S (Request q)
 
@@ -189,7 +194,8 @@ module _ (S : Message → Type 0) (q : RequestFields) (only : (m : Message) → 
   marked_still p true other m = (m.0, inl m.1, m.2, m.3)
   marked_still p false other m = λ o there. elim there [
     | inl before ↦ m o before
-    | inr e ↦ λ same. absurd (let is = one_request o q e in other (sym same.0 ∙ ap (λ (x : RequestFields). x.by) is, sym same.1 ∙ ap (λ (x : RequestFields). x.no) is))
+    | inr e ↦ λ same. absurd (let is = one_request o q e in
+        other (sym same.0 ∙ ap (λ (x : RequestFields). x.by) is, sym same.1 ∙ ap (λ (x : RequestFields). x.no) is))
   ]
 
   -- the new request is marked as its row tells
@@ -217,8 +223,12 @@ module _ (S : Message → Type 0) (q : RequestFields) (only : (m : Message) → 
     | inl same ↦ (q, d, (sym same.0, sym same.1), names.there)
     | inr other ↦ elim there [
       | inl before ↦
-          let it = r.names_all p before in
-          (it.0, it.1, it.2, names.kept (name_row it.0 it.1) it.3 (λ of_name. let is = named it.0 it.1 (name_of q) of_name in other (sym it.2.0 ∙ is.0, sym it.2.1 ∙ is.1)))
+          let it = r.names_all p before in (
+            it.0,
+            it.1,
+            it.2,
+            names.kept (name_row it.0 it.1) it.3 (λ of_name. let is = named it.0 it.1 (name_of q) of_name in other (sym it.2.0 ∙ is.0, sym it.2.1 ∙ is.1)),
+          )
       | inr e ↦ absurd (let is = one_request p q e in other (ap (λ (x : RequestFields). x.by) is, ap (λ (x : RequestFields). x.no) is))
     ]
   ]

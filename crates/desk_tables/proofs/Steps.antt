@@ -16,7 +16,9 @@ use Rattle.sqlite_rules.specs.declared.action.Deed.{Deed}
 no_work : (depth tree : ℕ) (child : Table) (ref : Reference) (deed : Option Deed) (key : Option ParentKey) → work_by depth tree [] child ref deed key ≡ None
 no_work depth tree child ref None key = refl
 no_work depth tree child ref (Some deed) None = refl
-no_work depth tree child ref (Some deed) (Some key) = ap (λ b. cond b (Some (record { depth = depth; child = child; ref = ref; places = key.1; order = key.2; deed = deed; moves = [] })) None) (and-false (key.0 == tree))
+no_work depth tree child ref (Some deed) (Some key) =
+    ap (λ b. cond b (Some (record { depth = depth; child = child; ref = ref; places = key.1; order = key.2; deed = deed; moves = [] })) None)
+    (and-false (key.0 == tree))
   where
     and-false : (b : Bool) → (b && false) ≡ false
     and-false true = refl

@@ -1,5 +1,6 @@
 -- What a DELETE by the name does to the rows of its table.
-use Rattle.std.proofs.Common.{◌≡◌, ◌≢◌, ℕ, ◌^◌, nat_le, List, [], ◌∷◌, length, ◌==◌, ◌||◌, Bool, true, false, Option, Some, None, option_and_then, option_map, slice_get, Ok, refl, sym, ap, subst, ◌∙◌}
+use Rattle.std.proofs.Common.{◌≡◌, ◌≢◌, ℕ, ◌^◌, nat_le, List, [], ◌∷◌, length, ◌==◌, ◌||◌, Bool, true, false, Option}
+use Rattle.std.proofs.Common.{Some, None, option_and_then, option_map, slice_get, Ok, refl, sym, ap, subst, ◌∙◌}
 use Rattle.std.specs.List.{AllByRecursion, filter_map, flat_map, list_any}
 use Rattle.sqlite.specs.declared.types.Value.{Value}
 use Rattle.sqlite.specs.declared.types.Value.TheVariants.{Null}
@@ -44,7 +45,8 @@ is_key_in None tree = false
 is_key_in (Some key) tree = key.0 == tree
 
 -- a reference to another table has its key there
-ordered_in : (t : Table) (places : List ℕ) (tree : ℕ) (o : Option Order) → (t.tree == tree) ≡ false → is_key_in (option_map (λ o. (t.tree, places, o)) o) tree ≡ false
+ordered_in : (t : Table) (places : List ℕ) (tree : ℕ) (o : Option Order)
+    → (t.tree == tree) ≡ false → is_key_in (option_map (λ o. (t.tree, places, o)) o) tree ≡ false
 ordered_in t places tree None apart = refl
 ordered_in t places tree (Some o) apart = apart
 
@@ -52,12 +54,14 @@ keyed_in : (t : Table) (tree : ℕ) (o : Option (List ℕ)) → (t.tree == tree)
 keyed_in t tree None apart = refl
 keyed_in t tree (Some places) apart = ordered_in t places tree (declared_order t places) apart
 
-parent_in : (columns : List Name) (tree : ℕ) (o : Option Table) → is_in o tree ≡ false → is_key_in (option_and_then (λ (t : Table). option_and_then (key_in t) (key_places t columns)) o) tree ≡ false
+parent_in : (columns : List Name) (tree : ℕ) (o : Option Table) → is_in o tree ≡ false
+    → is_key_in (option_and_then (λ (t : Table). option_and_then (key_in t) (key_places t columns)) o) tree ≡ false
 parent_in columns tree None apart = refl
 parent_in columns tree (Some t) apart = keyed_in t tree (key_places t columns) apart
 
 -- a key in another table is not lost here
-no_work : (depth tree : ℕ) (moves : List (Row × Row)) (child : Table) (ref : Reference) (deed : Option Deed) (key : Option ParentKey) → is_key_in key tree ≡ false → work_by depth tree moves child ref deed key ≡ None
+no_work : (depth tree : ℕ) (moves : List (Row × Row)) (child : Table) (ref : Reference) (deed : Option Deed) (key : Option ParentKey)
+    → is_key_in key tree ≡ false → work_by depth tree moves child ref deed key ≡ None
 no_work depth tree moves child ref None key none = refl
 no_work depth tree moves child ref (Some deed) None none = refl
 no_work depth tree moves child ref (Some deed) (Some key) none = rw none refl
@@ -70,16 +74,20 @@ none_here false b h = (refl, h)
 pub no_works_to : (s : Schema) (keys : Keys) (depth tree : ℕ) (olds news : List Row) → IsUnreferred s tree → works s keys depth tree olds news ≡ []
 no_works_to s keys depth tree olds news alone = tables s.tables alone
   where
-    refs : (child : Table) (rs : List Reference) → list_any (λ ref. is_in (parent_of s.tables ref) tree) rs ≡ false → filter_map (work_for s keys depth tree olds news child) rs ≡ []
+    refs : (child : Table) (rs : List Reference) → list_any (λ ref. is_in (parent_of s.tables ref) tree) rs ≡ false
+        → filter_map (work_for s keys depth tree olds news child) rs ≡ []
     refs child [] all = refl
     refs child (r ∷ rs) all =
         let both = none_here (is_in (parent_of s.tables r) tree) _ all in
-        rw (no_work depth tree (pairs olds news) child r (deed_for keys (length news == 0) r) (parent_key s.tables r) (parent_in r.parent_columns tree (parent_of s.tables r) both.0)) (refs child rs both.1)
+        rw (no_work depth tree (pairs olds news) child r (deed_for keys (length news == 0) r) (parent_key s.tables r)
+        (parent_in r.parent_columns tree (parent_of s.tables r) both.0)) (refs child rs both.1)
 
     tables : (ts : List Table) → list_any (λ (t : Table). list_any (λ ref. is_in (parent_of s.tables ref) tree) t.references) ts ≡ false
         → flat_map (λ child. filter_map (work_for s keys depth tree olds news child) child.references) ts ≡ []
     tables [] all = refl
-    tables (t ∷ ts) all = let both = none_here (list_any (λ ref. is_in (parent_of s.tables ref) tree) t.references) _ all in rw (refs t t.references both.0) (tables ts both.1)
+    tables (t ∷ ts) all =
+        let both = none_here (list_any (λ ref. is_in (parent_of s.tables ref) tree) t.references) _ all in
+        rw (refs t t.references both.0) (tables ts both.1)
 
 -- exactly the rows of the name were taken out, and each other table keeps its rows
 pub record Takes (s : Schema) (tree at : ℕ) (name : RequestName) (old new : Trees) : Type 0 where
@@ -91,9 +99,11 @@ module _ (table : List ℕ) (columns : List Column) (key : List ℕ) (tree : ℕ
   abbrev t : Table
   t = keyed_at table columns key tree
 
-  pub takes : (s : Schema) (place at : ℕ) (name : RequestName) → slice_get s.tables place ≡ Some t → nat_le (2 ^ 31) tree ≡ false → IsUnreferred s tree → (limit : Option ℕ) (stmt : List ℕ) (old : Trees) (after : Database) (tally : Tally)
-      → ((values : List Value) → IsRow (old tree) values → IsNoReal (column values (Rattle.std.proofs.Common.suc at)))
-      → Does limit mode (given name at) (record { schema = s; trees = old }) stmt None (command.Delete place (record { lets = []; body = reading tree at (col 1 0 ∷ []) })) (Ok (tally, after)) → Takes s tree at name old after.trees × (after.schema ≡ s)
+  pub takes : (s : Schema) (place at : ℕ) (name : RequestName) → slice_get s.tables place ≡ Some t → nat_le (2 ^ 31) tree ≡ false
+      → IsUnreferred s tree → (limit : Option ℕ) (stmt : List ℕ) (old : Trees) (after : Database) (tally : Tally)
+      → ((values : List Value) → IsRow (old tree) values → IsNoReal (column values (Rattle.std.proofs.Common.suc at))) → Does limit mode (given name at)
+      (record { schema = s; trees = old }) stmt None (command.Delete place (record { lets = []; body = reading tree at (col 1 0 ∷ []) })) (Ok (tally, after))
+      → Takes s tree at name old after.trees × (after.schema ≡ s)
   takes s place at name has low alone limit stmt old after tally plain does' =
       let does = rw has at does' in
       let done = went does in
@@ -106,8 +116,8 @@ module _ (table : List ℕ) (columns : List Column) (key : List ℕ) (tree : ℕ
       let left : after.trees tree ≡ without_all (old tree) (ids_of found.0) = ap (λ (db : Trees). db tree) trees ∙ step.rows in
       let answer = found.1.answer Null in (
         record {
-          lost = λ keyed. subst (λ rows. Loses (OfName at name) (IsRow (old tree)) (IsRow rows)) (sym left)
-              (loses_name name at (old tree) found.0 keyed (answered name at tree (col 1 0 ∷ []) old low plain found.0 answer) (answers name at tree (col 1 0 ∷ []) old low plain found.0 answer));
+          lost = λ keyed. subst (λ rows. Loses (OfName at name) (IsRow (old tree)) (IsRow rows)) (sym left) (loses_name name at (old tree) found.0 keyed
+              (answered name at tree (col 1 0 ∷ []) old low plain found.0 answer) (answers name at tree (col 1 0 ∷ []) old low plain found.0 answer));
           keyed = λ keyed. subst IsKeyed (sym left) (keyed_less (old tree) (ids_of found.0) keyed);
           others = subst (λ (db : Trees). AllByRecursion (λ (u : Table). u.tree ≢ tree → db u.tree ≡ old u.tree) s.tables) (sym trees) step.tables;
         },
@@ -123,8 +133,9 @@ module _ (t : Table) where
   abbrev tree : ℕ
   tree = t.tree
 
-  pub clears : (s : Schema) (place : ℕ) → slice_get s.tables place ≡ Some t → nat_le (2 ^ 31) tree ≡ false → IsUnreferred s tree → (limit : Option ℕ) (stmt : List ℕ) (old : Trees) (after : Database) (tally : Tally)
-      → Does limit mode [] (record { schema = s; trees = old }) stmt None (command.Delete place (record { lets = []; body = scanning tree })) (Ok (tally, after)) → Clears s tree old after.trees × (after.schema ≡ s)
+  pub clears : (s : Schema) (place : ℕ) → slice_get s.tables place ≡ Some t → nat_le (2 ^ 31) tree ≡ false → IsUnreferred s tree
+      → (limit : Option ℕ) (stmt : List ℕ) (old : Trees) (after : Database) (tally : Tally) → Does limit mode [] (record { schema = s; trees = old }) stmt None
+      (command.Delete place (record { lets = []; body = scanning tree })) (Ok (tally, after)) → Clears s tree old after.trees × (after.schema ≡ s)
   clears s place has low alone limit stmt old after tally does' =
       let does = rw has at does' in
       let done = went does in
@@ -136,7 +147,8 @@ module _ (t : Table) where
       let step = one_step s Enforced old written.0 edit (no_works_to s Enforced 0 tree (taken_by old edit) edit.news alone) written.1 in
       let left : after.trees tree ≡ without_all (old tree) (ids_of found.0) = ap (λ (db : Trees). db tree) trees ∙ step.rows in (
         record {
-          none = λ keyed x there. none_left (old tree) found.0 keyed (scanned tree old low found.0 (found.1.answer Null)) x (subst (λ rows. Has rows x) left there);
+          none = λ keyed x there.
+              none_left (old tree) found.0 keyed (scanned tree old low found.0 (found.1.answer Null)) x (subst (λ rows. Has rows x) left there);
           others = subst (λ (db : Trees). AllByRecursion (λ (u : Table). u.tree ≢ tree → db u.tree ≡ old u.tree) s.tables) (sym trees) step.tables;
         },
         ap (λ (p : Tally × Database). p.1.schema) last,

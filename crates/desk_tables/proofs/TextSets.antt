@@ -32,7 +32,8 @@ same_test true b f g = sym (f refl)
 same_test false true f g = g refl
 same_test false false f g = refl
 
-pub any_put : (p : Row → Bool) (rows : List Row) (new : Row) → are_fresh rows (new ∷ []) ≡ true → list_any p (put_all rows (new ∷ [])) ≡ (p new || list_any p rows)
+pub any_put : (p : Row → Bool) (rows : List Row) (new : Row) → are_fresh rows (new ∷ []) ≡ true
+    → list_any p (put_all rows (new ∷ [])) ≡ (p new || list_any p rows)
 any_put p rows new fresh = same_test _ _ there back
   where
     there : list_any p (put_all rows (new ∷ [])) ≡ true → (p new || list_any p rows) ≡ true

@@ -1,5 +1,6 @@
 -- How the steps of a transaction make one.
-use Rattle.std.proofs.Common.{◌≡◌, ◌≢◌, ◌⊎◌, inl, inr, ℕ, List, [], ◌∷◌, codes, Bool, true, false, ◌||◌, IsTrue, Result, Ok, Err, OnOk, slice_index_or, refl, sym, ap, subst, ◌∙◌, arith}
+use Rattle.std.proofs.Common.{◌≡◌, ◌≢◌, ◌⊎◌, inl, inr, ℕ, List, [], ◌∷◌, codes, Bool, true, false, ◌||◌}
+use Rattle.std.proofs.Common.{IsTrue, Result, Ok, Err, OnOk, slice_index_or, refl, sym, ap, subst, ◌∙◌, arith}
 use Rattle.std.specs.List.{AllByRecursion}
 use Rattle.std.specs.FinSet as set
 use Rattle.sqlite.specs.Schema.{Schema}
@@ -107,11 +108,13 @@ place s is Verdicts = (is.v, is.verdicts)
 place s is Parked = (is.p, is.parked)
 
 -- a change of one of the tables leaves each other one as it is
-pub still : (old new : Database) (a b : Part) → HasDesk old.schema → initial a ≢ initial b → new.schema ≡ old.schema → KeepsBut (called a) old new → table_in new (called b) ≡ table_in old (called b)
+pub still : (old new : Database) (a b : Part) → HasDesk old.schema → initial a ≢ initial b
+    → new.schema ≡ old.schema → KeepsBut (called a) old new → table_in new (called b) ≡ table_in old (called b)
 still old new a b is differ schema others =
     let one = place old.schema is a in
     let two = place old.schema is b in
-    kept (called a) (called b) old new one.0 two.0 _ _ one.1 (tree_is a _) two.1 (tree_is b _) (λ e. differ (sym (initial_is a _) ∙ e ∙ initial_is b _)) schema others
+    kept (called a) (called b) old new one.0 two.0 _ _ one.1 (tree_is a _) two.1
+    (tree_is b _) (λ e. differ (sym (initial_is a _) ∙ e ∙ initial_is b _)) schema others
 
 -- ---- the tables of other names
 
@@ -131,30 +134,62 @@ other_than s tree Parked foreign = foreign.parked
 pub spares_but : (old new : Database) (p : Part) → new.schema ≡ old.schema → KeepsBut (called p) old new → Spares old new
 spares_but old new p schema others = record {
   schema = schema;
-  foreign = λ t there foreign. all_member (λ (u : Table). u.tree ≢ tree_of old.schema (called p) → new.trees u.tree ≡ old.trees u.tree) old.schema.tables t there others (other_than old.schema t.tree p foreign);
+  foreign = λ t there foreign. all_member (λ (u : Table). u.tree ≢ tree_of old.schema (called p) → new.trees u.tree ≡ old.trees u.tree)
+      old.schema.tables t there others (other_than old.schema t.tree p foreign);
 }
 
 pub spares_then : (a b c : Database) → Spares a b → Spares b c → Spares a c
 spares_then a b c one two = record {
   schema = two.schema ∙ one.schema;
-  foreign = λ t there foreign. two.foreign t (subst (λ (s : Schema). Has s.tables t) (sym one.schema) there) (subst (λ (s : Schema). IsForeign s t.tree) (sym one.schema) foreign) ∙ one.foreign t there foreign;
+  foreign = λ t there foreign. two.foreign t (subst (λ (s : Schema). Has s.tables t) (sym one.schema) there)
+      (subst (λ (s : Schema). IsForeign s t.tree) (sym one.schema) foreign) ∙ one.foreign t there foreign;
 }
 
 module _ (old new : Database) (is : HasDesk old.schema) (Rows : RowSet → RowSet → Type 0) where
   pub turns_names : Alters (codes "names") Rows old new → Turns (Rowwise Rows) Stays Stays old new
   turns_names it =
       let same = λ (b : Part) (differ : 110 ≢ initial b). still old new Names b is differ it.schema it.others in
-      record { sound = λ _. it.sound; schema = it.schema; tidy = it.tidy; names = it.rows; verdicts = same Verdicts (λ e. omega (arith, e)); parked = same Parked (λ e. omega (arith, e)); desk = same Desk (λ e. omega (arith, e)); messages = same Messages (λ e. omega (arith, e)); spares = spares_but old new Names it.schema it.others }
+      record {
+        sound = λ _. it.sound;
+        schema = it.schema;
+        tidy = it.tidy;
+        names = it.rows;
+        verdicts = same Verdicts (λ e. omega (arith, e));
+        parked = same Parked (λ e. omega (arith, e));
+        desk = same Desk (λ e. omega (arith, e));
+        messages = same Messages (λ e. omega (arith, e));
+        spares = spares_but old new Names it.schema it.others;
+      }
 
   pub turns_verdicts : Alters (codes "verdicts") Rows old new → Turns Stays (Rowwise Rows) Stays old new
   turns_verdicts it =
       let same = λ (b : Part) (differ : 118 ≢ initial b). still old new Verdicts b is differ it.schema it.others in
-      record { sound = λ _. it.sound; schema = it.schema; tidy = it.tidy; names = same Names (λ e. omega (arith, e)); verdicts = it.rows; parked = same Parked (λ e. omega (arith, e)); desk = same Desk (λ e. omega (arith, e)); messages = same Messages (λ e. omega (arith, e)); spares = spares_but old new Verdicts it.schema it.others }
+      record {
+        sound = λ _. it.sound;
+        schema = it.schema;
+        tidy = it.tidy;
+        names = same Names (λ e. omega (arith, e));
+        verdicts = it.rows;
+        parked = same Parked (λ e. omega (arith, e));
+        desk = same Desk (λ e. omega (arith, e));
+        messages = same Messages (λ e. omega (arith, e));
+        spares = spares_but old new Verdicts it.schema it.others;
+      }
 
   pub turns_parked : Alters (codes "parked") Rows old new → Turns Stays Stays (Rowwise Rows) old new
   turns_parked it =
       let same = λ (b : Part) (differ : 112 ≢ initial b). still old new Parked b is differ it.schema it.others in
-      record { sound = λ _. it.sound; schema = it.schema; tidy = it.tidy; names = same Names (λ e. omega (arith, e)); verdicts = same Verdicts (λ e. omega (arith, e)); parked = it.rows; desk = same Desk (λ e. omega (arith, e)); messages = same Messages (λ e. omega (arith, e)); spares = spares_but old new Parked it.schema it.others }
+      record {
+        sound = λ _. it.sound;
+        schema = it.schema;
+        tidy = it.tidy;
+        names = same Names (λ e. omega (arith, e));
+        verdicts = same Verdicts (λ e. omega (arith, e));
+        parked = it.rows;
+        desk = same Desk (λ e. omega (arith, e));
+        messages = same Messages (λ e. omega (arith, e));
+        spares = spares_but old new Parked it.schema it.others;
+      }
 
 module _ (old new : State) (Rows : RowSet → RowSet → Type 0) where
   pub turned_names : Wrote (codes "names") Rows old new → Turned (Rowwise Rows) Stays Stays old new
@@ -168,7 +203,8 @@ module _ (old new : State) (Rows : RowSet → RowSet → Type 0) where
 
 -- ---- a verdict's row
 
-pub counts_verdict : (v : VerdictFields) (asker person kind : List ℕ) (n at : ℕ) (old new : State) → asker ≡ v.of → person ≡ v.by → kind ≡ kind_text v.kind → n ≡ v.no → at ≡ v.at
+pub counts_verdict : (v : VerdictFields) (asker person kind : List ℕ) (n at : ℕ) (old new : State)
+    → asker ≡ v.of → person ≡ v.by → kind ≡ kind_text v.kind → n ≡ v.no → at ≡ v.at
     → Wrote (codes "verdicts") (Gains (verdict_values asker n person kind at)) old new → Turned Stays (Rowwise (Gains (verdict_row v))) Stays old new
 counts_verdict v asker person kind n at old new a p k m t wrote =
     let same : verdict_values asker n person kind at ≡ verdict_row v = rw (a, p, k, m, t) refl in
@@ -198,7 +234,10 @@ pub with_one : (texts : Texts) (m : Message) → IsMessage m → SameSet (With (
 with_one texts m is n = (
   λ there. elim there [
     | inl before ↦ (before.0, put n ∙ or_true_right (same_text (wire n) (wire m)) (set.contains texts (wire n)) before.1)
-    | inr equal ↦ (subst IsMessage (sym equal) is, put n ∙ or_true_left (same_text (wire n) (wire m)) (set.contains texts (wire n)) (ap (λ x. same_text (wire x) (wire m)) equal ∙ itself (wire m)))
+    | inr equal ↦ (
+      subst IsMessage (sym equal) is,
+      put n ∙ or_true_left (same_text (wire n) (wire m)) (set.contains texts (wire n)) (ap (λ x. same_text (wire x) (wire m)) equal ∙ itself (wire m)),
+    )
   ],
   λ held. elim (or_cases (same_text (wire n) (wire m)) (set.contains texts (wire n)) (sym (put n) ∙ held.1)) as (λ _. Holds texts n ⊎ (n ≡ m)) [
     | inl same ↦ inr (one_message n m held.0 is (is_same (wire n) (wire m) same))
@@ -215,7 +254,15 @@ rows_at db name = IsRow (table_in db name)
 module _ (v : VerdictFields) (is : IsVerdict v) (a b : Database) where
   -- its name has a request
   settles_counted : Tells (rows_at a (codes "names")) (name_meant v) true → Turns Stays (Rowwise (Gains (verdict_row v))) Stays a b → Settles (Verdict v) a b
-  settles_counted told it = record { sound = it.sound; schema = it.schema; tidy = it.tidy; rows = rows; desk = it.desk; messages = it.messages; spares = it.spares }
+  settles_counted told it = record {
+    sound = it.sound;
+    schema = it.schema;
+    tidy = it.tidy;
+    rows = rows;
+    desk = it.desk;
+    messages = it.messages;
+    spares = it.spares;
+  }
     where
       rows : (texts : Texts) → set.contains texts (wire (Verdict v)) ≡ false → HasRows texts a → HasRows (set.insert texts (wire (Verdict v))) b
       rows texts new has =
@@ -223,11 +270,20 @@ module _ (v : VerdictFields) (is : IsVerdict v) (a b : Database) where
           let now = counted (Holds texts) v (rows_at a (codes "names")) (rows_at a (codes "verdicts")) (rows_at a (codes "parked")) has V told it.verdicts in
           let both = subst (λ n. AreRows (With (Holds texts) (Verdict v)) (IsRow n) V (rows_at a (codes "parked"))) (sym it.names) now in
           let all = subst (λ p. AreRows (With (Holds texts) (Verdict v)) (rows_at b (codes "names")) V (IsRow p)) (sym it.parked) both in
-          rows_same (With (Holds texts) (Verdict v)) (Holds (set.insert texts (wire (Verdict v)))) (with_one texts (Verdict v) is) (rows_at b (codes "names")) V (rows_at b (codes "parked")) all
+          rows_same (With (Holds texts) (Verdict v)) (Holds (set.insert texts (wire (Verdict v))))
+          (with_one texts (Verdict v) is) (rows_at b (codes "names")) V (rows_at b (codes "parked")) all
 
   -- its name has none
   settles_parked : Tells (rows_at a (codes "names")) (name_meant v) false → Turns Stays Stays (Rowwise (Gains (parked_row v))) a b → Settles (Verdict v) a b
-  settles_parked told it = record { sound = it.sound; schema = it.schema; tidy = it.tidy; rows = rows; desk = it.desk; messages = it.messages; spares = it.spares }
+  settles_parked told it = record {
+    sound = it.sound;
+    schema = it.schema;
+    tidy = it.tidy;
+    rows = rows;
+    desk = it.desk;
+    messages = it.messages;
+    spares = it.spares;
+  }
     where
       rows : (texts : Texts) → set.contains texts (wire (Verdict v)) ≡ false → HasRows texts a → HasRows (set.insert texts (wire (Verdict v))) b
       rows texts new has =
@@ -235,7 +291,8 @@ module _ (v : VerdictFields) (is : IsVerdict v) (a b : Database) where
           let now = parks (Holds texts) v (rows_at a (codes "names")) (rows_at a (codes "verdicts")) (rows_at a (codes "parked")) has P told it.parked in
           let both = subst (λ n. AreRows (With (Holds texts) (Verdict v)) (IsRow n) (rows_at a (codes "verdicts")) P) (sym it.names) now in
           let all = subst (λ r. AreRows (With (Holds texts) (Verdict v)) (rows_at b (codes "names")) (IsRow r) P) (sym it.verdicts) both in
-          rows_same (With (Holds texts) (Verdict v)) (Holds (set.insert texts (wire (Verdict v)))) (with_one texts (Verdict v) is) (rows_at b (codes "names")) (rows_at b (codes "verdicts")) P all
+          rows_same (With (Holds texts) (Verdict v)) (Holds (set.insert texts (wire (Verdict v))))
+          (with_one texts (Verdict v) is) (rows_at b (codes "names")) (rows_at b (codes "verdicts")) P all
 
 module _ (v : VerdictFields) (is : IsVerdict v) (told : Bool) (old mid new : State) (finds : Finds (name_meant v) told old mid) where
   tells_now : (tidy : IsTidy old.now) → Tells (rows_at mid.now (codes "names")) (name_meant v) told
@@ -247,15 +304,15 @@ module _ (v : VerdictFields) (is : IsVerdict v) (told : Bool) (old mid new : Sta
   pub verdict_counted : told ≡ true → Turned Stays (Rowwise (Gains (verdict_row v))) Stays mid new → Settled (Verdict v) old new
   verdict_counted is_told it = record {
     mode = it.mode;
-    settles = λ tidy. subst (λ d. Settles (Verdict v) d new.now) (finds.same tidy)
-        (settles_counted v is mid.now new.now (subst (Tells (rows_at mid.now (codes "names")) (name_meant v)) is_told (tells_now tidy)) (it.turns (tidy_now tidy)));
+    settles = λ tidy. subst (λ d. Settles (Verdict v) d new.now) (finds.same tidy) (settles_counted v is mid.now new.now
+        (subst (Tells (rows_at mid.now (codes "names")) (name_meant v)) is_told (tells_now tidy)) (it.turns (tidy_now tidy)));
   }
 
   pub verdict_parked : told ≡ false → Turned Stays Stays (Rowwise (Gains (parked_row v))) mid new → Settled (Verdict v) old new
   verdict_parked is_told it = record {
     mode = it.mode;
-    settles = λ tidy. subst (λ d. Settles (Verdict v) d new.now) (finds.same tidy)
-        (settles_parked v is mid.now new.now (subst (Tells (rows_at mid.now (codes "names")) (name_meant v)) is_told (tells_now tidy)) (it.turns (tidy_now tidy)));
+    settles = λ tidy. subst (λ d. Settles (Verdict v) d new.now) (finds.same tidy) (settles_parked v is mid.now new.now
+        (subst (Tells (rows_at mid.now (codes "names")) (name_meant v)) is_told (tells_now tidy)) (it.turns (tidy_now tidy)));
   }
 
 -- ---- outcomes

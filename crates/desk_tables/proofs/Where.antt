@@ -42,7 +42,8 @@ use Rattle.sqlite_ast.specs.declared.Source.{Source, out-Source}
 use Rattle.sqlite_ast.specs.declared.Origin.TheVariants as origin
 use Rattle.desk_tables.specs.DeskTables.{column_of, desk_at, names_at, parked_at, verdicts_at}
 use Rattle.desk_tables.specs.Stored.{Finds}
-use Rattle.desk_tables.proofs.Layers.{compiled_is, read_is, named_is, body_is, whole_page, IsAlone, query_one, parts_is, bounds_one, matching_one, find_one, lower_column, result_one}
+use Rattle.desk_tables.proofs.Layers.{compiled_is, read_is, named_is, body_is, whole_page, IsAlone, query_one}
+use Rattle.desk_tables.proofs.Layers.{parts_is, bounds_one, matching_one, find_one, lower_column, result_one}
 use Rattle.desk_tables.proofs.Exists.{Low, lower_node, opened_equal, opened_parameter, tests_some, opening}
 use Rattle.desk_tables.proofs.Selects.{begun, level_at}
 use Rattle.desk_tables.proofs.QueriesOf.{Means, means, IsColumn, column_shown, shown_column, after_column}
@@ -84,14 +85,19 @@ pub record IsRich (b : ℕ) : Type 0 where
   pub b5 : nat_lt 1 (b - 1 - 1 - 1 - 1 - 1) ≡ true
   pub b6 : nat_lt 1 (b - 1 - 1 - 1 - 1 - 1 - 1) ≡ true
 
-opened_and : (low : Low) (cx : Context) (e a b : Expr) (x y : Term) (st s1 s2 : State) → out-Expr e ≡ Expr-F.Binary binary.And a b → low cx a st ≡ Ok (x, s1) → low cx b s1 ≡ Ok (y, s2)
-    → opened low cx e st ≡ Ok (op2 And x y, s2)
+opened_and : (low : Low) (cx : Context) (e a b : Expr) (x y : Term) (st s1 s2 : State) → out-Expr e ≡ Expr-F.Binary binary.And a b
+    → low cx a st ≡ Ok (x, s1) → low cx b s1 ≡ Ok (y, s2) → opened low cx e st ≡ Ok (op2 And x y, s2)
 unfolding opened operation both wanted_truth tests_truth tests_alias combine
 opened_and low cx e a b x y st s1 s2 is h k = rw (is, h, k) refl
 
 -- where only this table is in scope
 abbrev pub scope_of : Schema → Name → ℕ → List Output → Context
-scope_of s name at shown = record { schema = s; levels = record { tables = record { name = name; table = at; slot = 1; shared = [] } ∷ []; shown = shown } ∷ []; may_aggregate = false; may_alias = true }
+scope_of s name at shown = record {
+  schema = s;
+  levels = record { tables = record { name = name; table = at; slot = 1; shared = [] } ∷ []; shown = shown } ∷ [];
+  may_aggregate = false;
+  may_alias = true;
+}
 
 -- what the test is lowered to
 pub record IsLowered (cx : Context) (e : Expr) (filter : List Term) (st : State) : Type 0 where
@@ -115,18 +121,21 @@ module _ (s : Schema) (at tree : ℕ) (found : Finds s (codes "names") at (names
       let t = names_at tree in
       let cx = scope_of s (codes "names") at shown in
       let st0 = opening (opening st) in
-      let column = lower_column 697 cx it.la (codes "asker") 1 at 0 t (column_of (codes "asker") kind.Text true) st0 it.asker rich.b2 (find_one s (codes "names") (codes "asker") at 1 0 t [] shown false true found.has refl) found.has refl in
+      let column = lower_column 697 cx it.la (codes "asker") 1 at 0 t (column_of (codes "asker") kind.Text true) st0 it.asker rich.b2
+      (find_one s (codes "names") (codes "asker") at 1 0 t [] shown false true found.has refl) found.has refl in
       let parameter = lower_node 697 cx it.lb Nothing (col 0 0) _ _ rich.b3 it.lb_hands (opened_parameter (lower_to 697) cx it.lb 1 _ it.first') in
       let equal = opened_equal (lower_to 698) cx it.l it.la it.lb (col 1 1) (col 0 0) st0 _ _ it.left column parameter in
       let one = lower_node 698 cx it.l Nothing _ (opening st) _ rich.b1 it.l_hands equal in
-      let column' = lower_column 697 cx it.ra (codes "no") 1 at 1 t (column_of (codes "no") kind.Integer true) _ it.number rich.b5 (find_one s (codes "names") (codes "no") at 1 1 t [] shown false true found.has refl) found.has refl in
+      let column' = lower_column 697 cx it.ra (codes "no") 1 at 1 t (column_of (codes "no") kind.Integer true) _ it.number rich.b5
+      (find_one s (codes "names") (codes "no") at 1 1 t [] shown false true found.has refl) found.has refl in
       let parameter' = lower_node 697 cx it.rb Nothing (col 0 1) _ _ rich.b6 it.rb_hands (opened_parameter (lower_to 697) cx it.rb 2 _ it.second) in
       let equal' = opened_equal (lower_to 698) cx it.r it.ra it.rb (col 1 2) (col 0 1) _ _ _ it.right column' parameter' in
       let two = lower_node 698 cx it.r Nothing _ _ _ rich.b4 it.r_hands equal' in
       let all = lower_node 699 cx e Nothing _ st _ rich.b0 it.e_hands (opened_and (lower_to 699) cx e it.l it.r _ _ (opening st) _ _ it.both' one two) in
       record {
         after = _;
-        tests_is = tests_some lower cx e (op2 And (op2 (Compare Eq Binary) (col 1 1) (col 0 0)) (op2 (Compare Eq Binary) (col 1 2) (col 0 1))) st _ (rw (names_asker, names_number) at all);
+        tests_is = tests_some lower cx e (op2 And (op2 (Compare Eq Binary) (col 1 1) (col 0 0)) (op2 (Compare Eq Binary) (col 1 2) (col 0 1))) st _
+            (rw (names_asker, names_number) at all);
         steps = refl;
         aggregates = refl;
       }
@@ -146,18 +155,21 @@ module _ (s : Schema) (at tree : ℕ) (found : Finds s (codes "parked") at (park
       let t = parked_at tree in
       let cx = scope_of s (codes "parked") at shown in
       let st0 = opening (opening st) in
-      let column = lower_column 697 cx it.la (codes "asker") 1 at 1 t (column_of (codes "asker") kind.Text true) st0 it.asker rich.b2 (find_one s (codes "parked") (codes "asker") at 1 1 t [] shown false true found.has refl) found.has refl in
+      let column = lower_column 697 cx it.la (codes "asker") 1 at 1 t (column_of (codes "asker") kind.Text true) st0 it.asker rich.b2
+      (find_one s (codes "parked") (codes "asker") at 1 1 t [] shown false true found.has refl) found.has refl in
       let parameter = lower_node 697 cx it.lb Nothing (col 0 0) _ _ rich.b3 it.lb_hands (opened_parameter (lower_to 697) cx it.lb 1 _ it.first') in
       let equal = opened_equal (lower_to 698) cx it.l it.la it.lb (col 1 2) (col 0 0) st0 _ _ it.left column parameter in
       let one = lower_node 698 cx it.l Nothing _ (opening st) _ rich.b1 it.l_hands equal in
-      let column' = lower_column 697 cx it.ra (codes "no") 1 at 2 t (column_of (codes "no") kind.Integer true) _ it.number rich.b5 (find_one s (codes "parked") (codes "no") at 1 2 t [] shown false true found.has refl) found.has refl in
+      let column' = lower_column 697 cx it.ra (codes "no") 1 at 2 t (column_of (codes "no") kind.Integer true) _ it.number rich.b5
+      (find_one s (codes "parked") (codes "no") at 1 2 t [] shown false true found.has refl) found.has refl in
       let parameter' = lower_node 697 cx it.rb Nothing (col 0 1) _ _ rich.b6 it.rb_hands (opened_parameter (lower_to 697) cx it.rb 2 _ it.second) in
       let equal' = opened_equal (lower_to 698) cx it.r it.ra it.rb (col 1 3) (col 0 1) _ _ _ it.right column' parameter' in
       let two = lower_node 698 cx it.r Nothing _ _ _ rich.b4 it.r_hands equal' in
       let all = lower_node 699 cx e Nothing _ st _ rich.b0 it.e_hands (opened_and (lower_to 699) cx e it.l it.r _ _ (opening st) _ _ it.both' one two) in
       record {
         after = _;
-        tests_is = tests_some lower cx e (op2 And (op2 (Compare Eq Binary) (col 1 2) (col 0 0)) (op2 (Compare Eq Binary) (col 1 3) (col 0 1))) st _ (rw (parked_asker, parked_number) at all);
+        tests_is = tests_some lower cx e (op2 And (op2 (Compare Eq Binary) (col 1 2) (col 0 0)) (op2 (Compare Eq Binary) (col 1 3) (col 0 1))) st _
+            (rw (parked_asker, parked_number) at all);
         steps = refl;
         aggregates = refl;
       }
@@ -182,16 +194,27 @@ module _ (s : Schema) (text : List ℕ) (table : Name) (it : IsDelete text table
   unfolding returning shows
   plain_delete base = rw it.statement refl
 
-  command_delete : (base at : ℕ) (t : Table) (d : Draft) (prog : Program) → table_named s table ≡ Some at → slice_get s.tables at ≡ Some t → deleted s at t (Some it.e) ≡ Ok d → program s [] d ≡ Ok prog
-      → command_in s it.p.formats base it.p.statement ≡ Ok (command.Delete at prog)
+  command_delete : (base at : ℕ) (t : Table) (d : Draft) (prog : Program) → table_named s table ≡ Some at → slice_get s.tables at ≡ Some t
+      → deleted s at t (Some it.e) ≡ Ok d → program s [] d ≡ Ok prog → command_in s it.p.formats base it.p.statement ≡ Ok (command.Delete at prog)
   unfolding command_in delete
   command_delete base at t d prog named has is typed = rw (it.statement, named, has, is, typed) refl
 
 -- what a query over one table reads, where the test holds
 abbrev pub draft_where : ℕ → List Term → List Term → Draft
-draft_where tree filter project = record { from = chain (Inner tree ∷ []); filter = filter; group = None; project = project; distinct = false; collations = []; order = []; limit = lit (Int (negsuc 0)); offset = lit (Int (pos 0)) }
+draft_where tree filter project = record {
+  from = chain (Inner tree ∷ []);
+  filter = filter;
+  group = None;
+  project = project;
+  distinct = false;
+  collations = [];
+  order = [];
+  limit = lit (Int (negsuc 0));
+  offset = lit (Int (pos 0));
+}
 
-deleted_is : (s : Schema) (at : ℕ) (t : Table) (e : Expr) (filter : List Term) → IsLowered (scope_of s t.name at []) e filter (fresh 2 max_budget) → deleted s at t (Some e) ≡ Ok (draft_where t.tree filter (col 1 0 ∷ []))
+deleted_is : (s : Schema) (at : ℕ) (t : Table) (e : Expr) (filter : List Term)
+    → IsLowered (scope_of s t.name at []) e filter (fresh 2 max_budget) → deleted s at t (Some e) ≡ Ok (draft_where t.tree filter (col 1 0 ∷ []))
 unfolding deleted picked
 deleted_is s at t e filter it = rw (it.tests_is, it.steps) refl
 
@@ -233,7 +256,17 @@ pub record IsFiltered (text : List ℕ) (table : Name) : Type 0 where
   pub having : (out-Core (out-Select sel).first).having ≡ None
 
 assembled_where : (limit offset : Term) (c : Clauses) (st : State) → c.is_grouped ≡ false → st.steps ≡ [] → c.order ≡ []
-    → assembled false limit offset c st ≡ Ok (record { from = chain (c.body.steps ++ []); filter = c.body.filter; group = None; project = map (λ (o : Output). o.term) c.body.level.shown; distinct = false; collations = []; order = []; limit = limit; offset = offset })
+    → assembled false limit offset c st ≡ Ok (record {
+      from = chain (c.body.steps ++ []);
+      filter = c.body.filter;
+      group = None;
+      project = map (λ (o : Output). o.term) c.body.level.shown;
+      distinct = false;
+      collations = [];
+      order = [];
+      limit = limit;
+      offset = offset;
+    })
 unfolding assembled ungrouped
 assembled_where limit offset c st plain no_steps no_order = rw (plain, no_steps, no_order) refl
 
@@ -245,27 +278,30 @@ plain_select : (s : Schema) (p : Parsed) (sel : Select) (base : ℕ) → p.state
 unfolding returning
 plain_select s p sel base is = rw is refl
 
-command_select : (s : Schema) (p : Parsed) (sel : Select) (base : ℕ) (c : Command) → p.statement ≡ written.Select sel → Rattle.sqlite_resolve.specs.Compile.read s sel ≡ Ok c → command_in s p.formats base p.statement ≡ Ok c
+command_select : (s : Schema) (p : Parsed) (sel : Select) (base : ℕ) (c : Command) → p.statement ≡ written.Select sel
+    → Rattle.sqlite_resolve.specs.Compile.read s sel ≡ Ok c → command_in s p.formats base p.statement ≡ Ok c
 unfolding command_in
 command_select s p sel base c is h = rw (is, h) refl
 
-pub filtered_is : (s : Schema) (text : List ℕ) (table : Name) (it : IsFiltered text table) (m : ℕ) (t : Table) (columns : List Output) (filter : List Term) (st : State) (prog : Program)
-    → table_named s table ≡ Some m → slice_get s.tables m ≡ Some t
+pub filtered_is : (s : Schema) (text : List ℕ) (table : Name) (it : IsFiltered text table) (m : ℕ) (t : Table) (columns : List Output)
+    (filter : List Term) (st : State) (prog : Program) → table_named s table ≡ Some m → slice_get s.tables m ≡ Some t
     → result lower (outermost s) (level_at table m) (out-Select it.sel).first begun ≡ Ok (columns, st) → st.aggregates ≡ [] → st.steps ≡ []
-    → IsLowered (scope_of s table m columns) it.e filter st
-    → program s [] (draft_where t.tree filter (map (λ (o : Output). o.term) columns)) ≡ Ok prog
+    → IsLowered (scope_of s table m columns) it.e filter st → program s [] (draft_where t.tree filter (map (λ (o : Output). o.term) columns)) ≡ Ok prog
     → Means s text (command.Select prog (map (λ (o : Output). o.name) columns))
 filtered_is s text table it m t columns filter st prog named has shows no_sums no_steps lowered typed =
     let core = (out-Select it.sel).first in
     let last = lowered.after in
     let bound = bounds_one s it.src table m (fresh 1 max_budget) it.origin it.alias it.none named refl in
-    let matched = matching_one lower (outermost s) core it.src table m 1 columns t (Some it.e) filter st last it.from it.on it.none it.left has it.filter lowered.tests_is in
+    let matched = matching_one lower (outermost s) core it.src table m 1 columns t
+    (Some it.e) filter st last it.from it.on it.none it.left has it.filter lowered.tests_is in
     let bodied = body_is lower (outermost s) core (fresh 1 max_budget) begun st last _ columns _ (rw it.from bound) shows matched in
     let parted = parts_is s core _ (fresh 1 max_budget) last bodied (lowered.aggregates ∙ no_sums) it.group it.having in
-    let shown = named_is s core whole_page _ last (draft_where t.tree filter (map (λ (o : Output). o.term) columns)) parted (rw it.distinct (assembled_where _ _ _ last refl (lowered.steps ∙ no_steps) refl)) in
+    let shown = named_is s core whole_page _ last (draft_where t.tree filter (map (λ (o : Output). o.term) columns)) parted
+    (rw it.distinct (assembled_where _ _ _ last refl (lowered.steps ∙ no_steps) refl)) in
     let queried = query_one s it.sel it.src table _ it.alone it.from it.origin shown in
     let reads = read_is s it.sel _ _ _ [] prog queried typed in
-    means s text _ (compiled_is s text it.p _ it.parsed (untimed_select s it.p it.sel it.statement it.formats) (plain_select s it.p it.sel _ it.statement) (command_select s it.p it.sel _ _ it.statement reads)) refl refl
+    means s text _ (compiled_is s text it.p _ it.parsed (untimed_select s it.p it.sel it.statement it.formats)
+    (plain_select s it.p it.sel _ it.statement) (command_select s it.p it.sel _ _ it.statement reads)) refl refl
 
 -- ---- the texts
 
@@ -283,9 +319,36 @@ parked_select = codes "SELECT body FROM parked WHERE asker = ?1 AND no = ?2"
 
 names_delete_parts : IsDelete names_delete (codes "names")
 unfolding everything
-names_delete_parts = record { p = _; e = _; parsed = refl; statement = refl; formats = refl; test = record { l = _; r = _; la = _; lb = _; ra = _; rb = _; both' = refl; left = refl; right = refl; asker = refl; number = refl; first' = refl; second = refl; e_hands = refl; l_hands = refl; r_hands = refl; lb_hands = refl; rb_hands = refl } }
+names_delete_parts = record {
+  p = _;
+  e = _;
+  parsed = refl;
+  statement = refl;
+  formats = refl;
+  test = record {
+    l = _;
+    r = _;
+    la = _;
+    lb = _;
+    ra = _;
+    rb = _;
+    both' = refl;
+    left = refl;
+    right = refl;
+    asker = refl;
+    number = refl;
+    first' = refl;
+    second = refl;
+    e_hands = refl;
+    l_hands = refl;
+    r_hands = refl;
+    lb_hands = refl;
+    rb_hands = refl;
+  };
+}
 
-names_select_parts : (it : IsFiltered names_select (codes "names")) × (a : Written) × ((out-Core (out-Select it.sel).first).shown ≡ a ∷ []) × IsColumn a (codes "body") × IsByName it.e
+names_select_parts : (it : IsFiltered names_select (codes "names")) × (a : Written)
+    × ((out-Core (out-Select it.sel).first).shown ≡ a ∷ []) × IsColumn a (codes "body") × IsByName it.e
 unfolding everything
 names_select_parts = (
   record {
@@ -311,29 +374,52 @@ names_select_parts = (
   _,
   refl,
   record { e = _; text = _; one = refl; expr = refl },
-  record { l = _; r = _; la = _; lb = _; ra = _; rb = _; both' = refl; left = refl; right = refl; asker = refl; number = refl; first' = refl; second = refl; e_hands = refl; l_hands = refl; r_hands = refl; lb_hands = refl; rb_hands = refl },
+  record {
+    l = _;
+    r = _;
+    la = _;
+    lb = _;
+    ra = _;
+    rb = _;
+    both' = refl;
+    left = refl;
+    right = refl;
+    asker = refl;
+    number = refl;
+    first' = refl;
+    second = refl;
+    e_hands = refl;
+    l_hands = refl;
+    r_hands = refl;
+    lb_hands = refl;
+    rb_hands = refl;
+  },
 )
 
 rich_names : IsRich max_budget
 rich_names = record { b0 = refl; b1 = refl; b2 = refl; b3 = refl; b4 = refl; b5 = refl; b6 = refl }
 
-names_typed : (s : Schema) (at tree : ℕ) → Finds s (codes "names") at (names_at tree) → (i : ℕ) → program s [] (draft_where tree (by_name 1 2) (col 1 0 ∷ [])) ≡ Ok (record { lets = []; body = reading tree 0 (col 1 0 ∷ []) })
+names_typed : (s : Schema) (at tree : ℕ) → Finds s (codes "names") at (names_at tree) → (i : ℕ)
+    → program s [] (draft_where tree (by_name 1 2) (col 1 0 ∷ [])) ≡ Ok (record { lets = []; body = reading tree 0 (col 1 0 ∷ []) })
 unfolding program
 names_typed s at tree found i = rw (found.stored, found.by_tree) refl
 
-pub names_deletes : (s : Schema) (at tree : ℕ) → Finds s (codes "names") at (names_at tree) → Means s names_delete (command.Delete at (record { lets = []; body = reading tree 0 (col 1 0 ∷ []) }))
+pub names_deletes : (s : Schema) (at tree : ℕ) → Finds s (codes "names") at (names_at tree)
+    → Means s names_delete (command.Delete at (record { lets = []; body = reading tree 0 (col 1 0 ∷ []) }))
 names_deletes s at tree found =
     let it = names_delete_parts in
     let t = names_at tree in
     let draft = deleted_is s at t it.e (by_name 1 2) (names_lowered s at tree found [] it.e it.test (fresh 2 max_budget) rich_names) in
-    means s names_delete _ (compiled_is s names_delete it.p _ it.parsed (untimed_delete s names_delete (codes "names") it) (plain_delete s names_delete (codes "names") it _)
-    (command_delete s names_delete (codes "names") it _ at t _ _ found.named found.has draft (names_typed s at tree found 0))) refl refl
+    means s names_delete _ (compiled_is s names_delete it.p _ it.parsed (untimed_delete s names_delete (codes "names") it) (plain_delete s names_delete
+    (codes "names") it _) (command_delete s names_delete (codes "names") it _ at t _ _ found.named found.has draft (names_typed s at tree found 0))) refl refl
 
-body_typed_names : (s : Schema) (at tree : ℕ) → Finds s (codes "names") at (names_at tree) → program s [] (draft_where tree (by_name 1 2) (col 1 3 ∷ [])) ≡ Ok (record { lets = []; body = reading tree 0 (col 1 3 ∷ []) })
+body_typed_names : (s : Schema) (at tree : ℕ) → Finds s (codes "names") at (names_at tree)
+    → program s [] (draft_where tree (by_name 1 2) (col 1 3 ∷ [])) ≡ Ok (record { lets = []; body = reading tree 0 (col 1 3 ∷ []) })
 unfolding program
 body_typed_names s at tree found = rw (found.stored, found.by_tree) refl
 
-pub names_selects : (s : Schema) (at tree : ℕ) → Finds s (codes "names") at (names_at tree) → Means s names_select (command.Select (record { lets = []; body = reading tree 0 (col 1 3 ∷ []) }) (codes "body" ∷ []))
+pub names_selects : (s : Schema) (at tree : ℕ) → Finds s (codes "names") at (names_at tree)
+    → Means s names_select (command.Select (record { lets = []; body = reading tree 0 (col 1 3 ∷ []) }) (codes "body" ∷ []))
 unfolding same_name
 names_selects s at tree found =
     let parts = names_select_parts in
@@ -344,14 +430,42 @@ names_selects s at tree found =
     let one = column_shown s (codes "names") (codes "body") at 2 t c parts.1 [] begun parts.3 refl found.has refl refl in
     let st = after_column t 2 c begun in
     let columns = shown_column t 2 c ∷ [] in
-    filtered_is s names_select (codes "names") it at t columns (by_name 1 2) st _ found.named found.has (result_one lower (outermost s) (level_at (codes "names") at) core parts.1 columns begun st parts.2 one) refl refl
-    (names_lowered s at tree found columns it.e parts.4 st (record { b0 = refl; b1 = refl; b2 = refl; b3 = refl; b4 = refl; b5 = refl; b6 = refl })) (body_typed_names s at tree found)
+    filtered_is s names_select (codes "names") it at t columns (by_name 1 2) st _ found.named found.has
+    (result_one lower (outermost s) (level_at (codes "names") at) core parts.1 columns begun st parts.2 one) refl refl (names_lowered s at tree found
+    columns it.e parts.4 st (record { b0 = refl; b1 = refl; b2 = refl; b3 = refl; b4 = refl; b5 = refl; b6 = refl })) (body_typed_names s at tree found)
 
 parked_delete_parts : IsDelete parked_delete (codes "parked")
 unfolding everything
-parked_delete_parts = record { p = _; e = _; parsed = refl; statement = refl; formats = refl; test = record { l = _; r = _; la = _; lb = _; ra = _; rb = _; both' = refl; left = refl; right = refl; asker = refl; number = refl; first' = refl; second = refl; e_hands = refl; l_hands = refl; r_hands = refl; lb_hands = refl; rb_hands = refl } }
+parked_delete_parts = record {
+  p = _;
+  e = _;
+  parsed = refl;
+  statement = refl;
+  formats = refl;
+  test = record {
+    l = _;
+    r = _;
+    la = _;
+    lb = _;
+    ra = _;
+    rb = _;
+    both' = refl;
+    left = refl;
+    right = refl;
+    asker = refl;
+    number = refl;
+    first' = refl;
+    second = refl;
+    e_hands = refl;
+    l_hands = refl;
+    r_hands = refl;
+    lb_hands = refl;
+    rb_hands = refl;
+  };
+}
 
-parked_select_parts : (it : IsFiltered parked_select (codes "parked")) × (a : Written) × ((out-Core (out-Select it.sel).first).shown ≡ a ∷ []) × IsColumn a (codes "body") × IsByName it.e
+parked_select_parts : (it : IsFiltered parked_select (codes "parked")) × (a : Written)
+    × ((out-Core (out-Select it.sel).first).shown ≡ a ∷ []) × IsColumn a (codes "body") × IsByName it.e
 unfolding everything
 parked_select_parts = (
   record {
@@ -377,29 +491,53 @@ parked_select_parts = (
   _,
   refl,
   record { e = _; text = _; one = refl; expr = refl },
-  record { l = _; r = _; la = _; lb = _; ra = _; rb = _; both' = refl; left = refl; right = refl; asker = refl; number = refl; first' = refl; second = refl; e_hands = refl; l_hands = refl; r_hands = refl; lb_hands = refl; rb_hands = refl },
+  record {
+    l = _;
+    r = _;
+    la = _;
+    lb = _;
+    ra = _;
+    rb = _;
+    both' = refl;
+    left = refl;
+    right = refl;
+    asker = refl;
+    number = refl;
+    first' = refl;
+    second = refl;
+    e_hands = refl;
+    l_hands = refl;
+    r_hands = refl;
+    lb_hands = refl;
+    rb_hands = refl;
+  },
 )
 
 rich_parked : IsRich max_budget
 rich_parked = record { b0 = refl; b1 = refl; b2 = refl; b3 = refl; b4 = refl; b5 = refl; b6 = refl }
 
-parked_typed : (s : Schema) (at tree : ℕ) → Finds s (codes "parked") at (parked_at tree) → (i : ℕ) → program s [] (draft_where tree (by_name 2 3) (col 1 0 ∷ [])) ≡ Ok (record { lets = []; body = reading tree 1 (col 1 0 ∷ []) })
+parked_typed : (s : Schema) (at tree : ℕ) → Finds s (codes "parked") at (parked_at tree) → (i : ℕ)
+    → program s [] (draft_where tree (by_name 2 3) (col 1 0 ∷ [])) ≡ Ok (record { lets = []; body = reading tree 1 (col 1 0 ∷ []) })
 unfolding program
 parked_typed s at tree found i = rw (found.stored, found.by_tree) refl
 
-pub parked_deletes : (s : Schema) (at tree : ℕ) → Finds s (codes "parked") at (parked_at tree) → Means s parked_delete (command.Delete at (record { lets = []; body = reading tree 1 (col 1 0 ∷ []) }))
+pub parked_deletes : (s : Schema) (at tree : ℕ) → Finds s (codes "parked") at (parked_at tree)
+    → Means s parked_delete (command.Delete at (record { lets = []; body = reading tree 1 (col 1 0 ∷ []) }))
 parked_deletes s at tree found =
     let it = parked_delete_parts in
     let t = parked_at tree in
     let draft = deleted_is s at t it.e (by_name 2 3) (parked_lowered s at tree found [] it.e it.test (fresh 2 max_budget) rich_parked) in
-    means s parked_delete _ (compiled_is s parked_delete it.p _ it.parsed (untimed_delete s parked_delete (codes "parked") it) (plain_delete s parked_delete (codes "parked") it _)
+    means s parked_delete _
+    (compiled_is s parked_delete it.p _ it.parsed (untimed_delete s parked_delete (codes "parked") it) (plain_delete s parked_delete (codes "parked") it _)
     (command_delete s parked_delete (codes "parked") it _ at t _ _ found.named found.has draft (parked_typed s at tree found 0))) refl refl
 
-body_typed_parked : (s : Schema) (at tree : ℕ) → Finds s (codes "parked") at (parked_at tree) → program s [] (draft_where tree (by_name 2 3) (col 1 1 ∷ [])) ≡ Ok (record { lets = []; body = reading tree 1 (col 1 1 ∷ []) })
+body_typed_parked : (s : Schema) (at tree : ℕ) → Finds s (codes "parked") at (parked_at tree)
+    → program s [] (draft_where tree (by_name 2 3) (col 1 1 ∷ [])) ≡ Ok (record { lets = []; body = reading tree 1 (col 1 1 ∷ []) })
 unfolding program
 body_typed_parked s at tree found = rw (found.stored, found.by_tree) refl
 
-pub parked_selects : (s : Schema) (at tree : ℕ) → Finds s (codes "parked") at (parked_at tree) → Means s parked_select (command.Select (record { lets = []; body = reading tree 1 (col 1 1 ∷ []) }) (codes "body" ∷ []))
+pub parked_selects : (s : Schema) (at tree : ℕ) → Finds s (codes "parked") at (parked_at tree)
+    → Means s parked_select (command.Select (record { lets = []; body = reading tree 1 (col 1 1 ∷ []) }) (codes "body" ∷ []))
 unfolding same_name
 parked_selects s at tree found =
     let parts = parked_select_parts in
@@ -410,8 +548,9 @@ parked_selects s at tree found =
     let one = column_shown s (codes "parked") (codes "body") at 0 t c parts.1 [] begun parts.3 refl found.has refl refl in
     let st = after_column t 0 c begun in
     let columns = shown_column t 0 c ∷ [] in
-    filtered_is s parked_select (codes "parked") it at t columns (by_name 2 3) st _ found.named found.has (result_one lower (outermost s) (level_at (codes "parked") at) core parts.1 columns begun st parts.2 one) refl refl
-    (parked_lowered s at tree found columns it.e parts.4 st (record { b0 = refl; b1 = refl; b2 = refl; b3 = refl; b4 = refl; b5 = refl; b6 = refl })) (body_typed_parked s at tree found)
+    filtered_is s parked_select (codes "parked") it at t columns (by_name 2 3) st _ found.named found.has
+    (result_one lower (outermost s) (level_at (codes "parked") at) core parts.1 columns begun st parts.2 one) refl refl (parked_lowered s at tree found
+    columns it.e parts.4 st (record { b0 = refl; b1 = refl; b2 = refl; b3 = refl; b4 = refl; b5 = refl; b6 = refl })) (body_typed_parked s at tree found)
 
 -- ---- the DELETE of all rows
 
@@ -431,8 +570,8 @@ module _ (s : Schema) (text : List ℕ) (table : Name) (it : IsClear text table)
   unfolding returning shows
   plain_clear base = rw it.statement refl
 
-  command_clear : (base at : ℕ) (t : Table) (d : Draft) (prog : Program) → table_named s table ≡ Some at → slice_get s.tables at ≡ Some t → deleted s at t None ≡ Ok d → program s [] d ≡ Ok prog
-      → command_in s it.p.formats base it.p.statement ≡ Ok (command.Delete at prog)
+  command_clear : (base at : ℕ) (t : Table) (d : Draft) (prog : Program) → table_named s table ≡ Some at → slice_get s.tables at ≡ Some t
+      → deleted s at t None ≡ Ok d → program s [] d ≡ Ok prog → command_in s it.p.formats base it.p.statement ≡ Ok (command.Delete at prog)
   unfolding command_in delete
   command_clear base at t d prog named has is typed = rw (it.statement, named, has, is, typed) refl
 
@@ -442,7 +581,17 @@ cleared_is s at t = refl
 
 -- the query of all rowids
 abbrev pub scanning : ℕ → Query
-scanning tree = record { from = inner tree end; filter = []; group = None; project = col 1 0 ∷ []; distinct = false; collations = []; order = []; limit = lit (Int (negsuc 0)); offset = lit (Int (pos 0)) }
+scanning tree = record {
+  from = inner tree end;
+  filter = [];
+  group = None;
+  project = col 1 0 ∷ [];
+  distinct = false;
+  collations = [];
+  order = [];
+  limit = lit (Int (negsuc 0));
+  offset = lit (Int (pos 0));
+}
 
 abbrev pub names_clear : List ℕ
 names_clear = codes "DELETE FROM names"
@@ -465,22 +614,27 @@ parked_clear_parts : IsClear parked_clear (codes "parked")
 unfolding everything
 parked_clear_parts = record { p = _; parsed = refl; statement = refl; formats = refl }
 
-clear_typed : (s : Schema) (name : Name) (at : ℕ) (t : Table) → Finds s name at t → program s [] (draft_where t.tree [] (col 1 0 ∷ [])) ≡ Ok (record { lets = []; body = scanning t.tree })
+clear_typed : (s : Schema) (name : Name) (at : ℕ) (t : Table) → Finds s name at t
+    → program s [] (draft_where t.tree [] (col 1 0 ∷ [])) ≡ Ok (record { lets = []; body = scanning t.tree })
 unfolding program
 clear_typed s name at t found = rw (found.stored, found.by_tree) refl
 
-pub clears : (s : Schema) (text : List ℕ) (name : Name) (it : IsClear text name) (at : ℕ) (t : Table) → Finds s name at t → Means s text (command.Delete at (record { lets = []; body = scanning t.tree }))
+pub clears : (s : Schema) (text : List ℕ) (name : Name) (it : IsClear text name) (at : ℕ) (t : Table)
+    → Finds s name at t → Means s text (command.Delete at (record { lets = []; body = scanning t.tree }))
 clears s text name it at t found =
     means s text _ (compiled_is s text it.p _ it.parsed (untimed_clear s text name it) (plain_clear s text name it _)
     (command_clear s text name it _ at t _ _ found.named found.has (cleared_is s at t) (clear_typed s name at t found))) refl refl
 
-pub names_clears : (s : Schema) (at tree : ℕ) → Finds s (codes "names") at (names_at tree) → Means s names_clear (command.Delete at (record { lets = []; body = scanning tree }))
+pub names_clears : (s : Schema) (at tree : ℕ) → Finds s (codes "names") at (names_at tree)
+    → Means s names_clear (command.Delete at (record { lets = []; body = scanning tree }))
 names_clears s at tree found = clears s names_clear (codes "names") names_clear_parts at (names_at tree) found
 
-pub verdicts_clears : (s : Schema) (at tree : ℕ) → Finds s (codes "verdicts") at (verdicts_at tree) → Means s verdicts_clear (command.Delete at (record { lets = []; body = scanning tree }))
+pub verdicts_clears : (s : Schema) (at tree : ℕ) → Finds s (codes "verdicts") at (verdicts_at tree)
+    → Means s verdicts_clear (command.Delete at (record { lets = []; body = scanning tree }))
 verdicts_clears s at tree found = clears s verdicts_clear (codes "verdicts") verdicts_clear_parts at (verdicts_at tree) found
 
-pub parked_clears : (s : Schema) (at tree : ℕ) → Finds s (codes "parked") at (parked_at tree) → Means s parked_clear (command.Delete at (record { lets = []; body = scanning tree }))
+pub parked_clears : (s : Schema) (at tree : ℕ) → Finds s (codes "parked") at (parked_at tree)
+    → Means s parked_clear (command.Delete at (record { lets = []; body = scanning tree }))
 parked_clears s at tree found = clears s parked_clear (codes "parked") parked_clear_parts at (parked_at tree) found
 
 abbrev pub desk_clear : List ℕ
@@ -490,5 +644,6 @@ desk_clear_parts : IsClear desk_clear (codes "desk")
 unfolding everything
 desk_clear_parts = record { p = _; parsed = refl; statement = refl; formats = refl }
 
-pub desk_clears : (s : Schema) (at tree : ℕ) → Finds s (codes "desk") at (desk_at tree) → Means s desk_clear (command.Delete at (record { lets = []; body = scanning tree }))
+pub desk_clears : (s : Schema) (at tree : ℕ) → Finds s (codes "desk") at (desk_at tree)
+    → Means s desk_clear (command.Delete at (record { lets = []; body = scanning tree }))
 desk_clears s at tree found = clears s desk_clear (codes "desk") desk_clear_parts at (desk_at tree) found

@@ -9,14 +9,22 @@ use Rattle.sqlite_schema.specs.declared.schema.Kind.{Kind}
 
 -- a column of a STRICT table, with no default
 abbrev pub column_of : List ℕ → Kind → Bool → Column
-column_of name kind not_null = record { name = name; kind = kind; is_strict = true; not_null = not_null; default = Null; collation = Binary }
+column_of name kind not_null = record {
+  name = name;
+  kind = kind;
+  is_strict = true;
+  not_null = not_null;
+  default = Null;
+  collation = Binary;
+}
 
 -- CREATE TABLE desk (id INTEGER PRIMARY KEY, schema INTEGER NOT NULL, roster TEXT NOT NULL) STRICT
 abbrev pub desk : Table
 desk = record {
   name = codes "desk";
   tree = 0;
-  columns = (column_of (codes "id") Integer false) ∷ (column_of (codes "schema") Integer true) ∷ (column_of (codes "roster") Text true) ∷ [];
+  columns = (column_of (codes "id") Integer false) ∷ (column_of (codes "schema") Integer true)
+      ∷ (column_of (codes "roster") Text true) ∷ [];
   key = Some 0;
   primary = 0 ∷ [];
   uniques = [];
@@ -62,19 +70,26 @@ keyed name columns key = record {
   is_counted = false;
 }
 
--- CREATE TABLE names (asker TEXT NOT NULL, no INTEGER NOT NULL, body TEXT NOT NULL, disputed INTEGER NOT NULL, PRIMARY KEY (asker, no)) STRICT
+-- CREATE TABLE names (asker TEXT NOT NULL, no INTEGER NOT NULL, body TEXT NOT NULL, disputed
+-- INTEGER NOT NULL, PRIMARY KEY (asker, no)) STRICT
 abbrev pub names : Table
-names = keyed (codes "names") ((column_of (codes "asker") Text true) ∷ (column_of (codes "no") Integer true) ∷ (column_of (codes "body") Text true) ∷ (column_of (codes "disputed") Integer true) ∷ []) (1 ∷ 2 ∷ [])
+names = keyed (codes "names") ((column_of (codes "asker") Text true)
+    ∷ (column_of (codes "no") Integer true) ∷ (column_of (codes "body") Text true)
+    ∷ (column_of (codes "disputed") Integer true) ∷ []) (1 ∷ 2 ∷ [])
 
--- CREATE TABLE verdicts (asker TEXT NOT NULL, no INTEGER NOT NULL, person TEXT NOT NULL, kind TEXT NOT NULL, at INTEGER NOT NULL, PRIMARY KEY (asker, no, person, kind, at)) STRICT
+-- CREATE TABLE verdicts (asker TEXT NOT NULL, no INTEGER NOT NULL, person TEXT NOT NULL, kind TEXT
+-- NOT NULL, at INTEGER NOT NULL, PRIMARY KEY (asker, no, person, kind, at)) STRICT
 abbrev pub verdicts : Table
 verdicts = keyed (codes "verdicts")
-    ((column_of (codes "asker") Text true) ∷ (column_of (codes "no") Integer true) ∷ (column_of (codes "person") Text true) ∷ (column_of (codes "kind") Text true) ∷ (column_of (codes "at") Integer true) ∷ [])
-    (1 ∷ 2 ∷ 3 ∷ 4 ∷ 5 ∷ [])
+    ((column_of (codes "asker") Text true) ∷ (column_of (codes "no") Integer true)
+    ∷ (column_of (codes "person") Text true) ∷ (column_of (codes "kind") Text true)
+    ∷ (column_of (codes "at") Integer true) ∷ []) (1 ∷ 2 ∷ 3 ∷ 4 ∷ 5 ∷ [])
 
--- CREATE TABLE parked (body TEXT PRIMARY KEY NOT NULL, asker TEXT NOT NULL, no INTEGER NOT NULL) STRICT
+-- CREATE TABLE parked (body TEXT PRIMARY KEY NOT NULL, asker TEXT NOT NULL, no INTEGER NOT NULL)
+-- STRICT
 abbrev pub parked : Table
-parked = keyed (codes "parked") ((column_of (codes "body") Text true) ∷ (column_of (codes "asker") Text true) ∷ (column_of (codes "no") Integer true) ∷ []) (1 ∷ [])
+parked = keyed (codes "parked") ((column_of (codes "body") Text true)
+    ∷ (column_of (codes "asker") Text true) ∷ (column_of (codes "no") Integer true) ∷ []) (1 ∷ [])
 
 -- the same, with its rows in this tree of the file
 abbrev pub desk_at : ℕ → Table

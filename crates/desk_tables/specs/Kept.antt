@@ -15,7 +15,8 @@ use Rattle.sqlite_rules.specs.Lists.{Has}
 use Rattle.messages.specs.Wire.{wire, IsMessage}
 use Rattle.messages.specs.declared.message.Message.{Message}
 use Rattle.desk_tables.specs.Rows.{AreRows, IsRow}
-use Rattle.desk_tables.specs.Stored.{HasDesk, IsWritten, Texts, content_of, has, is_stray, recorded, tree_of}
+use Rattle.desk_tables.specs.Stored.{HasDesk, IsWritten, Texts, content_of}
+use Rattle.desk_tables.specs.Stored.{has, is_stray, recorded, tree_of}
 
 -- the rows of the table of this name
 abbrev pub table_in : Database → List ℕ → List Row
@@ -33,7 +34,8 @@ abbrev pub IsNoReal : Value → Type 0
 IsNoReal (Real x) = ⊥
 IsNoReal _ = ⊤
 
--- the rows are told apart by their rowids, and none has a floating-point number in this column, which has the number of a request
+-- the rows are told apart by their rowids, and none has a floating-point number in this column,
+-- which has the number of a request
 pub record IsNeat (at : ℕ) (rows : List Row) : Type 0 where
   pub keyed : IsKeyed rows
   pub whole : (r : List Value) → IsRow rows r → IsNoReal (column r at)
@@ -72,9 +74,11 @@ Holds texts m = IsMessage m × (set.contains texts (wire m) ≡ true)
 
 -- the rows of the three tables are those of the messages with these texts
 abbrev pub HasRows : Texts → Database → Type 0
-HasRows texts db = AreRows (Holds texts) (IsRow (table_in db (codes "names"))) (IsRow (table_in db (codes "verdicts"))) (IsRow (table_in db (codes "parked")))
+HasRows texts db = AreRows (Holds texts) (IsRow (table_in db (codes "names")))
+    (IsRow (table_in db (codes "verdicts"))) (IsRow (table_in db (codes "parked")))
 
--- A desk is kept: its tables, in `desk` the one row with a roster's text, in `messages` texts of messages alone, and in the other three the rows of these.
+-- A desk is kept: its tables, in `desk` the one row with a roster's text, in `messages` texts of
+-- messages alone, and in the other three the rows of these.
 pub record IsDeskDatabase (db : Database) : Type 0 where
   pub tidy : IsTidy db
   pub marked : (text : List ℕ) × (recorded (table_in db (codes "desk")) ≡ Some text) × IsUtf8 text

@@ -1,4 +1,5 @@
--- Sets of messages, each seen as what says of a message whether it is in the set: no order, no repeats.
+-- Sets of messages, each seen as what says of a message whether it is in the set: no order, no
+-- repeats.
 use Rattle.std.specs.Prelude.{◌≡◌, ◌⊎◌, List, Contains}
 use Rattle.messages.specs.declared.message.Message.{Message}
 

@@ -1,5 +1,7 @@
 -- What a database holds of a desk, beside whatever tables of other names.
-use Rattle.std.specs.Prelude.{◌≡◌, ◌==◌, ◌^◌, ◌≤◌, ◌&&◌, not, nat_le, cond, true, false, Bool, ℕ, pos, List, [], ◌∷◌, ◌++◌, length, Option, Some, None, option_map, option_and_then, unwrap_or, slice_get, find, codes}
+use Rattle.std.specs.Prelude.{◌≡◌, ◌==◌, ◌^◌, ◌≤◌, ◌&&◌, not, nat_le, cond, true, false}
+use Rattle.std.specs.Prelude.{Bool, ℕ, pos, List, [], ◌∷◌, ◌++◌, length, Option, Some, None}
+use Rattle.std.specs.Prelude.{option_map, option_and_then, unwrap_or, slice_get, find, codes}
 use Rattle.std.specs.Ordering.{nat_cmp, int_eq}
 use Rattle.std.specs.Cmp.Lexicographic.{slice_cmp}
 use Rattle.std.specs.FinSet as set
@@ -19,7 +21,8 @@ use Rattle.desk_tables.specs.DeskTables.{desk_at, messages_at, names_at, verdict
 
 -- ---- the tables, found by name
 
--- The schema finds the table by its name, in either case of the letters, and the tree is that table's. (Trees from 2 ^ 31 on are never stored.)
+-- The schema finds the table by its name, in either case of the letters, and the tree is that
+-- table's. (Trees from 2 ^ 31 on are never stored.)
 pub record Finds (s : Schema) (name : List ℕ) (at : ℕ) (t : Table) : Type 0 where
   pub named : table_named s name ≡ Some at
   pub has : slice_get s.tables at ≡ Some t
@@ -28,7 +31,8 @@ pub record Finds (s : Schema) (name : List ℕ) (at : ℕ) (t : Table) : Type 0 
 
 -- the tree of the table with this name
 abbrev pub tree_of : Schema → List ℕ → ℕ
-tree_of s name = unwrap_or (option_map (λ (t : Table). t.tree) (option_and_then (slice_get s.tables) (table_named s name))) 0
+tree_of s name = unwrap_or (option_map (λ (t : Table). t.tree)
+    (option_and_then (slice_get s.tables) (table_named s name))) 0
 
 -- the table has this tree
 abbrev pub is_in : Option Table → ℕ → Bool
@@ -41,13 +45,16 @@ parent_of tables ref = find (λ (t : Table). same_name t.name ref.parent) tables
 
 -- a foreign key of some table refers to the table of this tree
 abbrev pub is_referred : Schema → ℕ → Bool
-is_referred s tree = list_any (λ (t : Table). list_any (λ ref. is_in (parent_of s.tables ref) tree) t.references) s.tables
+is_referred s tree =
+    list_any (λ (t : Table). list_any (λ ref. is_in (parent_of s.tables ref) tree) t.references)
+    s.tables
 
 -- no foreign key of any table refers to the table of this tree
 abbrev pub IsUnreferred : Schema → ℕ → Type 0
 IsUnreferred s tree = is_referred s tree ≡ false
 
--- the schema has a desk's five tables, beside whatever others, and no foreign key refers to those that lose rows
+-- the schema has a desk's five tables, beside whatever others, and no foreign key refers to those
+-- that lose rows
 pub record HasDesk (s : Schema) : Type 0 where
   pub d : ℕ
   pub m : ℕ
@@ -64,7 +71,8 @@ pub record HasDesk (s : Schema) : Type 0 where
   pub verdicts_alone : IsUnreferred s (tree_of s (codes "verdicts"))
   pub parked_alone : IsUnreferred s (tree_of s (codes "parked"))
 
--- The second schema has the tables of the first, and finds views and indexes by the names by which the first does.
+-- The second schema has the tables of the first, and finds views and indexes by the names by which
+-- the first does.
 pub record IsListedAs (s u : Schema) : Type 0 where
   pub tables : u.tables ≡ s.tables
   pub views : (name : List ℕ) → view_named u name ≡ view_named s name
@@ -136,7 +144,8 @@ Texts = set.FinSet (slice_cmp nat_cmp)
 abbrev pub texts_of : List Row → Texts
 texts_of rows = set.from_list (bodies rows)
 
--- a desk's roster text, and the set of its messages' texts: the rows of the other three tables follow from these
+-- a desk's roster text, and the set of its messages' texts: the rows of the other three tables
+-- follow from these
 pub record Content : Type 0 where
   pub roster : List ℕ
   pub texts : Texts
@@ -145,7 +154,10 @@ abbrev pub roster_of : List Row → List ℕ
 roster_of rows = unwrap_or (recorded rows) []
 
 abbrev pub content_in : Schema → Trees → Content
-content_in s db = record { roster = roster_of (db (tree_of s (codes "desk"))); texts = texts_of (db (tree_of s (codes "messages"))) }
+content_in s db = record {
+  roster = roster_of (db (tree_of s (codes "desk")));
+  texts = texts_of (db (tree_of s (codes "messages")));
+}
 
 abbrev pub content_of : Database → Content
 content_of db = content_in db.schema db.trees

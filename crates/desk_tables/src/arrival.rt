@@ -11,7 +11,9 @@ ghost use Rattle.desk_tables.specs.Stored.{IsWritten};
 ghost use Rattle.desk_tables.specs.private.Changes.{Gains};
 ghost use Rattle.desk_tables.specs.private.Stepping.{InStep};
 ghost use Rattle.desk_tables.specs.private.Steps.{IsStep};
-ghost use Rattle.desk_tables.specs.private.Turning.{JoinedParked, JoinsAll, JoinsOne, Received, Renames, Rowwise, Settled, ShowsVerdict, Stays, Turned};
+ghost use Rattle.desk_tables.specs.private.Turning.{JoinedParked, JoinsAll, JoinsOne};
+ghost use Rattle.desk_tables.specs.private.Turning.{Received, Renames, Rowwise, Settled};
+ghost use Rattle.desk_tables.specs.private.Turning.{ShowsVerdict, Stays, Turned};
 
 use crate::fault::Fault;
 use crate::statements::{
@@ -65,7 +67,8 @@ fn park<S: Alter>(tx: &mut Transaction<'_, S>, verdict: &Verdict, body: &str) ->
     Ok(())
 }
 
-/// A verdict that is new: it stands among the verdicts where its name has a request, and is parked where it has none.
+/// A verdict that is new: it stands among the verdicts where its name has a request, and is parked
+/// where it has none.
 fn settle_verdict<S: Alter>(
     tx: &mut Transaction<'_, S>,
     verdict: &Verdict,
@@ -84,7 +87,8 @@ fn settle_verdict<S: Alter>(
     }
 }
 
-/// Puts the request's row in place of whatever row its name has: it is disputed where there was one.
+/// Puts the request's row in place of whatever row its name has: it is disputed where there was
+/// one.
 fn rename<S: Alter>(tx: &mut Transaction<'_, S>, request: &Request, body: &str) -> Result<(), Fault>
     requires { body.now ≡ wire (message_of.Request request.now) }
     ensures same_reference { tx.new.conn.ghost_name ≡ tx.old.conn.ghost_name }
@@ -145,7 +149,8 @@ fn join_parked<S: Alter>(
     request: &Request,
 ) -> Result<(), Fault>
     ensures same_reference { tx.new.conn.ghost_name ≡ tx.old.conn.ghost_name }
-    ensures joined { InStep (state S.Store tx.old.conn.now) (state S.Store tx.new.conn.now) (λ a b. OnOk result (JoinedParked (name_of request.now) a b)) }
+    ensures joined { InStep (state S.Store tx.old.conn.now) (state S.Store tx.new.conn.now)
+        (λ a b. OnOk result (JoinedParked (name_of request.now) a b)) }
     ensures step { IsStep (state S.Store tx.old.conn.now) (state S.Store tx.new.conn.now) }
 {
     let rows = parked_of(tx, request.by().as_str(), request.no())?;
@@ -154,7 +159,8 @@ fn join_parked<S: Alter>(
     Ok(())
 }
 
-/// A request that is new: its name has its row, and the verdicts that waited for it stand among the verdicts.
+/// A request that is new: its name has its row, and the verdicts that waited for it stand among the
+/// verdicts.
 fn settle_request<S: Alter>(
     alloc: Global,
     tx: &mut Transaction<'_, S>,
@@ -180,7 +186,8 @@ pub(crate) fn settle<S: Alter>(
 ) -> Result<(), Fault>
     requires { body.now ≡ wire message.now }
     ensures same_reference { tx.new.conn.ghost_name ≡ tx.old.conn.ghost_name }
-    ensures settled { InStep (state S.Store tx.old.conn.now) (state S.Store tx.new.conn.now) (λ a b. OnOk result (Settled message.now a b)) }
+    ensures settled { InStep (state S.Store tx.old.conn.now)
+        (state S.Store tx.new.conn.now) (λ a b. OnOk result (Settled message.now a b)) }
     ensures step { IsStep (state S.Store tx.old.conn.now) (state S.Store tx.new.conn.now) }
 {
     match message {
@@ -199,7 +206,8 @@ pub(crate) fn receive<S: Alter>(
     requires text { body.now ≡ wire message.now }
     requires written { IsWritten body.now }
     ensures same_reference { tx.new.conn.ghost_name ≡ tx.old.conn.ghost_name }
-    ensures received { InStep (state S.Store tx.old.conn.now) (state S.Store tx.new.conn.now) (λ a b. OnOk result (Received body.now a b)) }
+    ensures received { InStep (state S.Store tx.old.conn.now)
+        (state S.Store tx.new.conn.now) (λ a b. OnOk result (Received body.now a b)) }
     ensures step { IsStep (state S.Store tx.old.conn.now) (state S.Store tx.new.conn.now) }
 {
     if has_text(tx, body)? {

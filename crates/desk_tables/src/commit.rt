@@ -25,7 +25,8 @@ fn obeys<S: Alter>(conn: &Connection<S>)
     let _schema = conn.schema();
 }
 
-/// Takes a message into a desk with all that it changes, in one commit. One that is there changes nothing.
+/// Takes a message into a desk with all that it changes, in one commit. One that is there changes
+/// nothing.
 pub fn arrive<S: Alter>(
     alloc: Global,
     conn: &mut Connection<S>,
@@ -39,17 +40,23 @@ pub fn arrive<S: Alter>(
     requires written { IsWritten body.now }
     ensures rests { Rests (state S.Store conn.new) }
     ensures was_up { IsUp (state S.Store conn.new) → IsUp (state S.Store conn.old) }
-    ensures was_clean { HasCleanDisk (state S.Store conn.new) → HasCleanDisk (state S.Store conn.old) }
-    ensures up { IsUp (state S.Store conn.old) → HasCleanDisk (state S.Store conn.new) → OnOk result (IsUp (state S.Store conn.new)) }
+    ensures was_clean { HasCleanDisk (state S.Store conn.new)
+        → HasCleanDisk (state S.Store conn.old) }
+    ensures up { IsUp (state S.Store conn.old) → HasCleanDisk (state S.Store conn.new)
+        → OnOk result (IsUp (state S.Store conn.new)) }
     ensures desk { IsUp (state S.Store conn.new) → IsDeskDatabase (state S.Store conn.new).now }
     ensures arrived { IsUp (state S.Store conn.new)
-        → OnOk result (content_of (state S.Store conn.new).now ≡ with_text body.now (content_of (state S.Store conn.old).now)) }
-    ensures repeated { IsUp (state S.Store conn.new) → has (content_of (state S.Store conn.old).now) body.now ≡ true
+        → OnOk result (content_of (state S.Store conn.new).now
+        ≡ with_text body.now (content_of (state S.Store conn.old).now)) }
+    ensures repeated { IsUp (state S.Store conn.new)
+        → has (content_of (state S.Store conn.old).now) body.now ≡ true
         → OnOk result ((state S.Store conn.new).now ≡ (state S.Store conn.old).now) }
-    ensures others { IsUp (state S.Store conn.new) → OnOk result (Spares (state S.Store conn.old).now (state S.Store conn.new).now) }
-    ensures unchanged { IsUp (state S.Store conn.new) → OnErr result ((state S.Store conn.new).now ≡ (state S.Store conn.old).now) }
-    ensures survives { IsUp (state S.Store conn.old)
-        → Survives (state S.Store conn.old) (state S.Store conn.new) (ArrivesAt body.now (state S.Store conn.old).now) }
+    ensures others { IsUp (state S.Store conn.new)
+        → OnOk result (Spares (state S.Store conn.old).now (state S.Store conn.new).now) }
+    ensures unchanged { IsUp (state S.Store conn.new)
+        → OnErr result ((state S.Store conn.new).now ≡ (state S.Store conn.old).now) }
+    ensures survives { IsUp (state S.Store conn.old) → Survives (state S.Store conn.old)
+        (state S.Store conn.new) (ArrivesAt body.now (state S.Store conn.old).now) }
 {
     obeys(conn);
     let mut tx = conn.transaction();
@@ -68,20 +75,26 @@ pub fn replace<S: Alter>(
     requires autocommit { conn.old.in_transaction ≡ false }
     requires rests { Rests (state S.Store conn.old) }
     requires desk { IsUp (state S.Store conn.old) → IsDeskDatabase (state S.Store conn.old).now }
-    requires listed { IsUp (state S.Store conn.old) → Lists (HoldsText (state S.Store conn.old).now) messages.now }
+    requires listed { IsUp (state S.Store conn.old)
+        → Lists (HoldsText (state S.Store conn.old).now) messages.now }
     requires once { AllPairs (λ m n. m ≢ n) messages.now }
     requires messages { (m : AnyMessage) → Contains messages.now m → IsMessage m }
     ensures rests { Rests (state S.Store conn.new) }
     ensures was_up { IsUp (state S.Store conn.new) → IsUp (state S.Store conn.old) }
-    ensures was_clean { HasCleanDisk (state S.Store conn.new) → HasCleanDisk (state S.Store conn.old) }
-    ensures up { IsUp (state S.Store conn.old) → HasCleanDisk (state S.Store conn.new) → OnOk result (IsUp (state S.Store conn.new)) }
+    ensures was_clean { HasCleanDisk (state S.Store conn.new)
+        → HasCleanDisk (state S.Store conn.old) }
+    ensures up { IsUp (state S.Store conn.old) → HasCleanDisk (state S.Store conn.new)
+        → OnOk result (IsUp (state S.Store conn.new)) }
     ensures desk { IsUp (state S.Store conn.new) → IsDeskDatabase (state S.Store conn.new).now }
     ensures replaced { IsUp (state S.Store conn.new)
-        → OnOk result (content_of (state S.Store conn.new).now ≡ with_roster roster.now (content_of (state S.Store conn.old).now)) }
-    ensures others { IsUp (state S.Store conn.new) → OnOk result (Spares (state S.Store conn.old).now (state S.Store conn.new).now) }
-    ensures unchanged { IsUp (state S.Store conn.new) → OnErr result ((state S.Store conn.new).now ≡ (state S.Store conn.old).now) }
-    ensures survives { IsUp (state S.Store conn.old)
-        → Survives (state S.Store conn.old) (state S.Store conn.new) (ChangesAt roster.now (state S.Store conn.old).now) }
+        → OnOk result (content_of (state S.Store conn.new).now
+        ≡ with_roster roster.now (content_of (state S.Store conn.old).now)) }
+    ensures others { IsUp (state S.Store conn.new)
+        → OnOk result (Spares (state S.Store conn.old).now (state S.Store conn.new).now) }
+    ensures unchanged { IsUp (state S.Store conn.new)
+        → OnErr result ((state S.Store conn.new).now ≡ (state S.Store conn.old).now) }
+    ensures survives { IsUp (state S.Store conn.old) → Survives (state S.Store conn.old)
+        (state S.Store conn.new) (ChangesAt roster.now (state S.Store conn.old).now) }
 {
     let mut tx = conn.transaction();
     replace_within(alloc, &mut tx, roster, messages)?;

@@ -23,14 +23,16 @@ fn refill_one<S: Alter>(
     message: &Message,
 ) -> Result<(), Fault>
     ensures same_reference { tx.new.conn.ghost_name ≡ tx.old.conn.ghost_name }
-    ensures settled { InStep (state S.Store tx.old.conn.now) (state S.Store tx.new.conn.now) (λ a b. OnOk result (Settled message.now a b)) }
+    ensures settled { InStep (state S.Store tx.old.conn.now)
+        (state S.Store tx.new.conn.now) (λ a b. OnOk result (Settled message.now a b)) }
     ensures step { IsStep (state S.Store tx.old.conn.now) (state S.Store tx.new.conn.now) }
 {
     let body = text(alloc, message)?;
     settle(alloc, tx, message, body.as_str())
 }
 
-/// Fills the three tables of rows, where they are empty, from the messages. Each message stands there once.
+/// Fills the three tables of rows, where they are empty, from the messages. Each message stands
+/// there once.
 pub fn refill_rows<S: Alter>(
     alloc: Global,
     tx: &mut Transaction<'_, S>,
@@ -39,7 +41,8 @@ pub fn refill_rows<S: Alter>(
     requires once { AllPairs (λ m n. m ≢ n) messages.now }
     requires messages { (m : AnyMessage) → Contains messages.now m → IsMessage m }
     ensures same_reference { tx.new.conn.ghost_name ≡ tx.old.conn.ghost_name }
-    ensures refilled { InStep (state S.Store tx.old.conn.now) (state S.Store tx.new.conn.now) (λ a b. OnOk result (Refilled messages.now a b)) }
+    ensures refilled { InStep (state S.Store tx.old.conn.now)
+        (state S.Store tx.new.conn.now) (λ a b. OnOk result (Refilled messages.now a b)) }
     ensures step { IsStep (state S.Store tx.old.conn.now) (state S.Store tx.new.conn.now) }
 {
     for message in messages {
@@ -51,8 +54,8 @@ pub fn refill_rows<S: Alter>(
 /// Takes all rows out of the three tables.
 fn clear<S: Alter>(tx: &mut Transaction<'_, S>) -> Result<(), Fault>
     ensures same_reference { tx.new.conn.ghost_name ≡ tx.old.conn.ghost_name }
-    ensures turned { InStep (state S.Store tx.old.conn.now) (state S.Store tx.new.conn.now)
-        (λ a b. OnOk result (Turned (Rowwise IsEmptied) (Rowwise IsEmptied) (Rowwise IsEmptied) a b)) }
+    ensures turned { InStep (state S.Store tx.old.conn.now) (state S.Store tx.new.conn.now) (λ a b.
+        OnOk result (Turned (Rowwise IsEmptied) (Rowwise IsEmptied) (Rowwise IsEmptied) a b)) }
     ensures step { IsStep (state S.Store tx.old.conn.now) (state S.Store tx.new.conn.now) }
 {
     clear_names(tx)?;
@@ -61,7 +64,8 @@ fn clear<S: Alter>(tx: &mut Transaction<'_, S>) -> Result<(), Fault>
     Ok(())
 }
 
-/// Makes the rows of the three tables anew: whatever they were, they are those of the messages. Each message stands there once.
+/// Makes the rows of the three tables anew: whatever they were, they are those of the messages.
+/// Each message stands there once.
 pub(crate) fn renew<S: Alter>(
     alloc: Global,
     tx: &mut Transaction<'_, S>,
@@ -70,7 +74,8 @@ pub(crate) fn renew<S: Alter>(
     requires once { AllPairs (λ m n. m ≢ n) messages.now }
     requires messages { (m : AnyMessage) → Contains messages.now m → IsMessage m }
     ensures same_reference { tx.new.conn.ghost_name ≡ tx.old.conn.ghost_name }
-    ensures renewed { InStep (state S.Store tx.old.conn.now) (state S.Store tx.new.conn.now) (λ a b. OnOk result (Renewed messages.now a b)) }
+    ensures renewed { InStep (state S.Store tx.old.conn.now)
+        (state S.Store tx.new.conn.now) (λ a b. OnOk result (Renewed messages.now a b)) }
     ensures step { IsStep (state S.Store tx.old.conn.now) (state S.Store tx.new.conn.now) }
 {
     clear(tx)?;

@@ -18,7 +18,8 @@ use std::alloc::Global;
 /// Records the roster's text in place of the one before.
 pub(crate) fn record<S: Alter>(tx: &mut Transaction<'_, S>, roster: &str) -> Result<(), Fault>
     ensures same_reference { tx.new.conn.ghost_name ≡ tx.old.conn.ghost_name }
-    ensures recorded { InStep (state S.Store tx.old.conn.now) (state S.Store tx.new.conn.now) (λ a b. OnOk result (Recorded roster.now a b)) }
+    ensures recorded { InStep (state S.Store tx.old.conn.now)
+        (state S.Store tx.new.conn.now) (λ a b. OnOk result (Recorded roster.now a b)) }
     ensures step { IsStep (state S.Store tx.old.conn.now) (state S.Store tx.new.conn.now) }
 {
     clear_desk(tx)?;
@@ -36,7 +37,8 @@ pub(crate) fn replace_within<S: Alter>(
     requires once { AllPairs (λ m n. m ≢ n) messages.now }
     requires messages { (m : AnyMessage) → Contains messages.now m → IsMessage m }
     ensures same_reference { tx.new.conn.ghost_name ≡ tx.old.conn.ghost_name }
-    ensures replaced { InStep (state S.Store tx.old.conn.now) (state S.Store tx.new.conn.now) (λ a b. OnOk result (Replaced roster.now messages.now a b)) }
+    ensures replaced { InStep (state S.Store tx.old.conn.now) (state S.Store tx.new.conn.now)
+        (λ a b. OnOk result (Replaced roster.now messages.now a b)) }
     ensures step { IsStep (state S.Store tx.old.conn.now) (state S.Store tx.new.conn.now) }
 {
     record(tx, roster)?;

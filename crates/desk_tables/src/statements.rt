@@ -6,16 +6,21 @@ ghost use Rattle.sqlite.specs.Held.{state};
 ghost use Rattle.desk_tables.specs.Rows.{OfName};
 ghost use Rattle.desk_tables.specs.Kept.{IsKeyed};
 ghost use Rattle.desk_tables.specs.private.Changes.{Gains, IsEmptied, Loses};
-ghost use Rattle.desk_tables.specs.private.Stepping.{InStep, Finds, FindsParked, FindsText, IsBare, Marked, Says, Wrote, WroteText, name_values, verdict_values, parked_values};
+ghost use Rattle.desk_tables.specs.private.Stepping.{InStep, Finds, FindsParked, FindsText};
+ghost use Rattle.desk_tables.specs.private.Stepping.{IsBare, Marked, Says, Wrote, WroteText};
+ghost use Rattle.desk_tables.specs.private.Stepping.{name_values, verdict_values, parked_values};
 
 use sqlite::{Alter, Error, Row, Transaction, params};
 
 /// Whether the messages have the text. The database stays as it is.
 pub(crate) fn has_text<S: Alter>(tx: &mut Transaction<'_, S>, text: &str) -> Result<bool, Error>
     ensures same_reference { tx.new.conn.ghost_name ≡ tx.old.conn.ghost_name }
-    ensures finds { InStep (state S.Store tx.old.conn.now) (state S.Store tx.new.conn.now) (λ a b. IfOk result (λ told. FindsText text.now told a b)) }
-    ensures kept { InStep (state S.Store tx.old.conn.now) (state S.Store tx.new.conn.now) KeepsCommit }
-    ensures survives { Survives (state S.Store tx.old.conn.now) (state S.Store tx.new.conn.now) (λ _. ⊥) }
+    ensures finds { InStep (state S.Store tx.old.conn.now) (state S.Store tx.new.conn.now)
+        (λ a b. IfOk result (λ told. FindsText text.now told a b)) }
+    ensures kept { InStep (state S.Store tx.old.conn.now)
+        (state S.Store tx.new.conn.now) KeepsCommit }
+    ensures survives { Survives (state S.Store tx.old.conn.now)
+        (state S.Store tx.new.conn.now) (λ _. ⊥) }
 {
     let rows = tx.query_all("SELECT body FROM messages WHERE body = ?1", params![text])?;
     Ok(!rows.is_empty())
@@ -24,9 +29,12 @@ pub(crate) fn has_text<S: Alter>(tx: &mut Transaction<'_, S>, text: &str) -> Res
 /// Puts the text of a message in, which the messages do not have.
 pub(crate) fn put_text<S: Alter>(tx: &mut Transaction<'_, S>, text: &str) -> Result<usize, Error>
     ensures same_reference { tx.new.conn.ghost_name ≡ tx.old.conn.ghost_name }
-    ensures wrote { InStep (state S.Store tx.old.conn.now) (state S.Store tx.new.conn.now) (λ a b. OnOk result (WroteText text.now a b)) }
-    ensures kept { InStep (state S.Store tx.old.conn.now) (state S.Store tx.new.conn.now) KeepsCommit }
-    ensures survives { Survives (state S.Store tx.old.conn.now) (state S.Store tx.new.conn.now) (λ _. ⊥) }
+    ensures wrote { InStep (state S.Store tx.old.conn.now)
+        (state S.Store tx.new.conn.now) (λ a b. OnOk result (WroteText text.now a b)) }
+    ensures kept { InStep (state S.Store tx.old.conn.now)
+        (state S.Store tx.new.conn.now) KeepsCommit }
+    ensures survives { Survives (state S.Store tx.old.conn.now)
+        (state S.Store tx.new.conn.now) (λ _. ⊥) }
 {
     tx.execute("INSERT INTO messages (body) VALUES (?1)", params![text])
 }
@@ -41,9 +49,12 @@ pub(crate) fn put_name<S: Alter>(
 ) -> Result<usize, Error>
     ensures same_reference { tx.new.conn.ghost_name ≡ tx.old.conn.ghost_name }
     ensures wrote { InStep (state S.Store tx.old.conn.now) (state S.Store tx.new.conn.now)
-        (λ a b. OnOk result (Wrote (codes "names") (Gains (name_values asker.now number body.now disputed)) a b)) }
-    ensures kept { InStep (state S.Store tx.old.conn.now) (state S.Store tx.new.conn.now) KeepsCommit }
-    ensures survives { Survives (state S.Store tx.old.conn.now) (state S.Store tx.new.conn.now) (λ _. ⊥) }
+        (λ a b. OnOk result
+        (Wrote (codes "names") (Gains (name_values asker.now number body.now disputed)) a b)) }
+    ensures kept { InStep (state S.Store tx.old.conn.now)
+        (state S.Store tx.new.conn.now) KeepsCommit }
+    ensures survives { Survives (state S.Store tx.old.conn.now)
+        (state S.Store tx.new.conn.now) (λ _. ⊥) }
 {
     tx.execute(
         "INSERT INTO names (asker, no, body, disputed) VALUES (?1, ?2, ?3, ?4)",
@@ -62,9 +73,12 @@ pub(crate) fn put_verdict<S: Alter>(
 ) -> Result<usize, Error>
     ensures same_reference { tx.new.conn.ghost_name ≡ tx.old.conn.ghost_name }
     ensures wrote { InStep (state S.Store tx.old.conn.now) (state S.Store tx.new.conn.now)
-        (λ a b. OnOk result (Wrote (codes "verdicts") (Gains (verdict_values asker.now number person.now kind.now at)) a b)) }
-    ensures kept { InStep (state S.Store tx.old.conn.now) (state S.Store tx.new.conn.now) KeepsCommit }
-    ensures survives { Survives (state S.Store tx.old.conn.now) (state S.Store tx.new.conn.now) (λ _. ⊥) }
+        (λ a b. OnOk result (Wrote (codes "verdicts")
+        (Gains (verdict_values asker.now number person.now kind.now at)) a b)) }
+    ensures kept { InStep (state S.Store tx.old.conn.now)
+        (state S.Store tx.new.conn.now) KeepsCommit }
+    ensures survives { Survives (state S.Store tx.old.conn.now)
+        (state S.Store tx.new.conn.now) (λ _. ⊥) }
 {
     tx.execute(
         "INSERT INTO verdicts (asker, no, person, kind, at) VALUES (?1, ?2, ?3, ?4, ?5)",
@@ -81,9 +95,12 @@ pub(crate) fn put_parked<S: Alter>(
 ) -> Result<usize, Error>
     ensures same_reference { tx.new.conn.ghost_name ≡ tx.old.conn.ghost_name }
     ensures wrote { InStep (state S.Store tx.old.conn.now) (state S.Store tx.new.conn.now)
-        (λ a b. OnOk result (Wrote (codes "parked") (Gains (parked_values body.now asker.now number)) a b)) }
-    ensures kept { InStep (state S.Store tx.old.conn.now) (state S.Store tx.new.conn.now) KeepsCommit }
-    ensures survives { Survives (state S.Store tx.old.conn.now) (state S.Store tx.new.conn.now) (λ _. ⊥) }
+        (λ a b. OnOk result
+        (Wrote (codes "parked") (Gains (parked_values body.now asker.now number)) a b)) }
+    ensures kept { InStep (state S.Store tx.old.conn.now)
+        (state S.Store tx.new.conn.now) KeepsCommit }
+    ensures survives { Survives (state S.Store tx.old.conn.now)
+        (state S.Store tx.new.conn.now) (λ _. ⊥) }
 {
     tx.execute(
         "INSERT INTO parked (body, asker, no) VALUES (?1, ?2, ?3)",
@@ -99,9 +116,12 @@ pub(crate) fn take_name<S: Alter>(
 ) -> Result<usize, Error>
     ensures same_reference { tx.new.conn.ghost_name ≡ tx.old.conn.ghost_name }
     ensures wrote { InStep (state S.Store tx.old.conn.now) (state S.Store tx.new.conn.now)
-        (λ a b. OnOk result (Wrote (codes "names") (Loses (OfName 0 (record { by = asker.now; no = number }))) a b)) }
-    ensures kept { InStep (state S.Store tx.old.conn.now) (state S.Store tx.new.conn.now) KeepsCommit }
-    ensures survives { Survives (state S.Store tx.old.conn.now) (state S.Store tx.new.conn.now) (λ _. ⊥) }
+        (λ a b. OnOk result
+        (Wrote (codes "names") (Loses (OfName 0 (record { by = asker.now; no = number }))) a b)) }
+    ensures kept { InStep (state S.Store tx.old.conn.now)
+        (state S.Store tx.new.conn.now) KeepsCommit }
+    ensures survives { Survives (state S.Store tx.old.conn.now)
+        (state S.Store tx.new.conn.now) (λ _. ⊥) }
 {
     tx.execute(
         "DELETE FROM names WHERE asker = ?1 AND no = ?2",
@@ -117,9 +137,12 @@ pub(crate) fn take_parked<S: Alter>(
 ) -> Result<usize, Error>
     ensures same_reference { tx.new.conn.ghost_name ≡ tx.old.conn.ghost_name }
     ensures wrote { InStep (state S.Store tx.old.conn.now) (state S.Store tx.new.conn.now)
-        (λ a b. OnOk result (Wrote (codes "parked") (Loses (OfName 1 (record { by = asker.now; no = number }))) a b)) }
-    ensures kept { InStep (state S.Store tx.old.conn.now) (state S.Store tx.new.conn.now) KeepsCommit }
-    ensures survives { Survives (state S.Store tx.old.conn.now) (state S.Store tx.new.conn.now) (λ _. ⊥) }
+        (λ a b. OnOk result
+        (Wrote (codes "parked") (Loses (OfName 1 (record { by = asker.now; no = number }))) a b)) }
+    ensures kept { InStep (state S.Store tx.old.conn.now)
+        (state S.Store tx.new.conn.now) KeepsCommit }
+    ensures survives { Survives (state S.Store tx.old.conn.now)
+        (state S.Store tx.new.conn.now) (λ _. ⊥) }
 {
     tx.execute(
         "DELETE FROM parked WHERE asker = ?1 AND no = ?2",
@@ -136,8 +159,10 @@ pub(crate) fn has_name<S: Alter>(
     ensures same_reference { tx.new.conn.ghost_name ≡ tx.old.conn.ghost_name }
     ensures finds { InStep (state S.Store tx.old.conn.now) (state S.Store tx.new.conn.now)
         (λ a b. IfOk result (λ told. Finds (record { by = asker.now; no = number }) told a b)) }
-    ensures kept { InStep (state S.Store tx.old.conn.now) (state S.Store tx.new.conn.now) KeepsCommit }
-    ensures survives { Survives (state S.Store tx.old.conn.now) (state S.Store tx.new.conn.now) (λ _. ⊥) }
+    ensures kept { InStep (state S.Store tx.old.conn.now)
+        (state S.Store tx.new.conn.now) KeepsCommit }
+    ensures survives { Survives (state S.Store tx.old.conn.now)
+        (state S.Store tx.new.conn.now) (λ _. ⊥) }
 {
     let rows = tx.query_all(
         "SELECT body FROM names WHERE asker = ?1 AND no = ?2",
@@ -153,10 +178,12 @@ pub(crate) fn parked_of<S: Alter>(
     number: u32,
 ) -> Result<Vec<Row>, Error>
     ensures same_reference { tx.new.conn.ghost_name ≡ tx.old.conn.ghost_name }
-    ensures finds { InStep (state S.Store tx.old.conn.now) (state S.Store tx.new.conn.now)
-        (λ a b. IfOk result (λ rows. FindsParked (record { by = asker.now; no = number }) rows.items a b)) }
-    ensures kept { InStep (state S.Store tx.old.conn.now) (state S.Store tx.new.conn.now) KeepsCommit }
-    ensures survives { Survives (state S.Store tx.old.conn.now) (state S.Store tx.new.conn.now) (λ _. ⊥) }
+    ensures finds { InStep (state S.Store tx.old.conn.now) (state S.Store tx.new.conn.now) (λ a b.
+        IfOk result (λ rows. FindsParked (record { by = asker.now; no = number }) rows.items a b)) }
+    ensures kept { InStep (state S.Store tx.old.conn.now)
+        (state S.Store tx.new.conn.now) KeepsCommit }
+    ensures survives { Survives (state S.Store tx.old.conn.now)
+        (state S.Store tx.new.conn.now) (λ _. ⊥) }
 {
     tx.query_all(
         "SELECT body FROM parked WHERE asker = ?1 AND no = ?2",
@@ -167,9 +194,12 @@ pub(crate) fn parked_of<S: Alter>(
 /// Takes all rows of the names out.
 pub(crate) fn clear_names<S: Alter>(tx: &mut Transaction<'_, S>) -> Result<usize, Error>
     ensures same_reference { tx.new.conn.ghost_name ≡ tx.old.conn.ghost_name }
-    ensures wrote { InStep (state S.Store tx.old.conn.now) (state S.Store tx.new.conn.now) (λ a b. OnOk result (Wrote (codes "names") IsEmptied a b)) }
-    ensures kept { InStep (state S.Store tx.old.conn.now) (state S.Store tx.new.conn.now) KeepsCommit }
-    ensures survives { Survives (state S.Store tx.old.conn.now) (state S.Store tx.new.conn.now) (λ _. ⊥) }
+    ensures wrote { InStep (state S.Store tx.old.conn.now) (state S.Store tx.new.conn.now)
+        (λ a b. OnOk result (Wrote (codes "names") IsEmptied a b)) }
+    ensures kept { InStep (state S.Store tx.old.conn.now)
+        (state S.Store tx.new.conn.now) KeepsCommit }
+    ensures survives { Survives (state S.Store tx.old.conn.now)
+        (state S.Store tx.new.conn.now) (λ _. ⊥) }
 {
     tx.execute("DELETE FROM names", &[])
 }
@@ -177,9 +207,12 @@ pub(crate) fn clear_names<S: Alter>(tx: &mut Transaction<'_, S>) -> Result<usize
 /// Takes all rows of the verdicts out.
 pub(crate) fn clear_verdicts<S: Alter>(tx: &mut Transaction<'_, S>) -> Result<usize, Error>
     ensures same_reference { tx.new.conn.ghost_name ≡ tx.old.conn.ghost_name }
-    ensures wrote { InStep (state S.Store tx.old.conn.now) (state S.Store tx.new.conn.now) (λ a b. OnOk result (Wrote (codes "verdicts") IsEmptied a b)) }
-    ensures kept { InStep (state S.Store tx.old.conn.now) (state S.Store tx.new.conn.now) KeepsCommit }
-    ensures survives { Survives (state S.Store tx.old.conn.now) (state S.Store tx.new.conn.now) (λ _. ⊥) }
+    ensures wrote { InStep (state S.Store tx.old.conn.now) (state S.Store tx.new.conn.now)
+        (λ a b. OnOk result (Wrote (codes "verdicts") IsEmptied a b)) }
+    ensures kept { InStep (state S.Store tx.old.conn.now)
+        (state S.Store tx.new.conn.now) KeepsCommit }
+    ensures survives { Survives (state S.Store tx.old.conn.now)
+        (state S.Store tx.new.conn.now) (λ _. ⊥) }
 {
     tx.execute("DELETE FROM verdicts", &[])
 }
@@ -187,9 +220,12 @@ pub(crate) fn clear_verdicts<S: Alter>(tx: &mut Transaction<'_, S>) -> Result<us
 /// Takes all rows of the parked verdicts out.
 pub(crate) fn clear_parked<S: Alter>(tx: &mut Transaction<'_, S>) -> Result<usize, Error>
     ensures same_reference { tx.new.conn.ghost_name ≡ tx.old.conn.ghost_name }
-    ensures wrote { InStep (state S.Store tx.old.conn.now) (state S.Store tx.new.conn.now) (λ a b. OnOk result (Wrote (codes "parked") IsEmptied a b)) }
-    ensures kept { InStep (state S.Store tx.old.conn.now) (state S.Store tx.new.conn.now) KeepsCommit }
-    ensures survives { Survives (state S.Store tx.old.conn.now) (state S.Store tx.new.conn.now) (λ _. ⊥) }
+    ensures wrote { InStep (state S.Store tx.old.conn.now) (state S.Store tx.new.conn.now)
+        (λ a b. OnOk result (Wrote (codes "parked") IsEmptied a b)) }
+    ensures kept { InStep (state S.Store tx.old.conn.now)
+        (state S.Store tx.new.conn.now) KeepsCommit }
+    ensures survives { Survives (state S.Store tx.old.conn.now)
+        (state S.Store tx.new.conn.now) (λ _. ⊥) }
 {
     tx.execute("DELETE FROM parked", &[])
 }
@@ -197,9 +233,12 @@ pub(crate) fn clear_parked<S: Alter>(tx: &mut Transaction<'_, S>) -> Result<usiz
 /// Takes the desk's row out.
 pub(crate) fn clear_desk<S: Alter>(tx: &mut Transaction<'_, S>) -> Result<usize, Error>
     ensures same_reference { tx.new.conn.ghost_name ≡ tx.old.conn.ghost_name }
-    ensures marked { InStep (state S.Store tx.old.conn.now) (state S.Store tx.new.conn.now) (λ a b. OnOk result (Marked IsKeyed IsBare a b)) }
-    ensures kept { InStep (state S.Store tx.old.conn.now) (state S.Store tx.new.conn.now) KeepsCommit }
-    ensures survives { Survives (state S.Store tx.old.conn.now) (state S.Store tx.new.conn.now) (λ _. ⊥) }
+    ensures marked { InStep (state S.Store tx.old.conn.now)
+        (state S.Store tx.new.conn.now) (λ a b. OnOk result (Marked IsKeyed IsBare a b)) }
+    ensures kept { InStep (state S.Store tx.old.conn.now)
+        (state S.Store tx.new.conn.now) KeepsCommit }
+    ensures survives { Survives (state S.Store tx.old.conn.now)
+        (state S.Store tx.new.conn.now) (λ _. ⊥) }
 {
     tx.execute("DELETE FROM desk", &[])
 }
@@ -207,9 +246,12 @@ pub(crate) fn clear_desk<S: Alter>(tx: &mut Transaction<'_, S>) -> Result<usize,
 /// Puts the desk's row in, with the roster's text, where there is none.
 pub fn put_roster<S: Alter>(tx: &mut Transaction<'_, S>, roster: &str) -> Result<usize, Error>
     ensures same_reference { tx.new.conn.ghost_name ≡ tx.old.conn.ghost_name }
-    ensures marked { InStep (state S.Store tx.old.conn.now) (state S.Store tx.new.conn.now) (λ a b. OnOk result (Marked IsBare (Says roster.now) a b)) }
-    ensures kept { InStep (state S.Store tx.old.conn.now) (state S.Store tx.new.conn.now) KeepsCommit }
-    ensures survives { Survives (state S.Store tx.old.conn.now) (state S.Store tx.new.conn.now) (λ _. ⊥) }
+    ensures marked { InStep (state S.Store tx.old.conn.now) (state S.Store tx.new.conn.now)
+        (λ a b. OnOk result (Marked IsBare (Says roster.now) a b)) }
+    ensures kept { InStep (state S.Store tx.old.conn.now)
+        (state S.Store tx.new.conn.now) KeepsCommit }
+    ensures survives { Survives (state S.Store tx.old.conn.now)
+        (state S.Store tx.new.conn.now) (λ _. ⊥) }
 {
     tx.execute(
         "INSERT INTO desk (id, schema, roster) VALUES (1, 2, ?1)",

@@ -188,8 +188,8 @@ fn say_roster(said: &mut String, text: &str) -> Result<(), Trouble> {
     Ok(())
 }
 
-/// What the desk answers to each question: which roster it has, what request 7 came to, which grants are in force within its window, what waits, and the host's
-/// file.
+/// What the desk answers to each question: which roster it has, what request 7 came to, which
+/// grants are in force within its window, what waits, and the host's file.
 pub fn say_all<K: Keeper>(
     alloc: Global,
     said: &mut String,

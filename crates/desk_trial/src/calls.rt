@@ -53,7 +53,8 @@ pub fn deliver<K: Keeper>(desk: &mut Desk<K>, body: &str) -> Answer {
     }
 }
 
-/// Delivers the bodies in order, each once the one before it was acknowledged, and gives the keeper up.
+/// Delivers the bodies in order, each once the one before it was acknowledged, and gives the keeper
+/// up.
 fn delivered<K: Keeper>(mut desk: Desk<K>, bodies: &[&str]) -> (Answer, K) {
     let mut answer = Answer::Done;
     for body in bodies {

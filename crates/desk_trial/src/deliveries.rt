@@ -75,7 +75,8 @@ fn open_and_deliver<K: Keeper>(
     }
 }
 
-/// Opens a desk over the keeper, and delivers both to it: how they ended, or how the opening was refused.
+/// Opens a desk over the keeper, and delivers both to it: how they ended, or how the opening was
+/// refused.
 pub fn make_both<K: Keeper>(
     alloc: Global,
     keeper: K,
@@ -86,8 +87,9 @@ pub fn make_both<K: Keeper>(
     }
 }
 
-/// Whether a delivery over a desk in the state `before` ended as it may: acknowledged, and it leads to `after`; or refused over the storage, and nothing changed.
-/// A question after it is answered so, or refused over the storage.
+/// Whether a delivery over a desk in the state `before` ended as it may: acknowledged, and it leads
+/// to `after`; or refused over the storage, and nothing changed. A question after it is answered
+/// so, or refused over the storage.
 fn is_delivered(delivered: Delivered, before: State, after: State) -> bool {
     let (is_known, state) = match delivered.answer {
         Answer::Done => (true, after),
@@ -117,8 +119,9 @@ pub fn are_well(both: Both) -> bool {
         && request.then == State::Granted
 }
 
-/// Whether the next opening may find the message there, or may not, after its delivery. What was acknowledged is there. What was refused is not there where the
-/// desk went on to answer, and else it may be.
+/// Whether the next opening may find the message there, or may not, after its delivery. What was
+/// acknowledged is there. What was refused is not there where the desk went on to answer, and else
+/// it may be.
 fn may_be(delivered: Delivered, is_there: bool) -> bool {
     if delivered.answer == Answer::Done {
         is_there

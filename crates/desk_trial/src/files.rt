@@ -90,7 +90,8 @@ fn files_of(alloc: Global, pair: &Pair, fuses: Fuses) -> Result<Files<Fused>, Tr
     }
 }
 
-/// How the database is opened. Few pages are kept in memory, since each opening fills the room for all of them.
+/// How the database is opened. Few pages are kept in memory, since each opening fills the room for
+/// all of them.
 const OPTIONS: Options = Options {
     cache_pages: 32,
     spill_pages: 2_000,

@@ -1,4 +1,5 @@
-//! What the programs beside the product try a desk with: a roster, messages, stores in memory, the calls that are made, and all that a desk answers then, as text.
+//! What the programs beside the product try a desk with: a roster, messages, stores in memory, the
+//! calls that are made, and all that a desk answers then, as text.
 #![tactic(auto)]
 
 pub mod asking;

@@ -36,7 +36,8 @@ pub const KNOWN: [State; 6] = [
 ];
 
 impl State {
-    /// All that a desk in this state answers: which roster it has, what the request came to, which grants are in force, what waits, and the host's file.
+    /// All that a desk in this state answers: which roster it has, what the request came to, which
+    /// grants are in force, what waits, and the host's file.
     pub fn text(self) -> &'static str {
         match self {
             State::Fresh => "7200 seconds, nobody asks, file: bob db1 = (root) ALL",

@@ -14,9 +14,11 @@ use Rattle.roster.specs.Relations.{ceiling_at, has_person, holds}
 use Rattle.roster.specs.Rules.{is_among}
 use Rattle.grants.specs.private.Forms.{is_inside}
 use Rattle.grants.specs.Denials.{number}
-use Rattle.grants.specs.Admission.{LiesInsideOne, IsWithin, MayAskUnder, AdmitsRequest, UnderCeiling, HasHostOutside, HasCommandOutside, DeniesRequest, IsDenial}
+use Rattle.grants.specs.Admission.{LiesInsideOne, IsWithin, MayAskUnder, AdmitsRequest, UnderCeiling}
+use Rattle.grants.specs.Admission.{HasHostOutside, HasCommandOutside, DeniesRequest, IsDenial}
 use Rattle.grants.specs.declared.denial.Denial.{Denial}
-use Rattle.grants.specs.declared.denial.Denial.TheVariants.{UnknownPerson, UnknownCeiling, NotAsker, HostOutside, RunasOutside, CommandOutside, WindowTooLong, WindowBackwards}
+use Rattle.grants.specs.declared.denial.Denial.TheVariants.{UnknownPerson, UnknownCeiling, NotAsker, HostOutside}
+use Rattle.grants.specs.declared.denial.Denial.TheVariants.{RunasOutside, CommandOutside, WindowTooLong, WindowBackwards}
 use Rattle.grants.proofs.Inclusion.{exact}
 use Rattle.grants.proofs.Witnesses.{inside}
 use Rattle.grants.proofs.Members.{each_passes, one_fails, one_passes, passes, member, no_member}
@@ -110,8 +112,8 @@ module _ (f : RosterFields Cmnd) (r : RequestFields) where
         both_ways (list_any (is_inside k) c.commands) e
         (passes (is_inside k) c.commands h.0 h.1 ((exact k h.0 hk (All-contains IsLawful c.commands h.0 lawful h.1)).1 h.2))
 
-    pub command_outside : MayAskUnder f r c → list_all (is_among c.hosts) r.hosts ≡ true → is_among c.runas r.runas ≡ true → All IsLawful r.cmnds → All IsLawful c.commands
-        → list_all (λ k. list_any (is_inside k) c.commands) r.cmnds ≡ false → IsDenial f (Request r) CommandOutside
+    pub command_outside : MayAskUnder f r c → list_all (is_among c.hosts) r.hosts ≡ true → is_among c.runas r.runas ≡ true → All IsLawful r.cmnds
+        → All IsLawful c.commands → list_all (λ k. list_any (is_inside k) c.commands) r.cmnds ≡ false → IsDenial f (Request r) CommandOutside
     command_outside m e t lawful lawful_ones outside =
         let one = one_fails (λ k. list_any (is_inside k) c.commands) r.cmnds outside in
         record {
@@ -119,7 +121,8 @@ module _ (f : RosterFields Cmnd) (r : RequestFields) where
           first = as_target m (hosts_inside e) (member c.runas r.runas t);
         }
 
-    pub within : list_all (is_among c.hosts) r.hosts ≡ true → is_among c.runas r.runas ≡ true → list_all (λ k. list_any (is_inside k) c.commands) r.cmnds ≡ true → IsWithin r c
+    pub within : list_all (is_among c.hosts) r.hosts ≡ true → is_among c.runas r.runas ≡ true
+        → list_all (λ k. list_any (is_inside k) c.commands) r.cmnds ≡ true → IsWithin r c
     within e t commands = record {
       hosts = hosts_inside e;
       target = member c.runas r.runas t;
@@ -133,7 +136,8 @@ module _ (f : RosterFields Cmnd) (r : RequestFields) where
     pub too_long : MayAskUnder f r c → IsWithin r c → r.from + c.longest < r.until → IsDenial f (Request r) WindowTooLong
     too_long m w l = record { applies = (c, m.ceiling_is, l); first = by_command m w }
 
-    pub backwards : MayAskUnder f r c → IsWithin r c → ¬ (r.from + c.longest < r.until) → (r.from < r.at) ⊎ (r.until < r.from) → IsDenial f (Request r) WindowBackwards
+    pub backwards : MayAskUnder f r c → IsWithin r c → ¬ (r.from + c.longest < r.until)
+        → (r.from < r.at) ⊎ (r.until < r.from) → IsDenial f (Request r) WindowBackwards
     backwards m w short back = record {
       applies = back;
       first = below_next (λ d. ¬ DeniesRequest f r d) WindowTooLong (by_command m w)

@@ -10,9 +10,11 @@ use Rattle.messages.specs.declared.message.Message.TheVariants.{Request, Verdict
 use Rattle.roster.specs.Fields.{CeilingFields, RosterFields}
 use Rattle.roster.specs.Relations.{has_person, holds}
 use Rattle.grants.specs.Denials.{number}
-use Rattle.grants.specs.Admission.{AdmitsRequest, AdmitsVerdict, Admits, UnderCeiling, HasHostOutside, HasCommandOutside, DeniesRequest, DeniesVerdict, Denies, IsDenial}
+use Rattle.grants.specs.Admission.{AdmitsRequest, AdmitsVerdict, Admits, UnderCeiling, HasHostOutside}
+use Rattle.grants.specs.Admission.{HasCommandOutside, DeniesRequest, DeniesVerdict, Denies, IsDenial}
 use Rattle.grants.specs.declared.denial.Denial.{Denial}
-use Rattle.grants.specs.declared.denial.Denial.TheVariants.{UnknownPerson, UnknownCeiling, NotAsker, HostOutside, RunasOutside, CommandOutside, WindowTooLong, WindowBackwards}
+use Rattle.grants.specs.declared.denial.Denial.TheVariants.{UnknownPerson, UnknownCeiling, NotAsker, HostOutside}
+use Rattle.grants.specs.declared.denial.Denial.TheVariants.{RunasOutside, CommandOutside, WindowTooLong, WindowBackwards}
 use Rattle.grants.proofs.AdmissionLemmas.{same_denial}
 
 -- what holds of the request's ceiling holds of the one that it is admitted under
@@ -48,7 +50,8 @@ one_denial f m d e a b =
     same_denial d e (omega (arith, not_below, not_above))
 
 -- an answer that is right is the only one
-pub answers_admitted : (f : RosterFields Cmnd) (m : Message) (r : Result (Unit {0}) Denial) → MatchResult r (λ _. Admits f m) (IsDenial f m) → IsOk r ↔ Admits f m
+pub answers_admitted : (f : RosterFields Cmnd) (m : Message) (r : Result (Unit {0}) Denial)
+    → MatchResult r (λ _. Admits f m) (IsDenial f m) → IsOk r ↔ Admits f m
 answers_admitted f m (Ok x) h = (λ _. h, λ _. refl)
 answers_admitted f m (Err d) h = (λ e. absurd cc, λ a. absurd (no_denial f m d a h.applies))
 

@@ -35,7 +35,8 @@ shown_mark (s ∷ rs) r m =
       | inr more ↦ Contains-behind (shown s) (map shown rs) (shown r) (shown_mark rs r more)
     ]
 
-all_shown : (r : Mark) (marks : List Mark) → AllByRecursion (λ s. mark_cmp r s ≡ Less) marks → AllByRecursion (λ x. approval_cmp (shown r) x ≡ Less) (map shown marks)
+all_shown : (r : Mark) (marks : List Mark) → AllByRecursion (λ s. mark_cmp r s ≡ Less) marks
+    → AllByRecursion (λ x. approval_cmp (shown r) x ≡ Less) (map shown marks)
 all_shown r [] all = tt
 all_shown r (s ∷ rs) all = (all.0, all_shown r rs all.1)
 

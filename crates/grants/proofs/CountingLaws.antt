@@ -28,7 +28,8 @@ pub asked_before : (set : List Message) (v : VerdictFields) (q : RequestFields) 
 asked_before set v q h =
     elim (Contains-push_cases set (Verdict v) (Request q) h) as (λ _. Contains set (Request q)) [ inl old ↦ old | inr new ↦ absurd cc ]
 
-pub given_after : (f : RosterFields Cmnd) (set : List Message) (v w : VerdictFields) (q : RequestFields) (kind : VerdictKind) → IsGiven f set q kind w → IsGiven f (set ++ Verdict v ∷ []) q kind w
+pub given_after : (f : RosterFields Cmnd) (set : List Message) (v w : VerdictFields) (q : RequestFields) (kind : VerdictKind)
+    → IsGiven f set q kind w → IsGiven f (set ++ Verdict v ∷ []) q kind w
 given_after f set v w q kind g = record {
   given = Contains-append_left set (Verdict v ∷ []) (Verdict w) g.given;
   about = g.about;
@@ -38,11 +39,13 @@ given_after f set v w q kind g = record {
   counts_is = g.counts_is;
 }
 
-pub given_before : (f : RosterFields Cmnd) (set : List Message) (v w : VerdictFields) (q : RequestFields) (kind : VerdictKind) → NeverCounts f set v → Contains set (Request q) → IsGiven f (set ++ Verdict v ∷ []) q kind w → IsGiven f set q kind w
+pub given_before : (f : RosterFields Cmnd) (set : List Message) (v w : VerdictFields) (q : RequestFields) (kind : VerdictKind)
+    → NeverCounts f set v → Contains set (Request q) → IsGiven f (set ++ Verdict v ∷ []) q kind w → IsGiven f set q kind w
 given_before f set v w q kind never asked g = record {
   given = elim (Contains-push_cases set (Verdict v) (Verdict w) g.given) as (λ _. Contains set (Verdict w)) [
     | inl old ↦ old
-    | inr new ↦ absurd (both_ways _ (never q g.ceiling asked (subst (IsAbout q) (sym (one_verdict v w new)) g.about) g.ceiling_is) (subst (λ (x : VerdictFields). counts f g.ceiling x ≡ true) (sym (one_verdict v w new)) g.counts_is))
+    | inr new ↦ absurd (both_ways _ (never q g.ceiling asked (subst (IsAbout q) (sym (one_verdict v w new)) g.about) g.ceiling_is)
+        (subst (λ (x : VerdictFields). counts f g.ceiling x ≡ true) (sym (one_verdict v w new)) g.counts_is))
   ];
   about = g.about;
   kind_is = g.kind_is;
@@ -51,13 +54,15 @@ given_before f set v w q kind never asked g = record {
   counts_is = g.counts_is;
 }
 
-pub added : (f : RosterFields Cmnd) (set : List Message) (v : VerdictFields) (name : RequestName) (status : Status) → NeverCounts f set v → IsStatus f set name status → IsStatus f (set ++ Verdict v ∷ []) name status
+pub added : (f : RosterFields Cmnd) (set : List Message) (v : VerdictFields) (name : RequestName) (status : Status)
+    → NeverCounts f set v → IsStatus f set name status → IsStatus f (set ++ Verdict v ∷ []) name status
 added f set v name status never x =
     same_status f set (set ++ Verdict v ∷ []) name status
     (λ q. (Contains-append_left set (Verdict v ∷ []) (Request q), asked_before set v q))
     (λ q asked kind w. (given_after f set v w q kind, given_before f set v w q kind never asked)) x
 
-pub taken_away : (f : RosterFields Cmnd) (set : List Message) (v : VerdictFields) (name : RequestName) (status : Status) → NeverCounts f set v → IsStatus f (set ++ Verdict v ∷ []) name status → IsStatus f set name status
+pub taken_away : (f : RosterFields Cmnd) (set : List Message) (v : VerdictFields) (name : RequestName) (status : Status)
+    → NeverCounts f set v → IsStatus f (set ++ Verdict v ∷ []) name status → IsStatus f set name status
 taken_away f set v name status never x =
     same_status f (set ++ Verdict v ∷ []) set name status
     (λ q. (asked_before set v q, Contains-append_left set (Verdict v ∷ []) (Request q)))
@@ -66,7 +71,8 @@ taken_away f set v name status never x =
 -- ---- separation of duties
 
 -- whoever is not eligible gives no approval and no refusal that counts
-not_eligible : (f : RosterFields Cmnd) (c : CeilingFields Cmnd) (kind : VerdictKind) (person asker : List ℕ) (at : ℕ) → kind ≢ Revoke → eligible f person asker c at ≡ false → may_give f c kind person asker at ≡ false
+not_eligible : (f : RosterFields Cmnd) (c : CeilingFields Cmnd) (kind : VerdictKind) (person asker : List ℕ) (at : ℕ)
+    → kind ≢ Revoke → eligible f person asker c at ≡ false → may_give f c kind person asker at ≡ false
 not_eligible f c Approve person asker at other h = h
 not_eligible f c Refuse person asker at other h = h
 not_eligible f c Revoke person asker at other h = absurd (other refl)
@@ -76,7 +82,8 @@ own_verdict f c v other own =
     not_eligible f c v.kind v.by v.of v.at other
     (subst (λ (person : List ℕ). eligible f person v.of c v.at ≡ false) (sym own) (not_who_asks f v.of c v.at))
 
-pub conflicting_duty : (f : RosterFields Cmnd) (c : CeilingFields Cmnd) (v : VerdictFields) (duty : List ℕ) → v.kind ≢ Revoke → holds f v.by duty v.at ≡ true → conflicting f duty c.approve ≡ true → counts f c v ≡ false
+pub conflicting_duty : (f : RosterFields Cmnd) (c : CeilingFields Cmnd) (v : VerdictFields) (duty : List ℕ)
+    → v.kind ≢ Revoke → holds f v.by duty v.at ≡ true → conflicting f duty c.approve ≡ true → counts f c v ≡ false
 conflicting_duty f c v duty other held conflict =
     not_eligible f c v.kind v.by v.of v.at other
     (not_against f v.by v.of duty c v.at held conflict)
@@ -84,7 +91,8 @@ conflicting_duty f c v duty other held conflict =
 either : (a b : Bool) → a ≡ false → b ≡ false → (a || b) ≡ false
 either a b x y = rw (x, y) refl
 
-pub without_duty : (f : RosterFields Cmnd) (c : CeilingFields Cmnd) (v : VerdictFields) → v.by ≢ v.of → holds f v.by c.approve v.at ≡ false → counts f c v ≡ false
+pub without_duty : (f : RosterFields Cmnd) (c : CeilingFields Cmnd) (v : VerdictFields)
+    → v.by ≢ v.of → holds f v.by c.approve v.at ≡ false → counts f c v ≡ false
 without_duty f c v other lacks = lacking v.kind
   where
     no_approver : eligible f v.by v.of c v.at ≡ false

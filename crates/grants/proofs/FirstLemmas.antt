@@ -67,7 +67,8 @@ from_mark test start (s ∷ rs) =
             low = rest.low;
             least = λ r h t. elim (cases_behind s rs r h) as (λ _. rest.first.at ≤ r.at) [
               | inl same ↦
-                  let low : start.at ≤ r.at = subst (λ (m : Mark). start.at ≤ m.at) same (no_earlier test start s e (subst (λ (m : Mark). test m ≡ true) (sym same) t)) in
+                  let low : start.at ≤ r.at =
+                  subst (λ (m : Mark). start.at ≤ m.at) same (no_earlier test start s e (subst (λ (m : Mark). test m ≡ true) (sym same) t)) in
                   omega (arith, rest.low, low)
               | inr there ↦ rest.least r there t
             ];

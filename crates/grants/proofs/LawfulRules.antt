@@ -1,5 +1,6 @@
 -- The rules of grants are rules of the grammar, and a base that fits has room for 8,192 of them behind it.
-use Rattle.std.proofs.Common.{◌≡◌, ℕ, ◌+◌, ◌*◌, Bool, true, false, ◌&&◌, ◌||◌, eqb, leb, List, [], ◌∷◌, ◌++◌, map, length, ◌≤◌, Option, Some, None, append_assoc, lit≤, refl, sym, ap, ◌∙◌, subst, arith}
+use Rattle.std.proofs.Common.{◌≡◌, ℕ, ◌+◌, ◌*◌, Bool, true, false, ◌&&◌, ◌||◌, eqb, leb, List, [], ◌∷◌, ◌++◌, map}
+use Rattle.std.proofs.Common.{length, ◌≤◌, Option, Some, None, append_assoc, lit≤, refl, sym, ap, ◌∙◌, subst, arith}
 use Rattle.std.specs.Prelude.{codes}
 use Rattle.std.specs.List.{AllByRecursion, list_all}
 use Rattle.std.proofs.lemmas.Bool.{and_parts, leb-true}
@@ -23,7 +24,8 @@ all_append P [] ys a b = b
 all_append P (x ∷ xs) ys a b = (a.0, all_append P xs ys a.1 b)
 
 -- what holds of each rule holds of it as an entry
-all_rules : (P : Rule → Type 0) (Q : Entry → Type 0) → ((r : Rule) → P r → Q (entries.Rule r)) → (rules : List Rule) → AllByRecursion P rules → AllByRecursion Q (map entries.Rule rules)
+all_rules : (P : Rule → Type 0) (Q : Entry → Type 0) → ((r : Rule) → P r → Q (entries.Rule r))
+    → (rules : List Rule) → AllByRecursion P rules → AllByRecursion Q (map entries.Rule rules)
 all_rules P Q from [] each = tt
 all_rules P Q from (r ∷ rules) each = (from r each.0, all_rules P Q from rules each.1)
 
@@ -34,7 +36,8 @@ placed_append above [] (e ∷ more) placed each = (each.0 above, placed_append (
 placed_append above (e ∷ es) more placed each = (placed.0, placed_append (e ∷ above) es more placed.1 each)
 
 -- entries that weigh the same anywhere
-weight_append : (above es more : List Entry) (n : ℕ) → AllByRecursion (λ e. (a : List Entry) → entry_weight a e ≡ n) more → weight_below above (es ++ more) ≡ weight_below above es + length more * n
+weight_append : (above es more : List Entry) (n : ℕ) → AllByRecursion (λ e. (a : List Entry) → entry_weight a e ≡ n) more
+    → weight_below above (es ++ more) ≡ weight_below above es + length more * n
 weight_append above [] [] n each = omega arith
 weight_append above [] (e ∷ more) n each =
     omega (arith, each.0 above, weight_append (e ∷ above) [] more n each.1)
@@ -134,7 +137,8 @@ module _ (r : Rule) (g : IsGrantRule r) where
 
 -- ---- a base that fits, with few enough of them behind it, is a policy
 
-pub extended_policy : (base : List Entry) (rules : List Rule) → FitsBase base → length rules ≤ 8_192 → AllByRecursion IsGrantRule rules → IsPolicy (with_rules base rules)
+pub extended_policy : (base : List Entry) (rules : List Rule) → FitsBase base
+    → length rules ≤ 8_192 → AllByRecursion IsGrantRule rules → IsPolicy (with_rules base rules)
 extended_policy base rules fits few grants =
     let more = map entries.Rule rules in
     let count = length-map rules (λ (r : Rule). entries.Rule r) in
@@ -142,7 +146,8 @@ extended_policy base rules fits few grants =
     let long = canon_short more 1_189 (all_rules IsGrantRule (λ (e : Entry). length (line_text e) ≤ 1_189) grant_line_short rules grants) in
     record {
       each = all_append IsEntry base more fits.policy.each (all_rules IsGrantRule IsEntry grant_is_rule rules grants);
-      placed = placed_append [] base more fits.policy.placed (all_rules IsGrantRule (λ (e : Entry). (a : List Entry) → IsPlaced a e) grant_anywhere rules grants);
+      placed =
+          placed_append [] base more fits.policy.placed (all_rules IsGrantRule (λ (e : Entry). (a : List Entry) → IsPlaced a e) grant_anywhere rules grants);
       count = omega (arith, length-append base more, count, few, fits.count);
       light = omega (arith, heavy, count, few, fits.light);
       short = omega (arith, ap length (canon_append base more), length-append (canon base) (canon more), long, count, few, fits.text);

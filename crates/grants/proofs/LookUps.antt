@@ -1,5 +1,6 @@
 -- What a command lies inside, looked up: `ALL`, its directory, and the file itself.
-use Rattle.std.proofs.Common.{◌≡◌, ℕ, ◌+◌, ◌-◌, ◌==◌, Bool, true, false, ◌&&◌, ◌||◌, List, [], ◌∷◌, ◌++◌, length, take, drop, refl, sym, ap, ap₂, ◌∙◌, subst, inl, inr, arith, append_assoc, All}
+use Rattle.std.proofs.Common.{◌≡◌, ℕ, ◌+◌, ◌-◌, ◌==◌, Bool, true, false, ◌&&◌, ◌||◌, List, [], ◌∷◌, ◌++◌, length}
+use Rattle.std.proofs.Common.{take, drop, refl, sym, ap, ap₂, ◌∙◌, subst, inl, inr, arith, append_assoc, All}
 use Rattle.std.specs.List.{AllByRecursion, list_all, list_any, slice_split}
 use Rattle.std.specs.Str.{bytes_eq}
 use Rattle.std.specs.Cmp.{both_ways as one_answer}
@@ -54,11 +55,13 @@ name_is f [] name h is plain =
 name_is f (a ∷ ys) name h is plain =
     let comps : are_components (ys ++ 47 ∷ name) ≡ true = (and_parts (a == 47) (are_components (ys ++ 47 ∷ name)) (ap is_absolute (sym is) ∙ h)).1 in
     let parts = and_parts (list_all is_component (slice_split is_slash ys)) (list_all is_component (slice_split is_slash name))
-    (sym (list_all-append is_component (slice_split is_slash ys) (slice_split is_slash name)) ∙ ap (list_all is_component) (sym (split_joined ys name)) ∙ comps) in
+    (sym (list_all-append is_component (slice_split is_slash ys) (slice_split is_slash name))
+    ∙ ap (list_all is_component) (sym (split_joined ys name)) ∙ comps) in
     let one : slice_split is_slash name ≡ name ∷ [] = slice_split_none is_slash name (All-from_recursion (λ b. is_slash b ≡ false) name plain) in
     (and_parts (is_component name) true (ap (list_all is_component) (sym one) ∙ parts.1)).0
 
-same_dir : (d f y name : List ℕ) → is_dir_path d ≡ true → is_absolute f ≡ true → f ≡ y ++ 47 ∷ name → is_component name ≡ true → is_directly_in d f ≡ true → d ≡ y ++ 47 ∷ []
+same_dir : (d f y name : List ℕ) → is_dir_path d ≡ true → is_absolute f ≡ true
+    → f ≡ y ++ 47 ∷ name → is_component name ≡ true → is_directly_in d f ≡ true → d ≡ y ++ 47 ∷ []
 same_dir d f y name hd hf is hn h =
     let x = split_dir d hd in
     let w = drop (length d) f in
@@ -150,10 +153,9 @@ file_inside f dir r (Path g s) hf is hc = by_rule (bytes_eq f g) r s ∙ ap (λ 
 file_or_all : (f dir : List ℕ) (r : ArgRule) (cs : List Cmnd) → is_file_path f ≡ true → IsDirOf f dir → All IsLawful cs
     → list_any (is_inside (Path f r)) cs ≡ (((list_any is_all cs || list_any (is_dir dir) cs) || list_any (is_file f Any) cs) || list_any (is_file f r) cs)
 file_or_all f dir r cs hf is lawful =
-    any_alike (is_inside (Path f r)) (λ c. ((is_all c || is_dir dir c) || is_file f Any c) || is_file f r c) cs
-    (each_from IsLawful (λ c. is_inside (Path f r) c ≡ (((is_all c || is_dir dir c) || is_file f Any c) || is_file f r c)) (λ c. file_inside f dir r c hf is) cs (recursion_from_All IsLawful cs lawful))
-    ∙ any_or (λ c. (is_all c || is_dir dir c) || is_file f Any c) (is_file f r) cs
-    ∙ ap (λ b. b || list_any (is_file f r) cs)
+    any_alike (is_inside (Path f r)) (λ c. ((is_all c || is_dir dir c) || is_file f Any c) || is_file f r c) cs (each_from IsLawful (λ c. is_inside (Path f r) c
+    ≡ (((is_all c || is_dir dir c) || is_file f Any c) || is_file f r c)) (λ c. file_inside f dir r c hf is) cs (recursion_from_All IsLawful cs lawful))
+    ∙ any_or (λ c. (is_all c || is_dir dir c) || is_file f Any c) (is_file f r) cs ∙ ap (λ b. b || list_any (is_file f r) cs)
     (any_or (λ c. is_all c || is_dir dir c) (is_file f Any) cs ∙ ap (λ b. b || list_any (is_file f Any) cs) (any_or is_all (is_dir dir) cs))
 
 -- among commands without `ALL`

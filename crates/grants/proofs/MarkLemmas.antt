@@ -61,7 +61,8 @@ unfolding IsStrictlySortedBy
 sorted_still k [] s = (tt, tt)
 sorted_still k (x ∷ xs) s = go (mark_cmp k x) refl (sorted_still k xs s.1)
   where
-    go : (o : Ordering) → mark_cmp k x ≡ o → IsStrictlySortedBy mark_cmp (insert_key mark_cmp xs k) → IsStrictlySortedBy mark_cmp (match_ordering o (k ∷ x ∷ xs) (x ∷ xs) (x ∷ insert_key mark_cmp xs k))
+    go : (o : Ordering) → mark_cmp k x ≡ o → IsStrictlySortedBy mark_cmp (insert_key mark_cmp xs k)
+        → IsStrictlySortedBy mark_cmp (match_ordering o (k ∷ x ∷ xs) (x ∷ xs) (x ∷ insert_key mark_cmp xs k))
     go Less e rest = ((e, all_below k x xs e s.0), s)
     go Equal e rest = s
     go Greater e rest = (each_behind (λ y. mark_cmp x y ≡ Less) k xs (turned k x e) s.0, rest)
@@ -70,7 +71,8 @@ pub there_still : (k : Mark) (marks : List Mark) (r : Mark) → Contains marks r
 there_still k [] r h = absurd (nothing_there r h)
 there_still k (x ∷ xs) r h = go (mark_cmp k x) (there_still k xs r)
   where
-    go : (o : Ordering) → (Contains xs r → Contains (insert_key mark_cmp xs k) r) → Contains (match_ordering o (k ∷ x ∷ xs) (x ∷ xs) (x ∷ insert_key mark_cmp xs k)) r
+    go : (o : Ordering) → (Contains xs r → Contains (insert_key mark_cmp xs k) r)
+        → Contains (match_ordering o (k ∷ x ∷ xs) (x ∷ xs) (x ∷ insert_key mark_cmp xs k)) r
     go Less rest = Contains-behind k (x ∷ xs) r h
     go Equal rest = h
     go Greater rest = elim (cases_behind x xs r h) as (λ _. Contains (x ∷ insert_key mark_cmp xs k) r) [
@@ -82,7 +84,8 @@ pub there_now : (k : Mark) (marks : List Mark) → Contains (insert_key mark_cmp
 there_now k [] = Contains-head k []
 there_now k (x ∷ xs) = go (mark_cmp k x) refl (there_now k xs)
   where
-    go : (o : Ordering) → mark_cmp k x ≡ o → Contains (insert_key mark_cmp xs k) k → Contains (match_ordering o (k ∷ x ∷ xs) (x ∷ xs) (x ∷ insert_key mark_cmp xs k)) k
+    go : (o : Ordering) → mark_cmp k x ≡ o → Contains (insert_key mark_cmp xs k) k
+        → Contains (match_ordering o (k ∷ x ∷ xs) (x ∷ xs) (x ∷ insert_key mark_cmp xs k)) k
     go Less e rest = Contains-head k (x ∷ xs)
     go Equal e rest = subst (λ (m : Mark). Contains (x ∷ xs) m) (sym (same_mark k x e)) (Contains-head x xs)
     go Greater e rest = Contains-behind x (insert_key mark_cmp xs k) k rest
@@ -91,7 +94,8 @@ pub either_there : (k : Mark) (marks : List Mark) (r : Mark) → Contains (inser
 either_there k [] r h = elim (cases_behind k [] r h) as (λ _. Contains [] r ⊎ (k ≡ r)) [ inl same ↦ inr same | inr none ↦ inl none ]
 either_there k (x ∷ xs) r h = go (mark_cmp k x) (either_there k xs r) h
   where
-    go : (o : Ordering) → (Contains (insert_key mark_cmp xs k) r → Contains xs r ⊎ (k ≡ r)) → Contains (match_ordering o (k ∷ x ∷ xs) (x ∷ xs) (x ∷ insert_key mark_cmp xs k)) r → Contains (x ∷ xs) r ⊎ (k ≡ r)
+    go : (o : Ordering) → (Contains (insert_key mark_cmp xs k) r → Contains xs r ⊎ (k ≡ r))
+        → Contains (match_ordering o (k ∷ x ∷ xs) (x ∷ xs) (x ∷ insert_key mark_cmp xs k)) r → Contains (x ∷ xs) r ⊎ (k ≡ r)
     go Less rest m = elim (cases_behind k (x ∷ xs) r m) as (λ _. Contains (x ∷ xs) r ⊎ (k ≡ r)) [ inl same ↦ inr same | inr there ↦ inl there ]
     go Equal rest m = inl m
     go Greater rest m = elim (cases_behind x (insert_key mark_cmp xs k) r m) as (λ _. Contains (x ∷ xs) r ⊎ (k ≡ r)) [
@@ -102,7 +106,8 @@ either_there k (x ∷ xs) r h = go (mark_cmp k x) (either_there k xs r) h
 -- ---- growth
 
 -- where nothing is said of the kind, nothing is kept
-pub keep_nothing : (set : List Message) (q : RequestFields) (kind : VerdictKind) → ((v : VerdictFields) → Contains set (Verdict v) → IsAbout q v → v.kind ≡ kind → ⊥) → Keep set q kind []
+pub keep_nothing : (set : List Message) (q : RequestFields) (kind : VerdictKind)
+    → ((v : VerdictFields) → Contains set (Verdict v) → IsAbout q v → v.kind ≡ kind → ⊥) → Keep set q kind []
 unfolding IsStrictlySortedBy
 keep_nothing set q kind none = record {
   each = λ r. (λ h. absurd (nothing_there r h), λ h. absurd (none (verdict_of q kind r) h (refl, refl) refl));
@@ -110,7 +115,8 @@ keep_nothing set q kind none = record {
 }
 
 -- a message that is no verdict of the kind on the request changes nothing
-pub keep_other : (set : List Message) (m : Message) (q : RequestFields) (kind : VerdictKind) (marks : List Mark) → ((v : VerdictFields) → m ≡ Verdict v → IsAbout q v → v.kind ≡ kind → ⊥) → Keep set q kind marks → Keep (set ++ m ∷ []) q kind marks
+pub keep_other : (set : List Message) (m : Message) (q : RequestFields) (kind : VerdictKind) (marks : List Mark)
+    → ((v : VerdictFields) → m ≡ Verdict v → IsAbout q v → v.kind ≡ kind → ⊥) → Keep set q kind marks → Keep (set ++ m ∷ []) q kind marks
 keep_other set m q kind marks other k = record {
   each = λ r. (
     λ h. Contains-append_left set (m ∷ []) (Verdict (verdict_of q kind r)) ((k.each r).0 h),
@@ -132,7 +138,8 @@ verdict_again q v about = rw (← about.0, ← about.1) refl
 pub mark_again : (q : RequestFields) (kind : VerdictKind) (v : VerdictFields) (r : Mark) → v ≡ verdict_of q kind r → mark_of v ≡ r
 mark_again q kind v r e = ap mark_of e
 
-pub keep_noted : (set : List Message) (q : RequestFields) (v : VerdictFields) (marks : List Mark) → IsAbout q v → Keep set q v.kind marks → Keep (set ++ Verdict v ∷ []) q v.kind (noted v.by v.at marks)
+pub keep_noted : (set : List Message) (q : RequestFields) (v : VerdictFields) (marks : List Mark)
+    → IsAbout q v → Keep set q v.kind marks → Keep (set ++ Verdict v ∷ []) q v.kind (noted v.by v.at marks)
 keep_noted set q v marks about k = record {
   each = λ r. (
     λ h. elim (either_there (mark_of v) marks r h) as (λ _. Contains (set ++ Verdict v ∷ []) (Verdict (verdict_of q v.kind r))) [
@@ -144,7 +151,8 @@ keep_noted set q v marks about k = record {
     λ h. elim (Contains-push_cases set (Verdict v) (Verdict (verdict_of q v.kind r)) h) as (λ _. Contains (noted v.by v.at marks) r) [
       | inl old ↦ there_still (mark_of v) marks r ((k.each r).1 old)
       | inr new ↦
-          subst (λ (s : Mark). Contains (noted v.by v.at marks) s) (mark_again q v.kind v r (one_verdict v (verdict_of q v.kind r) new)) (there_now (mark_of v) marks)
+          subst (λ (s : Mark). Contains (noted v.by v.at marks) s)
+          (mark_again q v.kind v r (one_verdict v (verdict_of q v.kind r) new)) (there_now (mark_of v) marks)
     ],
   );
   once = sorted_still (mark_of v) marks k.once;

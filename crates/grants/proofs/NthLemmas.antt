@@ -1,5 +1,6 @@
 -- The least moment by which n people have a mark that passes, found by taking the first mark, then the first of the others, and so on.
-use Rattle.std.proofs.Common.{◌≡◌, ◌≢◌, ℕ, zero, suc, ◌-◌, ◌≤◌, Bool, true, false, not, List, [], ◌∷◌, ◌++◌, Option, Some, None, refl, sym, ap, ◌∙◌, subst, inl, inr, arith}
+use Rattle.std.proofs.Common.{◌≡◌, ◌≢◌, ℕ, zero, suc, ◌-◌, ◌≤◌, Bool, true, false, not, List, [], ◌∷◌}
+use Rattle.std.proofs.Common.{◌++◌, Option, Some, None, refl, sym, ap, ◌∙◌, subst, inl, inr, arith}
 use Rattle.std.specs.List.{Contains}
 use Rattle.std.specs.Option.{MatchOption, option_and_then}
 use Rattle.std.specs.Prelude.{option_map}
@@ -77,7 +78,8 @@ IsNth n P o =
     MatchOption o ((moment : ℕ) → AtLeast n (P moment) → ⊥) (λ moment. AtLeast n (P moment) × ((other : ℕ) → AtLeast n (P other) → moment ≤ other))
 
 -- where as many have the one property as the other
-pub nth_same : (n : ℕ) (P Q : ℕ → List ℕ → Type 0) → ((moment : ℕ) → AtLeast n (P moment) → AtLeast n (Q moment)) → ((moment : ℕ) → AtLeast n (Q moment) → AtLeast n (P moment)) → (o : Option ℕ) → IsNth n P o → IsNth n Q o
+pub nth_same : (n : ℕ) (P Q : ℕ → List ℕ → Type 0) → ((moment : ℕ) → AtLeast n (P moment) → AtLeast n (Q moment))
+    → ((moment : ℕ) → AtLeast n (Q moment) → AtLeast n (P moment)) → (o : Option ℕ) → IsNth n P o → IsNth n Q o
 nth_same n P Q to back None none = λ moment h. none moment (back moment h)
 nth_same n P Q to back (Some moment) is = (to moment is.0, λ other h. is.1 other (back other h))
 
@@ -114,7 +116,8 @@ module _ (test : Mark → Bool) (marks : List Mark) where
       let low : first.at ≤ moment = omega (arith, is.least next.0.mark next.0.among next.0.passes, next.0.by_then) in (
         first.person,
         record { mark = first; among = is.among; passes = is.passes; person_is = refl; by_then = low },
-        at_least_more (suc n) (By (others ++ first.person ∷ []) moment) (λ person. By others moment person × (person ≢ first.person)) (one_but others first.person moment) h,
+        at_least_more (suc n) (By (others ++ first.person ∷ []) moment)
+            (λ person. By others moment person × (person ≢ first.person)) (one_but others first.person moment) h,
       )
 
   one : (others : List (List ℕ)) (o : Option Mark) → IsEarliest (is_of_another test others) marks o → IsNth 1 (By others) (option_map moment_of o)
@@ -138,7 +141,8 @@ module _ (test : Mark → Bool) (marks : List Mark) where
   after : (others : List (List ℕ)) (n : ℕ) → IsNth (suc n) (By others) (after_others test others n marks)
   after others zero = one others (earliest_of (is_of_another test others) marks) (is_earliest (is_of_another test others) marks)
   after others (suc n) =
-      one_more others n (earliest_of (is_of_another test others) marks) (is_earliest (is_of_another test others) marks) (λ first. after (others ++ first.person ∷ []) n)
+      one_more others n (earliest_of (is_of_another test others) marks)
+      (is_earliest (is_of_another test others) marks) (λ first. after (others ++ first.person ∷ []) n)
 
   -- nobody is left out at first
   all_others : (moment : ℕ) (person : List ℕ) → HasBy test marks moment person → By [] moment person

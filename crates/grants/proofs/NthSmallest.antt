@@ -1,5 +1,6 @@
 -- A request is complete at the n-th smallest of the moments at which eligible people first approved it.
-use Rattle.std.proofs.Common.{◌≡◌, ℕ, zero, suc, ◌≤◌, ◌<◌, ◌⊎◌, Bool, true, false, ◌&&◌, nat_le, if◌then◌else◌, List, [], ◌∷◌, Option, Some, None, refl, sym, ap, ◌∙◌, subst, inl, inr, true≢false, arith}
+use Rattle.std.proofs.Common.{◌≡◌, ℕ, zero, suc, ◌≤◌, ◌<◌, ◌⊎◌, Bool, true, false, ◌&&◌, nat_le, if◌then◌else◌, List}
+use Rattle.std.proofs.Common.{[], ◌∷◌, Option, Some, None, refl, sym, ap, ◌∙◌, subst, inl, inr, true≢false, arith}
 use Rattle.std.specs.List.{Contains}
 use Rattle.std.specs.Str.{bytes_eq}
 use Rattle.std.proofs.lemmas.Bool.{cases_Bool, and_parts, and_from, cond-true, cond-false, leb-true, leb-false, le-leb}
@@ -98,7 +99,8 @@ abbrev time_of : RosterFields Cmnd → CeilingFields Cmnd → RequestFields → 
 time_of f c q person (Request r) = None
 time_of f c q person (Verdict v) = if approves f c q person v then Some v.at else None
 
-does_approve : (f : RosterFields Cmnd) (c : CeilingFields Cmnd) (set : List Message) (q : RequestFields) (person : List ℕ) (v : VerdictFields) → IsUnder f q c → IsGiven f set q Approve v → v.by ≡ person → approves f c q person v ≡ true
+does_approve : (f : RosterFields Cmnd) (c : CeilingFields Cmnd) (set : List Message) (q : RequestFields) (person : List ℕ) (v : VerdictFields)
+    → IsUnder f q c → IsGiven f set q Approve v → v.by ≡ person → approves f c q person v ≡ true
 does_approve f c set q person v at g by =
     let no : v.no ≡ q.no = g.about.1 in
     and_from _ _ ((bytes_eq-Decides v.of q.by).1 g.about.0)
@@ -106,19 +108,23 @@ does_approve f c set q person v at g by =
     (and_from _ _ (ap is_approve g.kind_is)
     (and_from _ _ ((bytes_eq-Decides v.by person).1 by) (given_counts f c set q Approve v at g))))
 
-is_time : (f : RosterFields Cmnd) (c : CeilingFields Cmnd) (set : List Message) (q : RequestFields) (person : List ℕ) (v : VerdictFields) → IsUnder f q c → IsGiven f set q Approve v → v.by ≡ person → time_of f c q person (Verdict v) ≡ Some v.at
+is_time : (f : RosterFields Cmnd) (c : CeilingFields Cmnd) (set : List Message) (q : RequestFields) (person : List ℕ) (v : VerdictFields)
+    → IsUnder f q c → IsGiven f set q Approve v → v.by ≡ person → time_of f c q person (Verdict v) ≡ Some v.at
 is_time f c set q person v at g by = cond-true _ (Some v.at) None (does_approve f c set q person v at g by)
 
 -- what has a moment is an approval
-approval_at : (f : RosterFields Cmnd) (c : CeilingFields Cmnd) (q : RequestFields) (person : List ℕ) (m : Message) (n : ℕ) → time_of f c q person m ≡ Some n → (v : VerdictFields) × (m ≡ Verdict v) × (approves f c q person v ≡ true) × (v.at ≡ n)
+approval_at : (f : RosterFields Cmnd) (c : CeilingFields Cmnd) (q : RequestFields) (person : List ℕ) (m : Message) (n : ℕ)
+    → time_of f c q person m ≡ Some n → (v : VerdictFields) × (m ≡ Verdict v) × (approves f c q person v ≡ true) × (v.at ≡ n)
 approval_at f c q person (Request r) n e = absurd (not_none n e)
 approval_at f c q person (Verdict v) n e =
-    elim (cases_Bool (approves f c q person v)) as (λ _. (w : VerdictFields) × (◌≡◌ {A = Message} (Verdict v) (Verdict w)) × (approves f c q person w ≡ true) × (w.at ≡ n)) [
+    elim (cases_Bool (approves f c q person v))
+    as (λ _. (w : VerdictFields) × (◌≡◌ {A = Message} (Verdict v) (Verdict w)) × (approves f c q person w ≡ true) × (w.at ≡ n)) [
       | inl does ↦ (v, refl, does, one_moment v.at n (sym (cond-true _ (Some v.at) None does) ∙ e))
       | inr fails ↦ absurd (not_none n (sym (cond-false _ (Some v.at) None fails) ∙ e))
     ]
 
-given_by : (f : RosterFields Cmnd) (c : CeilingFields Cmnd) (set : List Message) (q : RequestFields) (person : List ℕ) (v : VerdictFields) → IsUnder f q c → Contains set (Verdict v) → approves f c q person v ≡ true → IsGiven f set q Approve v × (v.by ≡ person)
+given_by : (f : RosterFields Cmnd) (c : CeilingFields Cmnd) (set : List Message) (q : RequestFields) (person : List ℕ) (v : VerdictFields)
+    → IsUnder f q c → Contains set (Verdict v) → approves f c q person v ≡ true → IsGiven f set q Approve v × (v.by ≡ person)
 given_by f c set q person v at asked e =
     let of = and_parts (bytes_eq v.of q.by) (same_number v.no q.no && (is_approve v.kind && (bytes_eq v.by person && counts f c v))) e in
     let no = and_parts (same_number v.no q.no) (is_approve v.kind && (bytes_eq v.by person && counts f c v)) of.1 in
@@ -138,7 +144,8 @@ given_by f c set q person v at asked e =
     )
 
 -- whoever has approved has a first approval
-pub first_approval : (f : RosterFields Cmnd) (c : CeilingFields Cmnd) (set : List Message) (q : RequestFields) (person : List ℕ) (moment : ℕ) → IsUnder f q c → HasGiven f set q Approve moment person → (m : ℕ) × IsFirstApproval f set q person m × (m ≤ moment)
+pub first_approval : (f : RosterFields Cmnd) (c : CeilingFields Cmnd) (set : List Message) (q : RequestFields) (person : List ℕ) (moment : ℕ)
+    → IsUnder f q c → HasGiven f set q Approve moment person → (m : ℕ) × IsFirstApproval f set q person m × (m ≤ moment)
 first_approval f c set q person moment at h =
     elim (least (time_of f c q person) set) as (λ _. (m : ℕ) × IsFirstApproval f set q person m × (m ≤ moment)) [
       | inl none ↦ absurd (not_none h.verdict.at (sym (none (Verdict h.verdict) h.given.given) ∙ is_time f c set q person h.verdict at h.given h.by_is))
@@ -159,7 +166,8 @@ first_approval f c set q person moment at h =
 
 -- ---- the law
 
-later_given : (f : RosterFields Cmnd) (set : List Message) (q : RequestFields) (person : List ℕ) (early late : ℕ) → early ≤ late → HasGiven f set q Approve early person → HasGiven f set q Approve late person
+later_given : (f : RosterFields Cmnd) (set : List Message) (q : RequestFields) (person : List ℕ) (early late : ℕ)
+    → early ≤ late → HasGiven f set q Approve early person → HasGiven f set q Approve late person
 later_given f set q person early late le h =
     record { verdict = h.verdict; given = h.given; by_is = h.by_is; by_then = omega (arith, le, h.by_then) }
 
@@ -173,29 +181,35 @@ Before f set q moment person = (m : ℕ) × IsFirstApproval f set q person m × 
 abbrev By : RosterFields Cmnd → List Message → RequestFields → ℕ → List ℕ → Type 0
 By f set q moment person = (m : ℕ) × IsFirstApproval f set q person m × (m ≤ moment)
 
-fewer : (f : RosterFields Cmnd) (c : CeilingFields Cmnd) (set : List Message) (q : RequestFields) (moment : ℕ) → IsUnder f q c → 1 ≤ c.needs → IsComplete f set q moment → AtLeast c.needs (Before f set q moment) → ⊥
+fewer : (f : RosterFields Cmnd) (c : CeilingFields Cmnd) (set : List Message) (q : RequestFields) (moment : ℕ)
+    → IsUnder f q c → 1 ≤ c.needs → IsComplete f set q moment → AtLeast c.needs (Before f set q moment) → ⊥
 fewer f c set q zero at some is h =
     nobody c.needs (Before f set q 0) some (λ person x. absurd (omega (arith, x.2))) h
 fewer f c set q (suc moment) at some is h =
     let sooner : suc moment ≤ moment = is.least moment (record {
       ceiling = c;
       ceiling_is = at;
-      people = at_least_more c.needs (Before f set q (suc moment)) (HasGiven f set q Approve moment) (λ person x. later_given f set q person x.0 moment (omega (arith, x.2)) x.1.given) h;
+      people = at_least_more c.needs (Before f set q (suc moment)) (HasGiven f set q Approve moment)
+          (λ person x. later_given f set q person x.0 moment (omega (arith, x.2)) x.1.given) h;
     }) in
     absurd (omega (arith, sooner))
 
-pub complete_at_nth : (f : RosterFields Cmnd) (set : List Message) (q : RequestFields) (c : CeilingFields Cmnd) (moment : ℕ) → IsUnder f q c → 1 ≤ c.needs → IsComplete f set q moment → IsNthSmallest c.needs (IsFirstApproval f set q) moment
+pub complete_at_nth : (f : RosterFields Cmnd) (set : List Message) (q : RequestFields) (c : CeilingFields Cmnd) (moment : ℕ)
+    → IsUnder f q c → 1 ≤ c.needs → IsComplete f set q moment → IsNthSmallest c.needs (IsFirstApproval f set q) moment
 complete_at_nth f set q c moment at some is = record {
-  enough = at_least_more c.needs (HasGiven f set q Approve moment) (By f set q moment) (λ person h. first_approval f c set q person moment at h) (approved_people f c set q moment at is.approved);
+  enough = at_least_more c.needs (HasGiven f set q Approve moment) (By f set q moment)
+      (λ person h. first_approval f c set q person moment at h) (approved_people f c set q moment at is.approved);
   fewer = fewer f c set q moment at some is;
 }
 
-pub nth_completes : (f : RosterFields Cmnd) (set : List Message) (q : RequestFields) (c : CeilingFields Cmnd) (moment : ℕ) → IsUnder f q c → IsNthSmallest c.needs (IsFirstApproval f set q) moment → IsComplete f set q moment
+pub nth_completes : (f : RosterFields Cmnd) (set : List Message) (q : RequestFields) (c : CeilingFields Cmnd) (moment : ℕ)
+    → IsUnder f q c → IsNthSmallest c.needs (IsFirstApproval f set q) moment → IsComplete f set q moment
 nth_completes f set q c moment at nth = record {
   approved = record {
     ceiling = c;
     ceiling_is = at;
-    people = at_least_more c.needs (By f set q moment) (HasGiven f set q Approve moment) (λ person x. later_given f set q person x.0 moment x.2 x.1.given) nth.enough;
+    people = at_least_more c.needs (By f set q moment) (HasGiven f set q Approve moment)
+        (λ person x. later_given f set q person x.0 moment x.2 x.1.given) nth.enough;
   };
   least = λ other a.
       elim (cases_Bool (nat_le moment other)) as (λ _. moment ≤ other) [

@@ -13,13 +13,15 @@ use Rattle.roster.specs.Agreement.{AgreeUntil}
 use Rattle.roster.specs.Fields.{CeilingFields, RosterFields}
 use Rattle.roster.specs.Relations.{ceiling_at}
 use Rattle.roster.proofs.RightLemmas.{agree_turned, eligible_until, may_revoke_until, same_ceiling, same_person}
-use Rattle.grants.specs.Admission.{Admits, AdmitsRequest, AdmitsVerdict, Denies, DeniesRequest, DeniesVerdict, HasCommandOutside, HasHostOutside, IsDenial, UnderCeiling}
+use Rattle.grants.specs.Admission.{Admits, AdmitsRequest, AdmitsVerdict, Denies, DeniesRequest}
+use Rattle.grants.specs.Admission.{DeniesVerdict, HasCommandOutside, HasHostOutside, IsDenial, UnderCeiling}
 use Rattle.grants.specs.GrantRules.{AreRules}
 use Rattle.grants.specs.Past.{AreMadeBy, made_at}
 use Rattle.grants.specs.Statuses.{InWindow, IsAdmitted, IsFirstMoment, IsLastMoment, IsStatus, IsVoid}
 use Rattle.grants.specs.Verdicts.{ApprovedBy, HasGiven, IsComplete, IsGiven, IsRefused, RevokedBy, counts}
 use Rattle.grants.specs.declared.denial.Denial.{Denial}
-use Rattle.grants.specs.declared.denial.Denial.TheVariants.{UnknownPerson, UnknownCeiling, NotAsker, HostOutside, RunasOutside, CommandOutside, WindowTooLong, WindowBackwards}
+use Rattle.grants.specs.declared.denial.Denial.TheVariants.{UnknownPerson, UnknownCeiling, NotAsker, HostOutside}
+use Rattle.grants.specs.declared.denial.Denial.TheVariants.{RunasOutside, CommandOutside, WindowTooLong, WindowBackwards}
 use Rattle.grants.specs.declared.outcome.Status.{Status}
 use Rattle.grants.specs.declared.outcome.Status.TheVariants.{Disputed, Lapsed, Refused, Waiting, Void, Granted}
 use Rattle.grants.proofs.MomentLaws.{alike}
@@ -80,7 +82,8 @@ module _ (f g : RosterFields Cmnd) (moment : ℕ) (agree : AgreeUntil moment f g
   counts_alike c v early =
       alike f g c v (eligible_until f g moment agree v.by v.of c v.at early) (may_revoke_until f g moment agree v.by v.of c v.at early)
 
-  given : (set : List Message) → AreMadeBy moment set → (q : RequestFields) (kind : VerdictKind) (v : VerdictFields) → IsGiven f set q kind v → IsGiven g set q kind v
+  given : (set : List Message) → AreMadeBy moment set → (q : RequestFields) (kind : VerdictKind) (v : VerdictFields)
+      → IsGiven f set q kind v → IsGiven g set q kind v
   given set early q kind v x = record {
     given = x.given;
     about = x.about;
@@ -133,7 +136,8 @@ module _ (f g : RosterFields Cmnd) (set : List Message) (same : JudgeAlike f g s
   approved q moment a = record {
     ceiling = a.ceiling;
     ceiling_is = sym (same.ceilings q.ceiling) ∙ a.ceiling_is;
-    people = at_least_more a.ceiling.needs (HasGiven f set q Approve moment) (HasGiven g set q Approve moment) (λ person h. record { verdict = h.verdict; given = (same.given q Approve h.verdict).0 h.given; by_is = h.by_is; by_then = h.by_then }) a.people;
+    people = at_least_more a.ceiling.needs (HasGiven f set q Approve moment) (HasGiven g set q Approve moment)
+        (λ person h. record { verdict = h.verdict; given = (same.given q Approve h.verdict).0 h.given; by_is = h.by_is; by_then = h.by_then }) a.people;
   }
 
   revoked : (q : RequestFields) (moment : ℕ) → RevokedBy f set q moment → RevokedBy g set q moment

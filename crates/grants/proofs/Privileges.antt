@@ -56,7 +56,8 @@ wider r c d w within t = (
 )
 
 pub listed : (c d : CeilingFields Cmnd) → d.ask ≡ c.ask → c.longest ≤ d.longest → ((host : List ℕ) → Contains c.hosts host → Contains d.hosts host)
-    → ((target : List ℕ) → Contains c.runas target → Contains d.runas target) → ((cmnd : Cmnd) → Contains c.commands cmnd → Contains d.commands cmnd) → IsWider c d
+    → ((target : List ℕ) → Contains c.runas target → Contains d.runas target)
+    → ((cmnd : Cmnd) → Contains c.commands cmnd → Contains d.commands cmnd) → IsWider c d
 listed c d ask longest hosts runas commands = record {
   ask = ask;
   hosts = hosts;

@@ -29,7 +29,8 @@ module _ (f : RosterFields Cmnd) (set : List Message) (k : Kept) (stands : Stand
   own : (q : RequestFields) → IsNamed q (name_of k.request) → StandsAlone set q → k.request ≡ q
   own q named alone = alone.alone k.request stands.asked (sym named.0, sym named.1)
 
-  granted_is : (first last : ℕ) → IsFirstMoment f set k.request first → IsLastMoment f set k.request last → IsStatus f set (name_of k.request) (Granted (record { start = first; end = last }))
+  granted_is : (first last : ℕ) → IsFirstMoment f set k.request first → IsLastMoment f set k.request last
+      → IsStatus f set (name_of k.request) (Granted (record { start = first; end = last }))
   granted_is first last a b = record {
     request = k.request;
     named = (refl, refl);
@@ -38,11 +39,14 @@ module _ (f : RosterFields Cmnd) (set : List Message) (k : Kept) (stands : Stand
     is = (a, b);
   }
 
-  granted : (status : Status) → IsStatus f set (name_of k.request) status → (first last : ℕ) → Contains k.request.hosts host → IsFirstMoment f set k.request first → IsLastMoment f set k.request last → rules_for host k.request status ≡ map (grant_rule host k.request first last) k.request.cmnds
+  granted : (status : Status) → IsStatus f set (name_of k.request) status → (first last : ℕ)
+      → Contains k.request.hosts host → IsFirstMoment f set k.request first → IsLastMoment f set k.request last
+      → rules_for host k.request status ≡ map (grant_rule host k.request first last) k.request.cmnds
   granted status is first last named a b =
       let lines = map (grant_rule host k.request first last) k.request.cmnds in
       let same = one_status f set (name_of k.request) status (Granted (record { start = first; end = last })) is (granted_is first last a b) in
-      ap (rules_for host k.request) same ∙ ap (λ (t : Bool). cond t lines []) (passes (λ v. bytes_eq v host) k.request.hosts host named ((bytes_eq-Decides host host).1 refl))
+      ap (rules_for host k.request) same
+      ∙ ap (λ (t : Bool). cond t lines []) (passes (λ v. bytes_eq v host) k.request.hosts host named ((bytes_eq-Decides host host).1 refl))
 
   unnamed : (lines : List Rule) (t : Bool) → list_any (λ h. bytes_eq h host) k.request.hosts ≡ t → ¬ Contains k.request.hosts host → cond t lines [] ≡ []
   unnamed lines true e other = absurd (other (member k.request.hosts host e))
@@ -53,17 +57,20 @@ module _ (f : RosterFields Cmnd) (set : List Message) (k : Kept) (stands : Stand
       unnamed (map (grant_rule host k.request w.start w.end) k.request.cmnds) (list_any (λ h. bytes_eq h host) k.request.hosts) refl other
   other_host _ other = refl
 
-  never : (status : Status) → IsStatus f set (name_of k.request) status → ((moment : ℕ) → ¬ InWindow f set k.request moment) → rules_for host k.request status ≡ []
+  never : (status : Status) → IsStatus f set (name_of k.request) status
+      → ((moment : ℕ) → ¬ InWindow f set k.request moment) → rules_for host k.request status ≡ []
   never (Granted w) is none =
       absurd (none w.start (subst (λ (q : RequestFields). InWindow f set q w.start) (sym (own is.request is.named is.alone)) is.is.0.inside))
   never _ is none = refl
 
   pub ends_in_time : (status : Status) → IsStatus f set (name_of k.request) status → EndsInTime k.request status
   ends_in_time (Granted w) is =
-      subst (λ (q : RequestFields). (w.start ≤ q.until) × (w.end ≤ q.until)) (sym (own is.request is.named is.alone)) (is.is.0.inside.until, is.is.1.inside.until)
+      subst (λ (q : RequestFields). (w.start ≤ q.until) × (w.end ≤ q.until)) (sym (own is.request is.named is.alone))
+      (is.is.0.inside.until, is.is.1.inside.until)
   ends_in_time _ is = tt
 
-  pub are_rules_for : (status : Status) (rules : List Rule) → IsStatus f set (name_of k.request) status → rules ≡ rules_for host k.request status → AreRules f set k.request host rules
+  pub are_rules_for : (status : Status) (rules : List Rule) → IsStatus f set (name_of k.request) status
+      → rules ≡ rules_for host k.request status → AreRules f set k.request host rules
   are_rules_for status rules is e = record {
     granted = λ first last named a b. e ∙ granted status is first last named a b;
     other_host = λ other. e ∙ other_host status other;
@@ -73,7 +80,8 @@ module _ (f : RosterFields Cmnd) (set : List Message) (k : Kept) (stands : Stand
 -- ---- they may stand behind a base
 
 module _ (host : List ℕ) (q : RequestFields) (is : IsRequest q) (first last : ℕ) where
-  each_grants : IsMoment first → IsMoment last → is_host_name host ≡ true → (cs : List Cmnd) → AllByRecursion IsLawful cs → AllByRecursion IsGrantRule (map (grant_rule host q first last) cs)
+  each_grants : IsMoment first → IsMoment last → is_host_name host ≡ true → (cs : List Cmnd)
+      → AllByRecursion IsLawful cs → AllByRecursion IsGrantRule (map (grant_rule host q first last) cs)
   each_grants starts ends named [] lawful = tt
   each_grants starts ends named (c ∷ cs) lawful = (
     record {
@@ -95,12 +103,14 @@ module _ (host : List ℕ) (q : RequestFields) (is : IsRequest q) (first last : 
     each_grants starts ends named cs lawful.1,
   )
 
-  pub span_grants : IsMoment first → IsMoment last → is_host_name host ≡ true → (rules : List Rule) → rules ≡ map (grant_rule host q first last) q.cmnds → AllByRecursion IsGrantRule rules
+  pub span_grants : IsMoment first → IsMoment last → is_host_name host ≡ true → (rules : List Rule)
+      → rules ≡ map (grant_rule host q first last) q.cmnds → AllByRecursion IsGrantRule rules
   span_grants starts ends named rules e =
       let P : List Rule → Type 0 = λ x. AllByRecursion IsGrantRule x in
       subst P (sym e) (each_grants starts ends named q.cmnds (recursion_from_All IsLawful q.cmnds is.cmnds.1))
 
-  pub request_grants : first ≤ q.until → last ≤ q.until → list_any (λ h. bytes_eq h host) q.hosts ≡ true → (rules : List Rule) → rules ≡ map (grant_rule host q first last) q.cmnds → AllByRecursion IsGrantRule rules
+  pub request_grants : first ≤ q.until → last ≤ q.until → list_any (λ h. bytes_eq h host) q.hosts ≡ true
+      → (rules : List Rule) → rules ≡ map (grant_rule host q first last) q.cmnds → AllByRecursion IsGrantRule rules
   request_grants first_in last_in among rules e =
       let named : is_host_name host ≡ true = All-contains (λ (h : List ℕ). is_host_name h ≡ true) q.hosts host is.hosts.1 (member q.hosts host among) in
       span_grants (omega (arith, first_in, is.until)) (omega (arith, last_in, is.until)) named rules e

@@ -18,8 +18,10 @@ use Rattle.roster.specs.Rules.{IsNamedCeiling, is_among}
 use Rattle.grants.specs.private.Forms.{is_inside}
 use Rattle.grants.specs.Admission.{Admits, Denies, IsDenial, IsWithin, MayAskUnder}
 use Rattle.grants.specs.declared.denial.Denial.{Denial}
-use Rattle.grants.specs.declared.denial.Denial.TheVariants.{UnknownPerson, UnknownCeiling, NotAsker, HostOutside, RunasOutside, CommandOutside, WindowTooLong, WindowBackwards}
-use Rattle.grants.proofs.AdmissionLemmas.{none_below_one, unknown_person, unknown_ceiling, not_asker, host_outside, target_outside, command_outside, within, too_long, backwards, admitted}
+use Rattle.grants.specs.declared.denial.Denial.TheVariants.{UnknownPerson, UnknownCeiling, NotAsker, HostOutside}
+use Rattle.grants.specs.declared.denial.Denial.TheVariants.{RunasOutside, CommandOutside, WindowTooLong, WindowBackwards}
+use Rattle.grants.proofs.AdmissionLemmas.{none_below_one, unknown_person, unknown_ceiling, not_asker, host_outside}
+use Rattle.grants.proofs.AdmissionLemmas.{target_outside, command_outside, within, too_long, backwards, admitted}
 
 abbrev Answered : RosterFields Cmnd → Message → Type 0
 Answered f m = Admits f m ⊎ ((d : Denial) × IsDenial f m d)
@@ -93,7 +95,8 @@ module _ (f : RosterFields Cmnd) (r : RequestFields) (request : IsRequest r) whe
 
 -- ---- verdicts
 
-pub verdict_denied : (f : RosterFields Cmnd) (v : VerdictFields) → (has_person f v.by ≡ false) ⊎ (has_person f v.of ≡ false) → IsDenial f (Verdict v) UnknownPerson
+pub verdict_denied : (f : RosterFields Cmnd) (v : VerdictFields)
+    → (has_person f v.by ≡ false) ⊎ (has_person f v.of ≡ false) → IsDenial f (Verdict v) UnknownPerson
 verdict_denied f v h = record { applies = h; first = λ d l _. none_below_one d l }
 
 of_verdict : (f : RosterFields Cmnd) (v : VerdictFields) → Answered f (Verdict v)

@@ -21,7 +21,8 @@ use Rattle.grants.proofs.StatusLemmas.{admitted_is, disputed_is, lapsed_is}
 abbrev ComesToSome : RosterFields Cmnd → List Message → Kept → Type 0
 ComesToSome f set k = (status : Status) × IsStatus f set (name_of k.request) status
 
-pub some_status : (text : List ℕ) (f : RosterFields Cmnd) (set : List Message) (k : Kept) → IsRosterText text f → IsRequest k.request → StandsFor set k → (status : Status) × IsStatus f set (name_of k.request) status
+pub some_status : (text : List ℕ) (f : RosterFields Cmnd) (set : List Message) (k : Kept) → IsRosterText text f
+    → IsRequest k.request → StandsFor set k → (status : Status) × IsStatus f set (name_of k.request) status
 some_status text f set k roster is s =
     elim (cases_Bool k.is_disputed) as (λ _. ComesToSome f set k) [
       | inl two ↦ (Disputed, disputed_is set k two s)

@@ -24,25 +24,30 @@ one_request p q name a b = (a.0 ∙ sym b.0, a.1 ∙ sym b.1)
 
 not_alone : (set : List Message) (name : RequestName) (q : RequestFields) → IsDisputed set name → StandsAlone set q → IsNamed q name → ⊥
 not_alone set name q d alone named =
-    d.differ (alone.alone d.first d.first_asked (one_request d.first q name d.first_named named) ∙ sym (alone.alone d.second d.second_asked (one_request d.second q name d.second_named named)))
+    d.differ (alone.alone d.first d.first_asked (one_request d.first q name d.first_named named)
+    ∙ sym (alone.alone d.second d.second_asked (one_request d.second q name d.second_named named)))
 
 -- both hold of the one request
-both : (f : RosterFields Cmnd) (set : List Message) (name : RequestName) (P Q : RequestFields → Type 0) → IsAdmitted f set name P → IsAdmitted f set name Q → (q : RequestFields) × P q × Q q
+both : (f : RosterFields Cmnd) (set : List Message) (name : RequestName) (P Q : RequestFields → Type 0)
+    → IsAdmitted f set name P → IsAdmitted f set name Q → (q : RequestFields) × P q × Q q
 both f set name P Q x y =
     (y.request, subst P (y.alone.alone x.request x.alone.asked (one_request x.request y.request name x.named y.named)) x.is, y.is)
 
 not_lapsed : (f : RosterFields Cmnd) (set : List Message) (name : RequestName) (P : RequestFields → Type 0) → IsLapsed f set name → IsAdmitted f set name P → ⊥
 not_lapsed f set name P x y =
-    x.inadmissible (subst (λ (q : RequestFields). AdmitsRequest f q) (sym (y.alone.alone x.request x.alone.asked (one_request x.request y.request name x.named y.named))) y.admissible)
+    x.inadmissible (subst (λ (q : RequestFields). AdmitsRequest f q)
+    (sym (y.alone.alone x.request x.alone.asked (one_request x.request y.request name x.named y.named))) y.admissible)
 
-one_window : (f : RosterFields Cmnd) (set : List Message) (q : RequestFields) (v w : Window) → IsFirstMoment f set q v.start × IsLastMoment f set q v.end → IsFirstMoment f set q w.start × IsLastMoment f set q w.end → v ≡ w
+one_window : (f : RosterFields Cmnd) (set : List Message) (q : RequestFields) (v w : Window)
+    → IsFirstMoment f set q v.start × IsLastMoment f set q v.end → IsFirstMoment f set q w.start × IsLastMoment f set q w.end → v ≡ w
 one_window f set q v w x y =
     let start : v.start ≡ w.start = omega (arith, x.0.least w.start y.0.inside, y.0.least v.start x.0.inside) in
     let end : v.end ≡ w.end = omega (arith, x.1.greatest w.end y.1.inside, y.1.greatest v.end x.1.inside) in
     rw (start, end) refl
 
 -- of two different statuses the first to apply leaves no room for the second
-later_not : (f : RosterFields Cmnd) (set : List Message) (name : RequestName) (P Q : RequestFields → Type 0) → ((q : RequestFields) → P q → Q q → ⊥) → IsAdmitted f set name P → IsAdmitted f set name Q → ⊥
+later_not : (f : RosterFields Cmnd) (set : List Message) (name : RequestName) (P Q : RequestFields → Type 0)
+    → ((q : RequestFields) → P q → Q q → ⊥) → IsAdmitted f set name P → IsAdmitted f set name Q → ⊥
 later_not f set name P Q apart x y = let h = both f set name P Q x y in apart h.0 h.1 h.2
 
 abbrev Waits : RosterFields Cmnd → List Message → RequestFields → Type 0
@@ -57,13 +62,15 @@ refused_waiting f set name = later_not f set name (IsRefused f set) (Waits f set
 refused_void : (f : RosterFields Cmnd) (set : List Message) (name : RequestName) → IsStatus f set name Refused → IsStatus f set name Void → ⊥
 refused_void f set name = later_not f set name (IsRefused f set) (IsVoid f set) (λ q r v. v.unrefused r)
 
-refused_granted : (f : RosterFields Cmnd) (set : List Message) (name : RequestName) (w : Window) → IsStatus f set name Refused → IsStatus f set name (Granted w) → ⊥
+refused_granted : (f : RosterFields Cmnd) (set : List Message) (name : RequestName) (w : Window)
+    → IsStatus f set name Refused → IsStatus f set name (Granted w) → ⊥
 refused_granted f set name w = later_not f set name (IsRefused f set) (Grants f set w) (λ q r g. g.0.inside.unrefused r)
 
 waiting_void : (f : RosterFields Cmnd) (set : List Message) (name : RequestName) → IsStatus f set name Waiting → IsStatus f set name Void → ⊥
 waiting_void f set name = later_not f set name (Waits f set) (IsVoid f set) (λ q w v. w.1 v.complete v.complete_is)
 
-waiting_granted : (f : RosterFields Cmnd) (set : List Message) (name : RequestName) (w : Window) → IsStatus f set name Waiting → IsStatus f set name (Granted w) → ⊥
+waiting_granted : (f : RosterFields Cmnd) (set : List Message) (name : RequestName) (w : Window)
+    → IsStatus f set name Waiting → IsStatus f set name (Granted w) → ⊥
 waiting_granted f set name w =
     later_not f set name (Waits f set) (Grants f set w) (λ q v g. v.1 g.0.inside.complete g.0.inside.complete_is)
 
@@ -126,7 +133,8 @@ at_least_more zero P Q more h = tt
 at_least_more (suc n) P Q more h =
     (h.0, more h.0 h.1, at_least_more n (λ other. P other × (other ≢ h.0)) (λ other. Q other × (other ≢ h.0)) (λ other p. (more other p.0, p.1)) h.2)
 
-has_given : (f : RosterFields Cmnd) (s t : List Message) (q : RequestFields) (kind : VerdictKind) (moment : ℕ) (person : List ℕ) → SameGiven f s t q → HasGiven f s q kind moment person → HasGiven f t q kind moment person
+has_given : (f : RosterFields Cmnd) (s t : List Message) (q : RequestFields) (kind : VerdictKind) (moment : ℕ) (person : List ℕ)
+    → SameGiven f s t q → HasGiven f s q kind moment person → HasGiven f t q kind moment person
 has_given f s t q kind moment person same h =
     record { verdict = h.verdict; given = (same kind h.verdict).0 h.given; by_is = h.by_is; by_then = h.by_then }
 
@@ -134,10 +142,12 @@ approved : (f : RosterFields Cmnd) (s t : List Message) (q : RequestFields) (mom
 approved f s t q moment same a = record {
   ceiling = a.ceiling;
   ceiling_is = a.ceiling_is;
-  people = at_least_more a.ceiling.needs (HasGiven f s q Approve moment) (HasGiven f t q Approve moment) (λ person h. has_given f s t q Approve moment person same h) a.people;
+  people = at_least_more a.ceiling.needs (HasGiven f s q Approve moment) (HasGiven f t q Approve moment)
+      (λ person h. has_given f s t q Approve moment person same h) a.people;
 }
 
-pub complete : (f : RosterFields Cmnd) (s t : List Message) (q : RequestFields) (moment : ℕ) → SameGiven f s t q → IsComplete f s q moment → IsComplete f t q moment
+pub complete : (f : RosterFields Cmnd) (s t : List Message) (q : RequestFields) (moment : ℕ)
+    → SameGiven f s t q → IsComplete f s q moment → IsComplete f t q moment
 complete f s t q moment same is = record {
   approved = approved f s t q moment same is.approved;
   least = λ other a. is.least other (approved f t s q other (turned f s t q same) a);
@@ -150,7 +160,8 @@ refused f s t q same r = record {
   in_time = λ moment is. r.in_time moment (complete f t s q moment (turned f s t q same) is);
 }
 
-pub revoked : (f : RosterFields Cmnd) (s t : List Message) (q : RequestFields) (moment : ℕ) → SameGiven f s t q → RevokedBy f s q moment → RevokedBy f t q moment
+pub revoked : (f : RosterFields Cmnd) (s t : List Message) (q : RequestFields) (moment : ℕ)
+    → SameGiven f s t q → RevokedBy f s q moment → RevokedBy f t q moment
 revoked f s t q moment same r =
     record { verdict = r.verdict; given = (same Revoke r.verdict).0 r.given; by_then = r.by_then }
 
@@ -172,7 +183,8 @@ disputed s t name same d = record {
 turned_requests : (s t : List Message) → SameRequests s t → SameRequests t s
 turned_requests s t same = λ q. ((same q).1, (same q).0)
 
-pub in_window : (f : RosterFields Cmnd) (s t : List Message) (q : RequestFields) (moment : ℕ) → SameRequests s t → SameGiven f s t q → InWindow f s q moment → InWindow f t q moment
+pub in_window : (f : RosterFields Cmnd) (s t : List Message) (q : RequestFields) (moment : ℕ)
+    → SameRequests s t → SameGiven f s t q → InWindow f s q moment → InWindow f t q moment
 in_window f s t q moment requests same w = record {
   alone = stands_alone s t q requests w.alone;
   admissible = w.admissible;
@@ -185,19 +197,22 @@ in_window f s t q moment requests same w = record {
   unrevoked = λ r. w.unrevoked (revoked f t s q moment (turned f s t q same) r);
 }
 
-first_moment : (f : RosterFields Cmnd) (s t : List Message) (q : RequestFields) (moment : ℕ) → SameRequests s t → SameGiven f s t q → IsFirstMoment f s q moment → IsFirstMoment f t q moment
+first_moment : (f : RosterFields Cmnd) (s t : List Message) (q : RequestFields) (moment : ℕ)
+    → SameRequests s t → SameGiven f s t q → IsFirstMoment f s q moment → IsFirstMoment f t q moment
 first_moment f s t q moment requests same is = record {
   inside = in_window f s t q moment requests same is.inside;
   least = λ other w. is.least other (in_window f t s q other (turned_requests s t requests) (turned f s t q same) w);
 }
 
-last_moment : (f : RosterFields Cmnd) (s t : List Message) (q : RequestFields) (moment : ℕ) → SameRequests s t → SameGiven f s t q → IsLastMoment f s q moment → IsLastMoment f t q moment
+last_moment : (f : RosterFields Cmnd) (s t : List Message) (q : RequestFields) (moment : ℕ)
+    → SameRequests s t → SameGiven f s t q → IsLastMoment f s q moment → IsLastMoment f t q moment
 last_moment f s t q moment requests same is = record {
   inside = in_window f s t q moment requests same is.inside;
   greatest = λ other w. is.greatest other (in_window f t s q other (turned_requests s t requests) (turned f s t q same) w);
 }
 
-admitted : (f : RosterFields Cmnd) (s t : List Message) (name : RequestName) (P Q : RequestFields → Type 0) → SameRequests s t → ((q : RequestFields) → Contains s (Request q) → P q → Q q) → IsAdmitted f s name P → IsAdmitted f t name Q
+admitted : (f : RosterFields Cmnd) (s t : List Message) (name : RequestName) (P Q : RequestFields → Type 0) → SameRequests s t
+    → ((q : RequestFields) → Contains s (Request q) → P q → Q q) → IsAdmitted f s name P → IsAdmitted f t name Q
 admitted f s t name P Q requests more x = record {
   request = x.request;
   named = x.named;
@@ -221,7 +236,8 @@ void f s t q requests same v = record {
   empty = λ moment w. v.empty moment (in_window f t s q moment (turned_requests s t requests) (turned f s t q same) w);
 }
 
-pub same_status : (f : RosterFields Cmnd) (s t : List Message) (name : RequestName) (status : Status) → SameRequests s t → SameVerdicts f s t → IsStatus f s name status → IsStatus f t name status
+pub same_status : (f : RosterFields Cmnd) (s t : List Message) (name : RequestName) (status : Status)
+    → SameRequests s t → SameVerdicts f s t → IsStatus f s name status → IsStatus f t name status
 same_status f s t name Disputed requests verdicts x = disputed s t name requests x
 same_status f s t name Lapsed requests verdicts x =
     record { request = x.request; named = x.named; alone = stands_alone s t x.request requests x.alone; inadmissible = x.inadmissible }
@@ -237,7 +253,8 @@ same_status f s t name (Granted w) requests verdicts x =
 
 -- ---- two lists of one set
 
-pub kept_given : (f : RosterFields Cmnd) (s t : List Message) (q : RequestFields) (kind : VerdictKind) (v : VerdictFields) → (Contains s (Verdict v) → Contains t (Verdict v)) → IsGiven f s q kind v → IsGiven f t q kind v
+pub kept_given : (f : RosterFields Cmnd) (s t : List Message) (q : RequestFields) (kind : VerdictKind) (v : VerdictFields)
+    → (Contains s (Verdict v) → Contains t (Verdict v)) → IsGiven f s q kind v → IsGiven f t q kind v
 kept_given f s t q kind v keeps g = record {
   given = keeps g.given;
   about = g.about;
@@ -247,7 +264,8 @@ kept_given f s t q kind v keeps g = record {
   counts_is = g.counts_is;
 }
 
-pub order_free : (f : RosterFields Cmnd) (s t : List Message) (name : RequestName) (status : Status) → SameMessages s t → IsStatus f s name status → IsStatus f t name status
+pub order_free : (f : RosterFields Cmnd) (s t : List Message) (name : RequestName) (status : Status)
+    → SameMessages s t → IsStatus f s name status → IsStatus f t name status
 order_free f s t name status same x =
     same_status f s t name status (λ q. same (Request q))
     (λ q asked kind v. (kept_given f s t q kind v (same (Verdict v)).0, kept_given f t s q kind v (same (Verdict v)).1)) x

@@ -39,10 +39,12 @@ one_ceiling f q c d at other = one_some d c (sym other ∙ at)
 
 -- ---- verdicts and marks
 
-counts_as : (f : RosterFields Cmnd) (c : CeilingFields Cmnd) (q : RequestFields) (kind : VerdictKind) (v : VerdictFields) → IsAbout q v → v.kind ≡ kind → counts f c v ≡ true → has_counting f c kind q.by (mark_of v) ≡ true
+counts_as : (f : RosterFields Cmnd) (c : CeilingFields Cmnd) (q : RequestFields) (kind : VerdictKind) (v : VerdictFields)
+    → IsAbout q v → v.kind ≡ kind → counts f c v ≡ true → has_counting f c kind q.by (mark_of v) ≡ true
 counts_as f c q kind v about is h = rw (← is, ← about.0) h
 
-pub given_counts : (f : RosterFields Cmnd) (c : CeilingFields Cmnd) (set : List Message) (q : RequestFields) (kind : VerdictKind) (v : VerdictFields) → IsUnder f q c → IsGiven f set q kind v → counts f c v ≡ true
+pub given_counts : (f : RosterFields Cmnd) (c : CeilingFields Cmnd) (set : List Message) (q : RequestFields) (kind : VerdictKind) (v : VerdictFields)
+    → IsUnder f q c → IsGiven f set q kind v → counts f c v ≡ true
 given_counts f c set q kind v at g =
     subst (λ (d : CeilingFields Cmnd). counts f d v ≡ true) (one_ceiling f q c g.ceiling at g.ceiling_is) g.counts_is
 
@@ -51,18 +53,22 @@ verdict_as : (q : RequestFields) (kind : VerdictKind) (v : VerdictFields) → Is
 verdict_as q kind v about is = sym (verdict_again q v about) ∙ ap (λ (x : VerdictKind). verdict_of q x (mark_of v)) is
 
 -- a verdict that counts has its mark, which passes
-marked : (f : RosterFields Cmnd) (set : List Message) (q : RequestFields) (kind : VerdictKind) (marks : List Mark) (v : VerdictFields) → Keep set q kind marks → IsGiven f set q kind v → Contains marks (mark_of v)
+marked : (f : RosterFields Cmnd) (set : List Message) (q : RequestFields) (kind : VerdictKind) (marks : List Mark) (v : VerdictFields)
+    → Keep set q kind marks → IsGiven f set q kind v → Contains marks (mark_of v)
 marked f set q kind marks v k g =
     (k.each (mark_of v)).1 (subst (λ (w : VerdictFields). Contains set (Verdict w)) (verdict_as q kind v g.about g.kind_is) g.given)
 
-passes_as : (f : RosterFields Cmnd) (c : CeilingFields Cmnd) (set : List Message) (q : RequestFields) (kind : VerdictKind) (v : VerdictFields) → IsUnder f q c → IsGiven f set q kind v → has_counting f c kind q.by (mark_of v) ≡ true
+passes_as : (f : RosterFields Cmnd) (c : CeilingFields Cmnd) (set : List Message) (q : RequestFields) (kind : VerdictKind) (v : VerdictFields)
+    → IsUnder f q c → IsGiven f set q kind v → has_counting f c kind q.by (mark_of v) ≡ true
 passes_as f c set q kind v at g = counts_as f c q kind v g.about g.kind_is (given_counts f c set q kind v at g)
 
-given_mark : (f : RosterFields Cmnd) (c : CeilingFields Cmnd) (set : List Message) (q : RequestFields) (kind : VerdictKind) (marks : List Mark) (r : Mark) → IsUnder f q c → Keep set q kind marks → Contains marks r → has_counting f c kind q.by r ≡ true → IsGiven f set q kind (verdict_of q kind r)
+given_mark : (f : RosterFields Cmnd) (c : CeilingFields Cmnd) (set : List Message) (q : RequestFields) (kind : VerdictKind) (marks : List Mark) (r : Mark)
+    → IsUnder f q c → Keep set q kind marks → Contains marks r → has_counting f c kind q.by r ≡ true → IsGiven f set q kind (verdict_of q kind r)
 given_mark f c set q kind marks r at k m e =
     record { given = (k.each r).0 m; about = (refl, refl); kind_is = refl; ceiling = c; ceiling_is = at; counts_is = e }
 
-module _ (f : RosterFields Cmnd) (c : CeilingFields Cmnd) (set : List Message) (q : RequestFields) (kind : VerdictKind) (marks : List Mark) (at : IsUnder f q c) (k : Keep set q kind marks) where
+module _ (f : RosterFields Cmnd) (c : CeilingFields Cmnd) (set : List Message)
+    (q : RequestFields) (kind : VerdictKind) (marks : List Mark) (at : IsUnder f q c) (k : Keep set q kind marks) where
   abbrev Marked : ℕ → List ℕ → Type 0
   Marked = HasBy (has_counting f c kind q.by) marks
 
@@ -95,11 +101,13 @@ module _ (f : RosterFields Cmnd) (c : CeilingFields Cmnd) (set : List Message) (
 abbrev Completes : RosterFields Cmnd → List Message → RequestFields → Option ℕ → Type 0
 Completes f set q o = MatchOption o (NeverComplete f set q) (IsComplete f set q)
 
-pub approved_people : (f : RosterFields Cmnd) (c : CeilingFields Cmnd) (set : List Message) (q : RequestFields) (moment : ℕ) → IsUnder f q c → ApprovedBy f set q moment → AtLeast c.needs (HasGiven f set q kinds.Approve moment)
+pub approved_people : (f : RosterFields Cmnd) (c : CeilingFields Cmnd) (set : List Message) (q : RequestFields) (moment : ℕ)
+    → IsUnder f q c → ApprovedBy f set q moment → AtLeast c.needs (HasGiven f set q kinds.Approve moment)
 approved_people f c set q moment at a =
     subst (λ (d : CeilingFields Cmnd). AtLeast d.needs (HasGiven f set q kinds.Approve moment)) (one_ceiling f q c a.ceiling at a.ceiling_is) a.people
 
-completes : (f : RosterFields Cmnd) (c : CeilingFields Cmnd) (set : List Message) (k : Kept) → IsUnder f k.request c → 1 ≤ c.needs → StandsFor set k → Completes f set k.request (completion f c k)
+completes : (f : RosterFields Cmnd) (c : CeilingFields Cmnd) (set : List Message) (k : Kept)
+    → IsUnder f k.request c → 1 ≤ c.needs → StandsFor set k → Completes f set k.request (completion f c k)
 completes f c set k at some s = of (completion f c k) (nth_given f c set k.request kinds.Approve k.approvals at s.approvals c.needs some)
   where
     of : (o : Option ℕ) → IsNth c.needs (HasGiven f set k.request kinds.Approve) o → Completes f set k.request o
@@ -111,16 +119,19 @@ completes f c set k at some s = of (completion f c k) (nth_given f c set k.reque
 
 -- ---- refusals
 
-in_time : (f : RosterFields Cmnd) (set : List Message) (q : RequestFields) (o : Option ℕ) (at : ℕ) → Completes f set q o → is_in_time o at ≡ true → (moment : ℕ) → IsComplete f set q moment → at ≤ moment
+in_time : (f : RosterFields Cmnd) (set : List Message) (q : RequestFields) (o : Option ℕ) (at : ℕ)
+    → Completes f set q o → is_in_time o at ≡ true → (moment : ℕ) → IsComplete f set q moment → at ≤ moment
 in_time f set q None at none e moment h = absurd (none moment h)
 in_time f set q (Some complete) at is e moment h =
     omega (arith, leb-true at complete e, is.least moment h.approved)
 
-was_in_time : (f : RosterFields Cmnd) (set : List Message) (q : RequestFields) (o : Option ℕ) (at : ℕ) → Completes f set q o → ((moment : ℕ) → IsComplete f set q moment → at ≤ moment) → is_in_time o at ≡ true
+was_in_time : (f : RosterFields Cmnd) (set : List Message) (q : RequestFields) (o : Option ℕ) (at : ℕ)
+    → Completes f set q o → ((moment : ℕ) → IsComplete f set q moment → at ≤ moment) → is_in_time o at ≡ true
 was_in_time f set q None at none h = refl
 was_in_time f set q (Some complete) at is h = le-leb at complete (h complete is)
 
-refused_yes : (f : RosterFields Cmnd) (c : CeilingFields Cmnd) (set : List Message) (q : RequestFields) (o : Option ℕ) (marks : List Mark) → IsUnder f q c → Completes f set q o → Keep set q kinds.Refuse marks → is_refused (has_counting f c kinds.Refuse q.by) o marks ≡ true → IsRefused f set q
+refused_yes : (f : RosterFields Cmnd) (c : CeilingFields Cmnd) (set : List Message) (q : RequestFields) (o : Option ℕ) (marks : List Mark) → IsUnder f q c
+    → Completes f set q o → Keep set q kinds.Refuse marks → is_refused (has_counting f c kinds.Refuse q.by) o marks ≡ true → IsRefused f set q
 refused_yes f c set q o marks under is k e =
     let test = has_counting f c kinds.Refuse q.by in
     let found = one_passes (refuses test o) marks e in
@@ -131,7 +142,8 @@ refused_yes f c set q o marks under is k e =
       in_time = in_time f set q o found.0.at is parts.0;
     }
 
-refused_not : (f : RosterFields Cmnd) (c : CeilingFields Cmnd) (set : List Message) (q : RequestFields) (o : Option ℕ) (marks : List Mark) → IsUnder f q c → Completes f set q o → Keep set q kinds.Refuse marks → is_refused (has_counting f c kinds.Refuse q.by) o marks ≡ false → ¬ IsRefused f set q
+refused_not : (f : RosterFields Cmnd) (c : CeilingFields Cmnd) (set : List Message) (q : RequestFields) (o : Option ℕ) (marks : List Mark) → IsUnder f q c
+    → Completes f set q o → Keep set q kinds.Refuse marks → is_refused (has_counting f c kinds.Refuse q.by) o marks ≡ false → ¬ IsRefused f set q
 refused_not f c set q o marks under is k e = λ h.
     let test = has_counting f c kinds.Refuse q.by in
     both_ways _ e (passes (refuses test o) marks (mark_of h.verdict) (marked f set q kinds.Refuse marks h.verdict k h.given)
@@ -139,21 +151,26 @@ refused_not f c set q o marks under is k e = λ h.
 
 -- ---- windows
 
-pub later_too : (f : RosterFields Cmnd) (set : List Message) (q : RequestFields) (early late : ℕ) → early ≤ late → RevokedBy f set q early → RevokedBy f set q late
+pub later_too : (f : RosterFields Cmnd) (set : List Message) (q : RequestFields) (early late : ℕ)
+    → early ≤ late → RevokedBy f set q early → RevokedBy f set q late
 later_too f set q early late le h =
     record { verdict = h.verdict; given = h.given; by_then = omega (arith, le, h.by_then) }
 
 abbrev Revokes : RosterFields Cmnd → List Message → RequestFields → Option ℕ → Type 0
-Revokes f set q o = MatchOption o ((moment : ℕ) → ¬ RevokedBy f set q moment) (λ moment. RevokedBy f set q moment × ((other : ℕ) → RevokedBy f set q other → moment ≤ other))
+Revokes f set q o =
+    MatchOption o ((moment : ℕ) → ¬ RevokedBy f set q moment) (λ moment. RevokedBy f set q moment × ((other : ℕ) → RevokedBy f set q other → moment ≤ other))
 
-one_of : (f : RosterFields Cmnd) (set : List Message) (q : RequestFields) (moment : ℕ) → RevokedBy f set q moment → AtLeast 1 (HasGiven f set q kinds.Revoke moment)
+one_of : (f : RosterFields Cmnd) (set : List Message) (q : RequestFields) (moment : ℕ)
+    → RevokedBy f set q moment → AtLeast 1 (HasGiven f set q kinds.Revoke moment)
 one_of f set q moment h =
     (h.verdict.by, record { verdict = h.verdict; given = h.given; by_is = refl; by_then = h.by_then }, tt)
 
-of_one : (f : RosterFields Cmnd) (set : List Message) (q : RequestFields) (moment : ℕ) → AtLeast 1 (HasGiven f set q kinds.Revoke moment) → RevokedBy f set q moment
+of_one : (f : RosterFields Cmnd) (set : List Message) (q : RequestFields) (moment : ℕ)
+    → AtLeast 1 (HasGiven f set q kinds.Revoke moment) → RevokedBy f set q moment
 of_one f set q moment h = record { verdict = h.1.verdict; given = h.1.given; by_then = h.1.by_then }
 
-revokes : (f : RosterFields Cmnd) (c : CeilingFields Cmnd) (set : List Message) (q : RequestFields) (marks : List Mark) → IsUnder f q c → Keep set q kinds.Revoke marks → Revokes f set q (nth_of (has_counting f c kinds.Revoke q.by) 1 marks)
+revokes : (f : RosterFields Cmnd) (c : CeilingFields Cmnd) (set : List Message) (q : RequestFields) (marks : List Mark)
+    → IsUnder f q c → Keep set q kinds.Revoke marks → Revokes f set q (nth_of (has_counting f c kinds.Revoke q.by) 1 marks)
 revokes f c set q marks at k = of (nth_of (has_counting f c kinds.Revoke q.by) 1 marks) (nth_given f c set q kinds.Revoke marks at k 1 (omega arith))
   where
     of : (o : Option ℕ) → IsNth 1 (HasGiven f set q kinds.Revoke) o → Revokes f set q o
@@ -162,7 +179,8 @@ revokes f c set q marks at k = of (nth_of (has_counting f c kinds.Revoke q.by) 1
 
 -- the last moment up to `until` that is not revoked
 abbrev Ends : RosterFields Cmnd → List Message → RequestFields → Option ℕ → Type 0
-Ends f set q o = MatchOption o ((moment : ℕ) → moment ≤ q.until → (RevokedBy f set q moment → ⊥) → ⊥) (λ last. (last ≤ q.until) × (RevokedBy f set q last → ⊥) × ((moment : ℕ) → moment ≤ q.until → (RevokedBy f set q moment → ⊥) → moment ≤ last))
+Ends f set q o = MatchOption o ((moment : ℕ) → moment ≤ q.until → (RevokedBy f set q moment → ⊥)
+    → ⊥) (λ last. (last ≤ q.until) × (RevokedBy f set q last → ⊥) × ((moment : ℕ) → moment ≤ q.until → (RevokedBy f set q moment → ⊥) → moment ≤ last))
 
 cut : (f : RosterFields Cmnd) (set : List Message) (q : RequestFields) (m : ℕ) → Revokes f set q (Some m) → m ≤ q.until → Ends f set q (before m)
 cut f set q zero is le = λ moment _ bare. bare (later_too f set q zero moment (omega arith) is.0)
@@ -189,11 +207,13 @@ ends f set q (Some m) is =
 abbrev IsOpen : RosterFields Cmnd → List Message → RequestFields → Type 0
 IsOpen f set q = StandsAlone set q × AdmitsRequest f q × (¬ IsRefused f set q)
 
-of_request : (f : RosterFields Cmnd) (set : List Message) (q : RequestFields) (P : RequestFields → Type 0) → StandsAlone set q → AdmitsRequest f q → P q → IsAdmitted f set (name_of q) P
+of_request : (f : RosterFields Cmnd) (set : List Message) (q : RequestFields) (P : RequestFields → Type 0)
+    → StandsAlone set q → AdmitsRequest f q → P q → IsAdmitted f set (name_of q) P
 of_request f set q P alone admits is =
     record { request = q; named = (refl, refl); alone = alone; admissible = admits; is = is }
 
-between : (f : RosterFields Cmnd) (set : List Message) (q : RequestFields) (complete : ℕ) (o : Option ℕ) → IsOpen f set q → IsComplete f set q complete → Ends f set q o → IsStatus f set (name_of q) (window (max q.from complete) o)
+between : (f : RosterFields Cmnd) (set : List Message) (q : RequestFields) (complete : ℕ) (o : Option ℕ) → IsOpen f set q
+    → IsComplete f set q complete → Ends f set q o → IsStatus f set (name_of q) (window (max q.from complete) o)
 between f set q complete None free is none =
     of_request f set q (IsVoid f set) free.0 free.1
     (record { unrefused = free.2; complete = complete; complete_is = is; empty = λ moment w. none moment w.until w.unrevoked })
@@ -239,7 +259,8 @@ between f set q complete (Some last) free is end =
           omega (arith, leb-false (max q.from complete) last e, end.2 moment w.until w.unrevoked, w.from, w.behind, is.least w.complete w.complete_is.approved);
     }))
 
-open_status : (f : RosterFields Cmnd) (c : CeilingFields Cmnd) (set : List Message) (k : Kept) (o : Option ℕ) → IsUnder f k.request c → IsOpen f set k.request → Completes f set k.request o → StandsFor set k → IsStatus f set (name_of k.request) (from_complete f c k o)
+open_status : (f : RosterFields Cmnd) (c : CeilingFields Cmnd) (set : List Message) (k : Kept) (o : Option ℕ) → IsUnder f k.request c
+    → IsOpen f set k.request → Completes f set k.request o → StandsFor set k → IsStatus f set (name_of k.request) (from_complete f c k o)
 open_status f c set k None at free never s =
     of_request f set k.request (λ q. (¬ IsRefused f set q) × NeverComplete f set q) free.0 free.1 (free.2, never)
 open_status f c set k (Some complete) at free is s =
@@ -249,7 +270,8 @@ open_status f c set k (Some complete) at free is s =
 pub stands_alone : (set : List Message) (k : Kept) → k.is_disputed ≡ false → StandsFor set k → StandsAlone set k.request
 stands_alone set k single s = record { asked = s.asked; alone = s.alone single }
 
-pub admitted_is : (f : RosterFields Cmnd) (c : CeilingFields Cmnd) (set : List Message) (k : Kept) → IsUnder f k.request c → 1 ≤ c.needs → AdmitsRequest f k.request → k.is_disputed ≡ false → StandsFor set k → IsStatus f set (name_of k.request) (admitted_status f c k)
+pub admitted_is : (f : RosterFields Cmnd) (c : CeilingFields Cmnd) (set : List Message) (k : Kept) → IsUnder f k.request c → 1 ≤ c.needs
+    → AdmitsRequest f k.request → k.is_disputed ≡ false → StandsFor set k → IsStatus f set (name_of k.request) (admitted_status f c k)
 admitted_is f c set k at some admits single s =
     let o = completion f c k in
     let alone = stands_alone set k single s in
@@ -258,7 +280,8 @@ admitted_is f c set k at some admits single s =
     (λ e. of_request f set k.request (IsRefused f set) alone admits (refused_yes f c set k.request o k.refusals at is s.refusals e))
     (λ e. open_status f c set k o at (alone, admits, refused_not f c set k.request o k.refusals at is s.refusals e) is s)
 
-pub lapsed_is : (f : RosterFields Cmnd) (set : List Message) (k : Kept) → (¬ AdmitsRequest f k.request) → k.is_disputed ≡ false → StandsFor set k → IsLapsed f set (name_of k.request)
+pub lapsed_is : (f : RosterFields Cmnd) (set : List Message) (k : Kept) → (¬ AdmitsRequest f k.request)
+    → k.is_disputed ≡ false → StandsFor set k → IsLapsed f set (name_of k.request)
 lapsed_is f set k denied single s =
     record { request = k.request; named = (refl, refl); alone = stands_alone set k single s; inadmissible = denied }
 

@@ -33,7 +33,8 @@ less_behind x (y ∷ ys) r all h =
 abbrev Within : List Mark → List Mark → Type 0
 Within xs ys = (r : Mark) → Contains xs r → Contains ys r
 
-same_head : (x y : Mark) (xs ys : List Mark) → AllByRecursion (λ r. mark_cmp x r ≡ Less) xs → AllByRecursion (λ r. mark_cmp y r ≡ Less) ys → Within (x ∷ xs) (y ∷ ys) → Within (y ∷ ys) (x ∷ xs) → x ≡ y
+same_head : (x y : Mark) (xs ys : List Mark) → AllByRecursion (λ r. mark_cmp x r ≡ Less) xs
+    → AllByRecursion (λ r. mark_cmp y r ≡ Less) ys → Within (x ∷ xs) (y ∷ ys) → Within (y ∷ ys) (x ∷ xs) → x ≡ y
 same_head x y xs ys low high to back =
     elim (cases_behind y ys x (to x (Contains-head x xs))) as (λ _. x ≡ y) [
       | inl same ↦ sym same
@@ -68,7 +69,8 @@ same_marks (x ∷ xs) (y ∷ ys) s t to back =
 
 -- ---- what is kept
 
-same_kept : (set : List Message) (p q : RequestFields) (kind : VerdictKind) (xs ys : List Mark) → SameName p q → Keep set p kind xs → Keep set q kind ys → xs ≡ ys
+same_kept : (set : List Message) (p q : RequestFields) (kind : VerdictKind) (xs ys : List Mark)
+    → SameName p q → Keep set p kind xs → Keep set q kind ys → xs ≡ ys
 same_kept set p q kind xs ys named k l =
     same_marks xs ys k.once l.once (λ r h. (l.each r).1 (subst (λ (v : VerdictFields). Contains set (Verdict v)) (same r) ((k.each r).0 h)))
     (λ r h. (k.each r).1 (subst (λ (v : VerdictFields). Contains set (Verdict v)) (sym (same r)) ((l.each r).0 h)))
@@ -76,7 +78,8 @@ same_kept set p q kind xs ys named k l =
     same : (r : Mark) → verdict_of p kind r ≡ verdict_of q kind r
     same r = rw (named.0, named.1) refl
 
-pub marks : (set : List Message) (a b : Kept) → StandsFor set a → StandsFor set b → SameName a.request b.request → (a.approvals ≡ b.approvals) × (a.refusals ≡ b.refusals) × (a.revocations ≡ b.revocations)
+pub marks : (set : List Message) (a b : Kept) → StandsFor set a → StandsFor set b → SameName a.request b.request
+    → (a.approvals ≡ b.approvals) × (a.refusals ≡ b.refusals) × (a.revocations ≡ b.revocations)
 marks set a b s t named = (
   same_kept set a.request b.request Approve a.approvals b.approvals named s.approvals t.approvals,
   same_kept set a.request b.request Refuse a.refusals b.refusals named s.refusals t.refusals,
@@ -87,7 +90,8 @@ turned : (p q : RequestFields) → SameName p q → SameName q p
 turned p q named = (sym named.0, sym named.1)
 
 -- where the one is disputed the other is
-also_disputed : (set : List Message) (a b : Kept) → StandsFor set a → StandsFor set b → SameName a.request b.request → a.is_disputed ≡ true → b.is_disputed ≡ false → ⊥
+also_disputed : (set : List Message) (a b : Kept) → StandsFor set a → StandsFor set b
+    → SameName a.request b.request → a.is_disputed ≡ true → b.is_disputed ≡ false → ⊥
 also_disputed set a b s t named two single =
     let found = s.other two in
     let first : a.request ≡ b.request = t.alone single a.request s.asked named in

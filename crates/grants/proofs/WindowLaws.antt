@@ -11,7 +11,8 @@ use Rattle.grants.specs.Completion.{IsFirstRevocation}
 use Rattle.grants.proofs.StatusLemmas.{later_too}
 
 -- a moment of the window for a moment where the rest holds
-moved : (f : RosterFields Cmnd) (set : List Message) (q : RequestFields) (old new : ℕ) → InWindow f set q old → q.from ≤ new → ((m : ℕ) → IsComplete f set q m → m ≤ new) → new ≤ q.until → ¬ RevokedBy f set q new → InWindow f set q new
+moved : (f : RosterFields Cmnd) (set : List Message) (q : RequestFields) (old new : ℕ) → InWindow f set q old → q.from ≤ new
+    → ((m : ℕ) → IsComplete f set q m → m ≤ new) → new ≤ q.until → ¬ RevokedBy f set q new → InWindow f set q new
 moved f set q old new w from behind until bare = record {
   alone = w.alone;
   admissible = w.admissible;
@@ -27,21 +28,26 @@ moved f set q old new w from behind until bare = record {
 one_completion : (f : RosterFields Cmnd) (set : List Message) (q : RequestFields) (m n : ℕ) → IsComplete f set q m → IsComplete f set q n → m ≤ n
 one_completion f set q m n a b = a.least n b.approved
 
-pub begins : (f : RosterFields Cmnd) (set : List Message) (q : RequestFields) (start complete : ℕ) → IsFirstMoment f set q start → IsComplete f set q complete → start ≡ max q.from complete
+pub begins : (f : RosterFields Cmnd) (set : List Message) (q : RequestFields) (start complete : ℕ)
+    → IsFirstMoment f set q start → IsComplete f set q complete → start ≡ max q.from complete
 begins f set q start complete first is =
     let w = first.inside in
     let behind : complete ≤ start = omega (arith, one_completion f set q complete w.complete is w.complete_is, w.behind) in
     let low : max q.from complete ≤ start = omega (arith, behind, w.from) in
-    let there = moved f set q start (max q.from complete) w (omega arith) (λ m other. omega (arith, one_completion f set q m complete other is)) (omega (arith, low, w.until)) (λ r. w.unrevoked (later_too f set q (max q.from complete) start low r)) in
+    let there = moved f set q start (max q.from complete) w (omega arith) (λ m other. omega (arith, one_completion f set q m complete other is))
+    (omega (arith, low, w.until)) (λ r. w.unrevoked (later_too f set q (max q.from complete) start low r)) in
     omega (arith, low, first.least (max q.from complete) there)
 
-pub ends_as_asked : (f : RosterFields Cmnd) (set : List Message) (q : RequestFields) (end : ℕ) → IsLastMoment f set q end → ¬ RevokedBy f set q q.until → end ≡ q.until
+pub ends_as_asked : (f : RosterFields Cmnd) (set : List Message) (q : RequestFields) (end : ℕ)
+    → IsLastMoment f set q end → ¬ RevokedBy f set q q.until → end ≡ q.until
 ends_as_asked f set q end last bare =
     let w = last.inside in
-    let there = moved f set q end q.until w (omega (arith, w.from, w.until)) (λ m is. omega (arith, one_completion f set q m w.complete is w.complete_is, w.behind, w.until)) (omega arith) bare in
+    let there = moved f set q end q.until w (omega (arith, w.from, w.until))
+    (λ m is. omega (arith, one_completion f set q m w.complete is w.complete_is, w.behind, w.until)) (omega arith) bare in
     omega (arith, w.until, last.greatest q.until there)
 
-pub ends_revoked : (f : RosterFields Cmnd) (set : List Message) (q : RequestFields) (end revoked : ℕ) → IsLastMoment f set q end → IsFirstRevocation f set q revoked → revoked ≤ q.until → end + 1 ≡ revoked
+pub ends_revoked : (f : RosterFields Cmnd) (set : List Message) (q : RequestFields) (end revoked : ℕ)
+    → IsLastMoment f set q end → IsFirstRevocation f set q revoked → revoked ≤ q.until → end + 1 ≡ revoked
 ends_revoked f set q end revoked last first le =
     let w = last.inside in
     let sooner : end < revoked = elim (cases_Bool (nat_le revoked end)) as (λ _. end < revoked) [
@@ -52,11 +58,14 @@ ends_revoked f set q end revoked last first le =
       | inl e ↦ omega (arith, sooner, leb-true revoked (end + 1) e)
       | inr e ↦
           let gap : end + 1 < revoked = leb-false revoked (end + 1) e in
-          let there = moved f set q end (end + 1) w (omega (arith, w.from)) (λ m is. omega (arith, one_completion f set q m w.complete is w.complete_is, w.behind)) (omega (arith, gap, le)) (λ r. absurd (omega (arith, gap, first.least (end + 1) r))) in
+          let there =
+          moved f set q end (end + 1) w (omega (arith, w.from)) (λ m is. omega (arith, one_completion f set q m w.complete is w.complete_is, w.behind))
+          (omega (arith, gap, le)) (λ r. absurd (omega (arith, gap, first.least (end + 1) r))) in
           absurd (omega (arith, last.greatest (end + 1) there))
     ]
 
-pub unbroken : (f : RosterFields Cmnd) (set : List Message) (q : RequestFields) (early moment late : ℕ) → InWindow f set q early → InWindow f set q late → early ≤ moment → moment ≤ late → InWindow f set q moment
+pub unbroken : (f : RosterFields Cmnd) (set : List Message) (q : RequestFields) (early moment late : ℕ)
+    → InWindow f set q early → InWindow f set q late → early ≤ moment → moment ≤ late → InWindow f set q moment
 unbroken f set q early moment late a b low high =
     moved f set q late moment b (omega (arith, a.from, low))
     (λ m is. omega (arith, one_completion f set q m a.complete is a.complete_is, a.behind, low)) (omega (arith, b.until, high))

@@ -73,7 +73,12 @@ rule_beyond : (r s : ArgRule) → IsArgRule r → IsArgRule s → rule_inside r 
 rule_beyond r Any hr hs e = absurd (both_ways _ e refl)
 rule_beyond Any Empty hr hs e = record { args = (97 ∷ []) ∷ []; are = ((refl, tt), omega arith); allowed = refl; not_allowed = refl }
 rule_beyond Empty Empty hr hs e = absurd (both_ways _ e refl)
-rule_beyond (Exactly a) Empty hr hs e = record { args = a; are = listed a hr; allowed = args_same a; not_allowed = ne_eqb (length a) 0 (λ z. omega (arith, z, hr.1)) }
+rule_beyond (Exactly a) Empty hr hs e = record {
+  args = a;
+  are = listed a hr;
+  allowed = args_same a;
+  not_allowed = ne_eqb (length a) 0 (λ z. omega (arith, z, hr.1));
+}
 rule_beyond Any (Exactly b) hr hs e = record { args = []; are = (tt, omega arith); allowed = refl; not_allowed = none_wanted b hs.1 }
 rule_beyond Empty (Exactly b) hr hs e = record { args = []; are = (tt, omega arith); allowed = refl; not_allowed = none_wanted b hs.1 }
 rule_beyond (Exactly a) (Exactly b) hr hs e = record { args = a; are = listed a hr; allowed = args_same a; not_allowed = e }
@@ -86,7 +91,8 @@ some_args (Exactly a) h = (a, listed a h, args_same a)
 pub bytes_same : (w : List ℕ) → bytes_eq w w ≡ true
 bytes_same w = (bytes_eq-Decides w w).1 refl
 
-abbrev reaches_with : (f : List ℕ) (r : ArgRule) → IsLawful (Path f r) → (args : List (List ℕ)) → AreFewArgs args → allows r args ≡ true → ReachesSomething (Path f r)
+abbrev reaches_with : (f : List ℕ) (r : ArgRule) → IsLawful (Path f r) → (args : List (List ℕ))
+    → AreFewArgs args → allows r args ≡ true → ReachesSomething (Path f r)
 reaches_with f r hf args are allowed = record {
   path = f;
   args = args;
@@ -103,9 +109,16 @@ abbrev pub all_reaches : ReachesSomething All
 all_reaches = record { path = 47 ∷ 97 ∷ []; args = []; few = omega arith; reached = record { path_is = refl; args_are = tt; matches_it = refl }; plain = refl }
 
 abbrev all_reaches_other : ReachesSomething All
-all_reaches_other = record { path = 47 ∷ 98 ∷ []; args = []; few = omega arith; reached = record { path_is = refl; args_are = tt; matches_it = refl }; plain = refl }
+all_reaches_other = record {
+  path = 47 ∷ 98 ∷ [];
+  args = [];
+  few = omega arith;
+  reached = record { path_is = refl; args_are = tt; matches_it = refl };
+  plain = refl;
+}
 
-pub beyond_file : (f g : List ℕ) (r s : ArgRule) → IsLawful (Path f r) → IsLawful (Path g s) → is_inside (Path f r) (Path g s) ≡ false → ReachesBeyond (Path f r) (Path g s)
+pub beyond_file : (f g : List ℕ) (r s : ArgRule) → IsLawful (Path f r) → IsLawful (Path g s)
+    → is_inside (Path f r) (Path g s) ≡ false → ReachesBeyond (Path f r) (Path g s)
 beyond_file f g r s hf hg e =
     elim (and_cases (bytes_eq f g) (rule_inside r s) e) as (λ _. ReachesBeyond (Path f r) (Path g s)) [
       | inl differ ↦ record { something = file_reaches f r hf; not_matched = and_left (bytes_eq f g) _ differ }

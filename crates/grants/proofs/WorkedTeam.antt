@@ -51,7 +51,8 @@ took Approve k v = record k { approvals = noted v.by v.at k.approvals }
 took Refuse k v = record k { refusals = noted v.by v.at k.refusals }
 took Revoke k v = record k { revocations = noted v.by v.at k.revocations }
 
-stands_took : (kind : VerdictKind) (set : List Message) (k : Kept) (v : VerdictFields) → v.kind ≡ kind → IsAbout k.request v → StandsFor set k → StandsFor (set ++ Verdict v ∷ []) (took kind k v)
+stands_took : (kind : VerdictKind) (set : List Message) (k : Kept) (v : VerdictFields) → v.kind ≡ kind
+    → IsAbout k.request v → StandsFor set k → StandsFor (set ++ Verdict v ∷ []) (took kind k v)
 stands_took Approve set k v is about s = approved set k v v.by v.at (noted v.by v.at k.approvals) about is refl refl refl s
 stands_took Refuse set k v is about s = refused set k v v.by v.at (noted v.by v.at k.refusals) about is refl refl refl s
 stands_took Revoke set k v is about s = revoked set k v v.by v.at (noted v.by v.at k.revocations) about is refl refl refl s
@@ -65,11 +66,13 @@ abbrev took_all : Kept → List VerdictFields → Kept
 took_all k [] = k
 took_all k (v ∷ vs) = took_all (took v.kind k v) vs
 
-all_about : (kind : VerdictKind) (k : Kept) (v : VerdictFields) (vs : List VerdictFields) → AllByRecursion (IsAbout k.request) vs → AllByRecursion (IsAbout (took kind k v).request) vs
+all_about : (kind : VerdictKind) (k : Kept) (v : VerdictFields) (vs : List VerdictFields)
+    → AllByRecursion (IsAbout k.request) vs → AllByRecursion (IsAbout (took kind k v).request) vs
 all_about kind k v [] all = tt
 all_about kind k v (w ∷ vs) all = (still_about kind k v w all.0, all_about kind k v vs all.1)
 
-stands_all : (set : List Message) (k : Kept) (vs : List VerdictFields) → AllByRecursion (IsAbout k.request) vs → StandsFor set k → StandsFor (set ++ map Verdict vs) (took_all k vs)
+stands_all : (set : List Message) (k : Kept) (vs : List VerdictFields) → AllByRecursion (IsAbout k.request) vs
+    → StandsFor set k → StandsFor (set ++ map Verdict vs) (took_all k vs)
 stands_all set k [] all s = subst (λ (t : List Message). StandsFor t k) (sym (append-nil set)) s
 stands_all set k (v ∷ vs) all s =
     subst (λ (t : List Message). StandsFor t (took_all (took v.kind k v) vs)) (append_assoc set (Verdict v ∷ []) (map Verdict vs))
@@ -85,12 +88,15 @@ team_admits = record {
   in_time = record { short = lit≤ tt; ahead = lit≤ tt; forward = lit≤ tt };
 }
 
-pub comes_to : (verdicts : List VerdictFields) (status : Status) → AllByRecursion (IsAbout asked) verdicts → (took_all (fresh asked) verdicts).request ≡ asked → (took_all (fresh asked) verdicts).is_disputed ≡ false → admitted_status team by_two (took_all (fresh asked) verdicts) ≡ status → ComesTo verdicts status
+pub comes_to : (verdicts : List VerdictFields) (status : Status) → AllByRecursion (IsAbout asked) verdicts → (took_all (fresh asked) verdicts).request ≡ asked
+    → (took_all (fresh asked) verdicts).is_disputed ≡ false → admitted_status team by_two (took_all (fresh asked) verdicts) ≡ status → ComesTo verdicts status
 comes_to verdicts status all same single e =
     let k = took_all (fresh asked) verdicts in
     let stands = stands_all (Request asked ∷ []) (fresh asked) verdicts all (stands_fresh asked) in
-    let is = admitted_is team by_two (Request asked ∷ map Verdict verdicts) k (subst (λ (q : RequestFields). ceiling_at team q.ceiling ≡ Some by_two) (sym same) refl) (lit≤ tt) (subst (AdmitsRequest team) (sym same) team_admits) single stands in
-    subst (λ (x : Status). ComesTo verdicts x) e (subst (λ (q : RequestFields). IsStatus team (Request asked ∷ map Verdict verdicts) (name_of q) (admitted_status team by_two k)) same is)
+    let is = admitted_is team by_two (Request asked ∷ map Verdict verdicts) k (subst (λ (q : RequestFields). ceiling_at team q.ceiling ≡ Some by_two)
+    (sym same) refl) (lit≤ tt) (subst (AdmitsRequest team) (sym same) team_admits) single stands in
+    subst (λ (x : Status). ComesTo verdicts x) e
+    (subst (λ (q : RequestFields). IsStatus team (Request asked ∷ map Verdict verdicts) (name_of q) (admitted_status team by_two k)) same is)
 
 rota_admits : AdmitsRequest rota for_the_second
 rota_admits = record {
@@ -100,13 +106,18 @@ rota_admits = record {
   in_time = record { short = lit≤ tt; ahead = lit≤ tt; forward = lit≤ tt };
 }
 
-pub comes_to_by_days : (verdicts : List VerdictFields) (status : Status) → AllByRecursion (IsAbout for_the_second) verdicts → (took_all (fresh for_the_second) verdicts).request ≡ for_the_second → (took_all (fresh for_the_second) verdicts).is_disputed ≡ false → admitted_status rota by_two (took_all (fresh for_the_second) verdicts) ≡ status → ComesToByDays verdicts status
+pub comes_to_by_days : (verdicts : List VerdictFields) (status : Status) → AllByRecursion (IsAbout for_the_second) verdicts
+    → (took_all (fresh for_the_second) verdicts).request ≡ for_the_second → (took_all (fresh for_the_second) verdicts).is_disputed ≡ false
+    → admitted_status rota by_two (took_all (fresh for_the_second) verdicts) ≡ status → ComesToByDays verdicts status
 comes_to_by_days verdicts status all same single e =
     let q = for_the_second in
     let k = took_all (fresh q) verdicts in
     let stands = stands_all (Request q ∷ []) (fresh q) verdicts all (stands_fresh q) in
-    let is = admitted_is rota by_two (Request q ∷ map Verdict verdicts) k (subst (λ (p : RequestFields). ceiling_at rota p.ceiling ≡ Some by_two) (sym same) refl) (lit≤ tt) (subst (AdmitsRequest rota) (sym same) rota_admits) single stands in
-    subst (λ (x : Status). ComesToByDays verdicts x) e (subst (λ (p : RequestFields). IsStatus rota (Request q ∷ map Verdict verdicts) (name_of p) (admitted_status rota by_two k)) same is)
+    let is =
+    admitted_is rota by_two (Request q ∷ map Verdict verdicts) k (subst (λ (p : RequestFields). ceiling_at rota p.ceiling ≡ Some by_two) (sym same) refl)
+    (lit≤ tt) (subst (AdmitsRequest rota) (sym same) rota_admits) single stands in
+    subst (λ (x : Status). ComesToByDays verdicts x) e
+    (subst (λ (p : RequestFields). IsStatus rota (Request q ∷ map Verdict verdicts) (name_of p) (admitted_status rota by_two k)) same is)
 
 -- ---- disputed and lapsed
 
@@ -118,7 +129,8 @@ team_disputed = record {
   first = asked;
   second = asked_from 32_400 36_000;
   first_asked = Contains-head (Request asked) (Request (asked_from 32_400 36_000) ∷ []);
-  second_asked = Contains-behind (Request asked) (Request (asked_from 32_400 36_000) ∷ []) (Request (asked_from 32_400 36_000)) (Contains-head (Request (asked_from 32_400 36_000)) []);
+  second_asked = Contains-behind (Request asked) (Request (asked_from 32_400 36_000) ∷ []) (Request (asked_from 32_400 36_000))
+      (Contains-head (Request (asked_from 32_400 36_000)) []);
   first_named = (refl, refl);
   second_named = (refl, refl);
   differ = λ e. let same : ◌≡◌ {A = ℕ} 39_600 36_000 = one_until asked (asked_from 32_400 36_000) e in absurd (omega (arith, same));
@@ -129,7 +141,8 @@ one_ceiling c d e = cc
 
 too_long : ¬ AdmitsRequest shorter asked
 too_long = λ h.
-    let longest : ◌≡◌ {A = ℕ} 7199 h.ceiling.longest = ap (λ (c : CeilingFields Cmnd). c.longest) (one_ceiling (record by_two { longest = 7199 }) h.ceiling h.may_ask.ceiling_is) in
+    let longest : ◌≡◌ {A = ℕ} 7199 h.ceiling.longest =
+    ap (λ (c : CeilingFields Cmnd). c.longest) (one_ceiling (record by_two { longest = 7199 }) h.ceiling h.may_ask.ceiling_is) in
     let short : 39_600 ≤ 32_400 + h.ceiling.longest = h.in_time.short in
     absurd (omega (arith, longest, short))
 

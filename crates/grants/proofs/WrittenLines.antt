@@ -1,5 +1,6 @@
 -- The lines of a grant's rules, from the pieces that are written.
-use Rattle.std.proofs.Common.{◌≡◌, ℕ, zero, suc, ◌+◌, ◌<◌, ◌≤◌, ◌&&◌, nat_le, Bool, true, false, cond, List, [], ◌∷◌, ◌++◌, length, get_or, take, map, filter, Option, Some, None, append_assoc, inl, inr, refl, sym, ap, ◌∙◌, subst, arith}
+use Rattle.std.proofs.Common.{◌≡◌, ℕ, zero, suc, ◌+◌, ◌<◌, ◌≤◌, ◌&&◌, nat_le, Bool, true, false, cond, List, [], ◌∷◌, ◌++◌, length}
+use Rattle.std.proofs.Common.{get_or, take, map, filter, Option, Some, None, append_assoc, inl, inr, refl, sym, ap, ◌∙◌, subst, arith}
 use Rattle.std.specs.Prelude.{codes}
 use Rattle.std.specs.List.{AllByRecursion}
 use Rattle.std.proofs.lemmas.Bool.{cases_Bool, cond_both, leb-false, leb-true, true≢false}
@@ -27,25 +28,33 @@ use Rattle.grants.proofs.RuleLemmas.{ends_in_time, request_grants}
 
 -- ---- one line
 
-regroup : (old by s1 host s2 runas s3 nb eq first s4 na last cmnd nl : List ℕ) → (((old ++ ((((by ++ s1) ++ host) ++ s2) ++ runas)) ++ (((((s3 ++ (nb ++ eq)) ++ first) ++ (s4 ++ (na ++ eq))) ++ last) ++ s4)) ++ cmnd) ++ nl ≡ old ++ (((((((by ++ []) ++ s1) ++ (host ++ [])) ++ s2) ++ (runas ++ [])) ++ s3) ++ ((((((nb ++ eq) ++ first) ++ s4) ++ (((na ++ eq) ++ last) ++ s4)) ++ []) ++ cmnd) ++ nl)
+regroup : (old by s1 host s2 runas s3 nb eq first s4 na last cmnd nl : List ℕ)
+    → (((old ++ ((((by ++ s1) ++ host) ++ s2) ++ runas)) ++ (((((s3 ++ (nb ++ eq)) ++ first) ++ (s4 ++ (na ++ eq))) ++ last) ++ s4)) ++ cmnd) ++ nl
+    ≡ old ++ (((((((by ++ []) ++ s1) ++ (host ++ [])) ++ s2) ++ (runas ++ [])) ++ s3)
+    ++ ((((((nb ++ eq) ++ first) ++ s4) ++ (((na ++ eq) ++ last) ++ s4)) ++ []) ++ cmnd) ++ nl)
 regroup old by s1 host s2 runas s3 nb eq first s4 na last cmnd nl = simp (append-nil, append_assoc)
 
 -- what is written of a command is the line of its rule
-pub line_is : (old host : List ℕ) (q : RequestFields) (first last : ℕ) (cmnd : Cmnd) → (((old ++ who host q) ++ when first last) ++ cmnd_text cmnd) ++ codes "\n" ≡ old ++ line_text (entries.Rule (grant_rule host q first last cmnd))
+pub line_is : (old host : List ℕ) (q : RequestFields) (first last : ℕ) (cmnd : Cmnd)
+    → (((old ++ who host q) ++ when first last) ++ cmnd_text cmnd) ++ codes "\n" ≡ old ++ line_text (entries.Rule (grant_rule host q first last cmnd))
 line_is old host q first last cmnd =
-    regroup old q.by (codes " ") host (codes " = (") q.runas (codes ") ") (codes "NOTBEFORE") (codes "=") (stamp first) (codes " ") (codes "NOTAFTER") (stamp last) (cmnd_text cmnd) (codes "\n")
+    regroup old q.by (codes " ") host (codes " = (") q.runas (codes ") ") (codes "NOTBEFORE")
+    (codes "=") (stamp first) (codes " ") (codes "NOTAFTER") (stamp last) (cmnd_text cmnd) (codes "\n")
 
 -- ---- the lines of all commands
 
-lines_suc : (rule : Cmnd → Rule) (cmnds : List Cmnd) (i : ℕ) (d : Cmnd) → i < length cmnds → lines_text (map rule (take (suc i) cmnds)) ≡ lines_text (map rule (take i cmnds)) ++ line_text (entries.Rule (rule (get_or cmnds i d)))
+lines_suc : (rule : Cmnd → Rule) (cmnds : List Cmnd) (i : ℕ) (d : Cmnd) → i < length cmnds
+    → lines_text (map rule (take (suc i) cmnds)) ≡ lines_text (map rule (take i cmnds)) ++ line_text (entries.Rule (rule (get_or cmnds i d)))
 lines_suc rule [] i d h = absurd (omega arith)
 lines_suc rule (c ∷ cmnds) zero d h = append-nil (line_text (entries.Rule (rule c)))
 lines_suc rule (c ∷ cmnds) (suc i) d h =
     let line = line_text (entries.Rule (rule c)) in
-    ap (λ (t : List ℕ). line ++ t) (lines_suc rule cmnds i d (omega arith)) ∙ sym (append_assoc line (lines_text (map rule (take i cmnds))) (line_text (entries.Rule (rule (get_or cmnds i d)))))
+    ap (λ (t : List ℕ). line ++ t) (lines_suc rule cmnds i d (omega arith))
+    ∙ sym (append_assoc line (lines_text (map rule (take i cmnds))) (line_text (entries.Rule (rule (get_or cmnds i d)))))
 
 -- one more behind those so far
-pub lines_more : (rule : Cmnd → Rule) (cmnds : List Cmnd) (i : ℕ) (d : Cmnd) (old : List ℕ) → i < length cmnds → (old ++ lines_text (map rule (take i cmnds))) ++ line_text (entries.Rule (rule (get_or cmnds i d))) ≡ old ++ lines_text (map rule (take (i + 1) cmnds))
+pub lines_more : (rule : Cmnd → Rule) (cmnds : List Cmnd) (i : ℕ) (d : Cmnd) (old : List ℕ) → i < length cmnds
+    → (old ++ lines_text (map rule (take i cmnds))) ++ line_text (entries.Rule (rule (get_or cmnds i d))) ≡ old ++ lines_text (map rule (take (i + 1) cmnds))
 lines_more rule cmnds i d old h =
     let one : i + 1 ≡ suc i = omega arith in
     rw (one, lines_suc rule cmnds i d h) (append_assoc old (lines_text (map rule (take i cmnds))) (line_text (entries.Rule (rule (get_or cmnds i d)))))
@@ -134,8 +143,10 @@ module _ (host : List ℕ) (q : RequestFields) (after : Option ℕ) where
 pub none_added : (text : List ℕ) → AreAdded [] text text 0
 none_added text = record { text_is = sym (append-nil text); count_is = refl }
 
-module _ (f : RosterFields Cmnd) (set : List Message) (k : Kept) (stands : StandsFor set k) (is : IsRequest k.request) (host : List ℕ) (after : Option ℕ) (status : Status) (comes : IsStatus f set (name_of k.request) status) where
-  pub written : (old new : List ℕ) (count : ℕ) → AreAdded (rules_left after host k.request status) old new count → AreWritten f set k.request host after old new count
+module _ (f : RosterFields Cmnd) (set : List Message) (k : Kept) (stands : StandsFor set k) (is : IsRequest k.request)
+    (host : List ℕ) (after : Option ℕ) (status : Status) (comes : IsStatus f set (name_of k.request) status) where
+  pub written : (old new : List ℕ) (count : ℕ) → AreAdded (rules_left after host k.request status) old new count
+      → AreWritten f set k.request host after old new count
   written old new count added = record {
     status = status;
     status_is = comes;

@@ -1,4 +1,5 @@
--- Which messages a roster admits, and why it denies the others (least privilege, NIST SP 800-53 AC-6).
+-- Which messages a roster admits, and why it denies the others (least privilege, NIST SP 800-53
+-- AC-6).
 use Rattle.std.specs.Prelude.{◌≡◌, ℕ, ◌+◌, ◌<◌, ◌≤◌, ◌⊎◌, true, false, List, Contains, Some, None}
 use Rattle.sudo_words.specs.declared.cmnd.Cmnd.{Cmnd}
 use Rattle.messages.specs.Fields.{RequestFields, VerdictFields}
@@ -9,7 +10,10 @@ use Rattle.roster.specs.Relations.{ceiling_at, has_person, holds}
 use Rattle.grants.specs.Reach.{LiesInside}
 use Rattle.grants.specs.Denials.{number}
 use Rattle.grants.specs.declared.denial.Denial.{Denial}
-use Rattle.grants.specs.declared.denial.Denial.TheVariants.{UnknownPerson, UnknownCeiling, NotAsker, HostOutside, RunasOutside, CommandOutside, WindowTooLong, WindowBackwards}
+use Rattle.grants.specs.declared.denial.Denial.TheVariants.{UnknownPerson, UnknownCeiling}
+use Rattle.grants.specs.declared.denial.Denial.TheVariants.{NotAsker, HostOutside}
+use Rattle.grants.specs.declared.denial.Denial.TheVariants.{RunasOutside, CommandOutside}
+use Rattle.grants.specs.declared.denial.Denial.TheVariants.{WindowTooLong, WindowBackwards}
 
 -- ---- what a roster admits
 
@@ -29,20 +33,24 @@ pub record IsInTime (r : RequestFields) (c : CeilingFields Cmnd) : Type 0 where
   pub ahead : r.at ≤ r.from
   pub forward : r.from ≤ r.until
 
--- The request's ceiling is this one, and who asks is listed and holds, as the request is made, the duty that it wants of whoever asks.
-pub record MayAskUnder (f : RosterFields Cmnd) (r : RequestFields) (c : CeilingFields Cmnd) : Type 0 where
+-- The request's ceiling is this one, and who asks is listed and holds, as the request is made, the
+-- duty that it wants of whoever asks.
+pub record MayAskUnder (f : RosterFields Cmnd)
+    (r : RequestFields) (c : CeilingFields Cmnd) : Type 0 where
   pub listed : has_person f r.by ≡ true
   pub ceiling_is : ceiling_at f r.ceiling ≡ Some c
   pub may_ask : holds f r.by c.ask r.at ≡ true
 
--- The roster admits the request: who asks may ask under a ceiling that holds all that is asked for, for so long.
+-- The roster admits the request: who asks may ask under a ceiling that holds all that is asked for,
+-- for so long.
 pub record AdmitsRequest (f : RosterFields Cmnd) (r : RequestFields) : Type 0 where
   pub ceiling : CeilingFields Cmnd
   pub may_ask : MayAskUnder f r ceiling
   pub within : IsWithin r ceiling
   pub in_time : IsInTime r ceiling
 
--- The roster admits the verdict: it lists who gives it, and who asked. Whether it counts is for the request to say.
+-- The roster admits the verdict: it lists who gives it, and who asked. Whether it counts is for the
+-- request to say.
 pub record AdmitsVerdict (f : RosterFields Cmnd) (v : VerdictFields) : Type 0 where
   pub listed : has_person f v.by ≡ true
   pub asker_listed : has_person f v.of ≡ true

@@ -12,5 +12,5 @@ use Rattle.grants.specs.Verdicts.{counts}
 -- The verdict counts under the ceiling of no request of the set that it is about.
 abbrev pub NeverCounts : RosterFields Cmnd → List Message → VerdictFields → Type 0
 NeverCounts f messages v =
-    (q : RequestFields) (c : CeilingFields Cmnd) → Contains messages (Request q) → IsAbout q v → ceiling_at f q.ceiling ≡ Some c
-    → counts f c v ≡ false
+    (q : RequestFields) (c : CeilingFields Cmnd) → Contains messages (Request q)
+    → IsAbout q v → ceiling_at f q.ceiling ≡ Some c → counts f c v ≡ false

@@ -1,7 +1,10 @@
 -- Denials: their codes and names.
 use Rattle.std.specs.Prelude.{ℕ, List, codes}
 use Rattle.grants.specs.declared.denial.Denial.{Denial}
-use Rattle.grants.specs.declared.denial.Denial.TheVariants.{UnknownPerson, UnknownCeiling, NotAsker, HostOutside, RunasOutside, CommandOutside, WindowTooLong, WindowBackwards}
+use Rattle.grants.specs.declared.denial.Denial.TheVariants.{UnknownPerson, UnknownCeiling}
+use Rattle.grants.specs.declared.denial.Denial.TheVariants.{NotAsker, HostOutside}
+use Rattle.grants.specs.declared.denial.Denial.TheVariants.{RunasOutside, CommandOutside}
+use Rattle.grants.specs.declared.denial.Denial.TheVariants.{WindowTooLong, WindowBackwards}
 
 -- the number in a denial's code
 abbrev pub number : Denial → ℕ

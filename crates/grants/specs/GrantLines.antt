@@ -1,5 +1,7 @@
--- The lines that a request gives a host, written after a text: those of its rules, or of those that have not ended before a moment.
-use Rattle.std.specs.Prelude.{◌≡◌, ℕ, Bool, true, List, ◌++◌, Option, Some, None, nat_le, filter, length, map}
+-- The lines that a request gives a host, written after a text: those of its rules, or of those that
+-- have not ended before a moment.
+use Rattle.std.specs.Prelude.{◌≡◌, ℕ, Bool, true, List, ◌++◌, Option}
+use Rattle.std.specs.Prelude.{Some, None, nat_le, filter, length, map}
 use Rattle.std.specs.List.{AllByRecursion}
 use Rattle.sudo_words.specs.declared.cmnd.Cmnd.{Cmnd}
 use Rattle.sudo_policy.specs.declared.entry.Entry.TheVariants as entries
@@ -20,7 +22,8 @@ abbrev pub lasts_until : Option ℕ → ℕ → Bool
 lasts_until None moment = true
 lasts_until (Some last) moment = nat_le moment last
 
--- whether the rule's line is left: each is without a moment, and with one each that ends then or later
+-- whether the rule's line is left: each is without a moment, and with one each that ends then or
+-- later
 abbrev pub stays : Option ℕ → Rule → Bool
 stays None rule = true
 stays (Some moment) rule = lasts_until rule.not_after moment
@@ -36,8 +39,10 @@ pub record AreAdded (rules : List Rule) (old new : List ℕ) (count : ℕ) : Typ
   pub text_is : new ≡ old ++ canon (map entries.Rule rules)
   pub count_is : count ≡ length rules
 
--- The rules that are left, of what the set's messages come to: each is a rule of a grant, and stands as a line after the text.
-pub record AreWritten (f : RosterFields Cmnd) (messages : List Message) (q : RequestFields) (host : List ℕ) (after : Option ℕ) (old new : List ℕ) (count : ℕ) : Type 0 where
+-- The rules that are left, of what the set's messages come to: each is a rule of a grant, and
+-- stands as a line after the text.
+pub record AreWritten (f : RosterFields Cmnd) (messages : List Message) (q : RequestFields)
+    (host : List ℕ) (after : Option ℕ) (old new : List ℕ) (count : ℕ) : Type 0 where
   pub status : Status
   pub status_is : IsStatus f messages (name_of q) status
   pub grants : AllByRecursion IsGrantRule (rules_left after host q status)

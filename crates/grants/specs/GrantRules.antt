@@ -1,5 +1,7 @@
--- The rules of a grant: one for each command of a request that is in force, on a host that it names.
-use Rattle.std.specs.Prelude.{◌≡◌, ℕ, Bool, true, false, if◌then◌else◌, List, [], ◌∷◌, Contains, Option, Some, IfSome, map}
+-- The rules of a grant: one for each command of a request that is in force, on a host that it
+-- names.
+use Rattle.std.specs.Prelude.{◌≡◌, ℕ, Bool, true, false, if◌then◌else◌, List}
+use Rattle.std.specs.Prelude.{[], ◌∷◌, Contains, Option, Some, IfSome, map}
 use Rattle.std.specs.List.{list_any}
 use Rattle.std.specs.Str.{bytes_eq}
 use Rattle.sudo_words.specs.Command.{IsLawful}
@@ -16,14 +18,17 @@ use Rattle.messages.specs.declared.message.Message.{Message}
 use Rattle.roster.specs.Fields.{RosterFields}
 use Rattle.grants.specs.Statuses.{InWindow, IsFirstMoment, IsLastMoment, IsStatus}
 use Rattle.grants.specs.declared.outcome.Status.{Status}
-use Rattle.grants.specs.declared.outcome.Status.TheVariants.{Disputed, Lapsed, Refused, Waiting, Void, Granted}
+use Rattle.grants.specs.declared.outcome.Status.TheVariants.{Disputed, Lapsed, Refused}
+use Rattle.grants.specs.declared.outcome.Status.TheVariants.{Waiting, Void, Granted}
 
 -- a list of one item, which is not negated
 abbrev pub one : {X : Type 0} → X → List (Signed X)
 one item = record { negated = false; item = item } ∷ []
 
--- One user may run one command on one host as one target: no alias, and nothing negated (sudoers(5), "User specification").
-abbrev pub plain_rule : (user host target : List ℕ) → (not_before not_after : Option ℕ) → Bool → Cmnd → Rule
+-- One user may run one command on one host as one target: no alias, and nothing negated
+-- (sudoers(5), "User specification").
+abbrev pub plain_rule : (user host target : List ℕ)
+    → (not_before not_after : Option ℕ) → Bool → Cmnd → Rule
 plain_rule user host target not_before not_after nopasswd cmnd = record {
   users = one (items.Name user);
   hosts = one (items.Name host);
@@ -55,11 +60,13 @@ pub record IsGrantRule (r : Rule) : Type 0 where
 abbrev pub grant_rule : List ℕ → RequestFields → (first last : ℕ) → Cmnd → Rule
 grant_rule host q first last cmnd = plain_rule q.by host q.runas (Some first) (Some last) false cmnd
 
--- The rules that a request gives a host: where it names the host and its window is not empty, one for each of its commands, in
--- its order, with the window's first and last moment as dates. None elsewhere.
-pub record AreRules (f : RosterFields Cmnd) (messages : List Message) (q : RequestFields) (host : List ℕ) (rules : List Rule) : Type 0 where
-  pub granted : (first last : ℕ) → Contains q.hosts host → IsFirstMoment f messages q first → IsLastMoment f messages q last
-      → rules ≡ map (grant_rule host q first last) q.cmnds
+-- The rules that a request gives a host: where it names the host and its window is not empty, one
+-- for each of its commands, in its order, with the window's first and last moment as dates. None
+-- elsewhere.
+pub record AreRules (f : RosterFields Cmnd) (messages : List Message)
+    (q : RequestFields) (host : List ℕ) (rules : List Rule) : Type 0 where
+  pub granted : (first last : ℕ) → Contains q.hosts host → IsFirstMoment f messages q first
+      → IsLastMoment f messages q last → rules ≡ map (grant_rule host q first last) q.cmnds
   pub other_host : ¬ Contains q.hosts host → rules ≡ []
   pub never : ((moment : ℕ) → ¬ InWindow f messages q moment) → rules ≡ []
 
@@ -72,10 +79,12 @@ rules_for host q Refused = []
 rules_for host q Waiting = []
 rules_for host q Void = []
 rules_for host q (Granted w) =
-    if list_any (λ h. bytes_eq h host) q.hosts then map (grant_rule host q w.start w.end) q.cmnds else []
+    if list_any (λ h. bytes_eq h host) q.hosts then map
+    (grant_rule host q w.start w.end) q.cmnds else []
 
 -- the rules of what the set's messages come to
-pub record AreGiven (f : RosterFields Cmnd) (messages : List Message) (q : RequestFields) (host : List ℕ) (rules : List Rule) : Type 0 where
+pub record AreGiven (f : RosterFields Cmnd) (messages : List Message)
+    (q : RequestFields) (host : List ℕ) (rules : List Rule) : Type 0 where
   pub status : Status
   pub status_is : IsStatus f messages (name_of q) status
   pub rules_are : rules ≡ rules_for host q status

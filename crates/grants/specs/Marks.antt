@@ -12,13 +12,22 @@ use Rattle.grants.specs.declared.marks.Mark.{Mark}
 
 -- the verdict that a mark of the kind keeps
 abbrev pub verdict_of : RequestFields → VerdictKind → Mark → VerdictFields
-verdict_of q kind mark = record { at = mark.at; by = mark.person; kind = kind; no = q.no; of = q.by }
+verdict_of q kind mark = record {
+  at = mark.at;
+  by = mark.person;
+  kind = kind;
+  no = q.no;
+  of = q.by;
+}
 
 -- by person in byte order, then by moment
 abbrev pub mark_cmp : Mark → Mark → Ordering
 mark_cmp a b = ordering_then (slice_cmp nat_cmp a.person b.person) (nat_cmp a.at b.at)
 
--- The marks are the set's verdicts of the kind on the request, whether they count or not: each of them, and once.
-pub record Keep (messages : List Message) (q : RequestFields) (kind : VerdictKind) (marks : List Mark) : Type 0 where
-  pub each : (mark : Mark) → Contains marks mark ↔ Contains messages (Verdict (verdict_of q kind mark))
+-- The marks are the set's verdicts of the kind on the request, whether they count or not: each of
+-- them, and once.
+pub record Keep (messages : List Message)
+    (q : RequestFields) (kind : VerdictKind) (marks : List Mark) : Type 0 where
+  pub each : (mark : Mark)
+      → Contains marks mark ↔ Contains messages (Verdict (verdict_of q kind mark))
   pub once : IsStrictlySortedBy mark_cmp marks

@@ -9,7 +9,8 @@ use Rattle.sudo_words.specs.declared.cmnd.Cmnd.{Cmnd}
 abbrev pub AreArgs : List (List ℕ) → Type 0
 AreArgs args = AllByRecursion (λ arg. is_arg arg ≡ true) args
 
--- The command reaches a path with arguments: somebody may run them, and the command matches them (sudoers(5), "Command arguments").
+-- The command reaches a path with arguments: somebody may run them, and the command matches them
+-- (sudoers(5), "Command arguments").
 pub record Reaches (cmnd : Cmnd) (path : List ℕ) (args : List (List ℕ)) : Type 0 where
   pub path_is : is_file_path path ≡ true
   pub args_are : AreArgs args
@@ -17,9 +18,11 @@ pub record Reaches (cmnd : Cmnd) (path : List ℕ) (args : List (List ℕ)) : Ty
 
 -- The one lies inside the other: whatever the one reaches, the other reaches too.
 abbrev pub LiesInside : (inner outer : Cmnd) → Type 0
-LiesInside inner outer = (path : List ℕ) (args : List (List ℕ)) → Reaches inner path args → Reaches outer path args
+LiesInside inner outer =
+    (path : List ℕ) (args : List (List ℕ)) → Reaches inner path args → Reaches outer path args
 
--- The command reaches something, with at most 64 arguments, as many as `desk decide` takes; and sudo does not take its path for its own command.
+-- The command reaches something, with at most 64 arguments, as many as `desk decide` takes; and
+-- sudo does not take its path for its own command.
 pub record ReachesSomething (cmnd : Cmnd) : Type 0 where
   pub path : List ℕ
   pub args : List (List ℕ)

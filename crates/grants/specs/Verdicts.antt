@@ -1,5 +1,5 @@
--- Which verdicts on a request count, and what they come to. The set of messages is given as a list, of which each
--- definition asks only which messages it contains.
+-- Which verdicts on a request count, and what they come to. The set of messages is given as a list,
+-- of which each definition asks only which messages it contains.
 use Rattle.std.specs.Prelude.{◌≡◌, ◌≢◌, ℕ, zero, suc, ◌≤◌, Bool, true, List, Contains, Some}
 use Rattle.sudo_words.specs.declared.cmnd.Cmnd.{Cmnd}
 use Rattle.messages.specs.Fields.{RequestFields, VerdictFields}
@@ -31,19 +31,23 @@ pub record IsDisputed (messages : List Message) (name : RequestName) : Type 0 wh
 
 -- ---- verdicts that count
 
--- Who may give which verdict at a moment, on what the asker asked for (NIST SP 800-53 AC-5): people approve and refuse who are
--- eligible then; the asker, and whoever holds the approving duty then, revoke.
-abbrev pub may_give : RosterFields Cmnd → CeilingFields Cmnd → VerdictKind → (person asker : List ℕ) → (at : ℕ) → Bool
+-- Who may give which verdict at a moment, on what the asker asked for (NIST SP 800-53 AC-5): people
+-- approve and refuse who are eligible then; the asker, and whoever holds the approving duty then,
+-- revoke.
+abbrev pub may_give : RosterFields Cmnd → CeilingFields Cmnd
+    → VerdictKind → (person asker : List ℕ) → (at : ℕ) → Bool
 may_give f c Approve person asker at = eligible f person asker c at
 may_give f c Refuse person asker at = eligible f person asker c at
 may_give f c Revoke person asker at = may_revoke f person asker c at
 
--- Under the ceiling the verdict counts: its author might give it at its own moment, whatever the author may do before or after.
+-- Under the ceiling the verdict counts: its author might give it at its own moment, whatever the
+-- author may do before or after.
 abbrev pub counts : RosterFields Cmnd → CeilingFields Cmnd → VerdictFields → Bool
 counts f c v = may_give f c v.kind v.by v.of v.at
 
 -- The set has this verdict of the kind on the request, and it counts under the request's ceiling.
-pub record IsGiven (f : RosterFields Cmnd) (messages : List Message) (q : RequestFields) (kind : VerdictKind) (v : VerdictFields) : Type 0 where
+pub record IsGiven (f : RosterFields Cmnd) (messages : List Message)
+    (q : RequestFields) (kind : VerdictKind) (v : VerdictFields) : Type 0 where
   pub given : Contains messages (Verdict v)
   pub about : IsAbout q v
   pub kind_is : v.kind ≡ kind
@@ -52,7 +56,8 @@ pub record IsGiven (f : RosterFields Cmnd) (messages : List Message) (q : Reques
   pub counts_is : counts f ceiling v ≡ true
 
 -- By this moment the person has given one: it counts by what the person might do as it was given.
-pub record HasGiven (f : RosterFields Cmnd) (messages : List Message) (q : RequestFields) (kind : VerdictKind) (moment : ℕ) (person : List ℕ) : Type 0 where
+pub record HasGiven (f : RosterFields Cmnd) (messages : List Message)
+    (q : RequestFields) (kind : VerdictKind) (moment : ℕ) (person : List ℕ) : Type 0 where
   pub verdict : VerdictFields
   pub given : IsGiven f messages q kind verdict
   pub by_is : verdict.by ≡ person
@@ -66,26 +71,31 @@ AtLeast zero P = Unit {0}
 AtLeast (suc n) P = (person : List ℕ) × P person × AtLeast n (λ other. P other × (other ≢ person))
 
 -- By this moment at least as many different people as the ceiling needs have approved.
-pub record ApprovedBy (f : RosterFields Cmnd) (messages : List Message) (q : RequestFields) (moment : ℕ) : Type 0 where
+pub record ApprovedBy (f : RosterFields Cmnd) (messages : List Message)
+    (q : RequestFields) (moment : ℕ) : Type 0 where
   pub ceiling : CeilingFields Cmnd
   pub ceiling_is : ceiling_at f q.ceiling ≡ Some ceiling
   pub people : AtLeast ceiling.needs (HasGiven f messages q Approve moment)
 
 -- The request is complete at the least such moment.
-pub record IsComplete (f : RosterFields Cmnd) (messages : List Message) (q : RequestFields) (moment : ℕ) : Type 0 where
+pub record IsComplete (f : RosterFields Cmnd) (messages : List Message)
+    (q : RequestFields) (moment : ℕ) : Type 0 where
   pub approved : ApprovedBy f messages q moment
   pub least : (other : ℕ) → ApprovedBy f messages q other → moment ≤ other
 
 -- ---- refusals and revocations
 
--- The set has a refusal that counts and does not come after the completion, or any that counts where there is none.
-pub record IsRefused (f : RosterFields Cmnd) (messages : List Message) (q : RequestFields) : Type 0 where
+-- The set has a refusal that counts and does not come after the completion, or any that counts
+-- where there is none.
+pub record IsRefused (f : RosterFields Cmnd)
+    (messages : List Message) (q : RequestFields) : Type 0 where
   pub verdict : VerdictFields
   pub given : IsGiven f messages q Refuse verdict
   pub in_time : (moment : ℕ) → IsComplete f messages q moment → verdict.at ≤ moment
 
 -- By this moment a revocation that counts has been given.
-pub record RevokedBy (f : RosterFields Cmnd) (messages : List Message) (q : RequestFields) (moment : ℕ) : Type 0 where
+pub record RevokedBy (f : RosterFields Cmnd) (messages : List Message)
+    (q : RequestFields) (moment : ℕ) : Type 0 where
   pub verdict : VerdictFields
   pub given : IsGiven f messages q Revoke verdict
   pub by_then : verdict.at ≤ moment

@@ -18,7 +18,8 @@ file_alone path = Path path Empty
 abbrev pub file_with : List ℕ → List (List ℕ) → Cmnd
 file_with path args = Path path (Exactly args)
 
--- whoever operates may ask for `/bin/ls` and all of `/usr/bin/` as root, on either host, for two hours
+-- whoever operates may ask for `/bin/ls` and all of `/usr/bin/` as root, on either host, for two
+-- hours
 abbrev pub db_root : CeilingFields Cmnd
 db_root = record {
   ask = codes "operate";
@@ -37,7 +38,8 @@ site = record {
   hosts = codes "db1" ∷ codes "db2" ∷ codes "web" ∷ [];
   duties = codes "approve" ∷ codes "operate" ∷ [];
   conflicts = [];
-  people = (codes "ann", (codes "operate", Always) ∷ []) ∷ (codes "bob", (codes "approve", Always) ∷ []) ∷ [];
+  people = (codes "ann", (codes "operate", Always) ∷ [])
+      ∷ (codes "bob", (codes "approve", Always) ∷ []) ∷ [];
   ceilings = (codes "db-root", db_root) ∷ [];
 }
 
@@ -55,7 +57,8 @@ asked = record {
   until = 39_600;
 }
 
--- the same by somebody else, under another ceiling, on another host, as another target, for another command, in another window
+-- the same by somebody else, under another ceiling, on another host, as another target, for another
+-- command, in another window
 abbrev pub asked_by : List ℕ → RequestFields
 asked_by person = record asked { by = person }
 

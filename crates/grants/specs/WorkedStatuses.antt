@@ -1,4 +1,5 @@
--- Worked cases: a small team, of whom two have to approve, and what its messages come to. The moments are of 1 January 1970.
+-- Worked cases: a small team, of whom two have to approve, and what its messages come to. The
+-- moments are of 1 January 1970.
 use Rattle.std.specs.Prelude.{ℕ, List, [], ◌∷◌, map, codes}
 use Rattle.sudo_words.specs.declared.cmnd.Cmnd.{Cmnd}
 use Rattle.messages.specs.Fields.{RequestFields, VerdictFields}
@@ -56,7 +57,8 @@ both_and more = approves (codes "bob") 30_600 ∷ approves (codes "dave") 33_000
 
 -- what ann's request and these verdicts come to
 abbrev pub ComesTo : List VerdictFields → Status → Type 0
-ComesTo verdicts status = IsStatus team (Request asked ∷ map Verdict verdicts) (name_of asked) status
+ComesTo verdicts status =
+    IsStatus team (Request asked ∷ map Verdict verdicts) (name_of asked) status
 
 -- they come to a grant of these moments
 abbrev pub Gives : List VerdictFields → (start end : ℕ) → Type 0
@@ -64,7 +66,8 @@ Gives verdicts start end = ComesTo verdicts (Granted (record { start = start; en
 
 -- ---- duties of some days
 
--- The same team by days: bob approves from 2 January on, and carol, who always approves, audits up to 1 January.
+-- The same team by days: bob approves from 2 January on, and carol, who always approves, audits up
+-- to 1 January.
 abbrev pub rota : RosterFields Cmnd
 rota = record team {
   people =
@@ -81,10 +84,12 @@ for_the_second = asked_from 118_800 126_000
 
 -- what that and these verdicts come to
 abbrev pub ComesToByDays : List VerdictFields → Status → Type 0
-ComesToByDays verdicts status = IsStatus rota (Request for_the_second ∷ map Verdict verdicts) (name_of for_the_second) status
+ComesToByDays verdicts status =
+    IsStatus rota (Request for_the_second ∷ map Verdict verdicts) (name_of for_the_second) status
 
 abbrev pub GivesByDays : List VerdictFields → (start end : ℕ) → Type 0
-GivesByDays verdicts start end = ComesToByDays verdicts (Granted (record { start = start; end = end }))
+GivesByDays verdicts start end =
+    ComesToByDays verdicts (Granted (record { start = start; end = end }))
 
 -- dave approves on 1 January at ten past nine
 abbrev pub dave_and : List VerdictFields → List VerdictFields

@@ -6,7 +6,8 @@ ghost use Rattle.sudo_words.specs.Command.{IsLawful};
 ghost use Rattle.sudo_words.specs.declared.cmnd.Cmnd.TheVariants as cmnds;
 ghost use Rattle.messages.specs.declared.message.Message.TheVariants as message_of;
 ghost use Rattle.roster.specs.Rules.{is_among};
-ghost use Rattle.grants.specs.Admission.{Admits, AdmitsRequest, AdmitsVerdict, IsDenial, MayAskUnder};
+ghost use Rattle.grants.specs.Admission.{Admits, AdmitsRequest, AdmitsVerdict};
+ghost use Rattle.grants.specs.Admission.{IsDenial, MayAskUnder};
 ghost use Rattle.grants.specs.private.Forms as forms;
 ghost use Rattle.grants.specs.declared.denial.Denial.{Denial as AnyDenial};
 
@@ -16,7 +17,8 @@ use messages::{Message, Request, Verdict};
 use roster::{Ceiling, Roster};
 use sudo_words::{ArgRule, Cmnd, FilePath};
 
-/// The ceiling that the request names, where who asks is listed and may ask under it at the request's own moment.
+/// The ceiling that the request names, where who asks is listed and may ask under it at the
+/// request's own moment.
 fn ceiling_for<'r>(roster: &'r Roster, request: &Request) -> Result<&'r Ceiling, Denial>
     ensures { MatchResult result
         (λ c. MayAskUnder roster.now.says request.now c.now)
@@ -68,12 +70,13 @@ fn holds_all(ceiling: &Ceiling) -> bool
     ceiling.commands().iter().any(|c| is_all(c))
 }
 
-/// Whether the file with the rule lies inside one of the ceiling's commands: its directory, or the file itself with any
-/// arguments or with the same.
+/// Whether the file with the rule lies inside one of the ceiling's commands: its directory, or the
+/// file itself with any arguments or with the same.
 fn holds_file(file: &FilePath, rule: &ArgRule, ceiling: &Ceiling) -> bool
     requires lawful { All IsLawful ceiling.now.commands }
     requires no_all { list_any forms.is_all ceiling.now.commands ≡ false }
-    ensures { result ≡ list_any (forms.is_inside (cmnds.Path file.now rule.now)) ceiling.now.commands }
+    ensures { result
+        ≡ list_any (forms.is_inside (cmnds.Path file.now rule.now)) ceiling.now.commands }
 {
     let dir = dir_of(file.as_str().as_bytes());
     if ceiling.has_dir(dir) {
@@ -100,7 +103,8 @@ fn lies_inside_one(cmnd: &Cmnd, ceiling: &Ceiling) -> bool
 
 /// Whether each command lies inside one of the ceiling's.
 fn commands_inside(request: &Request, ceiling: &Ceiling) -> bool
-    ensures value { result ≡ list_all (λ k. list_any (forms.is_inside k) ceiling.now.commands) request.now.cmnds }
+    ensures value { result
+        ≡ list_all (λ k. list_any (forms.is_inside k) ceiling.now.commands) request.now.cmnds }
     ensures lawful { All IsLawful request.now.cmnds }
     ensures lawful_ceiling { All IsLawful ceiling.now.commands }
 {
@@ -121,7 +125,8 @@ fn is_too_long(request: &Request, ceiling: &Ceiling) -> bool
 
 /// Whether the window begins before the request was made, or ends before it begins.
 fn is_backwards(request: &Request) -> bool
-    ensures { IsTrue result ↔ ((request.now.from < request.now.at) ⊎ (request.now.until < request.now.from)) }
+    ensures { IsTrue result
+        ↔ ((request.now.from < request.now.at) ⊎ (request.now.until < request.now.from)) }
 {
     request.from() < request.at() || request.until() < request.from()
 }

@@ -14,8 +14,8 @@ const MOST_WEIGHT: usize = 65_536;
 /// The most bytes of a base's canonical text.
 const MOST_BYTES: usize = 1_048_576;
 
-/// Whether the policy may be a base: it has at most 4,096 entries, a weight of at most 65,536, and a canonical text of at most
-/// 1 MiB. It takes no memory.
+/// Whether the policy may be a base: it has at most 4,096 entries, a weight of at most 65,536, and
+/// a canonical text of at most 1 MiB. It takes no memory.
 pub fn fits_base(base: &Policy) -> bool
     ensures { IsTrue result ↔ FitsBase base.now }
 {

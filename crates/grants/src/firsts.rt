@@ -30,15 +30,17 @@ fn is_of(people: &[&Name], mark: &Mark) -> bool
 
 /// Whether it counts and none of the others gave it.
 fn is_of_another(voters: &Voters, others: &[&Name], mark: &Mark) -> bool
-    ensures { result ≡ spec.is_of_another (counting voters.now) (map (λ p. p.now) others.now) mark.now }
+    ensures { result
+        ≡ spec.is_of_another (counting voters.now) (map (λ p. p.now) others.now) mark.now }
 {
     !is_of(others, mark) && voters.count(mark)
 }
 
-/// The first mark that counts and that none of the others gave. Whose count is asked only of those that are sooner than the first so far.
+/// The first mark that counts and that none of the others gave. Whose count is asked only of those
+/// that are sooner than the first so far.
 fn earliest<'m>(voters: &Voters, others: &[&Name], marks: &'m BTreeSet<Mark>) -> Option<&'m Mark>
-    ensures { option_map (λ m. m.now) result
-        ≡ spec.earliest_of (spec.is_of_another (counting voters.now) (map (λ p. p.now) others.now)) marks.now.keys }
+    ensures { option_map (λ m. m.now) result ≡ spec.earliest_of
+        (spec.is_of_another (counting voters.now) (map (λ p. p.now) others.now)) marks.now.keys }
 {
     let mut first = None;
     for mark in marks {
@@ -49,7 +51,8 @@ fn earliest<'m>(voters: &Voters, others: &[&Name], marks: &'m BTreeSet<Mark>) ->
     first
 }
 
-/// The moment by which n different people have given a verdict that counts, n being 1 to 3. It goes through the marks n times.
+/// The moment by which n different people have given a verdict that counts, n being 1 to 3. It goes
+/// through the marks n times.
 pub(crate) fn nth(voters: &Voters, n: u64, marks: &BTreeSet<Mark>) -> Option<Moment>
     requires some { 1 ≤ n }
     requires few { n ≤ 3 }

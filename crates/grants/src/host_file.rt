@@ -18,7 +18,8 @@ const MOST_RULES: usize = 8_192;
 pub fn host_policy(alloc: Global, base: &Policy, rules: Vec<Rule>) -> Result<Policy, HostFault>
     requires fits { FitsBase base.now }
     requires grants { AllByRecursion IsGrantRule rules.items }
-    ensures few { length rules.items ≤ 8_192 → MatchResult result (λ p. p ≡ with_rules base.now rules.items) (λ e. e ≡ fault.NoMemory) }
+    ensures few { length rules.items ≤ 8_192
+        → MatchResult result (λ p. p ≡ with_rules base.now rules.items) (λ e. e ≡ fault.NoMemory) }
     ensures many { 8_192 < length rules.items → result ≡ Err fault.TooManyRules }
 {
     if rules.len() > MOST_RULES {

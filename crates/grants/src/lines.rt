@@ -28,7 +28,8 @@ const COMMON_LENGTH: usize = 128;
 
 /// Who may run a command, on which host and as whom.
 fn push_who(text: &mut String, host: &HostName, request: &Request) -> Result<(), AllocError>
-    ensures { OnOk result (string_bytes text.new ≡ string_bytes text.old ++ lines.who host.now request.now) }
+    ensures { OnOk result
+        (string_bytes text.new ≡ string_bytes text.old ++ lines.who host.now request.now) }
 {
     text.push_str(request.by().as_str())?;
     text.push_str(" ")?;
@@ -39,7 +40,8 @@ fn push_who(text: &mut String, host: &HostName, request: &Request) -> Result<(),
 
 /// And when, up to the space before the command.
 fn push_when(text: &mut String, window: &Window) -> Result<(), AllocError>
-    ensures { OnOk result (string_bytes text.new ≡ string_bytes text.old ++ lines.when window.now.start window.now.end) }
+    ensures { OnOk result (string_bytes text.new
+        ≡ string_bytes text.old ++ lines.when window.now.start window.now.end) }
 {
     text.push_str(") NOTBEFORE=")?;
     push_moment(text, window.start)?;
@@ -58,8 +60,8 @@ fn push_line(
     cmnd: &Cmnd,
 ) -> Result<(), NoMemory>
     requires { IsLawful cmnd.now }
-    ensures { OnOk result
-        (string_bytes text.new ≡ string_bytes text.old ++ line_text (entries.Rule (grant_rule host.now request.now window.now.start window.now.end cmnd.now))) }
+    ensures { OnOk result (string_bytes text.new ≡ string_bytes text.old ++ line_text
+        (entries.Rule (grant_rule host.now request.now window.now.start window.now.end cmnd.now))) }
 {
     push_who(text, host, request)?;
     push_when(text, window)?;
@@ -76,8 +78,8 @@ fn push_commands(
     request: &Request,
     window: &Window,
 ) -> Result<usize, NoMemory>
-    ensures { IfOk result (λ count. AreAdded (map (grant_rule host.now request.now window.now.start window.now.end) request.now.cmnds)
-        (string_bytes text.old) (string_bytes text.new) count) }
+    ensures { IfOk result (λ count. AreAdded (map (grant_rule host.now request.now window.now.start
+        window.now.end) request.now.cmnds) (string_bytes text.old) (string_bytes text.new) count) }
 {
     for cmnd in request.cmnds() {
         push_line(alloc, text, host, request, window, cmnd)?;
@@ -93,7 +95,8 @@ fn push_whole(
     request: &Request,
     window: &Window,
 ) -> Result<usize, NoMemory>
-    ensures ok { IfOk result (λ count. AreAdded (map (grant_rule host.now request.now window.now.start window.now.end) request.now.cmnds)
+    ensures ok { IfOk result (λ count. AreAdded
+        (map (grant_rule host.now request.now window.now.start window.now.end) request.now.cmnds)
         (string_bytes text.old) (string_bytes text.new) count) }
     ensures err { OnErr result (string_bytes text.new ≡ string_bytes text.old) }
 {
@@ -113,7 +116,8 @@ fn is_left(after: &Option<Moment>, last: Moment) -> bool
     }
 }
 
-/// Whether the request can have lines for the host that are left, whatever it has come to: its window ends by its own last moment.
+/// Whether the request can have lines for the host that are left, whatever it has come to: its
+/// window ends by its own last moment.
 fn may_have(request: &Request, host: &HostName, after: &Option<Moment>) -> bool
     ensures value { result ≡ lines.may_have after.now host.now request.now }
     ensures request { IsRequest request.now }
@@ -145,14 +149,16 @@ fn push_left(
 
 /// The request has come to something, whether it is looked up or not.
 fn has_status(roster: &Roster, s: &Summary)
-    ensures { (set : List AnyMessage) → StandsFor set s.now → (status : AnyStatus) × IsStatus roster.now.says set (name_of s.now.request) status }
+    ensures { (set : List AnyMessage) → StandsFor set s.now
+        → (status : AnyStatus) × IsStatus roster.now.says set (name_of s.now.request) status }
 {
     let _text = roster.text();
     let _hosts = s.request.hosts();
 }
 
-/// Adds the lines that the request gives the host under this roster to the text, and tells how many they are: one for each of its
-/// commands, in its order, where it names the host and is granted. With a moment, lines that end before it are left out.
+/// Adds the lines that the request gives the host under this roster to the text, and tells how many
+/// they are: one for each of its commands, in its order, where it names the host and is granted.
+/// With a moment, lines that end before it are left out.
 pub fn push_lines(
     alloc: Global,
     text: &mut String,
@@ -161,9 +167,11 @@ pub fn push_lines(
     host: &HostName,
     after: Option<Moment>,
 ) -> Result<usize, NoMemory>
-    // They come from what the messages come to of each set that the summary stands for, and are lines of rules of grants.
-    ensures ok { (set : List AnyMessage) → StandsFor set s.now → IfOk result
-        (AreWritten roster.now.says set s.now.request host.now after (string_bytes text.old) (string_bytes text.new)) }
+    // They come from what the messages come to of each set that the summary stands for, and are
+    // lines of rules of grants.
+    ensures ok { (set : List AnyMessage) → StandsFor set s.now
+        → IfOk result (AreWritten roster.now.says set s.now.request host.now after
+        (string_bytes text.old) (string_bytes text.new)) }
     // Where memory runs out, the text is as it was.
     ensures err { OnErr result (string_bytes text.new ≡ string_bytes text.old) }
 {

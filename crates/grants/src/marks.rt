@@ -7,7 +7,8 @@ use std::alloc::{AllocError, Global};
 use std::collections::BTreeSet;
 use sudo_words::{Moment, Name, NoMemory};
 
-/// A person, and when the person gave a verdict. Marks are in the byte order of people's names, and then by moment.
+/// A person, and when the person gave a verdict. Marks are in the byte order of people's names, and
+/// then by moment.
 #[derive(Debug, Drop, PartialEq, Eq, PartialOrd, Ord)]
 pub struct Mark {
     pub person: Name,

@@ -114,7 +114,8 @@ fn revocation(roster: &Roster, ceiling: &Ceiling, s: &Summary) -> Option<Moment>
 }
 
 fn is_refused_by(roster: &Roster, ceiling: &Ceiling, s: &Summary, complete: Option<Moment>) -> bool
-    ensures { result ≡ of_status.is_refused (has_counting roster.now.says ceiling.now kinds.Refuse s.now.request.by) complete s.now.refusals }
+    ensures { result ≡ of_status.is_refused (has_counting roster.now.says
+        ceiling.now kinds.Refuse s.now.request.by) complete s.now.refusals }
 {
     let refusers = voters(roster, ceiling, s, VerdictKind::Refuse);
     is_refused(&refusers, complete, &s.refusals)
@@ -163,7 +164,8 @@ fn ceiling_of<'r>(roster: &'r Roster, request: &Request) -> Option<&'r Ceiling>
 
 /// What the messages come to that the summary stands for, under this roster. It takes no memory.
 pub fn status(roster: &Roster, s: &Summary) -> Status
-    ensures { (set : List AnyMessage) → StandsFor set s.now → IsStatus roster.now.says set (name_of s.now.request) result }
+    ensures { (set : List AnyMessage) → StandsFor set s.now
+        → IsStatus roster.now.says set (name_of s.now.request) result }
 {
     if s.is_disputed {
         return Status::Disputed;

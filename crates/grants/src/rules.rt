@@ -58,7 +58,8 @@ fn rule_of(
     window: Window,
     cmnd: &Cmnd,
 ) -> Result<Rule, NoMemory>
-    ensures { IfOk result (λ r. r ≡ grant_rule host.now request.now window.start window.end cmnd.now) }
+    ensures { IfOk result
+        (λ r. r ≡ grant_rule host.now request.now window.start window.end cmnd.now) }
 {
     Ok(Rule {
         users: one_name(alloc, request.by())?,
@@ -71,14 +72,16 @@ fn rule_of(
     })
 }
 
-/// The rules that a request gives a host while it is in force within the window: one for each of its commands, in order.
+/// The rules that a request gives a host while it is in force within the window: one for each of
+/// its commands, in order.
 pub fn grant_rules(
     alloc: Global,
     host: &HostName,
     request: &Request,
     window: Window,
 ) -> Result<Vec<Rule>, NoMemory>
-    ensures { IfOk result (λ v. v.items ≡ map (grant_rule host.now request.now window.start window.end) request.now.cmnds) }
+    ensures { IfOk result (λ v.
+        v.items ≡ map (grant_rule host.now request.now window.start window.end) request.now.cmnds) }
 {
     let mut rules = Vec::new(alloc);
     for cmnd in request.cmnds() {
@@ -95,7 +98,8 @@ fn rules_for(
     status: Status,
 ) -> Result<Vec<Rule>, NoMemory>
     ensures rules { IfOk result (λ v. v.items ≡ given.rules_for host.now request.now status) }
-    ensures grants { EndsInTime request.now status → IfOk result (λ v. AllByRecursion IsGrantRule v.items) }
+    ensures grants { EndsInTime request.now status
+        → IfOk result (λ v. AllByRecursion IsGrantRule v.items) }
 {
     match status {
         Status::Granted(window) if request.hosts().contains(host) => {
@@ -105,8 +109,8 @@ fn rules_for(
     }
 }
 
-/// The rules that the request gives the host under this roster: one for each of its commands, in its order, where it names the
-/// host and is granted, and none elsewhere.
+/// The rules that the request gives the host under this roster: one for each of its commands, in
+/// its order, where it names the host and is granted, and none elsewhere.
 pub fn rules_of(
     alloc: Global,
     roster: &Roster,
@@ -114,11 +118,14 @@ pub fn rules_of(
     host: &HostName,
 ) -> Result<Vec<Rule>, NoMemory>
     // They are those of each set that the summary stands for.
-    ensures rules { (set : List AnyMessage) → StandsFor set s.now → IfOk result (λ v. AreRules roster.now.says set s.now.request host.now v.items) }
+    ensures rules { (set : List AnyMessage) → StandsFor set s.now
+        → IfOk result (λ v. AreRules roster.now.says set s.now.request host.now v.items) }
     // They come from what its messages come to.
-    ensures given { (set : List AnyMessage) → StandsFor set s.now → IfOk result (λ v. AreGiven roster.now.says set s.now.request host.now v.items) }
+    ensures given { (set : List AnyMessage) → StandsFor set s.now
+        → IfOk result (λ v. AreGiven roster.now.says set s.now.request host.now v.items) }
     // And they may stand after a base.
-    ensures grants { (set : List AnyMessage) → StandsFor set s.now → IfOk result (λ v. AllByRecursion IsGrantRule v.items) }
+    ensures grants { (set : List AnyMessage) → StandsFor set s.now
+        → IfOk result (λ v. AllByRecursion IsGrantRule v.items) }
 {
     rules_for(alloc, host, &s.request, status(roster, s))
 }

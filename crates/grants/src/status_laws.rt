@@ -1,6 +1,8 @@
-//! Laws of what the messages about a request come to, each the contract of a function that does nothing.
+//! Laws of what the messages about a request come to, each the contract of a function that does
+//! nothing.
 
-ghost use Rattle.std.specs.Prelude.{◌≡◌, ◌≢◌, ◌↔◌, ◌≤◌, ◌+◌, max, Some, [], ◌∷◌, ◌++◌, ℕ, List, true, false, codes};
+ghost use Rattle.std.specs.Prelude.{◌≡◌, ◌≢◌, ◌↔◌, ◌≤◌, ◌+◌, max, Some, []};
+ghost use Rattle.std.specs.Prelude.{◌∷◌, ◌++◌, ℕ, List, true, false, codes};
 ghost use Rattle.sudo_words.specs.declared.cmnd.Cmnd.{Cmnd};
 ghost use Rattle.messages.specs.Fields.{RequestFields, VerdictFields};
 ghost use Rattle.messages.specs.Names.{SameMessages, name_of};
@@ -15,9 +17,11 @@ ghost use Rattle.grants.specs.Counting.{NeverCounts};
 ghost use Rattle.grants.specs.Statuses.{IsFirstMoment, IsLastMoment, IsStatus};
 ghost use Rattle.grants.specs.Verdicts.{counts, IsComplete, IsGiven, RevokedBy};
 ghost use Rattle.grants.specs.WorkedAdmission.{asked, asked_from};
-ghost use Rattle.grants.specs.WorkedStatuses.{ComesTo, ComesToByDays, Gives, GivesByDays, approves, both_and, dave_and, refuses, revokes, shorter, team};
+ghost use Rattle.grants.specs.WorkedStatuses.{ComesTo, ComesToByDays, Gives, GivesByDays, approves};
+ghost use Rattle.grants.specs.WorkedStatuses.{both_and, dave_and, refuses, revokes, shorter, team};
 ghost use Rattle.grants.specs.declared.outcome.Status.{Status};
-ghost use Rattle.grants.specs.declared.outcome.Status.TheVariants.{Disputed, Lapsed, Refused, Void, Waiting};
+ghost use Rattle.grants.specs.declared.outcome.Status.TheVariants.{Disputed, Lapsed};
+ghost use Rattle.grants.specs.declared.outcome.Status.TheVariants.{Refused, Void, Waiting};
 
 /// A set of messages gives a name at most one status. `status` gives it.
 pub fn one_status()
@@ -25,96 +29,124 @@ pub fn one_status()
         IsStatus f set name a → IsStatus f set name b → a ≡ b }
 {}
 
-/// Two lists of the same messages give a name the same status: neither order nor repeats mean anything.
+/// Two lists of the same messages give a name the same status: neither order nor repeats mean
+/// anything.
 pub fn order_is_free()
     ensures { (f : RosterFields Cmnd) (s t : List Message) (name : RequestName) (status : Status) →
         SameMessages s t → IsStatus f s name status → IsStatus f t name status }
 {}
 
-/// A request is complete at the n-th smallest of the moments at which people first gave an approval while they were eligible, n
-/// being as many as its ceiling needs.
+/// A request is complete at the n-th smallest of the moments at which people first gave an approval
+/// while they were eligible, n being as many as its ceiling needs.
 pub fn completion_is_nth_smallest()
-    ensures { (f : RosterFields Cmnd) (set : List Message) (q : RequestFields) (c : CeilingFields Cmnd) (moment : ℕ) →
-        ceiling_at f q.ceiling ≡ Some c → 1 ≤ c.needs →
-        IsComplete f set q moment ↔ IsNthSmallest c.needs (IsFirstApproval f set q) moment }
+    ensures { (f : RosterFields Cmnd) (set : List Message) (q : RequestFields)
+        (c : CeilingFields Cmnd) (moment : ℕ) → ceiling_at f q.ceiling ≡ Some c → 1 ≤ c.needs
+        → IsComplete f set q moment ↔ IsNthSmallest c.needs (IsFirstApproval f set q) moment }
 {}
 
-/// A window begins where the request is complete, but not before it asks to; it ends where the request asks to, or a moment
-/// before the first revocation.
+/// A window begins where the request is complete, but not before it asks to; it ends where the
+/// request asks to, or a moment before the first revocation.
 pub fn bounds_of_window()
-    ensures begins { (f : RosterFields Cmnd) (set : List Message) (q : RequestFields) (start complete : ℕ) →
-        IsFirstMoment f set q start → IsComplete f set q complete → start ≡ max q.from complete }
-    ensures ends_as_asked { (f : RosterFields Cmnd) (set : List Message) (q : RequestFields) (end : ℕ) →
-        IsLastMoment f set q end → ¬ RevokedBy f set q q.until → end ≡ q.until }
-    ensures ends_revoked { (f : RosterFields Cmnd) (set : List Message) (q : RequestFields) (end revoked : ℕ) →
-        IsLastMoment f set q end → IsFirstRevocation f set q revoked → revoked ≤ q.until → end + 1 ≡ revoked }
+    ensures begins { (f : RosterFields Cmnd) (set : List Message)
+        (q : RequestFields) (start complete : ℕ) → IsFirstMoment f set q start
+        → IsComplete f set q complete → start ≡ max q.from complete }
+    ensures ends_as_asked { (f : RosterFields Cmnd) (set : List Message) (q : RequestFields)
+        (end : ℕ) → IsLastMoment f set q end → ¬ RevokedBy f set q q.until → end ≡ q.until }
+    ensures ends_revoked { (f : RosterFields Cmnd) (set : List Message)
+        (q : RequestFields) (end revoked : ℕ) → IsLastMoment f set q end
+        → IsFirstRevocation f set q revoked → revoked ≤ q.until → end + 1 ≡ revoked }
 {}
 
 /// A verdict that never counts may be added or taken away: no name's status changes.
 pub fn uncounted_changes_nothing()
-    ensures { (f : RosterFields Cmnd) (set : List Message) (v : VerdictFields) (name : RequestName) (status : Status) →
-        NeverCounts f set v → IsStatus f set name status ↔ IsStatus f (set ++ Verdict v ∷ []) name status }
+    ensures { (f : RosterFields Cmnd) (set : List Message)
+        (v : VerdictFields) (name : RequestName) (status : Status) → NeverCounts f set v
+        → IsStatus f set name status ↔ IsStatus f (set ++ Verdict v ∷ []) name status }
 {}
 
-/// Separation of duties (NIST SP 800-53 AC-5): the asker's own approval or refusal never counts, nor that of somebody who
-/// holds a duty at its moment that conflicts with the approving duty; and whoever lacks the approving duty at that moment is not
-/// heard at all, but for the asker.
+/// Separation of duties (NIST SP 800-53 AC-5): the asker's own approval or refusal never counts,
+/// nor that of somebody who holds a duty at its moment that conflicts with the approving duty; and
+/// whoever lacks the approving duty at that moment is not heard at all, but for the asker.
 pub fn who_does_not_count()
     ensures asker { (f : RosterFields Cmnd) (c : CeilingFields Cmnd) (v : VerdictFields) →
         v.kind ≢ kinds.Revoke → v.by ≡ v.of → counts f c v ≡ false }
-    ensures conflict { (f : RosterFields Cmnd) (c : CeilingFields Cmnd) (v : VerdictFields) (duty : List ℕ) →
-        v.kind ≢ kinds.Revoke → holds f v.by duty v.at ≡ true → conflicting f duty c.approve ≡ true → counts f c v ≡ false }
+    ensures conflict { (f : RosterFields Cmnd) (c : CeilingFields Cmnd)
+        (v : VerdictFields) (duty : List ℕ) → v.kind ≢ kinds.Revoke → holds f v.by duty v.at ≡ true
+        → conflicting f duty c.approve ≡ true → counts f c v ≡ false }
     ensures without_duty { (f : RosterFields Cmnd) (c : CeilingFields Cmnd) (v : VerdictFields) →
         v.by ≢ v.of → holds f v.by c.approve v.at ≡ false → counts f c v ≡ false }
 {}
 
-/// A verdict counts by its author's rights as it was given, whatever they are before or after. So whoever approved while eligible has
-/// a first such approval, no later, and that was given while eligible: one given before, without the right to, stands in nobody's way.
+/// A verdict counts by its author's rights as it was given, whatever they are before or after. So
+/// whoever approved while eligible has a first such approval, no later, and that was given while
+/// eligible: one given before, without the right to, stands in nobody's way.
 pub fn rights_of_the_moment()
-    ensures alike { (f g : RosterFields Cmnd) (c : CeilingFields Cmnd) (v : VerdictFields) →
-        eligible f v.by v.of c v.at ≡ eligible g v.by v.of c v.at →
-        may_revoke f v.by v.of c v.at ≡ may_revoke g v.by v.of c v.at → counts f c v ≡ counts g c v }
-    ensures has_first { (f : RosterFields Cmnd) (set : List Message) (q : RequestFields) (v : VerdictFields) →
-        IsGiven f set q kinds.Approve v → (moment : ℕ) × IsFirstApproval f set q v.by moment × (moment ≤ v.at) }
-    ensures first_given { (f : RosterFields Cmnd) (set : List Message) (q : RequestFields) (person : List ℕ) (moment : ℕ) →
-        IsFirstApproval f set q person moment →
-        (v : VerdictFields) × IsGiven f set q kinds.Approve v × (v.by ≡ person) × (v.at ≡ moment) }
+    ensures alike { (f g : RosterFields Cmnd) (c : CeilingFields Cmnd) (v : VerdictFields)
+        → eligible f v.by v.of c v.at ≡ eligible g v.by v.of c v.at → may_revoke f v.by v.of c v.at
+        ≡ may_revoke g v.by v.of c v.at → counts f c v ≡ counts g c v }
+    ensures has_first { (f : RosterFields Cmnd) (set : List Message)
+        (q : RequestFields) (v : VerdictFields) → IsGiven f set q kinds.Approve v
+        → (moment : ℕ) × IsFirstApproval f set q v.by moment × (moment ≤ v.at) }
+    ensures first_given { (f : RosterFields Cmnd) (set : List Message) (q : RequestFields)
+        (person : List ℕ) (moment : ℕ) → IsFirstApproval f set q person moment → (v : VerdictFields)
+        × IsGiven f set q kinds.Approve v × (v.by ≡ person) × (v.at ≡ moment) }
 {}
 
-/// Worked statuses, of what ann asked from nine to eleven (32,400 to 39,600) where two have to approve.
+/// Worked statuses, of what ann asked from nine to eleven (32,400 to 39,600) where two have to
+/// approve.
 pub fn worked_statuses()
-    // Neither the asker nor carol, who also audits, approves beside bob, and bob's second approval is no second approver's.
-    ensures asker { ComesTo (approves (codes "ann") 28_800 ∷ approves (codes "bob") 30_600 ∷ []) Waiting }
-    ensures conflict { ComesTo (approves (codes "bob") 30_600 ∷ approves (codes "carol") 28_800 ∷ []) Waiting }
-    ensures twice { ComesTo (approves (codes "bob") 30_600 ∷ approves (codes "bob") 31_200 ∷ []) Waiting }
-    // It is in force from the second approver's first approval on, but no earlier than it was asked for.
+    // Neither the asker nor carol, who also audits, approves beside bob, and bob's second approval
+    // is no second approver's.
+    ensures asker { ComesTo
+        (approves (codes "ann") 28_800 ∷ approves (codes "bob") 30_600 ∷ []) Waiting }
+    ensures conflict { ComesTo
+        (approves (codes "bob") 30_600 ∷ approves (codes "carol") 28_800 ∷ []) Waiting }
+    ensures twice { ComesTo
+        (approves (codes "bob") 30_600 ∷ approves (codes "bob") 31_200 ∷ []) Waiting }
+    // It is in force from the second approver's first approval on, but no earlier than it was asked
+    // for.
     ensures second { Gives (both_and (approves (codes "dave") 34_000 ∷ [])) 33_000 39_600 }
-    ensures ahead { Gives (approves (codes "dave") 31_200 ∷ approves (codes "bob") 30_600 ∷ []) 32_400 39_600 }
-    // A refusal of the very moment of the completion refuses; a later one, and carol's, have no effect.
+    ensures ahead { Gives
+        (approves (codes "dave") 31_200 ∷ approves (codes "bob") 30_600 ∷ []) 32_400 39_600 }
+    // A refusal of the very moment of the completion refuses; a later one, and carol's, have no
+    // effect.
     ensures refused { ComesTo (both_and (refuses (codes "bob") 33_000 ∷ [])) Refused }
-    ensures late { Gives (both_and (refuses (codes "bob") 33_001 ∷ refuses (codes "carol") 28_800 ∷ [])) 33_000 39_600 }
-    // A revocation ends it a moment before, carol's too; one of moment 0 leaves nothing, nor does an approval past the end.
+    ensures late { Gives (both_and (refuses (codes "bob") 33_001
+        ∷ refuses (codes "carol") 28_800 ∷ [])) 33_000 39_600 }
+    // A revocation ends it a moment before, carol's too; one of moment 0 leaves nothing, nor does
+    // an approval past the end.
     ensures revoked { Gives (both_and (revokes (codes "carol") 36_000 ∷ [])) 33_000 35_999 }
     ensures void { ComesTo (both_and (revokes (codes "ann") 0 ∷ [])) Void }
-    ensures too_late { ComesTo (approves (codes "bob") 30_600 ∷ approves (codes "dave") 39_601 ∷ []) Void }
-    // Another request of the name disputes it; and where the ceiling was lowered since, it is lapsed.
-    ensures disputed { IsStatus team (Request asked ∷ Request (asked_from 32_400 36_000) ∷ []) (name_of asked) Disputed }
+    ensures too_late { ComesTo
+        (approves (codes "bob") 30_600 ∷ approves (codes "dave") 39_601 ∷ []) Void }
+    // Another request of the name disputes it; and where the ceiling was lowered since, it is
+    // lapsed.
+    ensures disputed { IsStatus team
+        (Request asked ∷ Request (asked_from 32_400 36_000) ∷ []) (name_of asked) Disputed }
     ensures lapsed { IsStatus shorter (Request asked ∷ []) (name_of asked) Lapsed }
 {}
 
-/// Worked statuses where duties are held on some days: of what ann asks on 1 January for nine to eleven of the 2nd (118,800 to
-/// 126,000), where two have to approve and dave has.
+/// Worked statuses where duties are held on some days: of what ann asks on 1 January for nine to
+/// eleven of the 2nd (118,800 to 126,000), where two have to approve and dave has.
 pub fn worked_days()
-    // Bob's approval of the day before his first has no effect, even once he may approve; his next has, from its moment on.
+    // Bob's approval of the day before his first has no effect, even once he may approve; his next
+    // has, from its moment on.
     ensures before { ComesToByDays (dave_and (approves (codes "bob") 86_399 ∷ [])) Waiting }
-    ensures again { GivesByDays (dave_and (approves (codes "bob") 86_399 ∷ approves (codes "bob") 120_000 ∷ [])) 120_000 126_000 }
-    ensures turned { GivesByDays (dave_and (approves (codes "bob") 120_000 ∷ approves (codes "bob") 86_399 ∷ [])) 120_000 126_000 }
+    ensures again { GivesByDays (dave_and (approves (codes "bob") 86_399
+        ∷ approves (codes "bob") 120_000 ∷ [])) 120_000 126_000 }
+    ensures turned { GivesByDays (dave_and (approves (codes "bob") 120_000
+        ∷ approves (codes "bob") 86_399 ∷ [])) 120_000 126_000 }
     // Carol's has none on the last day on which she audits, and has in the first second after it.
     ensures audits { ComesToByDays (dave_and (approves (codes "carol") 86_399 ∷ [])) Waiting }
-    ensures audited { GivesByDays (dave_and (approves (codes "carol") 86_400 ∷ [])) 118_800 126_000 }
+    ensures audited { GivesByDays
+        (dave_and (approves (codes "carol") 86_400 ∷ [])) 118_800 126_000 }
     // A refusal counts by the same rights; carol revokes at any moment, bob on the 1st not yet.
-    ensures refused_early { GivesByDays (dave_and (approves (codes "carol") 86_400 ∷ refuses (codes "bob") 86_399 ∷ [])) 118_800 126_000 }
-    ensures refused { ComesToByDays (dave_and (approves (codes "carol") 90_000 ∷ refuses (codes "bob") 86_400 ∷ [])) Refused }
-    ensures revoked_early { GivesByDays (dave_and (approves (codes "carol") 86_400 ∷ revokes (codes "bob") 86_399 ∷ [])) 118_800 126_000 }
-    ensures revoked { GivesByDays (dave_and (approves (codes "carol") 86_400 ∷ revokes (codes "carol") 120_000 ∷ [])) 118_800 119_999 }
+    ensures refused_early { GivesByDays (dave_and (approves (codes "carol") 86_400
+        ∷ refuses (codes "bob") 86_399 ∷ [])) 118_800 126_000 }
+    ensures refused { ComesToByDays
+        (dave_and (approves (codes "carol") 90_000 ∷ refuses (codes "bob") 86_400 ∷ [])) Refused }
+    ensures revoked_early { GivesByDays (dave_and (approves (codes "carol") 86_400
+        ∷ revokes (codes "bob") 86_399 ∷ [])) 118_800 126_000 }
+    ensures revoked { GivesByDays (dave_and (approves (codes "carol") 86_400
+        ∷ revokes (codes "carol") 120_000 ∷ [])) 118_800 119_999 }
 {}

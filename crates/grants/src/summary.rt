@@ -1,6 +1,7 @@
 //! What a set of messages says of one request.
 
-ghost use Rattle.std.specs.Prelude.{◌≡◌, ◌≢◌, List, [], ◌∷◌, ◌++◌, IfOk, IfSome, IfNone, OnOk, OnErr};
+ghost use Rattle.std.specs.Prelude.{◌≡◌, ◌≢◌, List, [], ◌∷◌, ◌++◌};
+ghost use Rattle.std.specs.Prelude.{IfOk, IfSome, IfNone, OnOk, OnErr};
 ghost use Rattle.messages.specs.Fields.{RequestFields};
 ghost use Rattle.messages.specs.Names.{SameName, IsAbout, name_of};
 ghost use Rattle.messages.specs.declared.message.Message.{Message as AnyMessage};
@@ -15,8 +16,8 @@ use std::collections::BTreeSet;
 use std::marker::Model;
 use sudo_words::{Moment, Name, NoMemory};
 
-/// What the messages about one request say: a request of its name, whether there is another of that name, and of each
-/// person and kind every moment at which the person has given such a verdict.
+/// What the messages about one request say: a request of its name, whether there is another of that
+/// name, and of each person and kind every moment at which the person has given such a verdict.
 #[derive(Debug, Drop)]
 pub struct Summary {
     pub(crate) alloc: Global,
@@ -46,8 +47,10 @@ impl Summary {
     pub fn request(&self) -> Option<&Request>
         ensures value { IfSome result (λ request. request.now ≡ self.now.request) }
         // It is lent exactly where the set that the summary stands for has no other of its name.
-        ensures alone { (set : List AnyMessage) → StandsFor set self.now → IfSome result (λ request. StandsAlone set request.now) }
-        ensures disputed { (set : List AnyMessage) → StandsFor set self.now → IfNone result (IsDisputed set (name_of self.now.request)) }
+        ensures alone { (set : List AnyMessage) → StandsFor set self.now
+            → IfSome result (λ request. StandsAlone set request.now) }
+        ensures disputed { (set : List AnyMessage) → StandsFor set self.now
+            → IfNone result (IsDisputed set (name_of self.now.request)) }
     {
         if self.is_disputed {
             None
@@ -56,9 +59,11 @@ impl Summary {
         }
     }
 
-    /// Who has approved and when, whether it counts or not: every approval, by person and then by moment.
+    /// Who has approved and when, whether it counts or not: every approval, by person and then by
+    /// moment.
     pub fn approvals(&self) -> Result<Vec<(Name, Moment)>, NoMemory>
-        ensures { (set : List AnyMessage) → StandsFor set self.now → IfOk result (λ list. AreApprovals set self.now.request list.items) }
+        ensures { (set : List AnyMessage) → StandsFor set self.now
+            → IfOk result (λ list. AreApprovals set self.now.request list.items) }
     {
         shown(self.alloc, &self.approvals)
     }
@@ -97,7 +102,8 @@ pub fn ask(alloc: Global, request: &Request) -> Result<Summary, NoMemory>
 pub fn ask_again(s: &mut Summary, request: &Request)
     requires { SameName request.now s.old.request }
     // Where it stood for a set, it stands for the set with the request.
-    ensures stands { (set : List AnyMessage) → StandsFor set s.old → StandsFor (set ++ message_of.Request request.now ∷ []) s.new }
+    ensures stands { (set : List AnyMessage) → StandsFor set s.old
+        → StandsFor (set ++ message_of.Request request.now ∷ []) s.new }
     // It stays that of the name.
     ensures same_request { s.new.request ≡ s.old.request }
 {
@@ -109,8 +115,8 @@ pub fn ask_again(s: &mut Summary, request: &Request)
 /// Marks the request as one of two of its name. It takes no memory.
 pub fn dispute(s: &mut Summary)
     // Where it stood for a set, it stands for the set with any other request of the name.
-    ensures stands { (set : List AnyMessage) (p : RequestFields) → SameName p s.old.request → p ≢ s.old.request
-        → StandsFor set s.old → StandsFor (set ++ message_of.Request p ∷ []) s.new }
+    ensures stands { (set : List AnyMessage) (p : RequestFields) → SameName p s.old.request → p
+        ≢ s.old.request → StandsFor set s.old → StandsFor (set ++ message_of.Request p ∷ []) s.new }
     // It stays that of the name.
     ensures same_request { s.new.request ≡ s.old.request }
 {
@@ -121,7 +127,8 @@ pub fn dispute(s: &mut Summary)
 pub fn apply(s: &mut Summary, verdict: &Verdict) -> Result<(), NoMemory>
     requires { IsAbout s.old.request verdict.now }
     // Where it stood for a set, it stands for the set with the verdict.
-    ensures ok { (set : List AnyMessage) → StandsFor set s.old → OnOk result (StandsFor (set ++ message_of.Verdict verdict.now ∷ []) s.new) }
+    ensures ok { (set : List AnyMessage) → StandsFor set s.old
+        → OnOk result (StandsFor (set ++ message_of.Verdict verdict.now ∷ []) s.new) }
     // It stays that of the name.
     ensures same_request { s.new.request ≡ s.old.request }
     // A refusal of memory changes nothing.

@@ -18,7 +18,8 @@ pub(crate) struct Voters<'a> {
 }
 
 impl<'a> Voters<'a> {
-    /// Whether the verdict that the mark keeps counts: by its author's rights at its own moment (NIST SP 800-53 AC-5).
+    /// Whether the verdict that the mark keeps counts: by its author's rights at its own moment
+    /// (NIST SP 800-53 AC-5).
     pub(crate) fn count(&self, mark: &Mark) -> bool
         ensures { result ≡ counting self.now mark.now }
     {

@@ -9,7 +9,8 @@ ghost use Rattle.grants.specs.Reach.{LiesInside, ReachesBeyond};
 
 use sudo_words::{Arg, ArgRule, Cmnd};
 
-/// Whether these are the arguments that are wanted. The last are looked at first: commands of one file mostly differ there.
+/// Whether these are the arguments that are wanted. The last are looked at first: commands of one
+/// file mostly differ there.
 fn same_args(args: &[Arg], wanted: &[Arg]) -> bool
     ensures { result ≡ pointwise bytes_eq args.now wanted.now }
 {
@@ -65,9 +66,11 @@ pub(crate) fn dir_of(path: &[u8]) -> &[u8]
 #[tactic(auto, using(crate::proofs::Inclusion::exact, crate::proofs::Inclusion::beyond))]
 pub fn is_inside(inner: &Cmnd, outer: &Cmnd) -> bool
     // For the commands that policies hold it is inclusion of what they reach.
-    ensures exact { IsLawful inner.now → IsLawful outer.now → (IsTrue result ↔ LiesInside inner.now outer.now) }
+    ensures exact { IsLawful inner.now → IsLawful outer.now
+        → (IsTrue result ↔ LiesInside inner.now outer.now) }
     // Where it is not inside, there is something that the one reaches and the other does not match.
-    ensures beyond { IsLawful inner.now → IsLawful outer.now → result ≡ false → ReachesBeyond inner.now outer.now }
+    ensures beyond { IsLawful inner.now → IsLawful outer.now
+        → result ≡ false → ReachesBeyond inner.now outer.now }
 {
     form_inside(inner, outer)
 }

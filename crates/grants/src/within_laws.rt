@@ -8,32 +8,43 @@ ghost use Rattle.sudo_words.specs.declared.cmnd.Cmnd.TheVariants.{All, Dir, Path
 ghost use Rattle.grants.specs.Reach.{LiesInside, ReachesSomething};
 ghost use Rattle.grants.specs.WorkedAdmission.{file, file_alone, file_with};
 
-/// What lies inside what, of the commands that policies hold: `ALL` inside `ALL` alone, a directory inside itself and `ALL`
-/// alone, and inside a directory each file that is directly in it.
+/// What lies inside what, of the commands that policies hold: `ALL` inside `ALL` alone, a directory
+/// inside itself and `ALL` alone, and inside a directory each file that is directly in it.
 pub fn forms_of_inclusion()
     ensures everything { (k : AnyCmnd) → LiesInside k All }
     ensures only_all { (c : AnyCmnd) → IsLawful c → LiesInside All c → c ≡ All }
-    ensures directories { (d e : List ℕ) → IsLawful (Dir d) → IsLawful (Dir e) → LiesInside (Dir d) (Dir e) → d ≡ e }
-    ensures not_in_file { (d f : List ℕ) (r : AnyRule) → IsLawful (Dir d) → IsLawful (Path f r) → ¬ LiesInside (Dir d) (Path f r) }
-    ensures file { (f d : List ℕ) (r : AnyRule) → IsLawful (Path f r) → IsLawful (Dir d) → (LiesInside (Path f r) (Dir d) ↔ (is_directly_in d f ≡ true)) }
-    ensures same_file { (f g : List ℕ) (r s : AnyRule) → IsLawful (Path f r) → IsLawful (Path g s) → LiesInside (Path f r) (Path g s) → f ≡ g }
+    ensures directories { (d e : List ℕ) → IsLawful (Dir d)
+        → IsLawful (Dir e) → LiesInside (Dir d) (Dir e) → d ≡ e }
+    ensures not_in_file { (d f : List ℕ) (r : AnyRule) → IsLawful (Dir d)
+        → IsLawful (Path f r) → ¬ LiesInside (Dir d) (Path f r) }
+    ensures file { (f d : List ℕ) (r : AnyRule) → IsLawful (Path f r) → IsLawful (Dir d)
+        → (LiesInside (Path f r) (Dir d) ↔ (is_directly_in d f ≡ true)) }
+    ensures same_file { (f g : List ℕ) (r s : AnyRule) → IsLawful (Path f r)
+        → IsLawful (Path g s) → LiesInside (Path f r) (Path g s) → f ≡ g }
 {}
 
-/// Each command that policies hold reaches something that sudo runs as it stands there, and does not take for its own command `sudoedit`.
+/// Each command that policies hold reaches something that sudo runs as it stands there, and does
+/// not take for its own command `sudoedit`.
 pub fn each_reaches_something()
     ensures { (c : AnyCmnd) → IsLawful c → ReachesSomething c }
 {}
 
 /// Worked commands: with arguments and without, and in a directory and below it.
 pub fn worked_inclusions()
-    ensures argument { LiesInside (file_with (codes "/bin/ls") (codes "-l" ∷ [])) (file (codes "/bin/ls")) }
-    ensures any_argument { ¬ LiesInside (file (codes "/bin/ls")) (file_with (codes "/bin/ls") (codes "-l" ∷ [])) }
-    ensures other_argument { ¬ LiesInside (file_with (codes "/bin/ls") (codes "-a" ∷ [])) (file_with (codes "/bin/ls") (codes "-l" ∷ [])) }
+    ensures argument { LiesInside
+        (file_with (codes "/bin/ls") (codes "-l" ∷ [])) (file (codes "/bin/ls")) }
+    ensures any_argument { ¬ LiesInside (file (codes "/bin/ls"))
+        (file_with (codes "/bin/ls") (codes "-l" ∷ [])) }
+    ensures other_argument { ¬ LiesInside (file_with (codes "/bin/ls") (codes "-a" ∷ []))
+        (file_with (codes "/bin/ls") (codes "-l" ∷ [])) }
     ensures no_argument { LiesInside (file_alone (codes "/bin/ls")) (file (codes "/bin/ls")) }
-    ensures no_argument_only { ¬ LiesInside (file (codes "/bin/ls")) (file_alone (codes "/bin/ls")) }
-    ensures no_argument_nor_one { ¬ LiesInside (file_alone (codes "/bin/ls")) (file_with (codes "/bin/ls") (codes "-l" ∷ [])) }
+    ensures no_argument_only { ¬ LiesInside
+        (file (codes "/bin/ls")) (file_alone (codes "/bin/ls")) }
+    ensures no_argument_nor_one { ¬ LiesInside (file_alone (codes "/bin/ls"))
+        (file_with (codes "/bin/ls") (codes "-l" ∷ [])) }
     ensures in_directory { LiesInside (file (codes "/usr/bin/id")) (Dir (codes "/usr/bin/")) }
-    ensures with_argument { LiesInside (file_with (codes "/usr/bin/id") (codes "-u" ∷ [])) (Dir (codes "/usr/bin/")) }
+    ensures with_argument { LiesInside
+        (file_with (codes "/usr/bin/id") (codes "-u" ∷ [])) (Dir (codes "/usr/bin/")) }
     ensures below_directory { ¬ LiesInside (file (codes "/usr/bin/x/y")) (Dir (codes "/usr/bin/")) }
     ensures subdirectory { ¬ LiesInside (Dir (codes "/usr/bin/")) (Dir (codes "/usr/")) }
     ensures parent { ¬ LiesInside (Dir (codes "/usr/")) (Dir (codes "/usr/bin/")) }

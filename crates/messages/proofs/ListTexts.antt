@@ -1,5 +1,6 @@
 -- A list of values beside the list of texts that it is.
-use Rattle.std.proofs.Common.{◌≡◌, ℕ, zero, suc, ◌+◌, ◌-◌, ◌<◌, ◌≤◌, ◌∙◌, Bool, true, false, List, [], ◌∷◌, ◌++◌, Option, Some, None, option_map, Bor, length, map, get_or, take, drop, refl, sym, ap, ap₂, arith, take_all}
+use Rattle.std.proofs.Common.{◌≡◌, ℕ, zero, suc, ◌+◌, ◌-◌, ◌<◌, ◌≤◌, ◌∙◌, Bool, true, false, List, [], ◌∷◌, ◌++◌, Option, Some}
+use Rattle.std.proofs.Common.{None, option_map, Bor, length, map, get_or, take, drop, refl, sym, ap, ap₂, arith, take_all}
 use Rattle.std.proofs.lemmas.List.{get_or-map, length-map, take_more}
 use Rattle.serde_json.specs.Data.{Data, string, Items, item, no_items}
 use Rattle.serde_json.specs.Find.{as_str}
@@ -28,7 +29,8 @@ view-at (x ∷ vs) (w ∷ ws) (suc i) v e less is =
     let later = view-at vs ws i v rest (omega arith) is in
     (omega (arith, later.0), later.1)
 
-push_text : (vs : List Value) (ws : List (List ℕ)) (v : Value) (w : List ℕ) → view v ≡ string w → items_view vs ≡ strings ws → items_view (vs ++ v ∷ []) ≡ strings (ws ++ w ∷ [])
+push_text : (vs : List Value) (ws : List (List ℕ)) (v : Value) (w : List ℕ) → view v ≡ string w
+    → items_view vs ≡ strings ws → items_view (vs ++ v ∷ []) ≡ strings (ws ++ w ∷ [])
 push_text [] [] v w here e = ap (λ (d : Data). item d no_items) here
 push_text [] (x ∷ ws) v w here e = absurd cc
 push_text (u ∷ vs) [] v w here e = absurd cc
@@ -61,7 +63,8 @@ no_texts [] (w ∷ ws) none e = absurd cc
 no_texts (v ∷ vs) ws none e = absurd (omega arith)
 
 -- the text that a value is
-pub as_text : (o : Option (Bor (List ℕ))) (v : Value) (text : Bor (List ℕ)) (w : List ℕ) → option_map (λ s. s.now) o ≡ as_str (view v) → o ≡ Some text → view v ≡ string w → text.now ≡ w
+pub as_text : (o : Option (Bor (List ℕ))) (v : Value) (text : Bor (List ℕ)) (w : List ℕ)
+    → option_map (λ s. s.now) o ≡ as_str (view v) → o ≡ Some text → view v ≡ string w → text.now ≡ w
 as_text o v text w same is e =
     let both : Some text.now ≡ Some w = ap (option_map (λ (s : Bor (List ℕ)). s.now)) (sym is) ∙ same ∙ ap as_str e in
     cc
@@ -71,7 +74,8 @@ some_text o v w same is e =
     let both : None ≡ Some w = ap (option_map (λ (s : Bor (List ℕ)). s.now)) (sym is) ∙ same ∙ ap as_str e in
     cc
 
-pub goes_on : (low text first : List ℕ) (more ws : List (List ℕ)) (rises : Bool) → ws ≡ first ∷ more → text ≡ first → is_before low text ≡ true → rises ≡ rises_from text more → rises ≡ rises_from low ws
+pub goes_on : (low text first : List ℕ) (more ws : List (List ℕ)) (rises : Bool) → ws ≡ first ∷ more
+    → text ≡ first → is_before low text ≡ true → rises ≡ rises_from text more → rises ≡ rises_from low ws
 goes_on low text first more ws rises whole same before later =
     let here : is_before low first ≡ true = rw (← same) before in
     rw (whole, here, ← same) later
@@ -82,22 +86,22 @@ stops low text first more ws whole same before =
     rw (whole, here) refl
 
 -- one more text was read
-pub one_more_text : (vs : List Value) (ws new : List (List ℕ)) (v : Value) (w : List ℕ) (i : ℕ) → i < length vs → v ≡ get_or vs i v → view v ≡ string w → new ≡ ws ++ w ∷ []
-    → items_view (take i vs) ≡ strings ws → items_view (take (i + 1) vs) ≡ strings new
+pub one_more_text : (vs : List Value) (ws new : List (List ℕ)) (v : Value) (w : List ℕ) (i : ℕ) → i < length vs → v ≡ get_or vs i v
+    → view v ≡ string w → new ≡ ws ++ w ∷ [] → items_view (take i vs) ≡ strings ws → items_view (take (i + 1) vs) ≡ strings new
 one_more_text vs ws new v w i less is here more before =
     rw (take_more vs i v less, more) (push_text (take i vs) ws (get_or vs i v) w (ap view (sym is) ∙ here) before)
 
 -- ---- the same, where the texts are those of commands
-pub view-cmnd_at : (vs : List Value) (cs : List Cmnd) (i : ℕ) (v : Value) (d : Cmnd) → items_view vs ≡ strings (map cmnd_text cs) → i < length vs → v ≡ get_or vs i v
-    → (i < length cs) × (view v ≡ string (cmnd_text (get_or cs i d)))
+pub view-cmnd_at : (vs : List Value) (cs : List Cmnd) (i : ℕ) (v : Value) (d : Cmnd) → items_view vs ≡ strings (map cmnd_text cs)
+    → i < length vs → v ≡ get_or vs i v → (i < length cs) × (view v ≡ string (cmnd_text (get_or cs i d)))
 view-cmnd_at vs cs i v d e less is =
     let here = view-at vs (map cmnd_text cs) i v e less is in
     let within : i < length cs = omega (arith, here.0, length-map cs cmnd_text) in
     (within, here.1 ∙ ap string (get_or-map cmnd_text cs i d [] within))
 
 -- one more element was read
-pub read_more : {X : Type 0} (new old : List X) (x d : X) (wanted : List X) (i : ℕ) → new ≡ old ++ x ∷ [] → old ≡ take i wanted → i < length wanted → x ≡ get_or wanted i d
-    → new ≡ take (i + 1) wanted
+pub read_more : {X : Type 0} (new old : List X) (x d : X) (wanted : List X) (i : ℕ) → new ≡ old ++ x ∷ []
+    → old ≡ take i wanted → i < length wanted → x ≡ get_or wanted i d → new ≡ take (i + 1) wanted
 read_more new old x d wanted i more before within is = let step = take_more wanted i d within in cc
 
 -- the whole list was read

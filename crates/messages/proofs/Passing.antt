@@ -1,5 +1,6 @@
 -- Bytes compared with a text, piece by piece.
-use Rattle.std.proofs.Common.{◌≡◌, ◌≢◌, ℕ, ◌+◌, ◌-◌, ◌<◌, ◌≤◌, Bool, true, false, eqb, ◌||◌, List, [], ◌∷◌, ◌++◌, Option, Some, None, Bor, refl, sym, ap, ◌∙◌, inl, inr, ap₂, append-nil, append_assoc, arith, decimal, subst, drop, get_or, length, map, take, take_all}
+use Rattle.std.proofs.Common.{◌≡◌, ◌≢◌, ℕ, ◌+◌, ◌-◌, ◌<◌, ◌≤◌, Bool, true, false, eqb, ◌||◌, List, [], ◌∷◌, ◌++◌, Option, Some, None, Bor, refl, sym}
+use Rattle.std.proofs.Common.{ap, ◌∙◌, inl, inr, ap₂, append-nil, append_assoc, arith, decimal, subst, drop, get_or, length, map, take, take_all}
 use Rattle.std.specs.Prelude.{◌↔◌, IsTrue, IsUtf8, MatchOption, codes}
 use Rattle.std.specs.List.{flat_map}
 use Rattle.std.proofs.lemmas.Bool.{cases_Bool}
@@ -40,7 +41,8 @@ inside : (v w : List ℕ) → Some v ≡ Some w → v ≡ w
 inside v w e = cc
 
 -- what cutting a front off answers
-pub past_front : {p : List ℕ} (s : Bor (List ℕ)) (r : Option (Bor (List ℕ))) → MatchOption r ((rest : List ℕ) → s.now ≢ p ++ rest) (λ x. s.now ≡ p ++ x.now) → IsPast p (Some s) r
+pub past_front : {p : List ℕ} (s : Bor (List ℕ)) (r : Option (Bor (List ℕ)))
+    → MatchOption r ((rest : List ℕ) → s.now ≢ p ++ rest) (λ x. s.now ≡ p ++ x.now) → IsPast p (Some s) r
 past_front {p} s None differs = record { found = λ left e. absurd cc; only = λ left e. absurd (differs left (inside s.now (p ++ left) e)) }
 past_front {p} s (Some x) same = record {
   found = λ left e. ap Some (same ∙ ap (λ (w : List ℕ). p ++ w) (inside x.now left e));
@@ -82,11 +84,14 @@ arg_append v w = flat_map-append escaped_byte v w
 arg_one : (b : ℕ) → arg_text (b ∷ []) ≡ escaped_byte b
 arg_one b = append-nil (escaped_byte b)
 
-pub arg_more : (w : List ℕ) (i : ℕ) → i < length w → escaped (arg_text (take i w)) ++ escaped (escaped_byte (get_or w i 0)) ≡ escaped (arg_text (take (i + 1) w))
+pub arg_more : (w : List ℕ) (i : ℕ) → i < length w
+    → escaped (arg_text (take i w)) ++ escaped (escaped_byte (get_or w i 0)) ≡ escaped (arg_text (take (i + 1) w))
 arg_more w i less =
-    rw (take_more w i 0 less, arg_append (take i w) (get_or w i 0 ∷ []), arg_one (get_or w i 0)) (sym (escaped_append (arg_text (take i w)) (escaped_byte (get_or w i 0))))
+    rw (take_more w i 0 less, arg_append (take i w) (get_or w i 0 ∷ []), arg_one (get_or w i 0))
+    (sym (escaped_append (arg_text (take i w)) (escaped_byte (get_or w i 0))))
 
-pub args_more : (a : List ℕ) (more : List (List ℕ)) → (codes " " ++ escaped (arg_text a)) ++ escaped (flat_map spaced_arg more) ≡ escaped (flat_map spaced_arg (a ∷ more))
+pub args_more : (a : List ℕ) (more : List (List ℕ))
+    → (codes " " ++ escaped (arg_text a)) ++ escaped (flat_map spaced_arg more) ≡ escaped (flat_map spaced_arg (a ∷ more))
 unfolding escaped
 args_more a more = sym (escaped_append (spaced_arg a) (flat_map spaced_arg more))
 
@@ -156,7 +161,8 @@ stamp_missing s rest t short e =
 pub stamp_utf8 : (t : ℕ) → IsMoment t → IsUtf8 (moment_text t)
 stamp_utf8 t h =
     let plain = moment_plain t h in
-    subst IsUtf8 (escaped_plain (moment_text t) plain) (IsUtf8-from_ascii (escaped (moment_text t)) (ascii_escaped (moment_text t) (printed_plain (moment_text t) plain)))
+    subst IsUtf8 (escaped_plain (moment_text t) plain)
+    (IsUtf8-from_ascii (escaped (moment_text t)) (ascii_escaped (moment_text t) (printed_plain (moment_text t) plain)))
 
 -- ---- commands
 
@@ -178,7 +184,8 @@ three_apart h a i b j c = simp append_assoc
 four : (h a i b j c k d e : List ℕ) → ((((h ++ a) ++ (i ++ b)) ++ (j ++ c)) ++ (k ++ d)) ++ e ≡ h ++ a ++ i ++ b ++ j ++ c ++ k ++ d ++ e
 four h a i b j c k d e = simp append_assoc
 
-five : (h a i b j c k d l e f : List ℕ) → (((((h ++ a) ++ (i ++ b)) ++ (j ++ c)) ++ (k ++ d)) ++ (l ++ e)) ++ f ≡ h ++ a ++ i ++ b ++ j ++ c ++ k ++ d ++ l ++ e ++ f
+five : (h a i b j c k d l e f : List ℕ)
+    → (((((h ++ a) ++ (i ++ b)) ++ (j ++ c)) ++ (k ++ d)) ++ (l ++ e)) ++ f ≡ h ++ a ++ i ++ b ++ j ++ c ++ k ++ d ++ l ++ e ++ f
 five h a i b j c k d l e f = simp append_assoc
 
 six : (w h a i b j c : List ℕ) → w ++ (h ++ a ++ i ++ b ++ j ++ c) ≡ w ++ h ++ a ++ i ++ b ++ j ++ c
@@ -190,37 +197,46 @@ nine w h a i b j c k d e = simp append_assoc
 pub asked_parts : (r : RequestFields) (by ceiling : List ℕ) → by ≡ r.by → ceiling ≡ r.ceiling
     → ((codes "{\"at\":" ++ quoted (moment_text r.at)) ++ (codes ",\"by\":" ++ quoted by)) ++ (codes ",\"ceiling\":" ++ quoted ceiling)
     ≡ codes "{\"at\":" ++ quoted (moment_text r.at) ++ codes ",\"by\":" ++ quoted r.by ++ codes ",\"ceiling\":" ++ quoted r.ceiling
-asked_parts r by ceiling e f = rw (e, f) (three (codes "{\"at\":") (quoted (moment_text r.at)) (codes ",\"by\":") (quoted r.by) (codes ",\"ceiling\":") (quoted r.ceiling))
+asked_parts r by ceiling e f =
+    rw (e, f) (three (codes "{\"at\":") (quoted (moment_text r.at)) (codes ",\"by\":") (quoted r.by) (codes ",\"ceiling\":") (quoted r.ceiling))
 
 pub lists_parts : (r : RequestFields) (cs : List Cmnd) (hs : List (List ℕ)) → cs ≡ r.cmnds → hs ≡ r.hosts
     → (((codes ",\"cmnds\":" ++ list_text (map cmnd_text cs)) ++ (codes ",\"from\":" ++ quoted (moment_text r.from))) ++ codes ",\"hosts\":") ++ list_text hs
     ≡ codes ",\"cmnds\":" ++ list_text (map cmnd_text r.cmnds) ++ codes ",\"from\":" ++ quoted (moment_text r.from) ++ codes ",\"hosts\":" ++ list_text r.hosts
-lists_parts r cs hs e f = rw (e, f) (three_apart (codes ",\"cmnds\":") (list_text (map cmnd_text r.cmnds)) (codes ",\"from\":") (quoted (moment_text r.from)) (codes ",\"hosts\":") (list_text r.hosts))
+lists_parts r cs hs e f = rw (e, f) (three_apart (codes ",\"cmnds\":") (list_text (map cmnd_text r.cmnds))
+    (codes ",\"from\":") (quoted (moment_text r.from)) (codes ",\"hosts\":") (list_text r.hosts))
 
 pub last_parts : (r : RequestFields) (runas : List ℕ) → runas ≡ r.runas
-    → ((((codes ",\"kind\":" ++ quoted (codes "request")) ++ (codes ",\"no\":" ++ decimal r.no)) ++ (codes ",\"runas\":" ++ quoted runas)) ++ (codes ",\"until\":" ++ quoted (moment_text r.until))) ++ codes "}"
-    ≡ codes ",\"kind\":" ++ quoted (codes "request") ++ codes ",\"no\":" ++ decimal r.no ++ codes ",\"runas\":" ++ quoted r.runas ++ codes ",\"until\":" ++ quoted (moment_text r.until) ++ codes "}"
-last_parts r runas e = rw e (four (codes ",\"kind\":") (quoted (codes "request")) (codes ",\"no\":") (decimal r.no) (codes ",\"runas\":") (quoted r.runas) (codes ",\"until\":") (quoted (moment_text r.until)) (codes "}"))
+    → ((((codes ",\"kind\":" ++ quoted (codes "request")) ++ (codes ",\"no\":" ++ decimal r.no)) ++ (codes ",\"runas\":" ++ quoted runas))
+    ++ (codes ",\"until\":" ++ quoted (moment_text r.until))) ++ codes "}" ≡ codes ",\"kind\":" ++ quoted (codes "request") ++ codes ",\"no\":"
+    ++ decimal r.no ++ codes ",\"runas\":" ++ quoted r.runas ++ codes ",\"until\":" ++ quoted (moment_text r.until) ++ codes "}"
+last_parts r runas e = rw e (four (codes ",\"kind\":") (quoted (codes "request")) (codes ",\"no\":") (decimal r.no)
+    (codes ",\"runas\":") (quoted r.runas) (codes ",\"until\":") (quoted (moment_text r.until)) (codes "}"))
 
 pub request_whole : (r : RequestFields)
-    → ((codes "{\"at\":" ++ quoted (moment_text r.at) ++ codes ",\"by\":" ++ quoted r.by ++ codes ",\"ceiling\":" ++ quoted r.ceiling)
-    ++ (codes ",\"cmnds\":" ++ list_text (map cmnd_text r.cmnds) ++ codes ",\"from\":" ++ quoted (moment_text r.from) ++ codes ",\"hosts\":" ++ list_text r.hosts))
-    ++ (codes ",\"kind\":" ++ quoted (codes "request") ++ codes ",\"no\":" ++ decimal r.no ++ codes ",\"runas\":" ++ quoted r.runas ++ codes ",\"until\":" ++ quoted (moment_text r.until) ++ codes "}")
-    ≡ request_text r
+    → ((codes "{\"at\":" ++ quoted (moment_text r.at) ++ codes ",\"by\":" ++ quoted r.by ++ codes ",\"ceiling\":" ++ quoted r.ceiling) ++ (codes ",\"cmnds\":"
+    ++ list_text (map cmnd_text r.cmnds) ++ codes ",\"from\":" ++ quoted (moment_text r.from) ++ codes ",\"hosts\":" ++ list_text r.hosts))
+    ++ (codes ",\"kind\":" ++ quoted (codes "request") ++ codes ",\"no\":" ++ decimal r.no ++ codes ",\"runas\":"
+    ++ quoted r.runas ++ codes ",\"until\":" ++ quoted (moment_text r.until) ++ codes "}") ≡ request_text r
 request_whole r =
-    let last = codes ",\"kind\":" ++ quoted (codes "request") ++ codes ",\"no\":" ++ decimal r.no ++ codes ",\"runas\":" ++ quoted r.runas ++ codes ",\"until\":" ++ quoted (moment_text r.until) ++ codes "}" in
+    let last = codes ",\"kind\":" ++ quoted (codes "request") ++ codes ",\"no\":" ++ decimal r.no
+    ++ codes ",\"runas\":" ++ quoted r.runas ++ codes ",\"until\":" ++ quoted (moment_text r.until) ++ codes "}" in
     let asked = codes "{\"at\":" ++ quoted (moment_text r.at) ++ codes ",\"by\":" ++ quoted r.by ++ codes ",\"ceiling\":" ++ quoted r.ceiling in
-    let front = asked ++ codes ",\"cmnds\":" ++ list_text (map cmnd_text r.cmnds) ++ codes ",\"from\":" ++ quoted (moment_text r.from) ++ codes ",\"hosts\":" ++ list_text r.hosts in
-    ap (λ (w : List ℕ). w ++ last) (six asked (codes ",\"cmnds\":") (list_text (map cmnd_text r.cmnds)) (codes ",\"from\":") (quoted (moment_text r.from)) (codes ",\"hosts\":") (list_text r.hosts))
-    ∙ nine front (codes ",\"kind\":") (quoted (codes "request")) (codes ",\"no\":") (decimal r.no) (codes ",\"runas\":") (quoted r.runas) (codes ",\"until\":") (quoted (moment_text r.until)) (codes "}")
+    let front = asked ++ codes ",\"cmnds\":" ++ list_text (map cmnd_text r.cmnds) ++ codes ",\"from\":"
+    ++ quoted (moment_text r.from) ++ codes ",\"hosts\":" ++ list_text r.hosts in
+    ap (λ (w : List ℕ). w ++ last) (six asked (codes ",\"cmnds\":") (list_text (map cmnd_text r.cmnds)) (codes ",\"from\":")
+    (quoted (moment_text r.from)) (codes ",\"hosts\":") (list_text r.hosts)) ∙ nine front (codes ",\"kind\":") (quoted (codes "request"))
+    (codes ",\"no\":") (decimal r.no) (codes ",\"runas\":") (quoted r.runas) (codes ",\"until\":") (quoted (moment_text r.until)) (codes "}")
 
 pub verdict_parts : (v : VerdictFields) (by kind of : List ℕ) → by ≡ v.by → kind ≡ kind_text v.kind → of ≡ v.of
-    → (((((codes "{\"at\":" ++ quoted (moment_text v.at)) ++ (codes ",\"by\":" ++ quoted by)) ++ (codes ",\"kind\":" ++ quoted kind)) ++ (codes ",\"no\":" ++ decimal v.no)) ++ (codes ",\"of\":" ++ quoted of)) ++ codes "}"
-    ≡ verdict_text v
-verdict_parts v by kind of e f g = rw (e, f, g) (five (codes "{\"at\":") (quoted (moment_text v.at)) (codes ",\"by\":") (quoted v.by) (codes ",\"kind\":") (quoted (kind_text v.kind)) (codes ",\"no\":") (decimal v.no) (codes ",\"of\":") (quoted v.of) (codes "}"))
+    → (((((codes "{\"at\":" ++ quoted (moment_text v.at)) ++ (codes ",\"by\":" ++ quoted by)) ++ (codes ",\"kind\":" ++ quoted kind))
+    ++ (codes ",\"no\":" ++ decimal v.no)) ++ (codes ",\"of\":" ++ quoted of)) ++ codes "}" ≡ verdict_text v
+verdict_parts v by kind of e f g = rw (e, f, g) (five (codes "{\"at\":") (quoted (moment_text v.at)) (codes ",\"by\":") (quoted v.by)
+    (codes ",\"kind\":") (quoted (kind_text v.kind)) (codes ",\"no\":") (decimal v.no) (codes ",\"of\":") (quoted v.of) (codes "}"))
 
 -- the whole was compared
-pub whole : {p : List ℕ} (body : Bor (List ℕ)) (left : Option (Bor (List ℕ))) (r : Bool) → IsPast p (Some body) left → (IsTrue r ↔ (left_of left ≡ Some [])) → IsTrue r ↔ (body.now ≡ p)
+pub whole : {p : List ℕ} (body : Bor (List ℕ)) (left : Option (Bor (List ℕ))) (r : Bool)
+    → IsPast p (Some body) left → (IsTrue r ↔ (left_of left ≡ Some [])) → IsTrue r ↔ (body.now ≡ p)
 whole {p} body left r past end =
     (λ e. inside body.now (p ++ []) (past.found [] (end.0 e)) ∙ append-nil p, λ same. end.1 (past.only [] (ap Some (same ∙ sym (append-nil p)))))
 

@@ -1,5 +1,6 @@
 -- The texts of a message are ASCII. But for those of commands they need no escape.
-use Rattle.std.proofs.Common.{◌≡◌, ◌≢◌, ℕ, ◌<◌, ◌≤◌, Bool, true, false, eqb, leb, ltb, not, ◌&&◌, ◌||◌, List, [], ◌∷◌, ◌++◌, length, refl, ap, ◌∙◌, inl, inr, arith, lit<, append_assoc, rules, Result, Ok, Err, String, Global, string_bytes}
+use Rattle.std.proofs.Common.{◌≡◌, ◌≢◌, ℕ, ◌<◌, ◌≤◌, Bool, true, false, eqb, leb, ltb, not, ◌&&◌, ◌||◌, List, [], ◌∷◌, ◌++◌, length}
+use Rattle.std.proofs.Common.{refl, ap, ◌∙◌, inl, inr, arith, lit<, append_assoc, rules, Result, Ok, Err, String, Global, string_bytes}
 use Rattle.std.specs.Prelude.{All, codes, decimal, map, IsAscii, OnOk, is_ok, if◌then◌else◌}
 use Rattle.std.specs.List.{AllByRecursion, flat_map, list_all}
 use Rattle.std.proofs.lemmas.Bool.{and_parts, cases_Bool, or_cases}
@@ -205,7 +206,8 @@ unfolding quoted
 between_quotes front w same = rw same (simp append_assoc)
 
 -- what a list has after the last of several pushes
-pub last_pushed : {T E : Type 0} (r : Result T E) (new old more want : List ℕ) → new ≡ (if is_ok r then old ++ more else old) → old ++ more ≡ want → OnOk r (new ≡ want)
+pub last_pushed : {T E : Type 0} (r : Result T E) (new old more want : List ℕ)
+    → new ≡ (if is_ok r then old ++ more else old) → old ++ more ≡ want → OnOk r (new ≡ want)
 last_pushed (Ok x) new old more want e h = e ∙ h
 last_pushed (Err x) new old more want e h = tt
 
@@ -226,9 +228,9 @@ moment_spelled t h = stamp_spells (stamp t) t (stamp_is t h)
 -- the three parts of a request's text, one behind the other
 pub request_parts : (out asked lists : List ℕ) (r : RequestFields)
     → asked ≡ out ++ codes "{\"at\":" ++ quoted (moment_text r.at) ++ codes ",\"by\":" ++ quoted r.by ++ codes ",\"ceiling\":" ++ quoted r.ceiling
-    → lists ≡ asked ++ codes ",\"cmnds\":" ++ list_text (map cmnd_text r.cmnds) ++ codes ",\"from\":" ++ quoted (moment_text r.from) ++ codes ",\"hosts\":" ++ list_text r.hosts
-    → lists ++ codes ",\"kind\":" ++ quoted (codes "request") ++ codes ",\"no\":" ++ decimal r.no ++ codes ",\"runas\":" ++ quoted r.runas ++ codes ",\"until\":" ++ quoted (moment_text r.until) ++ codes "}"
-    ≡ out ++ request_text r
+    → lists ≡ asked ++ codes ",\"cmnds\":" ++ list_text (map cmnd_text r.cmnds) ++ codes ",\"from\":" ++ quoted (moment_text r.from)
+    ++ codes ",\"hosts\":" ++ list_text r.hosts → lists ++ codes ",\"kind\":" ++ quoted (codes "request") ++ codes ",\"no\":" ++ decimal r.no
+    ++ codes ",\"runas\":" ++ quoted r.runas ++ codes ",\"until\":" ++ quoted (moment_text r.until) ++ codes "}" ≡ out ++ request_text r
 request_parts out asked lists r e f = rw (f, e) (simp append_assoc)
 
 pub moment_plain : (t : ℕ) → IsMoment t → IsPlain (moment_text t)

@@ -1,5 +1,6 @@
 -- The text of a message is canonical JSON that reads as the message's value.
-use Rattle.std.proofs.Common.{◌≡◌, ℕ, ◌^◌, ◌<◌, ◌≤◌, ◌∙◌, true, false, List, [], ◌∷◌, ◌++◌, Option, Some, option_map, option_and_then, map, refl, sym, ap, ap₂, subst, arith, append_assoc, append-nil, decimal, ltb}
+use Rattle.std.proofs.Common.{◌≡◌, ℕ, ◌^◌, ◌<◌, ◌≤◌, ◌∙◌, true, false, List, [], ◌∷◌, ◌++◌, Option, Some, option_map}
+use Rattle.std.proofs.Common.{option_and_then, map, refl, sym, ap, ap₂, subst, arith, append_assoc, append-nil, decimal, ltb}
 use Rattle.std.specs.List.{list_all}
 use Rattle.std.specs.Prelude.{codes, IsUtf8, All}
 use Rattle.std.proofs.lemmas.Fmt.{IsAscii-decimal}
@@ -26,7 +27,8 @@ use Rattle.messages.specs.private.Members.{strings, request_value, verdict_value
 use Rattle.messages.specs.Wire.{escaped, quoted, moment_text, rest_text, list_text, kind_text, request_text, verdict_text, wire, IsMessage}
 use Rattle.messages.specs.declared.message.Message.{Message}
 use Rattle.messages.specs.declared.message.Message.TheVariants.{Request, Verdict}
-use Rattle.messages.proofs.PlainTexts.{IsPlain, IsPrinted, printed_plain, escape_printed, ascii_escaped, ascii_literal, escaped_plain, name_plain, label_plain, moment_plain, request_plain, kind_plain, hosts_printed, cmnds_printed}
+use Rattle.messages.proofs.PlainTexts.{IsPlain, IsPrinted, printed_plain, escape_printed, ascii_escaped, ascii_literal, escaped_plain}
+use Rattle.messages.proofs.PlainTexts.{name_plain, label_plain, moment_plain, request_plain, kind_plain, hosts_printed, cmnds_printed}
 
 -- ---- a value whose text is known, and reads as the value
 
@@ -52,7 +54,8 @@ said_text w printed = record {
   numbers = tt;
   shallow = omega arith;
   whole = refl;
-  utf8 = IsUtf8-append (codes "\"" ++ escaped w) (codes "\"") (IsUtf8-append (codes "\"") (escaped w) quote_utf8 (IsUtf8-from_ascii (escaped w) (ascii_escaped w printed))) quote_utf8;
+  utf8 = IsUtf8-append (codes "\"" ++ escaped w) (codes "\"")
+      (IsUtf8-append (codes "\"") (escaped w) quote_utf8 (IsUtf8-from_ascii (escaped w) (ascii_escaped w printed))) quote_utf8;
 }
 
 pub name_utf8 : (w : List ℕ) → is_name w ≡ true → IsUtf8 w
@@ -151,17 +154,21 @@ canonical_from_said value text said =
 pub utf8_member : (front head value : List ℕ) → IsUtf8 front → list_all (λ b. ltb b 128) head ≡ true → IsUtf8 value → IsUtf8 (front ++ head ++ value)
 utf8_member front head value f h v = IsUtf8-append (front ++ head) value (IsUtf8-append front head f (utf8_literal head h)) v
 
-module _ (d0 d1 d2 d3 d4 : Data) (x0 x1 x2 x3 x4 : List ℕ) (s0 : IsSaid 1 d0 x0) (s1 : IsSaid 1 d1 x1) (s2 : IsSaid 1 d2 x2) (s3 : IsSaid 1 d3 x3) (s4 : IsSaid 1 d4 x4) where
-  verdict_layout : compact_text (object (member (codes "at") d0 (member (codes "by") d1 (member (codes "kind") d2 (member (codes "no") d3 (member (codes "of") d4 no_members))))))
+module _ (d0 d1 d2 d3 d4 : Data) (x0 x1 x2 x3 x4 : List ℕ) (s0 : IsSaid 1 d0 x0)
+    (s1 : IsSaid 1 d1 x1) (s2 : IsSaid 1 d2 x2) (s3 : IsSaid 1 d3 x3) (s4 : IsSaid 1 d4 x4) where
+  verdict_layout : compact_text
+      (object (member (codes "at") d0 (member (codes "by") d1 (member (codes "kind") d2 (member (codes "no") d3 (member (codes "of") d4 no_members))))))
       ≡ codes "{\"at\":" ++ x0 ++ codes ",\"by\":" ++ x1 ++ codes ",\"kind\":" ++ x2 ++ codes ",\"no\":" ++ x3 ++ codes ",\"of\":" ++ x4 ++ codes "}"
   unfolding escape_byte
   verdict_layout = rw (s0.text_is, s1.text_is, s2.text_is, s3.text_is, s4.text_is) (simp append_assoc)
 
-  verdict_reads : of_json (outline (object (member (codes "at") d0 (member (codes "by") d1 (member (codes "kind") d2 (member (codes "no") d3 (member (codes "of") d4 no_members)))))))
+  verdict_reads : of_json (outline
+      (object (member (codes "at") d0 (member (codes "by") d1 (member (codes "kind") d2 (member (codes "no") d3 (member (codes "of") d4 no_members)))))))
       ≡ Some (object (member (codes "at") d0 (member (codes "by") d1 (member (codes "kind") d2 (member (codes "no") d3 (member (codes "of") d4 no_members))))))
   verdict_reads = rw s0.reads (rw s1.reads (rw s2.reads (rw s3.reads (rw s4.reads refl))))
 
-  verdict_utf8 : IsUtf8 (codes "{\"at\":" ++ x0 ++ codes ",\"by\":" ++ x1 ++ codes ",\"kind\":" ++ x2 ++ codes ",\"no\":" ++ x3 ++ codes ",\"of\":" ++ x4 ++ codes "}")
+  verdict_utf8 :
+      IsUtf8 (codes "{\"at\":" ++ x0 ++ codes ",\"by\":" ++ x1 ++ codes ",\"kind\":" ++ x2 ++ codes ",\"no\":" ++ x3 ++ codes ",\"of\":" ++ x4 ++ codes "}")
   verdict_utf8 =
       let m0 = utf8_member [] (codes "{\"at\":") x0 (utf8_literal [] refl) refl s0.utf8 in
       let m1 = utf8_member _ (codes ",\"by\":") x1 m0 refl s1.utf8 in
@@ -170,7 +177,8 @@ module _ (d0 d1 d2 d3 d4 : Data) (x0 x1 x2 x3 x4 : List ℕ) (s0 : IsSaid 1 d0 x
       let m4 = utf8_member _ (codes ",\"of\":") x4 m3 refl s4.utf8 in
       IsUtf8-append _ (codes "}") m4 (utf8_literal (codes "}") refl)
 
-  pub said_verdict : IsSaid 2 (object (member (codes "at") d0 (member (codes "by") d1 (member (codes "kind") d2 (member (codes "no") d3 (member (codes "of") d4 no_members))))))
+  pub said_verdict : IsSaid 2
+      (object (member (codes "at") d0 (member (codes "by") d1 (member (codes "kind") d2 (member (codes "no") d3 (member (codes "of") d4 no_members))))))
       (codes "{\"at\":" ++ x0 ++ codes ",\"by\":" ++ x1 ++ codes ",\"kind\":" ++ x2 ++ codes ",\"no\":" ++ x3 ++ codes ",\"of\":" ++ x4 ++ codes "}")
   said_verdict = record {
     text_is = verdict_layout;
@@ -182,17 +190,27 @@ module _ (d0 d1 d2 d3 d4 : Data) (x0 x1 x2 x3 x4 : List ℕ) (s0 : IsSaid 1 d0 x
   }
 
 module _ (d0 d1 d2 d3 d4 d5 d6 d7 d8 d9 : Data) (x0 x1 x2 x3 x4 x5 x6 x7 x8 x9 : List ℕ)
-    (s0 : IsSaid 1 d0 x0) (s1 : IsSaid 1 d1 x1) (s2 : IsSaid 1 d2 x2) (s3 : IsSaid 1 d3 x3) (s4 : IsSaid 1 d4 x4) (s5 : IsSaid 1 d5 x5) (s6 : IsSaid 1 d6 x6) (s7 : IsSaid 1 d7 x7) (s8 : IsSaid 1 d8 x8) (s9 : IsSaid 1 d9 x9) where
-  request_layout : compact_text (object (member (codes "at") d0 (member (codes "by") d1 (member (codes "ceiling") d2 (member (codes "cmnds") d3 (member (codes "from") d4 (member (codes "hosts") d5 (member (codes "kind") d6 (member (codes "no") d7 (member (codes "runas") d8 (member (codes "until") d9 no_members)))))))))))
-      ≡ codes "{\"at\":" ++ x0 ++ codes ",\"by\":" ++ x1 ++ codes ",\"ceiling\":" ++ x2 ++ codes ",\"cmnds\":" ++ x3 ++ codes ",\"from\":" ++ x4 ++ codes ",\"hosts\":" ++ x5 ++ codes ",\"kind\":" ++ x6 ++ codes ",\"no\":" ++ x7 ++ codes ",\"runas\":" ++ x8 ++ codes ",\"until\":" ++ x9 ++ codes "}"
+    (s0 : IsSaid 1 d0 x0) (s1 : IsSaid 1 d1 x1) (s2 : IsSaid 1 d2 x2) (s3 : IsSaid 1 d3 x3) (s4 : IsSaid 1 d4 x4)
+    (s5 : IsSaid 1 d5 x5) (s6 : IsSaid 1 d6 x6) (s7 : IsSaid 1 d7 x7) (s8 : IsSaid 1 d8 x8) (s9 : IsSaid 1 d9 x9) where
+  request_layout :
+      compact_text (object (member (codes "at") d0 (member (codes "by") d1 (member (codes "ceiling") d2 (member (codes "cmnds") d3 (member (codes "from") d4
+      (member (codes "hosts") d5 (member (codes "kind") d6 (member (codes "no") d7 (member (codes "runas") d8 (member (codes "until") d9 no_members)))))))))))
+      ≡ codes "{\"at\":" ++ x0 ++ codes ",\"by\":" ++ x1 ++ codes ",\"ceiling\":" ++ x2 ++ codes ",\"cmnds\":" ++ x3 ++ codes ",\"from\":" ++ x4
+      ++ codes ",\"hosts\":" ++ x5 ++ codes ",\"kind\":" ++ x6 ++ codes ",\"no\":" ++ x7 ++ codes ",\"runas\":" ++ x8 ++ codes ",\"until\":" ++ x9 ++ codes "}"
   unfolding escape_byte
-  request_layout = rw (s0.text_is, s1.text_is, s2.text_is, s3.text_is, s4.text_is, s5.text_is, s6.text_is, s7.text_is, s8.text_is, s9.text_is) (simp append_assoc)
+  request_layout =
+      rw (s0.text_is, s1.text_is, s2.text_is, s3.text_is, s4.text_is, s5.text_is, s6.text_is, s7.text_is, s8.text_is, s9.text_is) (simp append_assoc)
 
-  request_reads : of_json (outline (object (member (codes "at") d0 (member (codes "by") d1 (member (codes "ceiling") d2 (member (codes "cmnds") d3 (member (codes "from") d4 (member (codes "hosts") d5 (member (codes "kind") d6 (member (codes "no") d7 (member (codes "runas") d8 (member (codes "until") d9 no_members))))))))))))
-      ≡ Some (object (member (codes "at") d0 (member (codes "by") d1 (member (codes "ceiling") d2 (member (codes "cmnds") d3 (member (codes "from") d4 (member (codes "hosts") d5 (member (codes "kind") d6 (member (codes "no") d7 (member (codes "runas") d8 (member (codes "until") d9 no_members)))))))))))
+  request_reads :
+      of_json (outline (object (member (codes "at") d0 (member (codes "by") d1 (member (codes "ceiling") d2 (member (codes "cmnds") d3 (member (codes "from") d4
+      (member (codes "hosts") d5 (member (codes "kind") d6 (member (codes "no") d7 (member (codes "runas") d8 (member (codes "until") d9 no_members))))))))))))
+      ≡ Some (object (member (codes "at") d0 (member (codes "by") d1 (member (codes "ceiling") d2 (member (codes "cmnds") d3 (member (codes "from") d4
+      (member (codes "hosts") d5 (member (codes "kind") d6 (member (codes "no") d7 (member (codes "runas") d8 (member (codes "until") d9 no_members)))))))))))
   request_reads = rw s0.reads (rw s1.reads (rw s2.reads (rw s3.reads (rw s4.reads (rw s5.reads (rw s6.reads (rw s7.reads (rw s8.reads (rw s9.reads refl)))))))))
 
-  request_utf8 : IsUtf8 (codes "{\"at\":" ++ x0 ++ codes ",\"by\":" ++ x1 ++ codes ",\"ceiling\":" ++ x2 ++ codes ",\"cmnds\":" ++ x3 ++ codes ",\"from\":" ++ x4 ++ codes ",\"hosts\":" ++ x5 ++ codes ",\"kind\":" ++ x6 ++ codes ",\"no\":" ++ x7 ++ codes ",\"runas\":" ++ x8 ++ codes ",\"until\":" ++ x9 ++ codes "}")
+  request_utf8 :
+      IsUtf8 (codes "{\"at\":" ++ x0 ++ codes ",\"by\":" ++ x1 ++ codes ",\"ceiling\":" ++ x2 ++ codes ",\"cmnds\":" ++ x3 ++ codes ",\"from\":" ++ x4
+      ++ codes ",\"hosts\":" ++ x5 ++ codes ",\"kind\":" ++ x6 ++ codes ",\"no\":" ++ x7 ++ codes ",\"runas\":" ++ x8 ++ codes ",\"until\":" ++ x9 ++ codes "}")
   request_utf8 =
       let m0 = utf8_member [] (codes "{\"at\":") x0 (utf8_literal [] refl) refl s0.utf8 in
       let m1 = utf8_member _ (codes ",\"by\":") x1 m0 refl s1.utf8 in
@@ -206,8 +224,11 @@ module _ (d0 d1 d2 d3 d4 d5 d6 d7 d8 d9 : Data) (x0 x1 x2 x3 x4 x5 x6 x7 x8 x9 :
       let m9 = utf8_member _ (codes ",\"until\":") x9 m8 refl s9.utf8 in
       IsUtf8-append _ (codes "}") m9 (utf8_literal (codes "}") refl)
 
-  pub said_request : IsSaid 2 (object (member (codes "at") d0 (member (codes "by") d1 (member (codes "ceiling") d2 (member (codes "cmnds") d3 (member (codes "from") d4 (member (codes "hosts") d5 (member (codes "kind") d6 (member (codes "no") d7 (member (codes "runas") d8 (member (codes "until") d9 no_members)))))))))))
-      (codes "{\"at\":" ++ x0 ++ codes ",\"by\":" ++ x1 ++ codes ",\"ceiling\":" ++ x2 ++ codes ",\"cmnds\":" ++ x3 ++ codes ",\"from\":" ++ x4 ++ codes ",\"hosts\":" ++ x5 ++ codes ",\"kind\":" ++ x6 ++ codes ",\"no\":" ++ x7 ++ codes ",\"runas\":" ++ x8 ++ codes ",\"until\":" ++ x9 ++ codes "}")
+  pub said_request :
+      IsSaid 2 (object (member (codes "at") d0 (member (codes "by") d1 (member (codes "ceiling") d2 (member (codes "cmnds") d3 (member (codes "from") d4
+      (member (codes "hosts") d5 (member (codes "kind") d6 (member (codes "no") d7 (member (codes "runas") d8 (member (codes "until") d9 no_members)))))))))))
+      (codes "{\"at\":" ++ x0 ++ codes ",\"by\":" ++ x1 ++ codes ",\"ceiling\":" ++ x2 ++ codes ",\"cmnds\":" ++ x3 ++ codes ",\"from\":" ++ x4
+      ++ codes ",\"hosts\":" ++ x5 ++ codes ",\"kind\":" ++ x6 ++ codes ",\"no\":" ++ x7 ++ codes ",\"runas\":" ++ x8 ++ codes ",\"until\":" ++ x9 ++ codes "}")
   said_request = record {
     text_is = request_layout;
     reads = request_reads;

@@ -75,11 +75,14 @@ minus_zero_other = not_whole (codes "-0") true (scan_numeral (codes "0")) refl
 
 pub twice_other : ¬ IsCanonicalText (codes "{\"a\":7,\"a\":7}")
 unfolding lex punctuate items members value number_of content word after_number scan_numeral escape_byte digits
-twice_other = not_written (codes "{\"a\":7,\"a\":7}") (object (member (codes "a") (number (unsigned 7)) no_members)) refl (λ same. let at : 44 ≡ 125 = ap (λ (w : List ℕ). get_or w 6 0) same in omega arith)
+twice_other = not_written (codes "{\"a\":7,\"a\":7}") (object (member (codes "a") (number (unsigned 7)) no_members)) refl
+    (λ same. let at : 44 ≡ 125 = ap (λ (w : List ℕ). get_or w 6 0) same in omega arith)
 
 pub order_other : ¬ IsCanonicalText (codes "{\"b\":7,\"a\":7}")
 unfolding lex punctuate items members value number_of content word after_number scan_numeral escape_byte digits
-order_other = not_written (codes "{\"b\":7,\"a\":7}") (object (member (codes "a") (number (unsigned 7)) (member (codes "b") (number (unsigned 7)) no_members))) refl (λ same. let at : 98 ≡ 97 = ap (λ (w : List ℕ). get_or w 2 0) same in omega arith)
+order_other =
+    not_written (codes "{\"b\":7,\"a\":7}") (object (member (codes "a") (number (unsigned 7)) (member (codes "b") (number (unsigned 7)) no_members))) refl
+    (λ same. let at : 98 ≡ 97 = ap (λ (w : List ℕ). get_or w 2 0) same in omega arith)
 
 pub escape_other : ¬ IsCanonicalText (codes "\"\\u0041\"")
 unfolding lex punctuate items members value content code_unit encode_utf8 escape_byte

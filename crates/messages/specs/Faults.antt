@@ -1,7 +1,8 @@
 -- How faults are shown.
 use Rattle.std.specs.Prelude.{ℕ, List, codes}
 use Rattle.messages.specs.declared.fault.MessageFault.{MessageFault}
-use Rattle.messages.specs.declared.fault.MessageFault.TheVariants.{TooLong, NotCanonical, BadField, NoMemory}
+use Rattle.messages.specs.declared.fault.MessageFault.TheVariants.{TooLong, NotCanonical}
+use Rattle.messages.specs.declared.fault.MessageFault.TheVariants.{BadField, NoMemory}
 
 -- its code and name
 abbrev pub fault_text : MessageFault → List ℕ

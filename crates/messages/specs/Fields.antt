@@ -1,4 +1,5 @@
--- What a request and a verdict say, and which of them the desk knows. Names are seen as their bytes, and moments as seconds.
+-- What a request and a verdict say, and which of them the desk knows. Names are seen as their
+-- bytes, and moments as seconds.
 use Rattle.std.specs.Prelude.{◌≡◌, ℕ, ◌≤◌, true, List, All, map, length}
 use Rattle.sudo_words.specs.Moment.{IsMoment}
 use Rattle.sudo_words.specs.Word.{is_name, is_host_name, is_label}
@@ -7,7 +8,8 @@ use Rattle.sudo_words.specs.declared.cmnd.Cmnd.{Cmnd}
 use Rattle.messages.specs.Order.{IsRising}
 use Rattle.messages.specs.declared.kind.VerdictKind.{VerdictKind}
 
--- Someone asks, at a moment, for commands on hosts as a target, within a window of time and under a ceiling.
+-- Someone asks, at a moment, for commands on hosts as a target, within a window of time and under a
+-- ceiling.
 pub record RequestFields : Type 0 where
   pub at : ℕ
   pub by : List ℕ

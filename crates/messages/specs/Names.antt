@@ -1,4 +1,5 @@
--- What requests are called by, in which order names stand, and lists of messages that stand for one set.
+-- What requests are called by, in which order names stand, and lists of messages that stand for one
+-- set.
 use Rattle.std.specs.Prelude.{◌≡◌, ◌<◌, ◌⊎◌, List, Contains}
 use Rattle.std.specs.Cmp.Lexicographic.{slice_cmp}
 use Rattle.std.specs.Ordering.{nat_cmp, ordering_then}

@@ -17,7 +17,8 @@ AreInOrder Precedes (x ∷ more) = AllAfter Precedes x more × AreInOrder Preced
 
 -- ---- texts in byte order
 
--- One text stands before another: at the first byte where they differ its byte is the lower, or it is a front of the other.
+-- One text stands before another: at the first byte where they differ its byte is the lower, or it
+-- is a front of the other.
 abbrev pub is_before : List ℕ → List ℕ → Bool
 is_before low high = is_lt (slice_cmp nat_cmp low high)
 

@@ -1,5 +1,7 @@
--- The one text of a message: a JSON object (RFC 8259) without spaces, whose members stand in byte order.
-use Rattle.std.specs.Prelude.{ℕ, ◌||◌, ◌==◌, if◌then◌else◌, List, [], ◌∷◌, ◌++◌, map, codes, decimal}
+-- The one text of a message: a JSON object (RFC 8259) without spaces, whose members stand in byte
+-- order.
+use Rattle.std.specs.Prelude.{ℕ, ◌||◌, ◌==◌, if◌then◌else◌, List}
+use Rattle.std.specs.Prelude.{[], ◌∷◌, ◌++◌, map, codes, decimal}
 use Rattle.sudo_words.specs.Moment.{stamp}
 use Rattle.sudo_words.specs.Command.{cmnd_text}
 use Rattle.messages.specs.Fields.{RequestFields, VerdictFields, IsRequest, IsVerdict}

@@ -28,4 +28,10 @@ id = Path (codes "/usr/bin/id") Any
 
 -- at half past eight
 abbrev pub bob_approves : VerdictFields
-bob_approves = record { at = 1_767_601_800; by = codes "bob"; kind = Approve; no = 7; of = codes "ann" }
+bob_approves = record {
+  at = 1_767_601_800;
+  by = codes "bob";
+  kind = Approve;
+  no = 7;
+  of = codes "ann";
+}

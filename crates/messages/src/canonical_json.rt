@@ -51,7 +51,8 @@ fn members_have_float(members: &Map<String, Value>) -> bool
 /// The value that the bytes read as.
 pub(crate) fn value_of(alloc: Global, body: &[u8]) -> Result<Value, MessageFault>
     ensures ok { IfOk result (λ v. ReadsAs body.now (view v)) }
-    ensures err { IfErr result (λ e. (e ≡ NoMemory) ⊎ ((e ≡ NotCanonical) × ¬ IsCanonicalText body.now)) }
+    ensures err { IfErr result
+        (λ e. (e ≡ NoMemory) ⊎ ((e ≡ NotCanonical) × ¬ IsCanonicalText body.now)) }
 {
     match Value::from_slice(alloc, body) {
         Ok(value) => Ok(value),
@@ -62,10 +63,13 @@ pub(crate) fn value_of(alloc: Global, body: &[u8]) -> Result<Value, MessageFault
     }
 }
 
-/// Whether the bytes, which read as the value, are its canonical text: `NotCanonical` where they are not.
+/// Whether the bytes, which read as the value, are its canonical text: `NotCanonical` where they
+/// are not.
 pub(crate) fn canonical(alloc: Global, value: &Value, body: &[u8]) -> Result<(), MessageFault>
-    ensures ok { IfOk result (λ _. ReadsAs body.now (view value.now) → IsTextOf body.now (view value.now)) }
-    ensures err { IfErr result (λ e. (e ≡ NoMemory) ⊎ ((e ≡ NotCanonical) × (ReadsAs body.now (view value.now) → ¬ IsCanonicalText body.now))) }
+    ensures ok { IfOk result
+        (λ _. ReadsAs body.now (view value.now) → IsTextOf body.now (view value.now)) }
+    ensures err { IfErr result (λ e. (e ≡ NoMemory)
+        ⊎ ((e ≡ NotCanonical) × (ReadsAs body.now (view value.now) → ¬ IsCanonicalText body.now))) }
 {
     if has_float(value) {
         return Err(MessageFault::NotCanonical);

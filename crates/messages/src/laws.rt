@@ -25,8 +25,8 @@ pub fn wire_is_canonical()
     ensures { (m : AnyMessage) → IsMessage m → IsCanonicalText (wire m) }
 {}
 
-/// Names are compared by the asker in byte order, then by the number. That is a strict order: of two names either one stands before the
-/// other, or they are the same.
+/// Names are compared by the asker in byte order, then by the number. That is a strict order: of
+/// two names either one stands before the other, or they are the same.
 pub fn names_in_order()
     ensures order { (a b : AnyName) → (⟦<RequestName as Ord>⟧.cmp a b ≡ Less) ↔ NamePrecedes a b }
     ensures one { (a b : AnyName) → NamePrecedes a b ⊎ ((a ≡ b) ⊎ NamePrecedes b a) }

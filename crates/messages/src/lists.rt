@@ -33,8 +33,8 @@ fn host_of(alloc: Global, item: &Value) -> Result<HostName, MessageFault>
 fn read_hosts(alloc: Global, items: &[Value]) -> Result<Vec<HostName>, MessageFault>
     ensures found { IfOk result (λ v. All (λ h. is_host_name h ≡ true) v.items) }
     ensures texts { IfOk result (λ v. items_view items.now ≡ strings v.items) }
-    ensures only { (hs : List (List ℕ)) → All (λ h. is_host_name h ≡ true) hs → items_view items.now ≡ strings hs
-        → MatchResult result (λ v. v.items ≡ hs) (λ e. e ≡ NoMemory) }
+    ensures only { (hs : List (List ℕ)) → All (λ h. is_host_name h ≡ true) hs → items_view items.now
+        ≡ strings hs → MatchResult result (λ v. v.items ≡ hs) (λ e. e ≡ NoMemory) }
     ensures err { IfErr result (λ e. (e ≡ BadField) ⊎ (e ≡ NoMemory)) }
 {
     let mut hosts = Vec::new(alloc);
@@ -76,8 +76,8 @@ fn cmnd_of(alloc: Global, item: &Value) -> Result<Cmnd, MessageFault>
 fn read_cmnds(alloc: Global, items: &[Value]) -> Result<Vec<Cmnd>, MessageFault>
     ensures found { IfOk result (λ v. All IsLawful v.items) }
     ensures texts { IfOk result (λ v. items_view items.now ≡ strings (map cmnd_text v.items)) }
-    ensures only { (cs : List Command) → All IsLawful cs → items_view items.now ≡ strings (map cmnd_text cs)
-        → MatchResult result (λ v. v.items ≡ cs) (λ e. e ≡ NoMemory) }
+    ensures only { (cs : List Command) → All IsLawful cs → items_view items.now
+        ≡ strings (map cmnd_text cs) → MatchResult result (λ v. v.items ≡ cs) (λ e. e ≡ NoMemory) }
     ensures err { IfErr result (λ e. (e ≡ BadField) ⊎ (e ≡ NoMemory)) }
 {
     let mut cmnds = Vec::new(alloc);
@@ -91,8 +91,8 @@ fn read_cmnds(alloc: Global, items: &[Value]) -> Result<Vec<Cmnd>, MessageFault>
 /// The 1 to 16 lawful commands of a list, whose texts rise in byte order.
 pub(crate) fn cmnds_of(alloc: Global, items: &[Value]) -> Result<Vec<Cmnd>, MessageFault>
     ensures found { IfOk result (λ v. AreCmnds v.items) }
-    ensures only { (cs : List Command) → AreCmnds cs → items_view items.now ≡ strings (map cmnd_text cs)
-        → MatchResult result (λ v. v.items ≡ cs) (λ e. e ≡ NoMemory) }
+    ensures only { (cs : List Command) → AreCmnds cs → items_view items.now
+        ≡ strings (map cmnd_text cs) → MatchResult result (λ v. v.items ≡ cs) (λ e. e ≡ NoMemory) }
     ensures err { IfErr result (λ e. (e ≡ BadField) ⊎ (e ≡ NoMemory)) }
 {
     let cmnds = read_cmnds(alloc, items)?;

@@ -1,6 +1,7 @@
 //! The members of a message's value.
 
-ghost use Rattle.std.specs.Prelude.{◌≡◌, ◌⊎◌, List, ℕ, Some, Ok, true, codes, IfOk, IfErr, IsOkAnd, MatchResult};
+ghost use Rattle.std.specs.Prelude.{◌≡◌, ◌⊎◌, List, ℕ, Some, Ok, true, codes};
+ghost use Rattle.std.specs.Prelude.{IfOk, IfErr, IsOkAnd, MatchResult};
 ghost use Rattle.serde_json.specs.Data.{string, number, unsigned, array};
 ghost use Rattle.serde_json.specs.Find.{get};
 ghost use Rattle.serde_json.specs.View.{view, items_view};
@@ -29,7 +30,8 @@ pub(crate) fn text_of(value: &Value) -> Result<&str, MessageFault>
 
 /// The text of a member.
 pub(crate) fn text_member<'v>(value: &'v Value, name: &str) -> Result<&'v str, MessageFault>
-    ensures only { (w : List ℕ) → get name.now (view value.now) ≡ Some (string w) → IsOkAnd result (λ s. s.now ≡ w) }
+    ensures only { (w : List ℕ) → get name.now (view value.now) ≡ Some (string w)
+        → IsOkAnd result (λ s. s.now ≡ w) }
     ensures err { IfErr result (λ e. e ≡ BadField) }
 {
     match value.get(name) {
@@ -41,7 +43,8 @@ pub(crate) fn text_member<'v>(value: &'v Value, name: &str) -> Result<&'v str, M
 /// The word that a text is.
 pub(crate) fn word_of<F: Form>(alloc: Global, text: &str) -> Result<Word<F>, MessageFault>
     ensures found { IfOk result (λ v. (v ≡ text.now) × (F.has v ≡ true)) }
-    ensures only { F.has text.now ≡ true → MatchResult result (λ v. v ≡ text.now) (λ e. e ≡ NoMemory) }
+    ensures only { F.has text.now ≡ true
+        → MatchResult result (λ v. v ≡ text.now) (λ e. e ≡ NoMemory) }
     ensures err { IfErr result (λ e. (e ≡ BadField) ⊎ (e ≡ NoMemory)) }
 {
     match Word::read(alloc, text) {
@@ -69,7 +72,8 @@ pub(crate) fn word_member<F: Form>(
 #[tactic(auto, using(crate::proofs::PlainTexts::moment_stamped))]
 pub(crate) fn moment_member(value: &Value, name: &str) -> Result<Moment, MessageFault>
     ensures found { IfOk result IsMoment }
-    ensures only { (t : ℕ) → IsMoment t → get name.now (view value.now) ≡ Some (string (moment_text t)) → result ≡ Ok t }
+    ensures only { (t : ℕ) → IsMoment t
+        → get name.now (view value.now) ≡ Some (string (moment_text t)) → result ≡ Ok t }
     ensures err { IfErr result (λ e. e ≡ BadField) }
 {
     Moment::read_stamp(text_member(value, name)?).ok_or(MessageFault::BadField)
@@ -78,7 +82,8 @@ pub(crate) fn moment_member(value: &Value, name: &str) -> Result<Moment, Message
 /// The number of a request.
 pub(crate) fn number_member(value: &Value) -> Result<u32, MessageFault>
     ensures found { IfOk result IsNumbered }
-    ensures only { (n : ℕ) → IsNumbered n → get (codes "no") (view value.now) ≡ Some (number (unsigned n)) → result ≡ Ok n }
+    ensures only { (n : ℕ) → IsNumbered n
+        → get (codes "no") (view value.now) ≡ Some (number (unsigned n)) → result ≡ Ok n }
     ensures err { IfErr result (λ e. e ≡ BadField) }
 {
     match value.get("no").and_then(Value::as_u64) {

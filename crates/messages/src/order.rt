@@ -9,7 +9,8 @@ use serde_json::Value;
 
 /// Whether the texts stand after `low`, each before the next.
 fn rise_from(low: &str, items: &[Value]) -> bool
-    ensures { (ws : List (List ℕ)) → items_view items.now ≡ strings ws → result ≡ order.rises_from low.now ws }
+    ensures { (ws : List (List ℕ)) → items_view items.now ≡ strings ws
+        → result ≡ order.rises_from low.now ws }
 {
     match items {
         [] => true,
@@ -22,7 +23,8 @@ fn rise_from(low: &str, items: &[Value]) -> bool
 
 /// Whether each text stands before the next.
 pub(crate) fn texts_rise(items: &[Value]) -> bool
-    ensures { (ws : List (List ℕ)) → items_view items.now ≡ strings ws → result ≡ order.is_rising ws }
+    ensures { (ws : List (List ℕ)) → items_view items.now ≡ strings ws
+        → result ≡ order.is_rising ws }
 {
     match items {
         [] => true,

@@ -1,6 +1,7 @@
 //! Messages read from bytes.
 
-ghost use Rattle.std.specs.Prelude.{◌≡◌, ◌⊎◌, ◌<◌, ◌≤◌, length, IfOk, IfErr, IfSome, IsErrOf, IsOkAnd, MatchResult, Some};
+ghost use Rattle.std.specs.Prelude.{◌≡◌, ◌⊎◌, ◌<◌, ◌≤◌, length, IfOk, IfErr};
+ghost use Rattle.std.specs.Prelude.{IfSome, IsErrOf, IsOkAnd, MatchResult, Some};
 ghost use Rattle.serde_json.specs.View.{view};
 ghost use Rattle.messages.specs.Canonical.{IsCanonicalText};
 ghost use Rattle.messages.specs.Fields.{RequestFields, VerdictFields, IsRequest, IsVerdict};
@@ -8,7 +9,8 @@ ghost use Rattle.messages.specs.private.Members.{request_value, verdict_value, v
 ghost use Rattle.messages.specs.Wire.{kind_text, wire, IsMessage};
 ghost use Rattle.messages.specs.declared.kind.VerdictKind.{VerdictKind as AnyKind};
 ghost use Rattle.messages.specs.declared.message.Message.{Message as AnyMessage};
-ghost use Rattle.messages.specs.declared.fault.MessageFault.TheVariants.{TooLong, NotCanonical, BadField, NoMemory};
+ghost use Rattle.messages.specs.declared.fault.MessageFault.TheVariants.{TooLong, NotCanonical};
+ghost use Rattle.messages.specs.declared.fault.MessageFault.TheVariants.{BadField, NoMemory};
 
 use crate::canonical_json::{canonical, value_of};
 use crate::fault::MessageFault;
@@ -70,8 +72,8 @@ fn kind_named(name: &str) -> Result<VerdictKind, MessageFault>
 
 fn verdict_of(alloc: Global, value: &Value, kind: VerdictKind) -> Result<Verdict, MessageFault>
     ensures found { IfOk result IsVerdict }
-    ensures only { (v : VerdictFields) → IsVerdict v → v.kind ≡ kind → view value.now ≡ verdict_value v
-        → MatchResult result (λ w. w ≡ v) (λ e. e ≡ NoMemory) }
+    ensures only { (v : VerdictFields) → IsVerdict v → v.kind ≡ kind
+        → view value.now ≡ verdict_value v → MatchResult result (λ w. w ≡ v) (λ e. e ≡ NoMemory) }
     ensures err { IfErr result (λ e. (e ≡ BadField) ⊎ (e ≡ NoMemory)) }
 {
     let at = moment_member(value, "at")?;
@@ -100,7 +102,8 @@ fn message_of(alloc: Global, value: &Value) -> Result<Message, MessageFault>
     Ok(Message::Verdict(verdict_of(alloc, value, kind)?))
 }
 
-/// The message that has the members of the value, where the bytes are its text: a text with other members is not.
+/// The message that has the members of the value, where the bytes are its text: a text with other
+/// members is not.
 fn message_said(alloc: Global, value: &Value, body: &[u8]) -> Result<Option<Message>, MessageFault>
     ensures found { IfOk result (λ o. IfSome o (λ m. (body.now ≡ wire m) × IsMessage m)) }
     ensures only { (m : AnyMessage) → IsMessage m → view value.now ≡ value_of m → body.now ≡ wire m
@@ -122,18 +125,23 @@ fn message_said(alloc: Global, value: &Value, body: &[u8]) -> Result<Option<Mess
 
 /// The message that the bytes are the text of.
 ///
-/// Faults, the first that applies: `TooLong` above 16,384 bytes; `NotCanonical` where the bytes are no canonical text of
-/// JSON (RFC 8259) with whole numbers; `BadField` where they are no message's; `NoMemory` where memory runs out.
+/// Faults, the first that applies: `TooLong` above 16,384 bytes; `NotCanonical` where the bytes are
+/// no canonical text of JSON (RFC 8259) with whole numbers; `BadField` where they are no message's;
+/// `NoMemory` where memory runs out.
 pub fn read_message(alloc: Global, body: &[u8]) -> Result<Message, MessageFault>
     // What is read has these bytes as its text.
-    ensures found { IfOk result (λ m. (body.now ≡ wire m) × (length body.now ≤ 16_384) × IsMessage m) }
-    // A message's text is read as that message, unless memory runs out: so no other fault comes where there is one.
+    ensures found { IfOk result
+        (λ m. (body.now ≡ wire m) × (length body.now ≤ 16_384) × IsMessage m) }
+    // A message's text is read as that message, unless memory runs out: so no other fault comes
+    // where there is one.
     ensures only { (m : AnyMessage) → IsMessage m → body.now ≡ wire m → length body.now ≤ 16_384
         → MatchResult result (λ n. n ≡ m) (λ e. e ≡ NoMemory) }
     ensures too_long { 16_384 < length body.now → IsErrOf result TooLong }
     ensures too_long_only { IfErr result (λ e. e ≡ TooLong → 16_384 < length body.now) }
-    ensures not_canonical { IfErr result (λ e. e ≡ NotCanonical → (length body.now ≤ 16_384) × ¬ IsCanonicalText body.now) }
-    ensures bad_field { IfErr result (λ e. e ≡ BadField → (length body.now ≤ 16_384) × IsCanonicalText body.now) }
+    ensures not_canonical { IfErr result
+        (λ e. e ≡ NotCanonical → (length body.now ≤ 16_384) × ¬ IsCanonicalText body.now) }
+    ensures bad_field { IfErr result
+        (λ e. e ≡ BadField → (length body.now ≤ 16_384) × IsCanonicalText body.now) }
 {
     if body.len() > MOST_BYTES {
         return Err(MessageFault::TooLong);

@@ -9,8 +9,8 @@ use sudo_words::{Cmnd, HostName, Label, Moment, Name};
 
 /// A request for commands on hosts as a target, within a window of time and under a ceiling.
 ///
-/// It names 1 to 16 lawful commands and 1 to 16 hosts, each rising in byte order, and its number is at most 999,999,999.
-/// Its window may be backwards.
+/// It names 1 to 16 lawful commands and 1 to 16 hosts, each rising in byte order, and its number is
+/// at most 999,999,999. Its window may be backwards.
 #[derive(Debug, Drop)]
 pub struct Request {
     pub(crate) at: Moment,

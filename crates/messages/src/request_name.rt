@@ -8,7 +8,8 @@ use crate::verdict::Verdict;
 use std::alloc::AllocError;
 use sudo_words::Name;
 
-/// A request's name: who asked, and the number that the asker gave it. Names are in the byte order of their askers, and then by number.
+/// A request's name: who asked, and the number that the asker gave it. Names are in the byte order
+/// of their askers, and then by number.
 #[derive(Debug, Drop, PartialEq, Eq, PartialOrd, Ord)]
 pub struct RequestName {
     /// Who asked.

@@ -43,13 +43,15 @@ fn same_hosts(a: &[HostName], b: &[HostName]) -> bool
 }
 
 fn same_times(a: &Request, b: &Request) -> bool
-    ensures { IsTrue result ↔ ((a.now.at ≡ b.now.at) × (a.now.from ≡ b.now.from) × (a.now.until ≡ b.now.until)) }
+    ensures { IsTrue result
+        ↔ ((a.now.at ≡ b.now.at) × (a.now.from ≡ b.now.from) × (a.now.until ≡ b.now.until)) }
 {
     a.at() == b.at() && a.from() == b.from() && a.until() == b.until()
 }
 
 fn same_words(a: &Request, b: &Request) -> bool
-    ensures { IsTrue result ↔ ((a.now.by ≡ b.now.by) × (a.now.ceiling ≡ b.now.ceiling) × (a.now.runas ≡ b.now.runas)) }
+    ensures { IsTrue result
+        ↔ ((a.now.by ≡ b.now.by) × (a.now.ceiling ≡ b.now.ceiling) × (a.now.runas ≡ b.now.runas)) }
 {
     a.by() == b.by() && a.ceiling() == b.ceiling() && a.runas() == b.runas()
 }

@@ -1,9 +1,12 @@
-//! Whether bytes are the text of a message. Nothing is written for that: the text's pieces are compared with the bytes one after another, each
-//! function here standing beside the one of `write` that writes the same piece. `None` stands for bytes that differed.
+//! Whether bytes are the text of a message. Nothing is written for that: the text's pieces are
+//! compared with the bytes one after another, each function here standing beside the one of `write`
+//! that writes the same piece. `None` stands for bytes that differed.
 
-ghost use Rattle.std.specs.Prelude.{◌≡◌, ◌==◌, ◌||◌, ◌++◌, ◌∷◌, ◌↔◌, [], IsTrue, Some, codes, decimal, map};
+ghost use Rattle.std.specs.Prelude.{◌≡◌, ◌==◌, ◌||◌, ◌++◌, ◌∷◌, ◌↔◌, []};
+ghost use Rattle.std.specs.Prelude.{IsTrue, Some, codes, decimal, map};
 ghost use Rattle.std.specs.List.{flat_map};
-ghost use Rattle.sudo_words.specs.Command.{arg_text, cmnd_text, escaped_byte, rule_text, spaced_arg};
+ghost use Rattle.sudo_words.specs.Command.{arg_text, cmnd_text, escaped_byte};
+ghost use Rattle.sudo_words.specs.Command.{rule_text, spaced_arg};
 ghost use Rattle.sudo_words.specs.Moment.{IsMoment};
 ghost use Rattle.messages.specs.Wire as wires;
 ghost use Rattle.messages.specs.private.Past.{IsPast, left_of};
@@ -108,7 +111,8 @@ fn past_stamp<'b>(rest: Option<&'b [u8]>, moment: Moment) -> Option<&'b [u8]>
 
 /// What is left behind a member that is a moment, from what stands before its value on.
 fn past_moment<'b>(rest: Option<&'b [u8]>, head: &str, moment: Moment) -> Option<&'b [u8]>
-    ensures { IsMoment moment → IsPast (head.now ++ wires.quoted (wires.moment_text moment)) rest.entry result }
+    ensures { IsMoment moment
+        → IsPast (head.now ++ wires.quoted (wires.moment_text moment)) rest.entry result }
 {
     let rest = past(rest, head);
     let rest = past(rest, "\"");
@@ -142,7 +146,8 @@ fn past_hosts<'b>(rest: Option<&'b [u8]>, hosts: &[HostName]) -> Option<&'b [u8]
     }
 }
 
-/// What is left behind one byte of an argument: the backslash that an argument's text has is escaped as every backslash is.
+/// What is left behind one byte of an argument: the backslash that an argument's text has is
+/// escaped as every backslash is.
 fn past_arg_byte<'b>(rest: Option<&'b [u8]>, byte: u8) -> Option<&'b [u8]>
     ensures { IsPast (wires.escaped (escaped_byte byte)) rest.entry result }
 {

@@ -38,7 +38,8 @@ impl Model for Verdict {
 impl Verdict {
     /// The verdict that says this: none where the number is past 999,999,999.
     pub fn new(kind: VerdictKind, of: Name, no: u32, by: Name, at: Moment) -> Option<Verdict>
-        ensures some { no ≤ 999_999_999 → result ≡ Some (record { at = at; by = by; kind = kind; no = no; of = of }) }
+        ensures some { no ≤ 999_999_999
+            → result ≡ Some (record { at = at; by = by; kind = kind; no = no; of = of }) }
         ensures none { 999_999_999 < no → result ≡ None }
     {
         if no > LAST_NUMBER {

@@ -28,7 +28,8 @@ fn push_text(out: &mut String, text: &str) -> Result<(), AllocError>
 /// Appends a member that is a text, from what stands before its value on.
 fn push_member(out: &mut String, head: &str, text: &str) -> Result<(), AllocError>
     requires { wires.escaped text.now ≡ text.now }
-    ensures { OnOk result (string_bytes out.new ≡ string_bytes out.old ++ head.now ++ wires.quoted text.now) }
+    ensures { OnOk result
+        (string_bytes out.new ≡ string_bytes out.old ++ head.now ++ wires.quoted text.now) }
 {
     out.push_str(head)?;
     push_text(out, text)
@@ -36,7 +37,8 @@ fn push_member(out: &mut String, head: &str, text: &str) -> Result<(), AllocErro
 
 #[tactic(auto, unfolding(crate::specs::Wire::moment_text))]
 fn push_stamp(out: &mut String, moment: Moment) -> Result<(), AllocError>
-    ensures { OnOk result (string_bytes out.new ≡ string_bytes out.old ++ wires.moment_text moment) }
+    ensures { OnOk result
+        (string_bytes out.new ≡ string_bytes out.old ++ wires.moment_text moment) }
 {
     write!(out, "{moment}")
 }
@@ -44,7 +46,8 @@ fn push_stamp(out: &mut String, moment: Moment) -> Result<(), AllocError>
 /// Appends a member that is a moment, from what stands before its value on.
 fn push_moment(out: &mut String, head: &str, moment: Moment) -> Result<(), AllocError>
     requires { IsMoment moment }
-    ensures { OnOk result (string_bytes out.new ≡ string_bytes out.old ++ head.now ++ wires.quoted (wires.moment_text moment)) }
+    ensures { OnOk result (string_bytes out.new
+        ≡ string_bytes out.old ++ head.now ++ wires.quoted (wires.moment_text moment)) }
 {
     out.push_str(head)?;
     out.push_str("\"")?;
@@ -53,7 +56,8 @@ fn push_moment(out: &mut String, head: &str, moment: Moment) -> Result<(), Alloc
 }
 
 fn push_number(out: &mut String, no: u32) -> Result<(), AllocError>
-    ensures { OnOk result (string_bytes out.new ≡ string_bytes out.old ++ codes ",\"no\":" ++ decimal no) }
+    ensures { OnOk result
+        (string_bytes out.new ≡ string_bytes out.old ++ codes ",\"no\":" ++ decimal no) }
 {
     out.push_str(",\"no\":")?;
     write!(out, "{no}")
@@ -62,7 +66,8 @@ fn push_number(out: &mut String, no: u32) -> Result<(), AllocError>
 /// Appends what stands after the first host of a list.
 #[tactic(auto, using(crate::proofs::PlainTexts::escaped_host), unfolding(crate::specs::Wire::rest_text, crate::specs::Wire::list_text))]
 fn push_more_hosts(out: &mut String, hosts: &[HostName]) -> Result<(), AllocError>
-    ensures { OnOk result (string_bytes out.new ≡ string_bytes out.old ++ wires.rest_text hosts.now) }
+    ensures { OnOk result
+        (string_bytes out.new ≡ string_bytes out.old ++ wires.rest_text hosts.now) }
 {
     match hosts {
         [] => out.push_str("]"),
@@ -76,7 +81,8 @@ fn push_more_hosts(out: &mut String, hosts: &[HostName]) -> Result<(), AllocErro
 
 #[tactic(auto, using(crate::proofs::PlainTexts::escaped_host), unfolding(crate::specs::Wire::rest_text, crate::specs::Wire::list_text))]
 fn push_hosts(out: &mut String, hosts: &[HostName]) -> Result<(), AllocError>
-    ensures { OnOk result (string_bytes out.new ≡ string_bytes out.old ++ wires.list_text hosts.now) }
+    ensures { OnOk result
+        (string_bytes out.new ≡ string_bytes out.old ++ wires.list_text hosts.now) }
 {
     match hosts {
         [] => out.push_str("[]"),
@@ -91,7 +97,8 @@ fn push_hosts(out: &mut String, hosts: &[HostName]) -> Result<(), AllocError>
 /// Appends a command's text between quotes, with its escapes.
 fn push_cmnd(out: &mut String, alloc: Global, cmnd: &Cmnd) -> Result<(), NoMemory>
     requires { IsLawful cmnd.now }
-    ensures { OnOk result (string_bytes out.new ≡ string_bytes out.old ++ wires.quoted (cmnd_text cmnd.now)) }
+    ensures { OnOk result
+        (string_bytes out.new ≡ string_bytes out.old ++ wires.quoted (cmnd_text cmnd.now)) }
 {
     let text = Value::String(print_cmnd(alloc, cmnd)?).to_string(alloc)?;
     out.push_str(&text)?;
@@ -102,7 +109,8 @@ fn push_cmnd(out: &mut String, alloc: Global, cmnd: &Cmnd) -> Result<(), NoMemor
 #[tactic(auto, unfolding(crate::specs::Wire::rest_text))]
 fn push_more_cmnds(out: &mut String, alloc: Global, cmnds: &[Cmnd]) -> Result<(), NoMemory>
     requires { All IsLawful cmnds.now }
-    ensures { OnOk result (string_bytes out.new ≡ string_bytes out.old ++ wires.rest_text (map cmnd_text cmnds.now)) }
+    ensures { OnOk result
+        (string_bytes out.new ≡ string_bytes out.old ++ wires.rest_text (map cmnd_text cmnds.now)) }
 {
     match cmnds {
         [] => Ok(out.push_str("]")?),
@@ -117,7 +125,8 @@ fn push_more_cmnds(out: &mut String, alloc: Global, cmnds: &[Cmnd]) -> Result<()
 #[tactic(auto, unfolding(crate::specs::Wire::list_text))]
 fn push_cmnds(out: &mut String, alloc: Global, cmnds: &[Cmnd]) -> Result<(), NoMemory>
     requires { All IsLawful cmnds.now }
-    ensures { OnOk result (string_bytes out.new ≡ string_bytes out.old ++ wires.list_text (map cmnd_text cmnds.now)) }
+    ensures { OnOk result
+        (string_bytes out.new ≡ string_bytes out.old ++ wires.list_text (map cmnd_text cmnds.now)) }
 {
     match cmnds {
         [] => Ok(out.push_str("[]")?),
@@ -175,7 +184,8 @@ fn push_rest(out: &mut String, r: &Request) -> Result<(), AllocError>
 }
 
 fn push_request(out: &mut String, alloc: Global, r: &Request) -> Result<(), NoMemory>
-    ensures { OnOk result (string_bytes out.new ≡ string_bytes out.old ++ wires.request_text r.now) }
+    ensures { OnOk result
+        (string_bytes out.new ≡ string_bytes out.old ++ wires.request_text r.now) }
 {
     push_asked(out, r)?;
     push_lists(out, alloc, r)?;
@@ -197,7 +207,8 @@ pub(crate) fn kind_name(kind: VerdictKind) -> &'static str
 
 #[tactic(auto, using(crate::proofs::PlainTexts::escaped_name))]
 fn push_verdict(out: &mut String, v: &Verdict) -> Result<(), AllocError>
-    ensures { OnOk result (string_bytes out.new ≡ string_bytes out.old ++ wires.verdict_text v.now) }
+    ensures { OnOk result
+        (string_bytes out.new ≡ string_bytes out.old ++ wires.verdict_text v.now) }
 {
     push_moment(out, "{\"at\":", v.at)?;
     push_member(out, ",\"by\":", v.by.as_str())?;

@@ -45,13 +45,18 @@ nobody_there set s g name bare = subst (IsAt set name) bare (g.each name)
 -- ---- a request comes
 
 module _ (set : List Message) (q : RequestFields) (old new : Summaries) where
-  pub request_again : (w : Waiting) (before after : Kept) → at_name old (name_of q) ≡ Some before → SetsAt old new (name_of q) after → IsOrdered name_cmp new → after.request ≡ before.request → ((s : List Message) → StandsFor s before → StandsFor (s ++ Request q ∷ []) after) → AreByName set old w → AreByName (set ++ Request q ∷ []) new w
+  pub request_again : (w : Waiting) (before after : Kept) → at_name old (name_of q) ≡ Some before
+      → SetsAt old new (name_of q) after → IsOrdered name_cmp new → after.request ≡ before.request
+      → ((s : List Message) → StandsFor s before → StandsFor (s ++ Request q ∷ []) after) → AreByName set old w → AreByName (set ++ Request q ∷ []) new w
   request_again w before after found sets ordered same stands by = record {
     summaries = asked_again set q old new before after found sets ordered same stands by.summaries;
     waiting = waits_again set q w (somebody set old by.summaries (name_of q) before found) by.waiting;
   }
 
-  pub request_first : (w taken : Waiting) (k : Kept) → at_name old (name_of q) ≡ None → SetsAt old new (name_of q) k → IsOrdered name_cmp new → k.request ≡ q → StandsFor (Request q ∷ map of_verdict (verdicts_at w (name_of q))) k → IsOrdered name_cmp taken → at_name taken (name_of q) ≡ None → ((other : RequestName) → (name_of q ≡ other → ⊥) → at_name taken other ≡ at_name w other) → AreByName set old w → AreByName (set ++ Request q ∷ []) new taken
+  pub request_first : (w taken : Waiting) (k : Kept) → at_name old (name_of q) ≡ None → SetsAt old new (name_of q) k → IsOrdered name_cmp new
+      → k.request ≡ q → StandsFor (Request q ∷ map of_verdict (verdicts_at w (name_of q))) k → IsOrdered name_cmp taken
+      → at_name taken (name_of q) ≡ None → ((other : RequestName) → (name_of q ≡ other → ⊥) → at_name taken other ≡ at_name w other)
+      → AreByName set old w → AreByName (set ++ Request q ∷ []) new taken
   request_first w taken k bare sets ordered same stands t_ordered gone others by =
       let nobody = nobody_there set old by.summaries (name_of q) bare in
       let whole = first_stands set q (verdicts_at w (name_of q)) nobody (by.waiting.each (name_of q)) k same stands in
@@ -62,7 +67,8 @@ module _ (set : List Message) (q : RequestFields) (old new : Summaries) where
 
 -- ---- a verdict comes
 
-sets_nothing : (old new : Summaries) (name : RequestName) (before after : Kept) → at_name old name ≡ Some before → SetsAt old new name after → after ≡ before → (other : RequestName) → at_name new other ≡ at_name old other
+sets_nothing : (old new : Summaries) (name : RequestName) (before after : Kept) → at_name old name ≡ Some before
+    → SetsAt old new name after → after ≡ before → (other : RequestName) → at_name new other ≡ at_name old other
 sets_nothing old new name before after found sets same other =
     elim (same_cases name other) as (λ _. at_name new other ≡ at_name old other) [
       | inl is ↦ subst (λ (n : RequestName). at_name new n ≡ at_name old n) is (sets.here ∙ ap (λ (k : Kept). Some k) same ∙ sym found)
@@ -71,16 +77,26 @@ sets_nothing old new name before after found sets same other =
 
 module _ (set : List Message) (v : VerdictFields) where
   -- whose request is there
-  pub verdict_heard : {X E : Type 0} (r : Result X E) (old new : Summaries) (w : Waiting) (before after : Kept) → at_name old (name_meant v) ≡ Some before → SetsAt old new (name_meant v) after → IsOrdered name_cmp new → after.request ≡ before.request → ((s : List Message) → StandsFor s before → OnOk r (StandsFor (s ++ Verdict v ∷ []) after)) → OnErr r (after ≡ before) → AreByName set old w → MatchResult r (λ _. AreByName (set ++ Verdict v ∷ []) new w) (λ _. AreByName set new w)
+  pub verdict_heard : {X E : Type 0} (r : Result X E) (old new : Summaries) (w : Waiting) (before after : Kept)
+      → at_name old (name_meant v) ≡ Some before → SetsAt old new (name_meant v) after → IsOrdered name_cmp new → after.request ≡ before.request
+      → ((s : List Message) → StandsFor s before → OnOk r (StandsFor (s ++ Verdict v ∷ []) after)) → OnErr r (after ≡ before)
+      → AreByName set old w → MatchResult r (λ _. AreByName (set ++ Verdict v ∷ []) new w) (λ _. AreByName set new w)
   verdict_heard (Ok x) old new w before after found sets ordered same stands kept by = record {
     summaries = heard set v old new before after found sets ordered same stands by.summaries;
     waiting = waits_heard set v w (somebody set old by.summaries (name_meant v) before found) by.waiting;
   }
   verdict_heard (Err e) old new w before after found sets ordered same stands kept by =
-      record { summaries = gathers_still set old new ordered (sets_nothing old new (name_meant v) before after found sets kept) by.summaries; waiting = by.waiting }
+      record {
+        summaries = gathers_still set old new ordered (sets_nothing old new (name_meant v) before after found sets kept) by.summaries;
+        waiting = by.waiting;
+      }
 
   -- that has to wait
-  pub verdict_waits : {X E : Type 0} (r : Result X E) (s : Summaries) (old new : Waiting) → at_name s (name_meant v) ≡ None → (IsOrdered name_cmp old → IsOrdered name_cmp new) → OnOk r (verdicts_at new (name_meant v) ≡ verdicts_at old (name_meant v) ++ v ∷ []) → ((other : RequestName) → (name_meant v ≡ other → ⊥) → verdicts_at new other ≡ verdicts_at old other) → OnErr r (verdicts_at new (name_meant v) ≡ verdicts_at old (name_meant v)) → AreByName set s old → MatchResult r (λ _. AreByName (set ++ Verdict v ∷ []) s new) (λ _. AreByName set s new)
+  pub verdict_waits : {X E : Type 0} (r : Result X E) (s : Summaries) (old new : Waiting) → at_name s (name_meant v) ≡ None
+      → (IsOrdered name_cmp old → IsOrdered name_cmp new) → OnOk r (verdicts_at new (name_meant v) ≡ verdicts_at old (name_meant v) ++ v ∷ [])
+      → ((other : RequestName) → (name_meant v ≡ other → ⊥) → verdicts_at new other ≡ verdicts_at old other)
+      → OnErr r (verdicts_at new (name_meant v) ≡ verdicts_at old (name_meant v)) → AreByName set s old
+      → MatchResult r (λ _. AreByName (set ++ Verdict v ∷ []) s new) (λ _. AreByName set s new)
   verdict_waits (Ok x) s old new bare ordered more others kept by = record {
     summaries = unheard set v s bare by.summaries;
     waiting = waits_more set v old new (nobody_there set s by.summaries (name_meant v) bare) (ordered by.waiting.ordered) more others by.waiting;
@@ -99,7 +115,8 @@ module _ (set : List Message) (v : VerdictFields) where
 abbrev pub Entry : Type 0
 Entry = RequestName × Vec VerdictFields Global
 
-from_turn : (ls : List (Vec VerdictFields Global)) (v : VerdictFields) → Contains (in_turn ls) v → (l : Vec VerdictFields Global) × Contains ls l × Contains l.items v
+from_turn : (ls : List (Vec VerdictFields Global)) (v : VerdictFields) → Contains (in_turn ls) v
+    → (l : Vec VerdictFields Global) × Contains ls l × Contains l.items v
 from_turn [] v m = absurd (no_member v m)
 from_turn (l ∷ ls) v m =
     elim (Contains-append_cases l.items (in_turn ls) v m) as (λ _. (k : Vec VerdictFields Global) × Contains (l ∷ ls) k × Contains k.items v) [
@@ -107,7 +124,8 @@ from_turn (l ∷ ls) v m =
       | inr later ↦ let found = from_turn ls v later in (found.0, Contains-behind l ls found.0 found.1, found.2)
     ]
 
-to_turn : (ls : List (Vec VerdictFields Global)) (l : Vec VerdictFields Global) (v : VerdictFields) → Contains ls l → Contains l.items v → Contains (in_turn ls) v
+to_turn : (ls : List (Vec VerdictFields Global)) (l : Vec VerdictFields Global) (v : VerdictFields)
+    → Contains ls l → Contains l.items v → Contains (in_turn ls) v
 to_turn [] l v m here = absurd (no_member l m)
 to_turn (k ∷ ls) l v m here =
     elim (Contains-cases k ls l m) as (λ _. Contains (k.items ++ in_turn ls) v) [
@@ -125,8 +143,11 @@ module _ (w : Waiting) (ordered : IsOrdered name_cmp w) where
   name_of_waiting v m =
       let list = from_turn (values w) v m in
       let entry = value_from_entry w.entries list.0 list.1 in
-      let there : at_name w entry.0.0 ≡ Some entry.0.1 = at_entry w ordered entry.0 entry.1 in
-      (entry.0.0, subst (λ (o : Option (Vec VerdictFields Global)). Contains (listed o) v) (sym there) (subst (λ (l : Vec VerdictFields Global). Contains l.items v) (sym entry.2) list.2))
+      let there : at_name w entry.0.0 ≡ Some entry.0.1 = at_entry w ordered entry.0 entry.1 in (
+        entry.0.0,
+        subst (λ (o : Option (Vec VerdictFields Global)). Contains (listed o) v) (sym there)
+            (subst (λ (l : Vec VerdictFields Global). Contains l.items v) (sym entry.2) list.2),
+      )
 
 waits_in_turn : (w : Waiting) (name : RequestName) (v : VerdictFields) → Contains (verdicts_at w name) v → Contains (in_turn (values w)) v
 waits_in_turn w name v m = at (at_name w name) refl m
@@ -161,7 +182,8 @@ gathers_from set some s g are = record { ordered = g.ordered; each = λ name. at
     at name None bare = λ q asked named.
         let found = are.all q asked in
         let there : at_name s name ≡ Some found.0 =
-        subst (λ (n : RequestName). at_name s n ≡ Some found.0) (name_from_named found.0.request (name_of q) found.2 ∙ name_from_named q name named) (kept_at some s g found.0 found.1) in
+        subst (λ (n : RequestName). at_name s n ≡ Some found.0)
+        (name_from_named found.0.request (name_of q) found.2 ∙ name_from_named q name named) (kept_at some s g found.0 found.1) in
         let wrong : ◌≡◌ {A = Option Kept} None (Some found.0) = sym bare ∙ there in
         absurd cc
     at name (Some k) there = record {
@@ -169,7 +191,8 @@ gathers_from set some s g are = record { ordered = g.ordered; each = λ name. at
       stands = are.each k (value_at s name k there);
     }
 
-waits_from : (set some : List Message) (w : Waiting) → Waits some w → ((v : VerdictFields) → (Contains (in_turn (values w)) v → IsParked set v) × (IsParked set v → Contains (in_turn (values w)) v)) → Waits set w
+waits_from : (set some : List Message) (w : Waiting) → Waits some w
+    → ((v : VerdictFields) → (Contains (in_turn (values w)) v → IsParked set v) × (IsParked set v → Contains (in_turn (values w)) v)) → Waits set w
 waits_from set some w waits are = record {
   ordered = waits.ordered;
   each = λ name v. (
@@ -188,16 +211,19 @@ by_name_from set s w some are = record {
 }
 
 -- what is known of some set before is so of some set afterwards
-pub still_by_name : {X E : Type 0} (r : Result X E) (set longer : List Message) (s : Summaries) (w : Waiting) → MatchResult r (λ _. AreByName longer s w) (λ _. AreByName set s w) → IsByName s w
+pub still_by_name : {X E : Type 0} (r : Result X E) (set longer : List Message) (s : Summaries) (w : Waiting)
+    → MatchResult r (λ _. AreByName longer s w) (λ _. AreByName set s w) → IsByName s w
 still_by_name (Ok x) set longer s w by = (longer, by)
 still_by_name (Err e) set longer s w by = (set, by)
 
 -- where memory lasts, and where it runs out
-pub after_ok : {X E : Type 0} (r : Result X E) (set longer : List Message) (s : Summaries) (w : Waiting) → MatchResult r (λ _. AreByName longer s w) (λ _. AreByName set s w) → OnOk r (AreGathered longer (known s w))
+pub after_ok : {X E : Type 0} (r : Result X E) (set longer : List Message) (s : Summaries) (w : Waiting)
+    → MatchResult r (λ _. AreByName longer s w) (λ _. AreByName set s w) → OnOk r (AreGathered longer (known s w))
 after_ok (Ok x) set longer s w by = gathered_from longer s w by
 after_ok (Err e) set longer s w by = tt
 
-pub after_err : {X E : Type 0} (r : Result X E) (set longer : List Message) (s : Summaries) (w : Waiting) → MatchResult r (λ _. AreByName longer s w) (λ _. AreByName set s w) → OnErr r (AreGathered set (known s w))
+pub after_err : {X E : Type 0} (r : Result X E) (set longer : List Message) (s : Summaries) (w : Waiting)
+    → MatchResult r (λ _. AreByName longer s w) (λ _. AreByName set s w) → OnErr r (AreGathered set (known s w))
 after_err (Ok x) set longer s w by = tt
 after_err (Err e) set longer s w by = gathered_from set s w by
 

@@ -62,7 +62,13 @@ module _ {X K : Type 0} (key : X → K) (P : K → K → Type 0) (trans : (a b c
 
   place : (x : X) (ys : List X) → AreInOrder Q ys → Placed x ys
   place x [] o =
-      record { zs = x ∷ []; in_order = (tt, tt); only = λ z m. Contains-cases x [] z m; has = (x, Contains-head x [], refl); keeps = λ y m. absurd (no_member y m) }
+      record {
+        zs = x ∷ [];
+        in_order = (tt, tt);
+        only = λ z m. Contains-cases x [] z m;
+        has = (x, Contains-head x [], refl);
+        keeps = λ y m. absurd (no_member y m);
+      }
   place x (y ∷ ys) o =
       elim (either (key x) (key y)) as (λ _. Placed x (y ∷ ys)) [
         | inl before ↦ record {
@@ -113,10 +119,12 @@ module _ (set : List Message) (k : Kept) (stands : StandsFor set k) where
       let named : SameName p k.request = named_from_name p (name_of k.request) same in
       elim (cases_Bool (bytes_eq (wire (Request k.request)) (wire (Request p)))) as (λ _. Grown set (Request p) k) [
         | inl equal ↦
-            let one : k.request ≡ p = one_asked k.request p (one_message (Request k.request) (Request p) known also ((bytes_eq-Decides (wire (Request k.request)) (wire (Request p))).0 equal)) in
+            let one : k.request ≡ p = one_asked k.request p
+            (one_message (Request k.request) (Request p) known also ((bytes_eq-Decides (wire (Request k.request)) (wire (Request p))).0 equal)) in
             (k, refl, standing.repeated set k p one stands)
         | inr other ↦
-            let differ : k.request ≡ p → ⊥ = λ e. both_ways _ other ((bytes_eq-Decides (wire (Request k.request)) (wire (Request p))).1 (ap (λ (r : RequestFields). wire (Request r)) e)) in
+            let differ : k.request ≡ p → ⊥ =
+            λ e. both_ways _ other ((bytes_eq-Decides (wire (Request k.request)) (wire (Request p))).1 (ap (λ (r : RequestFields). wire (Request r)) e)) in
             (record k { is_disputed = true }, refl, standing.disputed set k p named differ stands)
       ]
 
@@ -127,12 +135,21 @@ module _ (set : List Message) (k : Kept) (stands : StandsFor set k) where
       about = (ap (λ (n : RequestName). n.by) same, ap (λ (n : RequestName). n.no) same)
 
       by_kind : (kind : VerdictKind) → v.kind ≡ kind → Grown set (Verdict v) k
-      by_kind Approve is =
-          (record k { approvals = noted v.by v.at k.approvals }, refl, standing.approved set k v v.by v.at (noted v.by v.at k.approvals) about is refl refl refl stands)
-      by_kind Refuse is =
-          (record k { refusals = noted v.by v.at k.refusals }, refl, standing.refused set k v v.by v.at (noted v.by v.at k.refusals) about is refl refl refl stands)
-      by_kind Revoke is =
-          (record k { revocations = noted v.by v.at k.revocations }, refl, standing.revoked set k v v.by v.at (noted v.by v.at k.revocations) about is refl refl refl stands)
+      by_kind Approve is = (
+        record k { approvals = noted v.by v.at k.approvals },
+        refl,
+        standing.approved set k v v.by v.at (noted v.by v.at k.approvals) about is refl refl refl stands,
+      )
+      by_kind Refuse is = (
+        record k { refusals = noted v.by v.at k.refusals },
+        refl,
+        standing.refused set k v v.by v.at (noted v.by v.at k.refusals) about is refl refl refl stands,
+      )
+      by_kind Revoke is = (
+        record k { revocations = noted v.by v.at k.revocations },
+        refl,
+        standing.revoked set k v v.by v.at (noted v.by v.at k.revocations) about is refl refl refl stands,
+      )
 
   grown : (m : Message) → IsMessage (Request k.request) → IsMessage m → Grown set m k
   grown (Request p) known also =
@@ -146,17 +163,21 @@ module _ (set : List Message) (k : Kept) (stands : StandsFor set k) where
         | inr other ↦ (k, refl, stands_still set (Verdict v) k other stands)
       ]
 
-all_grown : (seen rest : List Message) (k : Kept) → IsMessage (Request k.request) → ((m : Message) → Contains rest m → IsMessage m) → StandsFor seen k → (j : Kept) × (j.request ≡ k.request) × StandsFor (seen ++ rest) j
+all_grown : (seen rest : List Message) (k : Kept) → IsMessage (Request k.request) → ((m : Message) → Contains rest m → IsMessage m)
+    → StandsFor seen k → (j : Kept) × (j.request ≡ k.request) × StandsFor (seen ++ rest) j
 all_grown seen [] k known each stands = (k, refl, subst (λ (s : List Message). StandsFor s k) (sym (append-nil seen)) stands)
 all_grown seen (m ∷ rest) k known each stands =
     let next = grown seen k stands m known (each m (Contains-head m rest)) in
-    let last = all_grown (seen ++ m ∷ []) rest next.0 (subst (λ (r : RequestFields). IsMessage (Request r)) (sym next.1) known) (λ n h. each n (Contains-behind m rest n h)) next.2 in
+    let last = all_grown (seen ++ m ∷ []) rest next.0 (subst (λ (r : RequestFields). IsMessage (Request r)) (sym next.1) known)
+    (λ n h. each n (Contains-behind m rest n h)) next.2 in
     (last.0, last.1 ∙ next.1, subst (λ (s : List Message). StandsFor s last.0) (append_assoc seen (m ∷ []) rest) last.2)
 
-pub asked_alone : (q : RequestFields) → StandsFor (Request q ∷ []) (record { request = q; is_disputed = false; approvals = []; refusals = []; revocations = [] })
+pub asked_alone : (q : RequestFields)
+    → StandsFor (Request q ∷ []) (record { request = q; is_disputed = false; approvals = []; refusals = []; revocations = [] })
 asked_alone q = record {
   asked = Contains-head (Request q) [];
-  alone = λ single p h same. elim (Contains-cases (Request q) [] (Request p) h) as (λ _. p ≡ q) [ inl is ↦ cc | inr none ↦ absurd (no_member (Request p) none) ];
+  alone =
+      λ single p h same. elim (Contains-cases (Request q) [] (Request p) h) as (λ _. p ≡ q) [ inl is ↦ cc | inr none ↦ absurd (no_member (Request p) none) ];
   other = λ two. absurd cc;
   approvals = nothing Approve;
   refusals = nothing Refuse;
@@ -180,7 +201,8 @@ who_asks [] name = inr (λ q h named. no_member (Request q) h)
 who_asks (Verdict v ∷ more) name =
     elim (who_asks more name) as (λ _. ((q : RequestFields) × Contains (Verdict v ∷ more) (Request q) × IsNamed q name) ⊎ NobodyAsks (Verdict v ∷ more) name) [
       | inl found ↦ inl (found.0, Contains-behind (Verdict v) more (Request found.0) found.1, found.2)
-      | inr nobody ↦ inr (λ q h named. elim (Contains-cases (Verdict v) more (Request q) h) as (λ _. ⊥) [ inl wrong ↦ absurd cc | inr later ↦ nobody q later named ])
+      | inr nobody ↦
+          inr (λ q h named. elim (Contains-cases (Verdict v) more (Request q) h) as (λ _. ⊥) [ inl wrong ↦ absurd cc | inr later ↦ nobody q later named ])
     ]
 who_asks (Request p ∷ more) name =
     let Found : Type 0 = ((q : RequestFields) × Contains (Request p ∷ more) (Request q) × IsNamed q name) ⊎ NobodyAsks (Request p ∷ more) name in
@@ -211,7 +233,8 @@ parked_among set (Request q ∷ more) inside =
       texts = r.texts;
       in_order = r.in_order;
       each = r.each;
-      all = λ v h nobody. r.all v (elim (Contains-cases (Request q) more (Verdict v) h) as (λ _. Contains more (Verdict v)) [ inl wrong ↦ absurd cc | inr later ↦ later ]) nobody;
+      all = λ v h nobody. r.all v
+          (elim (Contains-cases (Request q) more (Verdict v) h) as (λ _. Contains more (Verdict v)) [ inl wrong ↦ absurd cc | inr later ↦ later ]) nobody;
     }
 parked_among set (Verdict w ∷ more) inside =
     let r = parked_among set more (λ m h. inside m (Contains-behind (Verdict w) more m h)) in
@@ -235,7 +258,8 @@ parked_among set (Verdict w ∷ more) inside =
               | inr old ↦ r.each text old
             ];
             all = λ v h nobody. elim (Contains-cases (Verdict w) more (Verdict v) h) as (λ _. Contains placed.zs (wire (Verdict v))) [
-              | inl same ↦ subst (λ (x : VerdictFields). Contains placed.zs (wire (Verdict x))) (one_given w v same) (subst (Contains placed.zs) placed.has.2 placed.has.1)
+              | inl same ↦ subst (λ (x : VerdictFields). Contains placed.zs (wire (Verdict x)))
+                  (one_given w v same) (subst (Contains placed.zs) placed.has.2 placed.has.1)
               | inr later ↦ placed.keeps (wire (Verdict v)) (r.all v later nobody)
             ];
           }
@@ -251,7 +275,8 @@ some_parked set =
 module _ (set : List Message) (known : (m : Message) → Contains set m → IsMessage m) where
   summary_of : (q : RequestFields) → Contains set (Request q) → (k : Kept) × (k.request ≡ q) × StandsFor set k
   summary_of q h =
-      let all = all_grown (Request q ∷ []) set (record { request = q; is_disputed = false; approvals = []; refusals = []; revocations = [] }) (known (Request q) h) known (asked_alone q) in
+      let all = all_grown (Request q ∷ []) set (record { request = q; is_disputed = false; approvals = []; refusals = []; revocations = [] })
+      (known (Request q) h) known (asked_alone q) in
       (all.0, all.1, stands_same (Request q ∷ set) set all.0 (once_more set (Request q) h) all.2)
 
   -- ---- the roll of summaries
@@ -270,7 +295,8 @@ module _ (set : List Message) (known : (m : Message) → Contains set m → IsMe
         ks = r.ks;
         in_order = r.in_order;
         stands = r.stands;
-        each = λ q h. r.each q (elim (Contains-cases (Verdict v) more (Request q) h) as (λ _. Contains more (Request q)) [ inl wrong ↦ absurd cc | inr later ↦ later ]);
+        each = λ q h.
+            r.each q (elim (Contains-cases (Verdict v) more (Request q) h) as (λ _. Contains more (Request q)) [ inl wrong ↦ absurd cc | inr later ↦ later ]);
       }
   rolled (Request p ∷ more) inside =
       let r = rolled more (λ m h. inside m (Contains-behind (Request p) more m h)) in
@@ -312,7 +338,8 @@ module _ (set : List Message) (known : (m : Message) → Contains set m → IsMe
         },
       )
 
-module _ (text : List ℕ) (f : RosterFields Cmnd) (set : List Message) (roster : IsRosterText text f) (known : (m : Message) → Contains set m → IsMessage m) where
+module _ (text : List ℕ) (f : RosterFields Cmnd) (set : List Message) (roster : IsRosterText text f) (known : (m : Message)
+    → Contains set m → IsMessage m) where
   -- ---- what each comes to
 
   status_of : (k : Kept) → StandsFor set k → (status : Status) × IsStatus f set (name_of k.request) status
@@ -320,7 +347,8 @@ module _ (text : List ℕ) (f : RosterFields Cmnd) (set : List Message) (roster 
       elim (cases_Bool k.is_disputed) as (λ _. (status : Status) × IsStatus f set (name_of k.request) status) [
         | inl two ↦ (Disputed, disputed_is set k two stands)
         | inr single ↦
-            elim (some_answer text f (Request k.request) roster (known (Request k.request) stands.asked)) as (λ _. (status : Status) × IsStatus f set (name_of k.request) status) [
+            elim (some_answer text f (Request k.request) roster (known (Request k.request) stands.asked))
+            as (λ _. (status : Status) × IsStatus f set (name_of k.request) status) [
               | inl admits ↦
                   let c = admits.ceiling in
                   let needs = found_few text f k.request.ceiling (λ (x : CeilingFields Cmnd). x) (Some c) roster (sym admits.may_ask.ceiling_is) in
@@ -330,7 +358,8 @@ module _ (text : List ℕ) (f : RosterFields Cmnd) (set : List Message) (roster 
             ]
       ]
 
-  given_of : {X : Type 0} (give : RequestFields → Status → List X) (ks : List Kept) → ((k : Kept) → Contains ks k → StandsFor set k) → (xs : List X) × Give f set give ks xs
+  given_of : {X : Type 0} (give : RequestFields → Status → List X) (ks : List Kept)
+      → ((k : Kept) → Contains ks k → StandsFor set k) → (xs : List X) × Give f set give ks xs
   given_of give [] stands = ([], refl)
   given_of give (k ∷ ks) stands =
       let more = given_of give ks (λ j h. stands j (Contains-behind k ks j h)) in

@@ -1,5 +1,6 @@
 -- A host's file, from its lines' rules.
-use Rattle.std.proofs.Common.{◌≡◌, ℕ, ◌+◌, ◌<◌, ◌≤◌, leb, Bool, true, false, cond, List, [], ◌∷◌, ◌++◌, map, length, Option, Some, None, refl, sym, ap, ◌∙◌, subst, inl, inr, arith, append_assoc, length-append}
+use Rattle.std.proofs.Common.{◌≡◌, ℕ, ◌+◌, ◌<◌, ◌≤◌, leb, Bool, true, false, cond, List, [], ◌∷◌, ◌++◌, map, length}
+use Rattle.std.proofs.Common.{Option, Some, None, refl, sym, ap, ◌∙◌, subst, inl, inr, arith, append_assoc, length-append}
 use Rattle.std.specs.Prelude.{◌↔◌, Contains, filter}
 use Rattle.std.specs.List.{AllByRecursion}
 use Rattle.std.specs.BTreeMap.{BTreeMap, values}
@@ -53,11 +54,13 @@ pub one_lines : (f : RosterFields Cmnd) (set : List Message) (host : List ℕ) (
 one_lines f set host xs ys x y =
     same_lists LinePrecedes lines_strict xs ys x.in_order y.in_order (λ line m. y.all line (x.each line m)) (λ line m. x.all line (y.each line m))
 
-pub one_file : (f : RosterFields Cmnd) (base : List Entry) (set : List Message) (host x y : List ℕ) → IsHostFile f base set host x → IsHostFile f base set host y → x ≡ y
+pub one_file : (f : RosterFields Cmnd) (base : List Entry) (set : List Message) (host x y : List ℕ)
+    → IsHostFile f base set host x → IsHostFile f base set host y → x ≡ y
 one_file f base set host x y a b =
     a.text_is ∙ ap (λ (lines : List Line). canon (with_lines base lines)) (one_lines f set host a.lines b.lines a.lines_are b.lines_are) ∙ sym b.text_is
 
-pub one_file_after : (f : RosterFields Cmnd) (base : List Entry) (set : List Message) (host : List ℕ) (moment : ℕ) (x y : List ℕ) → IsHostFileAfter f base set host moment x → IsHostFileAfter f base set host moment y → x ≡ y
+pub one_file_after : (f : RosterFields Cmnd) (base : List Entry) (set : List Message) (host : List ℕ) (moment : ℕ) (x y : List ℕ)
+    → IsHostFileAfter f base set host moment x → IsHostFileAfter f base set host moment y → x ≡ y
 one_file_after f base set host moment x y a b =
     a.text_is
     ∙ ap (λ (lines : List Line). canon (with_lines base (lines_after moment lines))) (one_lines f set host a.lines b.lines a.lines_are b.lines_are)
@@ -68,7 +71,8 @@ one_file_after f base set host moment x y a b =
 abbrev pub HasRules : RosterFields Cmnd → List Message → List ℕ → Option ℕ → List Rule → Type 0
 HasRules f set host after rules = (lines : List Line) × AreLines f set host lines × (rules ≡ map rule_in (lines_left after lines))
 
-pub has_rules : (f : RosterFields Cmnd) (set : List Message) (host : List ℕ) (after : Option ℕ) (m : BTreeMap RequestName Kept) (rules : List Rule) → Gathers set m → Give f set (rules_left after host) (values m) rules → HasRules f set host after rules
+pub has_rules : (f : RosterFields Cmnd) (set : List Message) (host : List ℕ) (after : Option ℕ) (m : BTreeMap RequestName Kept) (rules : List Rule)
+    → Gathers set m → Give f set (rules_left after host) (values m) rules → HasRules f set host after rules
 has_rules f set host after m rules g given =
     let found = left_given f set host after (values m) rules given in
     (found.0, are_lines f set host (values m) (is_roll set m g) found.0 found.1, found.2)
@@ -77,12 +81,14 @@ pub extended : (base : List Entry) (rules : List Rule) (lines : List Line) → r
 extended base rules lines e =
     ap (λ (rs : List Rule). base ++ map entries.Rule rs) e ∙ ap (λ (es : List Entry). base ++ es) (entries_of_rules lines)
 
-pub is_left : (f : RosterFields Cmnd) (base : List Entry) (set : List Message) (host : List ℕ) (after : Option ℕ) (text : List ℕ) (rules : List Rule) → HasRules f set host after rules → text ≡ canon (with_rules base rules) → Spells text (with_rules base rules) → IsFileLeft f base set host after text
+pub is_left : (f : RosterFields Cmnd) (base : List Entry) (set : List Message) (host : List ℕ) (after : Option ℕ) (text : List ℕ) (rules : List Rule)
+    → HasRules f set host after rules → text ≡ canon (with_rules base rules) → Spells text (with_rules base rules) → IsFileLeft f base set host after text
 is_left f base set host after text rules found e spells =
     let same = extended base rules (lines_left after found.0) found.2 in
     record { lines = found.0; lines_are = found.1; text_is = e ∙ ap canon same; spelled = subst (Spells text) same spells }
 
-pub same_count : (f : RosterFields Cmnd) (set : List Message) (host : List ℕ) (after : Option ℕ) (rules : List Rule) (lines : List Line) → HasRules f set host after rules → AreLines f set host lines → length rules ≡ length (lines_left after lines)
+pub same_count : (f : RosterFields Cmnd) (set : List Message) (host : List ℕ) (after : Option ℕ) (rules : List Rule) (lines : List Line)
+    → HasRules f set host after rules → AreLines f set host lines → length rules ≡ length (lines_left after lines)
 same_count f set host after rules lines found are =
     ap length found.2
     ∙ length-map (lines_left after found.0) rule_in
@@ -111,7 +117,11 @@ canon_more xs ys =
     ap canon (map-append entries.Rule xs ys) ∙ canon_both (map entries.Rule xs) (map entries.Rule ys)
 
 -- one turn: the lines of one summary more
-pub one_behind : (f : RosterFields Cmnd) (set : List Message) (host : List ℕ) (after : Option ℕ) (seen : List Kept) (k : Kept) (first old new : List ℕ) (count more : ℕ) → (rules : List Rule) × Give f set (rules_left after host) seen rules × AllByRecursion IsGrantRule rules × (old ≡ first ++ canon (map entries.Rule rules)) × (count ≡ length rules) → written.AreWritten f set k.request host after old new more → (all : List Rule) × Give f set (rules_left after host) (seen ++ k ∷ []) all × AllByRecursion IsGrantRule all × (new ≡ first ++ canon (map entries.Rule all)) × (count + more ≡ length all)
+pub one_behind : (f : RosterFields Cmnd) (set : List Message) (host : List ℕ) (after : Option ℕ) (seen : List Kept)
+    (k : Kept) (first old new : List ℕ) (count more : ℕ) → (rules : List Rule) × Give f set (rules_left after host) seen rules
+    × AllByRecursion IsGrantRule rules × (old ≡ first ++ canon (map entries.Rule rules)) × (count ≡ length rules)
+    → written.AreWritten f set k.request host after old new more → (all : List Rule) × Give f set (rules_left after host) (seen ++ k ∷ []) all
+    × AllByRecursion IsGrantRule all × (new ≡ first ++ canon (map entries.Rule all)) × (count + more ≡ length all)
 one_behind f set host after seen k first old new count more before w =
     let rules = before.0 in
     let here = written.rules_left after host k.request w.status in
@@ -127,27 +137,34 @@ one_behind f set host after seen k first old new count more before w =
     )
 
 -- the base's text and the lines behind it are the file
-pub is_file_left : (f : RosterFields Cmnd) (base : List Entry) (set : List Message) (host : List ℕ) (after : Option ℕ) (m : BTreeMap RequestName Kept) (text : List ℕ) → FitsBase base → Gathers set m → AreBehind f set host after (values m) (canon base) text → IsFileLeft f base set host after text
+pub is_file_left : (f : RosterFields Cmnd) (base : List Entry) (set : List Message) (host : List ℕ) (after : Option ℕ) (m : BTreeMap RequestName Kept)
+    (text : List ℕ) → FitsBase base → Gathers set m → AreBehind f set host after (values m) (canon base) text → IsFileLeft f base set host after text
 is_file_left f base set host after m text fits g b =
     let spelled = canon_spells (with_rules base b.rules) (extended_policy base b.rules fits b.few b.grants) in
     let is : text ≡ canon (with_rules base b.rules) = b.text_is ∙ sym (canon_both base (map entries.Rule b.rules)) in
-    is_left f base set host after text b.rules (has_rules f set host after m b.rules g b.given) is (subst (λ (t : List ℕ). Spells t (with_rules base b.rules)) (sym is) spelled)
+    is_left f base set host after text b.rules (has_rules f set host after m b.rules g b.given) is
+    (subst (λ (t : List ℕ). Spells t (with_rules base b.rules)) (sym is) spelled)
 
 -- and then they are not too many
-pub not_past : (f : RosterFields Cmnd) (set : List Message) (host : List ℕ) (after : Option ℕ) (m : BTreeMap RequestName Kept) (old new : List ℕ) (lines : List Line) → Gathers set m → AreBehind f set host after (values m) old new → AreLines f set host lines → 8_192 < length (lines_left after lines) → ⊥
+pub not_past :
+    (f : RosterFields Cmnd) (set : List Message) (host : List ℕ) (after : Option ℕ) (m : BTreeMap RequestName Kept) (old new : List ℕ) (lines : List Line)
+    → Gathers set m → AreBehind f set host after (values m) old new → AreLines f set host lines → 8_192 < length (lines_left after lines) → ⊥
 not_past f set host after m old new lines g b are past =
     omega (arith, past, b.few, same_count f set host after b.rules lines (has_rules f set host after m b.rules g b.given) are)
 
 -- why there are no lines
-pub memory_alone : (f : RosterFields Cmnd) (set : List Message) (host : List ℕ) (after : Option ℕ) (e : HostFault) (lines : List Line) → IsPast f set host after e → AreLines f set host lines → length (lines_left after lines) ≤ 8_192 → e ≡ NoMemory
+pub memory_alone : (f : RosterFields Cmnd) (set : List Message) (host : List ℕ) (after : Option ℕ) (e : HostFault) (lines : List Line)
+    → IsPast f set host after e → AreLines f set host lines → length (lines_left after lines) ≤ 8_192 → e ≡ NoMemory
 memory_alone f set host after e lines (inl memory) are few = memory
 memory_alone f set host after e lines (inr past) are few = absurd (omega (arith, few, past.1 lines are))
 
 -- ---- what spells the policy gives the rights
 
-pub gives_rights : (f : RosterFields Cmnd) (base : List Entry) (set : List Message) (host text : List ℕ) (lines : List Line) → AreLines f set host lines → Spells text (with_lines base lines) → GivesRights f base set host text
+pub gives_rights : (f : RosterFields Cmnd) (base : List Entry) (set : List Message) (host text : List ℕ) (lines : List Line)
+    → AreLines f set host lines → Spells text (with_lines base lines) → GivesRights f base set host text
 gives_rights f base set host text lines are spelled =
-    let there : (i : Invocation) → i.host ≡ host → SpeakFor f base set i lines = λ i here. all_speak f base set i lines (subst (λ (h : List ℕ). AreLines f set h lines) (sym here) are) in
+    let there : (i : Invocation) → i.host ≡ host → SpeakFor f base set i lines =
+    λ i here. all_speak f base set i lines (subst (λ (h : List ℕ). AreLines f set h lines) (sym here) are) in
     record {
       policy = with_lines base lines;
       spelled = spelled;
@@ -156,10 +173,12 @@ gives_rights f base set host text lines are spelled =
       bare = λ i d here none by. bare_as_base f base set i lines (there i here) none d by;
     }
 
-pub gives_rights_after : (f : RosterFields Cmnd) (base : List Entry) (set : List Message) (host : List ℕ) (moment : ℕ) (text : List ℕ) (lines : List Line) → AreLines f set host lines → Spells text (with_lines base (lines_after moment lines)) → GivesRightsAfter f base set host moment text
+pub gives_rights_after : (f : RosterFields Cmnd) (base : List Entry) (set : List Message) (host : List ℕ) (moment : ℕ) (text : List ℕ) (lines : List Line)
+    → AreLines f set host lines → Spells text (with_lines base (lines_after moment lines)) → GivesRightsAfter f base set host moment text
 gives_rights_after f base set host moment text lines are spelled =
     let left = lines_after moment lines in
-    let there : (i : Invocation) → i.host ≡ host → moment ≤ i.at → SpeakFor f base set i left = λ i here later. left_speak f base set i lines (subst (λ (h : List ℕ). AreLines f set h lines) (sym here) are) moment later in
+    let there : (i : Invocation) → i.host ≡ host → moment ≤ i.at → SpeakFor f base set i left =
+    λ i here later. left_speak f base set i lines (subst (λ (h : List ℕ). AreLines f set h lines) (sym here) are) moment later in
     record {
       policy = with_lines base left;
       spelled = spelled;
@@ -173,28 +192,33 @@ gives_rights_after f base set host moment text lines are spelled =
 nothing_ends : (base : List Entry) (lines : List Line) → with_lines base (lines_left None lines) ≡ with_lines base lines
 nothing_ends base lines = ap (λ (ls : List Line). with_lines base ls) (all_left lines)
 
-pub whole_file : (f : RosterFields Cmnd) (base : List Entry) (set : List Message) (host text : List ℕ) → IsFileLeft f base set host None text → IsHostFile f base set host text
+pub whole_file : (f : RosterFields Cmnd) (base : List Entry) (set : List Message) (host text : List ℕ)
+    → IsFileLeft f base set host None text → IsHostFile f base set host text
 whole_file f base set host text left =
     record { lines = left.lines; lines_are = left.lines_are; text_is = left.text_is ∙ ap canon (nothing_ends base left.lines) }
 
-pub whole_rights : (f : RosterFields Cmnd) (base : List Entry) (set : List Message) (host text : List ℕ) → IsFileLeft f base set host None text → GivesRights f base set host text
+pub whole_rights : (f : RosterFields Cmnd) (base : List Entry) (set : List Message) (host text : List ℕ)
+    → IsFileLeft f base set host None text → GivesRights f base set host text
 whole_rights f base set host text left =
     gives_rights f base set host text left.lines left.lines_are (subst (Spells text) (nothing_ends base left.lines) left.spelled)
 
 pub whole_count : (lines : List Line) → length (lines_left None lines) ≡ length lines
 whole_count lines = ap length (all_left lines)
 
-pub file_after : (f : RosterFields Cmnd) (base : List Entry) (set : List Message) (host : List ℕ) (moment : ℕ) (text : List ℕ) → IsFileLeft f base set host (Some moment) text → IsHostFileAfter f base set host moment text
+pub file_after : (f : RosterFields Cmnd) (base : List Entry) (set : List Message) (host : List ℕ) (moment : ℕ) (text : List ℕ)
+    → IsFileLeft f base set host (Some moment) text → IsHostFileAfter f base set host moment text
 file_after f base set host moment text left =
     record { lines = left.lines; lines_are = left.lines_are; text_is = left.text_is }
 
-pub rights_after : (f : RosterFields Cmnd) (base : List Entry) (set : List Message) (host : List ℕ) (moment : ℕ) (text : List ℕ) → IsFileLeft f base set host (Some moment) text → GivesRightsAfter f base set host moment text
+pub rights_after : (f : RosterFields Cmnd) (base : List Entry) (set : List Message) (host : List ℕ) (moment : ℕ) (text : List ℕ)
+    → IsFileLeft f base set host (Some moment) text → GivesRightsAfter f base set host moment text
 rights_after f base set host moment text left =
     gives_rights_after f base set host moment text left.lines left.lines_are left.spelled
 
 -- ---- the file spells the policy
 
-line_is_grant : (f : RosterFields Cmnd) (set : List Message) (host : List ℕ) (line : Line) → ((m : Message) → Contains set m → IsMessage m) → IsLine f set host line → IsGrantRule line.rule
+line_is_grant : (f : RosterFields Cmnd) (set : List Message) (host : List ℕ) (line : Line)
+    → ((m : Message) → Contains set m → IsMessage m) → IsLine f set host line → IsGrantRule line.rule
 line_is_grant f set host line known l =
     let q = l.request in
     let is : IsRequest q = known (Request q) l.first_is.inside.alone.asked in
@@ -220,29 +244,36 @@ grant_rules [] each = tt
 grant_rules (line ∷ lines) each = (each line (Contains-head line lines), grant_rules lines (λ l m. each l (Contains-behind line lines l m)))
 
 -- some of the lines of a set behind a base within the limits are a policy, which its canonical text spells
-lines_spelled : (f : RosterFields Cmnd) (base : List Entry) (set : List Message) (host : List ℕ) (lines : List Line) → FitsBase base → ((m : Message) → Contains set m → IsMessage m) → ((line : Line) → Contains lines line → IsLine f set host line) → length lines ≤ 8_192 → Spells (canon (with_lines base lines)) (with_lines base lines)
+lines_spelled : (f : RosterFields Cmnd) (base : List Entry) (set : List Message) (host : List ℕ) (lines : List Line) → FitsBase base
+    → ((m : Message) → Contains set m → IsMessage m) → ((line : Line) → Contains lines line → IsLine f set host line)
+    → length lines ≤ 8_192 → Spells (canon (with_lines base lines)) (with_lines base lines)
 lines_spelled f base set host lines fits known each few =
     let rules = map rule_in lines in
     let grants = grant_rules lines (λ line m. line_is_grant f set host line known (each line m)) in
     let count : length rules ≤ 8_192 = omega (arith, few, length-map lines rule_in) in
     canon_spells (with_lines base lines) (subst IsPolicy (extended base rules lines refl) (extended_policy base rules fits count grants))
 
-pub file_gives_rights : (f : RosterFields Cmnd) (base : List Entry) (set : List Message) (host text : List ℕ) → FitsBase base → ((m : Message) → Contains set m → IsMessage m) → (file : IsHostFile f base set host text) → length file.lines ≤ 8_192 → GivesRights f base set host text
+pub file_gives_rights : (f : RosterFields Cmnd) (base : List Entry) (set : List Message) (host text : List ℕ) → FitsBase base
+    → ((m : Message) → Contains set m → IsMessage m) → (file : IsHostFile f base set host text) → length file.lines ≤ 8_192 → GivesRights f base set host text
 file_gives_rights f base set host text fits known file few =
     let lines = file.lines in
     let spelled = lines_spelled f base set host lines fits known file.lines_are.each few in
     gives_rights f base set host text lines file.lines_are (subst (λ (t : List ℕ). Spells t (with_lines base lines)) (sym file.text_is) spelled)
 
-pub file_after_gives_rights : (f : RosterFields Cmnd) (base : List Entry) (set : List Message) (host : List ℕ) (moment : ℕ) (text : List ℕ) → FitsBase base → ((m : Message) → Contains set m → IsMessage m) → (file : IsHostFileAfter f base set host moment text) → length (lines_after moment file.lines) ≤ 8_192 → GivesRightsAfter f base set host moment text
+pub file_after_gives_rights : (f : RosterFields Cmnd) (base : List Entry) (set : List Message) (host : List ℕ) (moment : ℕ) (text : List ℕ)
+    → FitsBase base → ((m : Message) → Contains set m → IsMessage m) → (file : IsHostFileAfter f base set host moment text)
+    → length (lines_after moment file.lines) ≤ 8_192 → GivesRightsAfter f base set host moment text
 file_after_gives_rights f base set host moment text fits known file few =
     let left = lines_after moment file.lines in
     let p : Line → Bool = λ line. is_not_after line.rule.not_after moment in
     let spelled = lines_spelled f base set host left fits known (λ line m. file.lines_are.each line (was_there p file.lines line m)) few in
-    gives_rights_after f base set host moment text file.lines file.lines_are (subst (λ (t : List ℕ). Spells t (with_lines base left)) (sym file.text_is) spelled)
+    gives_rights_after f base set host moment text file.lines file.lines_are
+    (subst (λ (t : List ℕ). Spells t (with_lines base left)) (sym file.text_is) spelled)
 
 -- ---- the lines that are left
 
-pub left_exactly : (f : RosterFields Cmnd) (set : List Message) (host : List ℕ) (moment : ℕ) (lines : List Line) (line : Line) → (is : IsLine f set host line) → Contains (lines_after moment lines) line ↔ (Contains lines line × (moment ≤ is.last))
+pub left_exactly : (f : RosterFields Cmnd) (set : List Message) (host : List ℕ) (moment : ℕ) (lines : List Line) (line : Line)
+    → (is : IsLine f set host line) → Contains (lines_after moment lines) line ↔ (Contains lines line × (moment ≤ is.last))
 left_exactly f set host moment lines line is =
     let p : Line → Bool = λ l. is_not_after l.rule.not_after moment in
     let ends : p line ≡ leb moment is.last = ap (λ (r : Rule). is_not_after r.not_after moment) is.rule_is in (
@@ -257,11 +288,14 @@ none_before_first (Some last) = le-leb 0 last (omega arith)
 
 all_after_first : (lines : List Line) → lines_after 0 lines ≡ lines
 all_after_first lines =
-    filter_agree (λ (line : Line). is_not_after line.rule.not_after 0) (λ (line : Line). true) (λ line. none_before_first line.rule.not_after) lines ∙ all_left lines
+    filter_agree (λ (line : Line). is_not_after line.rule.not_after 0) (λ (line : Line). true) (λ line. none_before_first line.rule.not_after) lines
+    ∙ all_left lines
 
-pub whole_after_first : (f : RosterFields Cmnd) (base : List Entry) (set : List Message) (host text : List ℕ) → IsHostFileAfter f base set host 0 text ↔ IsHostFile f base set host text
+pub whole_after_first : (f : RosterFields Cmnd) (base : List Entry) (set : List Message) (host text : List ℕ)
+    → IsHostFileAfter f base set host 0 text ↔ IsHostFile f base set host text
 whole_after_first f base set host text =
-    let same : (lines : List Line) → canon (with_lines base (lines_after 0 lines)) ≡ canon (with_lines base lines) = λ lines. ap (λ (ls : List Line). canon (with_lines base ls)) (all_after_first lines) in (
+    let same : (lines : List Line) → canon (with_lines base (lines_after 0 lines)) ≡ canon (with_lines base lines) =
+    λ lines. ap (λ (ls : List Line). canon (with_lines base ls)) (all_after_first lines) in (
       λ file. record { lines = file.lines; lines_are = file.lines_are; text_is = file.text_is ∙ same file.lines },
       λ file. record { lines = file.lines; lines_are = file.lines_are; text_is = file.text_is ∙ sym (same file.lines) },
     )

@@ -40,7 +40,8 @@ module _ {X : Type 0} (p : X → Bool) where
 
 -- ---- their order
 
-cond_ordered : {X : Type 0} (P : X → X → Type 0) (b : Bool) (x : X) (more : List X) → AllAfter P x more → AreInOrder P more → AreInOrder P (cond b (x ∷ more) more)
+cond_ordered : {X : Type 0} (P : X → X → Type 0) (b : Bool) (x : X) (more : List X)
+    → AllAfter P x more → AreInOrder P more → AreInOrder P (cond b (x ∷ more) more)
 cond_ordered P true x more all o = (all, o)
 cond_ordered P false x more all o = o
 
@@ -66,7 +67,8 @@ left_of_map {X} {Y} p h (x ∷ xs) =
 
 -- ---- of what summaries give in turn
 
-pub left_of_given : {X : Type 0} (f : RosterFields Cmnd) (set : List Message) (give : RequestFields → Status → List X) (p : X → Bool) (ks : List Kept) (xs : List X) → Give f set (λ q status. filter p (give q status)) ks xs → (all : List X) × Give f set give ks all × (xs ≡ filter p all)
+pub left_of_given : {X : Type 0} (f : RosterFields Cmnd) (set : List Message) (give : RequestFields → Status → List X) (p : X → Bool) (ks : List Kept)
+    (xs : List X) → Give f set (λ q status. filter p (give q status)) ks xs → (all : List X) × Give f set give ks all × (xs ≡ filter p all)
 left_of_given f set give p [] xs g = ([], refl, g)
 left_of_given {X} f set give p (k ∷ ks) xs g =
     let more = left_of_given f set give p ks g.0 g.2 in (

@@ -21,7 +21,8 @@ abbrev pub IsAt : List Message → RequestName → Option Kept → Type 0
 IsAt set name o = MatchOption o (NobodyAsks set name) (IsSummaryOf set name)
 
 -- a summary stands at its request's name
-pub named_at : (set : List Message) (m : BTreeMap RequestName Kept) → Gathers set m → (name : RequestName) (k : Kept) → at_name m name ≡ Some k → name_of k.request ≡ name
+pub named_at : (set : List Message) (m : BTreeMap RequestName Kept) → Gathers set m
+    → (name : RequestName) (k : Kept) → at_name m name ≡ Some k → name_of k.request ≡ name
 named_at set m g name k there =
     let is : IsSummaryOf set name k = subst (IsAt set name) there (g.each name) in name_from_named k.request name is.named
 
@@ -33,7 +34,8 @@ none_gathered m ordered empty = record {
 
 -- ---- a message about another name
 
-pub still_at : (set : List Message) (m : Message) (name : RequestName) → (Mentions m name → ⊥) → (o : Option Kept) → IsAt set name o → IsAt (set ++ m ∷ []) name o
+pub still_at : (set : List Message) (m : Message) (name : RequestName) → (Mentions m name → ⊥)
+    → (o : Option Kept) → IsAt set name o → IsAt (set ++ m ∷ []) name o
 still_at set m name other None nobody = λ q h named.
     elim (Contains-push_cases set m (Request q) h) as (λ _. ⊥) [
       | inl old ↦ nobody q old named
@@ -45,13 +47,16 @@ still_at set m name other (Some k) is = record {
 }
 
 -- one name is set, to what it is for the longer set, and the others stay
-pub one_more : (set : List Message) (m : Message) (name : RequestName) (old new : BTreeMap RequestName Kept) (k : Kept) → ((other : RequestName) → Mentions m other → name ≡ other) → SetsAt old new name k → IsOrdered name_cmp new → IsSummaryOf (set ++ m ∷ []) name k → Gathers set old → Gathers (set ++ m ∷ []) new
+pub one_more : (set : List Message) (m : Message) (name : RequestName) (old new : BTreeMap RequestName Kept) (k : Kept)
+    → ((other : RequestName) → Mentions m other → name ≡ other) → SetsAt old new name k → IsOrdered name_cmp new
+    → IsSummaryOf (set ++ m ∷ []) name k → Gathers set old → Gathers (set ++ m ∷ []) new
 one_more set m name old new k only sets ordered here g = record { ordered = ordered; each = λ other. at other (same_cases name other) }
   where
     at : (other : RequestName) → (name ≡ other) ⊎ (name ≡ other → ⊥) → IsAt (set ++ m ∷ []) other (at_name new other)
     at other (inl same) = subst (λ (n : RequestName). IsAt (set ++ m ∷ []) n (at_name new n)) same (subst (IsAt (set ++ m ∷ []) name) (sym sets.here) here)
     at other (inr differ) =
-        subst (IsAt (set ++ m ∷ []) other) (sym (sets.elsewhere other differ)) (still_at set m other (λ mentions. differ (only other mentions)) (at_name old other) (g.each other))
+        subst (IsAt (set ++ m ∷ []) other) (sym (sets.elsewhere other differ))
+        (still_at set m other (λ mentions. differ (only other mentions)) (at_name old other) (g.each other))
 
 -- ---- a request comes
 
@@ -99,7 +104,8 @@ of_itself q k stands =
     ]
 
 -- It stands for the request and those verdicts: so it stands for the set with the request, since that has no other message about the name.
-module _ (set : List Message) (q : RequestFields) (vs : List VerdictFields) (nobody : NobodyAsks set (name_of q)) (waited : (v : VerdictFields) → (Contains vs v → (name_meant v ≡ name_of q) × IsParked set v) × ((name_meant v ≡ name_of q) × IsParked set v → Contains vs v)) where
+module _ (set : List Message) (q : RequestFields) (vs : List VerdictFields) (nobody : NobodyAsks set (name_of q)) (waited : (v : VerdictFields)
+    → (Contains vs v → (name_meant v ≡ name_of q) × IsParked set v) × ((name_meant v ≡ name_of q) × IsParked set v → Contains vs v)) where
   abbrev own : List Message
   own = Request q ∷ map of_verdict vs
 
@@ -135,16 +141,20 @@ module _ (set : List Message) (q : RequestFields) (vs : List VerdictFields) (nob
   pub first_stands : (k : Kept) → k.request ≡ q → StandsFor own k → StandsFor longer k
   first_stands k same stands =
       let mine : name_of q ≡ name_of k.request = ap name_of (sym same) in
-      stands_in own longer k (subst (λ (n : RequestName). (m : Message) → Mentions m n → Contains own m → Contains longer m) mine there) (subst (λ (n : RequestName). (m : Message) → Mentions m n → Contains longer m → Contains own m) mine back) stands
+      stands_in own longer k (subst (λ (n : RequestName). (m : Message) → Mentions m n → Contains own m → Contains longer m) mine there)
+      (subst (λ (n : RequestName). (m : Message) → Mentions m n → Contains longer m → Contains own m) mine back) stands
 
-pub first_asked : (set : List Message) (q : RequestFields) (old new : BTreeMap RequestName Kept) (k : Kept) → SetsAt old new (name_of q) k → IsOrdered name_cmp new → k.request ≡ q → StandsFor (set ++ Request q ∷ []) k → Gathers set old → Gathers (set ++ Request q ∷ []) new
+pub first_asked : (set : List Message) (q : RequestFields) (old new : BTreeMap RequestName Kept) (k : Kept) → SetsAt old new (name_of q) k
+    → IsOrdered name_cmp new → k.request ≡ q → StandsFor (set ++ Request q ∷ []) k → Gathers set old → Gathers (set ++ Request q ∷ []) new
 first_asked set q old new k sets ordered same stands g =
     one_more set (Request q) (name_of q) old new k (request_only q) sets ordered (record {
       named = named_from_name k.request (name_of q) (ap name_of same);
       stands = stands;
     }) g
 
-pub asked_again : (set : List Message) (q : RequestFields) (old new : BTreeMap RequestName Kept) (before after : Kept) → at_name old (name_of q) ≡ Some before → SetsAt old new (name_of q) after → IsOrdered name_cmp new → after.request ≡ before.request → ((s : List Message) → StandsFor s before → StandsFor (s ++ Request q ∷ []) after) → Gathers set old → Gathers (set ++ Request q ∷ []) new
+pub asked_again : (set : List Message) (q : RequestFields) (old new : BTreeMap RequestName Kept) (before after : Kept)
+    → at_name old (name_of q) ≡ Some before → SetsAt old new (name_of q) after → IsOrdered name_cmp new → after.request ≡ before.request
+    → ((s : List Message) → StandsFor s before → StandsFor (s ++ Request q ∷ []) after) → Gathers set old → Gathers (set ++ Request q ∷ []) new
 asked_again set q old new before after found sets ordered same stands g =
     let was : IsSummaryOf set (name_of q) before = subst (IsAt set (name_of q)) found (g.each (name_of q)) in
     one_more set (Request q) (name_of q) old new after (request_only q) sets ordered (record {
@@ -157,7 +167,9 @@ asked_again set q old new before after found sets ordered same stands g =
 verdict_only : (v : VerdictFields) (other : RequestName) → Mentions (Verdict v) other → name_meant v ≡ other
 verdict_only v other mentions = mentions
 
-pub heard : (set : List Message) (v : VerdictFields) (old new : BTreeMap RequestName Kept) (before after : Kept) → at_name old (name_meant v) ≡ Some before → SetsAt old new (name_meant v) after → IsOrdered name_cmp new → after.request ≡ before.request → ((s : List Message) → StandsFor s before → StandsFor (s ++ Verdict v ∷ []) after) → Gathers set old → Gathers (set ++ Verdict v ∷ []) new
+pub heard : (set : List Message) (v : VerdictFields) (old new : BTreeMap RequestName Kept) (before after : Kept)
+    → at_name old (name_meant v) ≡ Some before → SetsAt old new (name_meant v) after → IsOrdered name_cmp new → after.request ≡ before.request
+    → ((s : List Message) → StandsFor s before → StandsFor (s ++ Verdict v ∷ []) after) → Gathers set old → Gathers (set ++ Verdict v ∷ []) new
 heard set v old new before after found sets ordered same stands g =
     let was : IsSummaryOf set (name_meant v) before = subst (IsAt set (name_meant v)) found (g.each (name_meant v)) in
     one_more set (Verdict v) (name_meant v) old new after (verdict_only v) sets ordered (record {
@@ -166,7 +178,8 @@ heard set v old new before after found sets ordered same stands g =
     }) g
 
 -- without its request it changes nothing
-pub unheard : (set : List Message) (v : VerdictFields) (m : BTreeMap RequestName Kept) → at_name m (name_meant v) ≡ None → Gathers set m → Gathers (set ++ Verdict v ∷ []) m
+pub unheard : (set : List Message) (v : VerdictFields) (m : BTreeMap RequestName Kept)
+    → at_name m (name_meant v) ≡ None → Gathers set m → Gathers (set ++ Verdict v ∷ []) m
 unheard set v m bare g = record { ordered = g.ordered; each = λ other. at other (same_cases (name_meant v) other) }
   where
     nobody : NobodyAsks (set ++ Verdict v ∷ []) (name_meant v)
@@ -175,15 +188,18 @@ unheard set v m bare g = record { ordered = g.ordered; each = λ other. at other
         elim (Contains-push_cases set (Verdict v) (Request q) h) as (λ _. ⊥) [ inl old ↦ before q old named | inr new ↦ absurd cc ]
 
     at : (other : RequestName) → (name_meant v ≡ other) ⊎ (name_meant v ≡ other → ⊥) → IsAt (set ++ Verdict v ∷ []) other (at_name m other)
-    at other (inl same) = subst (λ (n : RequestName). IsAt (set ++ Verdict v ∷ []) n (at_name m n)) same (subst (IsAt (set ++ Verdict v ∷ []) (name_meant v)) (sym bare) nobody)
+    at other (inl same) =
+        subst (λ (n : RequestName). IsAt (set ++ Verdict v ∷ []) n (at_name m n)) same (subst (IsAt (set ++ Verdict v ∷ []) (name_meant v)) (sym bare) nobody)
     at other (inr differ) = still_at set (Verdict v) other (λ mentions. differ mentions) (at_name m other) (g.each other)
 
 -- ---- the same stands at each name
 
-pub gathers_still : (set : List Message) (old new : BTreeMap RequestName Kept) → IsOrdered name_cmp new → ((name : RequestName) → at_name new name ≡ at_name old name) → Gathers set old → Gathers set new
+pub gathers_still : (set : List Message) (old new : BTreeMap RequestName Kept) → IsOrdered name_cmp new
+    → ((name : RequestName) → at_name new name ≡ at_name old name) → Gathers set old → Gathers set new
 gathers_still set old new ordered same g =
     record { ordered = ordered; each = λ name. subst (IsAt set name) (sym (same name)) (g.each name) }
 
 -- with the same entries
-pub gathers_same : (set : List Message) (old new : BTreeMap RequestName Kept) → new.entries ≡ old.entries → IsOrdered name_cmp new → Gathers set old → Gathers set new
+pub gathers_same : (set : List Message) (old new : BTreeMap RequestName Kept)
+    → new.entries ≡ old.entries → IsOrdered name_cmp new → Gathers set old → Gathers set new
 gathers_same set old new same ordered g = gathers_still set old new ordered (λ name. at_same old new name same) g

@@ -33,7 +33,8 @@ use Rattle.outcomes.proofs.Standing.{name_from_named}
 
 -- ---- the summaries in turn
 
-name_above : (k : RequestName) (es : List (RequestName × Kept)) → AllByRecursion (λ y. name_cmp k y ≡ Less) (keys_of es) → (e : RequestName × Kept) → Contains es e → name_cmp k e.0 ≡ Less
+name_above : (k : RequestName) (es : List (RequestName × Kept)) → AllByRecursion (λ y. name_cmp k y ≡ Less) (keys_of es)
+    → (e : RequestName × Kept) → Contains es e → name_cmp k e.0 ≡ Less
 name_above k [] all e m = absurd (no_member e m)
 name_above k (f ∷ es) all e m =
     elim (Contains-cases f es e m) as (λ _. name_cmp k e.0 ≡ Less) [
@@ -53,7 +54,8 @@ entries_in_order (e ∷ es) sorted named = (
       let before : NamePrecedes e.0 found.0.0 = lower_from_less e.0 found.0.0 less in
       let here : name_of e.1.request ≡ e.0 = named e (Contains-head e es) in
       let there : name_of found.0.1.request ≡ found.0.0 = named found.0 (Contains-behind e es found.0 found.1) in
-      subst (SummaryPrecedes e.1) found.2 (subst (λ (n : RequestName). NamePrecedes n (name_of found.0.1.request)) (sym here) (subst (NamePrecedes e.0) (sym there) before))),
+      subst (SummaryPrecedes e.1) found.2
+      (subst (λ (n : RequestName). NamePrecedes n (name_of found.0.1.request)) (sym here) (subst (NamePrecedes e.0) (sym there) before))),
   entries_in_order es (sorted_tail name_cmp e.0 (keys_of es) sorted) (λ f m. named f (Contains-behind e es f m)),
 )
 
@@ -103,7 +105,8 @@ turn_split {X} seen rest next all k split steps =
 
 pub turn_among : (seen rest next all : List Kept) (k : Kept) → seen ++ rest ≡ all → rest ≡ k ∷ next → Contains all k
 turn_among seen rest next all k split steps =
-    subst (λ (ks : List Kept). Contains ks k) split (Contains-append_right seen rest k (subst (λ (ks : List Kept). Contains ks k) (sym steps) (Contains-head k next)))
+    subst (λ (ks : List Kept). Contains ks k) split
+    (Contains-append_right seen rest k (subst (λ (ks : List Kept). Contains ks k) (sym steps) (Contains-head k next)))
 
 -- ---- what they give
 
@@ -140,23 +143,27 @@ module _ {X : Type 0} (f : RosterFields Cmnd) (set : List Message) (give : Reque
             record { k = found.k; among = Contains-behind k ks found.k found.among; status = found.status; status_is = found.status_is; given = found.given }
       ]
 
-  pub gives : (ks : List Kept) (xs : List X) → Give f set give ks xs → (k : Kept) → Contains ks k → (status : Status) → IsStatus f set (name_of k.request) status → (x : X) → Contains (give k.request status) x → Contains xs x
+  pub gives : (ks : List Kept) (xs : List X) → Give f set give ks xs → (k : Kept) → Contains ks k → (status : Status)
+      → IsStatus f set (name_of k.request) status → (x : X) → Contains (give k.request status) x → Contains xs x
   gives [] xs g k m status is x h = absurd (no_member k m)
   gives (j ∷ ks) xs g k m status is x h =
       subst (λ (l : List X). Contains l x) (sym g.4) (elim (Contains-cases j ks k m) as (λ _. Contains (give j.request g.1 ++ g.0) x) [
         | inl same ↦
             let here : IsStatus f set (name_of j.request) status = subst (λ (y : Kept). IsStatus f set (name_of y.request) status) (sym same) is in
             let inside : Contains (give j.request status) x = subst (λ (y : Kept). Contains (give y.request status) x) (sym same) h in
-            Contains-append_left (give j.request g.1) g.0 x (subst (λ (s : Status). Contains (give j.request s) x) (one_status f set (name_of j.request) status g.1 here g.3) inside)
+            Contains-append_left (give j.request g.1) g.0 x
+            (subst (λ (s : Status). Contains (give j.request s) x) (one_status f set (name_of j.request) status g.1 here g.3) inside)
         | inr later ↦ Contains-append_right (give j.request g.1) g.0 x (gives ks g.0 g.2 k later status is x h)
       ])
 
   -- in the order of their names, and of what each gives
-  module _ (P : X → X → Type 0) (name : X → RequestName) (own : (q : RequestFields) (status : Status) (x : X) → Contains (give q status) x → name x ≡ name_of q) (each : (q : RequestFields) (status : Status) → AreInOrder P (give q status)) (before : (x y : X) → NamePrecedes (name x) (name y) → P x y) where
+  module _ (P : X → X → Type 0) (name : X → RequestName) (own : (q : RequestFields) (status : Status) (x : X) → Contains (give q status) x → name x ≡ name_of q)
+      (each : (q : RequestFields) (status : Status) → AreInOrder P (give q status)) (before : (x y : X) → NamePrecedes (name x) (name y) → P x y) where
     pub given_in_order : (ks : List Kept) (xs : List X) → AreInOrder SummaryPrecedes ks → Give f set give ks xs → AreInOrder P xs
     given_in_order [] xs o g = subst (AreInOrder P) (sym g) tt
     given_in_order (k ∷ ks) xs o g =
         subst (AreInOrder P) (sym g.4) (ordered_both P (give k.request g.1) g.0 (each k.request g.1) (given_in_order ks g.0 o.1 g.2) (λ x y mx my.
         let found = given_by ks g.0 g.2 y my in
         let names : NamePrecedes (name_of k.request) (name_of found.k.request) = behind_each SummaryPrecedes k ks o.0 found.k found.among in
-        before x y (subst (λ (n : RequestName). NamePrecedes n (name y)) (sym (own k.request g.1 x mx)) (subst (NamePrecedes (name_of k.request)) (sym (own found.k.request found.status y found.given)) names))))
+        before x y (subst (λ (n : RequestName). NamePrecedes n (name y)) (sym (own k.request g.1 x mx))
+        (subst (NamePrecedes (name_of k.request)) (sym (own found.k.request found.status y found.given)) names))))

@@ -14,7 +14,8 @@ use Rattle.grants.specs.GrantRules.{grant_rule}
 -- the answer, from the test of each part
 abbrev pub answer_of : (begun lasts user host target fits : Bool) → Option Bool
 answer_of begun lasts user host target fits =
-    cond ((begun && lasts) && (is_yes (cond user (Some true) None) && is_yes (cond host (Some true) None) && is_yes (cond target (Some true) None))) (cond fits (Some true) None) None
+    cond ((begun && lasts) && (is_yes (cond user (Some true) None) && is_yes (cond host (Some true) None) && is_yes (cond target (Some true) None)))
+    (cond fits (Some true) None) None
 
 pub record AllTrue (begun lasts user host target fits : Bool) : Type 0 where
   pub begun_is : begun ≡ true
@@ -74,9 +75,11 @@ pub record Fits (host : List ℕ) (q : RequestFields) (first last : ℕ) (cmnd :
   pub target : q.runas ≡ i.runas
   pub matches_it : matches cmnd i.path i.args ≡ true
 
-pub fits_from_yes : (defined : List Entry) (host : List ℕ) (q : RequestFields) (first last : ℕ) (cmnd : Cmnd) (i : Invocation) → says defined (grant_rule host q first last cmnd) i ≡ Some true → Fits host q first last cmnd i
+pub fits_from_yes : (defined : List Entry) (host : List ℕ) (q : RequestFields) (first last : ℕ) (cmnd : Cmnd) (i : Invocation)
+    → says defined (grant_rule host q first last cmnd) i ≡ Some true → Fits host q first last cmnd i
 fits_from_yes defined host q first last cmnd i h =
-    let all = all_true (leb first i.at) (leb i.at last) (bytes_eq q.by i.user) (bytes_eq host i.host) (bytes_eq q.runas i.runas) (matches cmnd i.path i.args) h in
+    let all =
+    all_true (leb first i.at) (leb i.at last) (bytes_eq q.by i.user) (bytes_eq host i.host) (bytes_eq q.runas i.runas) (matches cmnd i.path i.args) h in
     record {
       begun = leb-true first i.at all.begun_is;
       lasts = leb-true i.at last all.lasts_is;
@@ -86,10 +89,13 @@ fits_from_yes defined host q first last cmnd i h =
       matches_it = all.fits_is;
     }
 
-pub yes_from_fits : (defined : List Entry) (host : List ℕ) (q : RequestFields) (first last : ℕ) (cmnd : Cmnd) (i : Invocation) → Fits host q first last cmnd i → says defined (grant_rule host q first last cmnd) i ≡ Some true
+pub yes_from_fits : (defined : List Entry) (host : List ℕ) (q : RequestFields) (first last : ℕ) (cmnd : Cmnd) (i : Invocation)
+    → Fits host q first last cmnd i → says defined (grant_rule host q first last cmnd) i ≡ Some true
 yes_from_fits defined host q first last cmnd i f =
-    yes_from_all _ _ _ _ _ _ (le-leb first i.at f.begun) (le-leb i.at last f.lasts) (test_from_same q.by i.user f.user) (test_from_same host i.host f.host_is) (test_from_same q.runas i.runas f.target) f.matches_it
+    yes_from_all _ _ _ _ _ _ (le-leb first i.at f.begun) (le-leb i.at last f.lasts) (test_from_same q.by i.user f.user)
+    (test_from_same host i.host f.host_is) (test_from_same q.runas i.runas f.target) f.matches_it
 
-pub grant_answers : (defined : List Entry) (host : List ℕ) (q : RequestFields) (first last : ℕ) (cmnd : Cmnd) (i : Invocation) → (says defined (grant_rule host q first last cmnd) i ≡ Some true) ⊎ (says defined (grant_rule host q first last cmnd) i ≡ None)
+pub grant_answers : (defined : List Entry) (host : List ℕ) (q : RequestFields) (first last : ℕ) (cmnd : Cmnd) (i : Invocation)
+    → (says defined (grant_rule host q first last cmnd) i ≡ Some true) ⊎ (says defined (grant_rule host q first last cmnd) i ≡ None)
 grant_answers defined host q first last cmnd i =
     yes_or_silent (leb first i.at) (leb i.at last) (bytes_eq q.by i.user) (bytes_eq host i.host) (bytes_eq q.runas i.runas) (matches cmnd i.path i.args)

@@ -1,5 +1,6 @@
 -- What a host's file decides: it allows what a grant covers, and decides all else as the base does.
-use Rattle.std.proofs.Common.{◌≡◌, ℕ, ◌≤◌, ◌⊎◌, Bool, true, false, Option, Some, None, List, [], ◌∷◌, ◌++◌, map, reverse, refl, sym, ap, ◌∙◌, subst, inl, inr, append_assoc, max, arith}
+use Rattle.std.proofs.Common.{◌≡◌, ℕ, ◌≤◌, ◌⊎◌, Bool, true, false, Option, Some, None, List, [], ◌∷◌, ◌++◌}
+use Rattle.std.proofs.Common.{map, reverse, refl, sym, ap, ◌∙◌, subst, inl, inr, append_assoc, max, arith}
 use Rattle.std.specs.List.{Contains}
 use Rattle.std.proofs.lemmas.Bool.{le-leb}
 use Rattle.std.proofs.lemmas.List.{append-nil}
@@ -33,51 +34,63 @@ entries_of_rules (line ∷ lines) = ap (λ (es : List Entry). entries.Rule line.
 abbrev entry_of : Line → Entry
 entry_of line = entries.Rule line.rule
 
-regrouped : (defined es : List Entry) (line : Line) (lines : List Line) (i : Invocation) (d : Decision) → DecidesBy defined ((es ++ entry_of line ∷ []) ++ map entry_of lines) i d → DecidesBy defined (es ++ entry_of line ∷ map entry_of lines) i d
+regrouped : (defined es : List Entry) (line : Line) (lines : List Line) (i : Invocation) (d : Decision)
+    → DecidesBy defined ((es ++ entry_of line ∷ []) ++ map entry_of lines) i d → DecidesBy defined (es ++ entry_of line ∷ map entry_of lines) i d
 regrouped defined es line lines i d h = rw append_assoc at h
 
-silent_lines : (defined es : List Entry) (lines : List Line) (i : Invocation) (d : Decision) → ((line : Line) → Contains lines line → says defined line.rule i ≡ None) → DecidesBy defined es i d → DecidesBy defined (es ++ map entry_of lines) i d
+silent_lines : (defined es : List Entry) (lines : List Line) (i : Invocation) (d : Decision)
+    → ((line : Line) → Contains lines line → says defined line.rule i ≡ None) → DecidesBy defined es i d → DecidesBy defined (es ++ map entry_of lines) i d
 silent_lines defined es [] i d quiet by = let P : List Entry → Type 0 = λ x. DecidesBy defined x i d in subst P (sym (append-nil es)) by
 silent_lines defined es (line ∷ lines) i d quiet by =
-    regrouped defined es line lines i d (silent_lines defined (es ++ entry_of line ∷ []) lines i d (λ l m. quiet l (Contains-behind line lines l m)) (decides_silent_last defined es (entry_of line) i d (quiet line (Contains-head line lines)) by))
+    regrouped defined es line lines i d (silent_lines defined (es ++ entry_of line ∷ []) lines i d (λ l m. quiet l (Contains-behind line lines l m))
+    (decides_silent_last defined es (entry_of line) i d (quiet line (Contains-head line lines)) by))
 
 -- a line says yes, and asks for a password, or says nothing
 abbrev pub Grants : List Entry → Line → Invocation → Type 0
 Grants defined line i = (line.rule.nopasswd ≡ false) × ((says defined line.rule i ≡ Some true) ⊎ (says defined line.rule i ≡ None))
 
-allowed : (defined es : List Entry) (line : Line) (i : Invocation) → line.rule.nopasswd ≡ false → says defined line.rule i ≡ Some true → DecidesBy defined (es ++ entry_of line ∷ []) i Allow
+allowed : (defined es : List Entry) (line : Line) (i : Invocation) → line.rule.nopasswd ≡ false
+    → says defined line.rule i ≡ Some true → DecidesBy defined (es ++ entry_of line ∷ []) i Allow
 allowed defined es line i asks says_yes =
     let decided : outcome line.rule true ≡ Allow = ap (λ (b : Bool). outcome (record line.rule { nopasswd = b }) true) asks in
     let P : Decision → Type 0 = λ d. DecidesBy defined (es ++ entry_of line ∷ []) i d in
     subst P decided (decides_rule_last defined es line.rule i true says_yes)
 
-still_allowed : (defined es : List Entry) (line : Line) (i : Invocation) → Grants defined line i → DecidesBy defined es i Allow → DecidesBy defined (es ++ entry_of line ∷ []) i Allow
+still_allowed : (defined es : List Entry) (line : Line) (i : Invocation) → Grants defined line i
+    → DecidesBy defined es i Allow → DecidesBy defined (es ++ entry_of line ∷ []) i Allow
 still_allowed defined es line i (asks, inl says_yes) by = allowed defined es line i asks says_yes
 still_allowed defined es line i (asks, inr quiet) by = decides_silent_last defined es (entry_of line) i Allow quiet by
 
-granted_lines : (defined es : List Entry) (lines : List Line) (i : Invocation) → ((line : Line) → Contains lines line → Grants defined line i) → DecidesBy defined es i Allow → DecidesBy defined (es ++ map entry_of lines) i Allow
+granted_lines : (defined es : List Entry) (lines : List Line) (i : Invocation) → ((line : Line) → Contains lines line → Grants defined line i)
+    → DecidesBy defined es i Allow → DecidesBy defined (es ++ map entry_of lines) i Allow
 granted_lines defined es [] i each by = let P : List Entry → Type 0 = λ x. DecidesBy defined x i Allow in subst P (sym (append-nil es)) by
 granted_lines defined es (line ∷ lines) i each by =
-    regrouped defined es line lines i Allow (granted_lines defined (es ++ entry_of line ∷ []) lines i (λ l m. each l (Contains-behind line lines l m)) (still_allowed defined es line i (each line (Contains-head line lines)) by))
+    regrouped defined es line lines i Allow (granted_lines defined (es ++ entry_of line ∷ []) lines i
+    (λ l m. each l (Contains-behind line lines l m)) (still_allowed defined es line i (each line (Contains-head line lines)) by))
 
-some_grants : (defined es : List Entry) (lines : List Line) (i : Invocation) → ((line : Line) → Contains lines line → Grants defined line i) → (line : Line) → Contains lines line → says defined line.rule i ≡ Some true → DecidesBy defined (es ++ map entry_of lines) i Allow
+some_grants : (defined es : List Entry) (lines : List Line) (i : Invocation) → ((line : Line) → Contains lines line → Grants defined line i)
+    → (line : Line) → Contains lines line → says defined line.rule i ≡ Some true → DecidesBy defined (es ++ map entry_of lines) i Allow
 some_grants defined es [] i each line m says_yes = absurd (no_member line m)
 some_grants defined es (first ∷ lines) i each line m says_yes =
     let later : (l : Line) → Contains lines l → Grants defined l i = λ l n. each l (Contains-behind first lines l n) in
-    regrouped defined es first lines i Allow (elim (Contains-cases first lines line m) as (λ _. DecidesBy defined ((es ++ entry_of first ∷ []) ++ map entry_of lines) i Allow) [
+    regrouped defined es first lines i Allow
+    (elim (Contains-cases first lines line m) as (λ _. DecidesBy defined ((es ++ entry_of first ∷ []) ++ map entry_of lines) i Allow) [
       | inl same ↦
           let P : Line → Type 0 = λ l. says defined l.rule i ≡ Some true in
-          granted_lines defined (es ++ entry_of first ∷ []) lines i later (allowed defined es first i (each first (Contains-head first lines)).0 (subst P (sym same) says_yes))
+          granted_lines defined (es ++ entry_of first ∷ []) lines i later
+          (allowed defined es first i (each first (Contains-head first lines)).0 (subst P (sym same) says_yes))
       | inr behind ↦ some_grants defined (es ++ entry_of first ∷ []) lines i later line behind says_yes
     ])
 
 -- ---- the lines of a set
 
 -- a line of them says yes, or none does
-one_says_yes : (defined : List Entry) (i : Invocation) (lines : List Line) → ((line : Line) → Contains lines line → Grants defined line i) → ((line : Line) × Contains lines line × (says defined line.rule i ≡ Some true)) ⊎ ((line : Line) → Contains lines line → says defined line.rule i ≡ None)
+one_says_yes : (defined : List Entry) (i : Invocation) (lines : List Line) → ((line : Line) → Contains lines line → Grants defined line i)
+    → ((line : Line) × Contains lines line × (says defined line.rule i ≡ Some true)) ⊎ ((line : Line) → Contains lines line → says defined line.rule i ≡ None)
 one_says_yes defined i [] each = inr (λ line m. absurd (no_member line m))
 one_says_yes defined i (first ∷ lines) each =
-    let Found : Type 0 = ((line : Line) × Contains (first ∷ lines) line × (says defined line.rule i ≡ Some true)) ⊎ ((line : Line) → Contains (first ∷ lines) line → says defined line.rule i ≡ None) in
+    let Found : Type 0 = ((line : Line) × Contains (first ∷ lines) line × (says defined line.rule i ≡ Some true))
+    ⊎ ((line : Line) → Contains (first ∷ lines) line → says defined line.rule i ≡ None) in
     elim (each first (Contains-head first lines)).1 as (λ _. Found) [
       | inl says_yes ↦ inl (first, Contains-head first lines, says_yes)
       | inr quiet ↦ elim (one_says_yes defined i lines (λ l m. each l (Contains-behind first lines l m))) as (λ _. Found) [
@@ -152,7 +165,8 @@ pub record SpeakFor (f : RosterFields Cmnd) (base : List Entry) (messages : List
   pub each : (line : Line) → Contains lines line → IsLine f messages i.host line
   pub yes : (line : Line) → IsLine f messages i.host line → says (reverse (with_lines base lines)) line.rule i ≡ Some true → Contains lines line
 
-module _ (f : RosterFields Cmnd) (base : List Entry) (messages : List Message) (i : Invocation) (lines : List Line) (speak : SpeakFor f base messages i lines) where
+module _ (f : RosterFields Cmnd) (base : List Entry) (messages : List Message)
+    (i : Invocation) (lines : List Line) (speak : SpeakFor f base messages i lines) where
   -- the lines define nothing
   abbrev defined : List Entry
   defined = reverse (with_lines base lines)
@@ -191,12 +205,14 @@ module _ (f : RosterFields Cmnd) (base : List Entry) (messages : List Message) (
 
 -- ---- all lines of the host, and those that end at a moment or later
 
-module _ (f : RosterFields Cmnd) (base : List Entry) (messages : List Message) (i : Invocation) (lines : List Line) (are : AreLines f messages i.host lines) where
+module _ (f : RosterFields Cmnd) (base : List Entry) (messages : List Message)
+    (i : Invocation) (lines : List Line) (are : AreLines f messages i.host lines) where
   pub all_speak : SpeakFor f base messages i lines
   all_speak = record { each = are.each; yes = λ line l says_yes. are.all line l }
 
   -- a line that says yes at the moment or later has not ended before it
-  not_ended : (defined : List Entry) (moment : ℕ) (line : Line) → moment ≤ i.at → IsLine f messages i.host line → says defined line.rule i ≡ Some true → is_not_after line.rule.not_after moment ≡ true
+  not_ended : (defined : List Entry) (moment : ℕ) (line : Line) → moment ≤ i.at → IsLine f messages i.host line
+      → says defined line.rule i ≡ Some true → is_not_after line.rule.not_after moment ≡ true
   not_ended defined moment line later l says_yes =
       let P : Rule → Type 0 = λ r. says defined r i ≡ Some true in
       let fits = fits_from_yes defined i.host l.request l.first l.last l.cmnd i (subst P l.rule_is says_yes) in
@@ -208,5 +224,6 @@ module _ (f : RosterFields Cmnd) (base : List Entry) (messages : List Message) (
       let p : Line → Bool = λ line. is_not_after line.rule.not_after moment in
       record {
         each = λ line m. are.each line (was_there p lines line m);
-        yes = λ line l says_yes. kept p lines line (are.all line l) (not_ended (reverse (with_lines base (lines_after moment lines))) moment line later l says_yes);
+        yes = λ line l says_yes.
+            kept p lines line (are.all line l) (not_ended (reverse (with_lines base (lines_after moment lines))) moment line later l says_yes);
       }

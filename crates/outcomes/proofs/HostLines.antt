@@ -1,5 +1,6 @@
 -- The rules that the summaries of a set give a host are those of its lines.
-use Rattle.std.proofs.Common.{◌≡◌, ℕ, zero, suc, ◌+◌, ◌<◌, ◌≤◌, Bool, true, false, cond, List, [], ◌∷◌, ◌++◌, map, length, Option, Some, refl, sym, ap, ◌∙◌, subst, inl, inr, arith}
+use Rattle.std.proofs.Common.{◌≡◌, ℕ, zero, suc, ◌+◌, ◌<◌, ◌≤◌, Bool, true, false, cond, List, [], ◌∷◌}
+use Rattle.std.proofs.Common.{◌++◌, map, length, Option, Some, refl, sym, ap, ◌∙◌, subst, inl, inr, arith}
 use Rattle.std.specs.List.{Contains, filter, list_any, slice_get}
 use Rattle.std.specs.Str.{bytes_eq}
 use Rattle.std.proofs.lemmas.List.{length-map, map-append}
@@ -50,7 +51,8 @@ lines_for host q (Granted w) = cond (list_any (λ h. bytes_eq h host) q.hosts) (
 abbrev pub rule_in : Line → Rule
 rule_in line = line.rule
 
-cmnd_rules : (host : List ℕ) (q : RequestFields) (first last place : ℕ) (cs : List Cmnd) → map rule_in (cmnd_lines host q first last place cs) ≡ map (grant_rule host q first last) cs
+cmnd_rules : (host : List ℕ) (q : RequestFields) (first last place : ℕ) (cs : List Cmnd)
+    → map rule_in (cmnd_lines host q first last place cs) ≡ map (grant_rule host q first last) cs
 cmnd_rules host q first last place [] = refl
 cmnd_rules host q first last place (c ∷ cs) =
     ap (λ (rs : List Rule). grant_rule host q first last c ∷ rs) (cmnd_rules host q first last (suc place) cs)
@@ -66,10 +68,12 @@ rules_of_lines host q Refused = refl
 rules_of_lines host q Waiting = refl
 rules_of_lines host q Void = refl
 rules_of_lines host q (Granted w) =
-    either_rules (list_any (λ h. bytes_eq h host) q.hosts) (cmnd_lines host q w.start w.end 0 q.cmnds) (map (grant_rule host q w.start w.end) q.cmnds) (cmnd_rules host q w.start w.end 0 q.cmnds)
+    either_rules (list_any (λ h. bytes_eq h host) q.hosts) (cmnd_lines host q w.start w.end 0 q.cmnds)
+    (map (grant_rule host q w.start w.end) q.cmnds) (cmnd_rules host q w.start w.end 0 q.cmnds)
 
 -- the lines whose rules these are
-pub lines_given : (f : RosterFields Cmnd) (set : List Message) (host : List ℕ) (ks : List Kept) (rules : List Rule) → Give f set (rules_for host) ks rules → (lines : List Line) × Give f set (lines_for host) ks lines × (rules ≡ map rule_in lines)
+pub lines_given : (f : RosterFields Cmnd) (set : List Message) (host : List ℕ) (ks : List Kept) (rules : List Rule)
+    → Give f set (rules_for host) ks rules → (lines : List Line) × Give f set (lines_for host) ks lines × (rules ≡ map rule_in lines)
 lines_given f set host [] rules g = ([], refl, g)
 lines_given f set host (k ∷ ks) rules g =
     let more = lines_given f set host ks g.0 g.2 in (
@@ -82,7 +86,8 @@ lines_given f set host (k ∷ ks) rules g =
     )
 
 -- and where only some are left, of what is left of these
-pub left_given : (f : RosterFields Cmnd) (set : List Message) (host : List ℕ) (after : Option ℕ) (ks : List Kept) (rules : List Rule) → Give f set (rules_left after host) ks rules → (lines : List Line) × Give f set (lines_for host) ks lines × (rules ≡ map rule_in (lines_left after lines))
+pub left_given : (f : RosterFields Cmnd) (set : List Message) (host : List ℕ) (after : Option ℕ) (ks : List Kept) (rules : List Rule)
+    → Give f set (rules_left after host) ks rules → (lines : List Line) × Give f set (lines_for host) ks lines × (rules ≡ map rule_in (lines_left after lines))
 left_given f set host after ks rules g =
     let all = left_of_given f set (rules_for host) (stays after) ks rules g in
     let found = lines_given f set host ks all.0 all.1 in
@@ -96,7 +101,8 @@ record IsCmndLine (host : List ℕ) (q : RequestFields) (first last low : ℕ) (
   cmnd_is : slice_get cs behind ≡ Some cmnd
   line_is : line ≡ line_at host q first last (low + behind) cmnd
 
-cmnd_line_later : (host : List ℕ) (q : RequestFields) (first last low : ℕ) (c : Cmnd) (cs : List Cmnd) (line : Line) → IsCmndLine host q first last (suc low) cs line → IsCmndLine host q first last low (c ∷ cs) line
+cmnd_line_later : (host : List ℕ) (q : RequestFields) (first last low : ℕ) (c : Cmnd) (cs : List Cmnd) (line : Line)
+    → IsCmndLine host q first last (suc low) cs line → IsCmndLine host q first last low (c ∷ cs) line
 cmnd_line_later host q first last low c cs line l =
     let moved : suc low + l.behind ≡ low + suc l.behind = omega arith in
     record {
@@ -106,27 +112,32 @@ cmnd_line_later host q first last low c cs line l =
       line_is = l.line_is ∙ ap (λ (p : ℕ). line_at host q first last p l.cmnd) moved;
     }
 
-cmnd_line_is : (host : List ℕ) (q : RequestFields) (first last low : ℕ) (cs : List Cmnd) (line : Line) → Contains (cmnd_lines host q first last low cs) line → IsCmndLine host q first last low cs line
+cmnd_line_is : (host : List ℕ) (q : RequestFields) (first last low : ℕ) (cs : List Cmnd) (line : Line)
+    → Contains (cmnd_lines host q first last low cs) line → IsCmndLine host q first last low cs line
 cmnd_line_is host q first last low [] line m = absurd (no_member line m)
 cmnd_line_is host q first last low (c ∷ cs) line m =
-    elim (Contains-cases (line_at host q first last low c) (cmnd_lines host q first last (suc low) cs) line m) as (λ _. IsCmndLine host q first last low (c ∷ cs) line) [
+    elim (Contains-cases (line_at host q first last low c) (cmnd_lines host q first last (suc low) cs) line m)
+    as (λ _. IsCmndLine host q first last low (c ∷ cs) line) [
       | inl here ↦
           let same : low ≡ low + 0 = omega arith in
           record { behind = 0; cmnd = c; cmnd_is = refl; line_is = sym here ∙ ap (λ (p : ℕ). line_at host q first last p c) same }
       | inr later ↦ cmnd_line_later host q first last low c cs line (cmnd_line_is host q first last (suc low) cs line later)
     ]
 
-has_cmnd_line : (host : List ℕ) (q : RequestFields) (first last low : ℕ) (cs : List Cmnd) (k : ℕ) (c : Cmnd) → slice_get cs k ≡ Some c → Contains (cmnd_lines host q first last low cs) (line_at host q first last (low + k) c)
+has_cmnd_line : (host : List ℕ) (q : RequestFields) (first last low : ℕ) (cs : List Cmnd) (k : ℕ) (c : Cmnd)
+    → slice_get cs k ≡ Some c → Contains (cmnd_lines host q first last low cs) (line_at host q first last (low + k) c)
 has_cmnd_line host q first last low [] k c h = absurd cc
 has_cmnd_line host q first last low (d ∷ ds) zero c h =
     let same : d ≡ c = cc in
     let place : low ≡ low + 0 = omega arith in
     let line : line_at host q first last low d ≡ line_at host q first last (low + 0) c =
     ap (λ (x : Cmnd). line_at host q first last low x) same ∙ ap (λ (p : ℕ). line_at host q first last p c) place in
-    subst (λ (l : Line). Contains (cmnd_lines host q first last low (d ∷ ds)) l) line (Contains-head (line_at host q first last low d) (cmnd_lines host q first last (suc low) ds))
+    subst (λ (l : Line). Contains (cmnd_lines host q first last low (d ∷ ds)) l) line
+    (Contains-head (line_at host q first last low d) (cmnd_lines host q first last (suc low) ds))
 has_cmnd_line host q first last low (d ∷ ds) (suc k) c h =
     let place : suc low + k ≡ low + suc k = omega arith in
-    subst (λ (p : ℕ). Contains (cmnd_lines host q first last low (d ∷ ds)) (line_at host q first last p c)) place (Contains-behind (line_at host q first last low d) (cmnd_lines host q first last (suc low) ds) (line_at host q first last (suc low + k) c) (has_cmnd_line host q first last (suc low) ds k c h))
+    subst (λ (p : ℕ). Contains (cmnd_lines host q first last low (d ∷ ds)) (line_at host q first last p c)) place (Contains-behind (line_at host q first
+    last low d) (cmnd_lines host q first last (suc low) ds) (line_at host q first last (suc low + k) c) (has_cmnd_line host q first last (suc low) ds k c h))
 
 chosen : (b : Bool) (lines : List Line) (line : Line) → Contains (cond b lines []) line → (b ≡ true) × Contains lines line
 chosen true lines line m = (refl, m)
@@ -153,7 +164,8 @@ own_name host q status line m = ap (λ (l : Line). l.name) (granted_line host q 
 
 -- ---- order
 
-lower_places : (host : List ℕ) (q : RequestFields) (first last : ℕ) (line : Line) (low : ℕ) (cs : List Cmnd) → line.name ≡ name_of q → line.place < low → AllAfter LinePrecedes line (cmnd_lines host q first last low cs)
+lower_places : (host : List ℕ) (q : RequestFields) (first last : ℕ) (line : Line) (low : ℕ) (cs : List Cmnd)
+    → line.name ≡ name_of q → line.place < low → AllAfter LinePrecedes line (cmnd_lines host q first last low cs)
 lower_places host q first last line low [] named below = tt
 lower_places host q first last line low (c ∷ cs) named below =
     (inr (named, below), lower_places host q first last line (suc low) cs named (omega (arith, below)))
@@ -179,12 +191,14 @@ each_ordered host q (Granted w) =
 -- ---- the set's
 
 -- the request of a summary with a window is that which is granted
-pub granted_moments : (f : RosterFields Cmnd) (set : List Message) (k : Kept) (w : Window) → StandsFor set k → IsStatus f set (name_of k.request) (Granted w) → IsFirstMoment f set k.request w.start × IsLastMoment f set k.request w.end
+pub granted_moments : (f : RosterFields Cmnd) (set : List Message) (k : Kept) (w : Window) → StandsFor set k
+    → IsStatus f set (name_of k.request) (Granted w) → IsFirstMoment f set k.request w.start × IsLastMoment f set k.request w.end
 granted_moments f set k w stands is =
     let own : k.request ≡ is.request = is.alone.alone k.request stands.asked (sym is.named.0, sym is.named.1) in
     subst (λ (q : RequestFields). IsFirstMoment f set q w.start × IsLastMoment f set q w.end) (sym own) is.is
 
-pub granted_name : (f : RosterFields Cmnd) (set : List Message) (q : RequestFields) (first last : ℕ) → IsFirstMoment f set q first → IsLastMoment f set q last → IsStatus f set (name_of q) (Granted (record { start = first; end = last }))
+pub granted_name : (f : RosterFields Cmnd) (set : List Message) (q : RequestFields) (first last : ℕ) → IsFirstMoment f set q first
+    → IsLastMoment f set q last → IsStatus f set (name_of q) (Granted (record { start = first; end = last }))
 granted_name f set q first last a b = record {
   request = q;
   named = (refl, refl);
@@ -194,11 +208,13 @@ granted_name f set q first last a b = record {
 }
 
 module _ (f : RosterFields Cmnd) (set : List Message) (host : List ℕ) where
-  pub lines_ordered : (ks : List Kept) (lines : List Line) → AreInOrder SummaryPrecedes ks → Give f set (lines_for host) ks lines → AreInOrder LinePrecedes lines
+  pub lines_ordered : (ks : List Kept) (lines : List Line) → AreInOrder SummaryPrecedes ks
+      → Give f set (lines_for host) ks lines → AreInOrder LinePrecedes lines
   lines_ordered ks lines o g =
       given_in_order f set (lines_for host) LinePrecedes (λ (l : Line). l.name) (own_name host) (each_ordered host) (λ x y b. inl b) ks lines o g
 
-  granted_is_line : (k : Kept) (status : Status) (line : Line) → StandsFor set k → IsStatus f set (name_of k.request) status → IsGrantedLine host k.request status line → IsLine f set host line
+  granted_is_line : (k : Kept) (status : Status) (line : Line) → StandsFor set k
+      → IsStatus f set (name_of k.request) status → IsGrantedLine host k.request status line → IsLine f set host line
   granted_is_line k status line stands is l =
       let moments = granted_moments f set k l.window stands (subst (IsStatus f set (name_of k.request)) l.granted is) in
       let c = l.of_cmnd in
@@ -217,13 +233,15 @@ module _ (f : RosterFields Cmnd) (set : List Message) (host : List ℕ) where
         rule_is = ap (λ (x : Line). x.rule) c.line_is;
       }
 
-  pub each_line : (ks : List Kept) (lines : List Line) → ((k : Kept) → Contains ks k → StandsFor set k) → Give f set (lines_for host) ks lines → (line : Line) → Contains lines line → IsLine f set host line
+  pub each_line : (ks : List Kept) (lines : List Line) → ((k : Kept) → Contains ks k → StandsFor set k)
+      → Give f set (lines_for host) ks lines → (line : Line) → Contains lines line → IsLine f set host line
   each_line ks lines stands g line m =
       let found = given_by f set (lines_for host) ks lines g line m in
       granted_is_line found.k found.status line (stands found.k found.among) found.status_is (granted_line host found.k.request found.status line found.given)
 
   -- a line is its fields
-  line_from_fields : (line : Line) (q : RequestFields) (first last : ℕ) (c : Cmnd) → line.name ≡ name_of q → line.rule ≡ grant_rule host q first last c → line_at host q first last line.place c ≡ line
+  line_from_fields : (line : Line) (q : RequestFields) (first last : ℕ) (c : Cmnd) → line.name ≡ name_of q
+      → line.rule ≡ grant_rule host q first last c → line_at host q first last line.place c ≡ line
   line_from_fields line q first last c n r =
       let at : RequestName → Rule → Line = λ x s. record { name = x; place = line.place; rule = s } in
       sym (ap (λ (x : RequestName). at x line.rule) n ∙ ap (λ (s : Rule). at (name_of q) s) r)
@@ -235,7 +253,8 @@ module _ (f : RosterFields Cmnd) (set : List Message) (host : List ℕ) where
       let inside = has_cmnd_line host q l.first l.last 0 q.cmnds line.place l.cmnd l.cmnd_is in
       let there = subst (λ (p : ℕ). Contains (cmnd_lines host q l.first l.last 0 q.cmnds) (line_at host q l.first l.last p l.cmnd)) place inside in
       let same = line_from_fields line q l.first l.last l.cmnd l.name_is l.rule_is in
-      subst (λ (b : Bool). Contains (cond b (cmnd_lines host q l.first l.last 0 q.cmnds) []) line) (sym (test_from_member q.hosts host l.names_host)) (subst (λ (x : Line). Contains (cmnd_lines host q l.first l.last 0 q.cmnds) x) same there)
+      subst (λ (b : Bool). Contains (cond b (cmnd_lines host q l.first l.last 0 q.cmnds) []) line)
+      (sym (test_from_member q.hosts host l.names_host)) (subst (λ (x : Line). Contains (cmnd_lines host q l.first l.last 0 q.cmnds) x) same there)
 
   module _ (ks : List Kept) (roll : IsRoll set ks) where
     all_lines : (lines : List Line) → Give f set (lines_for host) ks lines → (line : Line) → IsLine f set host line → Contains lines line
@@ -243,20 +262,26 @@ module _ (f : RosterFields Cmnd) (set : List Message) (host : List ℕ) where
         let found = roll.alone l.request l.first_is.inside.alone in
         let k = found.0 in
         let status : Status = Granted (record { start = l.first; end = l.last }) in
-        let is = subst (λ (q : RequestFields). IsStatus f set (name_of q) status) (sym found.2) (granted_name f set l.request l.first l.last l.first_is l.last_is) in
-        gives f set (lines_for host) ks lines given k found.1 status is line (subst (λ (q : RequestFields). Contains (lines_for host q status) line) (sym found.2) (line_inside line l))
+        let is =
+        subst (λ (q : RequestFields). IsStatus f set (name_of q) status) (sym found.2) (granted_name f set l.request l.first l.last l.first_is l.last_is) in
+        gives f set (lines_for host) ks lines given k found.1 status is line
+        (subst (λ (q : RequestFields). Contains (lines_for host q status) line) (sym found.2) (line_inside line l))
 
     pub are_lines : (lines : List Line) → Give f set (lines_for host) ks lines → AreLines f set host lines
     are_lines lines given =
         record { in_order = lines_ordered ks lines roll.in_order given; each = each_line ks lines roll.stands given; all = all_lines lines given }
 
     -- some first summaries leave no more lines than the set does
-    pub some_lines : (after : Option ℕ) (seen rest : List Kept) (rules : List Rule) (all : List Line) → seen ++ rest ≡ ks → Give f set (rules_left after host) seen rules → AreLines f set host all → length rules ≤ length (lines_left after all)
+    pub some_lines : (after : Option ℕ) (seen rest : List Kept) (rules : List Rule) (all : List Line) → seen ++ rest ≡ ks
+        → Give f set (rules_left after host) seen rules → AreLines f set host all → length rules ≤ length (lines_left after all)
     some_lines after seen rest rules all split given are =
         let found = left_given f set host after seen rules given in
         let ordered = ordered_front SummaryPrecedes seen rest (subst (AreInOrder SummaryPrecedes) (sym split) roll.in_order) in
-        let stands : (k : Kept) → Contains seen k → StandsFor set k = λ k h. roll.stands k (subst (λ (l : List Kept). Contains l k) split (Contains-append_left seen rest k h)) in
+        let stands : (k : Kept) → Contains seen k → StandsFor set k =
+        λ k h. roll.stands k (subst (λ (l : List Kept). Contains l k) split (Contains-append_left seen rest k h)) in
         let p : Line → Bool = λ line. stays after line.rule in
-        let inside : (line : Line) → Contains (lines_left after found.0) line → Contains (lines_left after all) line = λ line h. kept p all line (are.all line (each_line seen found.0 stands found.1 line (was_there p found.0 line h))) (passes p found.0 line h) in
-        let fewer = no_longer LinePrecedes lines_strict (lines_left after found.0) (lines_left after all) (left_in_order p LinePrecedes found.0 (lines_ordered seen found.0 ordered found.1)) (left_in_order p LinePrecedes all are.in_order) inside in
+        let inside : (line : Line) → Contains (lines_left after found.0) line → Contains (lines_left after all) line =
+        λ line h. kept p all line (are.all line (each_line seen found.0 stands found.1 line (was_there p found.0 line h))) (passes p found.0 line h) in
+        let fewer = no_longer LinePrecedes lines_strict (lines_left after found.0) (lines_left after all)
+        (left_in_order p LinePrecedes found.0 (lines_ordered seen found.0 ordered found.1)) (left_in_order p LinePrecedes all are.in_order) inside in
         omega (arith, fewer, ap length found.2, length-map (lines_left after found.0) rule_in)

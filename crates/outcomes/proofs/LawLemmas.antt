@@ -23,7 +23,8 @@ use Rattle.grants.proofs.StatusLaws.{at_least_more}
 use Rattle.outcomes.specs.Parked.{AreParked}
 use Rattle.outcomes.specs.Same.{GrantTheSame}
 use Rattle.outcomes.specs.Uncounted.{HoldsConflicting, MayNotRevoke}
-use Rattle.outcomes.proofs.SetLemmas.{Alike, alike_from_given, alike_sets, covers_alike, file_after_alike, file_alike, live_alike, outcome_alike, turned, window_alike}
+use Rattle.outcomes.proofs.SetLemmas.{Alike, alike_from_given, alike_sets, covers_alike, file_after_alike}
+use Rattle.outcomes.proofs.SetLemmas.{file_alike, live_alike, outcome_alike, turned, window_alike}
 
 pub grant_the_same : (f : RosterFields Cmnd) (s t : List Message) → Alike f s t → GrantTheSame f s t
 grant_the_same f s t a =
@@ -52,7 +53,8 @@ module _ (f : RosterFields Cmnd) (set : List Message) (v : VerdictFields) where
 
   pub uncounted : NeverCounts f set v → GrantTheSame f set longer
   uncounted never =
-      grant_the_same f set longer (alike_from_given f set longer requests_stay (λ q asked kind w. (given_after f set v w q kind, given_before f set v w q kind never asked)))
+      grant_the_same f set longer
+      (alike_from_given f set longer requests_stay (λ q asked kind w. (given_after f set v w q kind, given_before f set v w q kind never asked)))
 
   pub own : v.kind ≢ Revoke → v.by ≡ v.of → GrantTheSame f set longer
   own other same = uncounted (λ q c asked about is. own_verdict f c v other same)
@@ -95,14 +97,16 @@ module _ (f : RosterFields Cmnd) (set : List Message) (v : VerdictFields) where
     approved_more q moment a = record {
       ceiling = a.ceiling;
       ceiling_is = a.ceiling_is;
-      people = at_least_more a.ceiling.needs (HasGiven f set q Approve moment) (HasGiven f longer q Approve moment) (λ person h. record { verdict = h.verdict; given = given_after f set v h.verdict q Approve h.given; by_is = h.by_is; by_then = h.by_then }) a.people;
+      people = at_least_more a.ceiling.needs (HasGiven f set q Approve moment) (HasGiven f longer q Approve moment)
+          (λ person h. record { verdict = h.verdict; given = given_after f set v h.verdict q Approve h.given; by_is = h.by_is; by_then = h.by_then }) a.people;
     }
 
     approved_less : (q : RequestFields) (moment : ℕ) → ApprovedBy f longer q moment → ApprovedBy f set q moment
     approved_less q moment a = record {
       ceiling = a.ceiling;
       ceiling_is = a.ceiling_is;
-      people = at_least_more a.ceiling.needs (HasGiven f longer q Approve moment) (HasGiven f set q Approve moment) (λ person h. record { verdict = h.verdict; given = given_of q Approve h.verdict no_approval h.given; by_is = h.by_is; by_then = h.by_then }) a.people;
+      people = at_least_more a.ceiling.needs (HasGiven f longer q Approve moment) (HasGiven f set q Approve moment)
+          (λ person h. record { verdict = h.verdict; given = given_of q Approve h.verdict no_approval h.given; by_is = h.by_is; by_then = h.by_then }) a.people;
     }
 
     complete_more : (q : RequestFields) (moment : ℕ) → IsComplete f set q moment → IsComplete f longer q moment
@@ -111,7 +115,8 @@ module _ (f : RosterFields Cmnd) (set : List Message) (v : VerdictFields) where
     complete_less : (q : RequestFields) (moment : ℕ) → IsComplete f longer q moment → IsComplete f set q moment
     complete_less q moment is = record { approved = approved_less q moment is.approved; least = λ other a. is.least other (approved_more q other a) }
 
-    module _ (q : RequestFields) (alone : StandsAlone set q) (about : IsAbout q v) (complete : ℕ) (is : IsComplete f set q complete) (late : complete < v.at) where
+    module _ (q : RequestFields) (alone : StandsAlone set q) (about : IsAbout q v)
+        (complete : ℕ) (is : IsComplete f set q complete) (late : complete < v.at) where
       refused_more : (p : RequestFields) → IsRefused f set p → IsRefused f longer p
       refused_more p r = record {
         verdict = r.verdict;
@@ -162,14 +167,17 @@ module _ (f : RosterFields Cmnd) (set : List Message) (v : VerdictFields) where
 
 -- ---- a refusal in time, and a revocation
 
-pub refused_status : (f : RosterFields Cmnd) (set : List Message) (q : RequestFields) (v : VerdictFields) → StandsAlone set q → AdmitsRequest f q → IsGiven f set q Refuse v → ((complete : ℕ) → IsComplete f set q complete → v.at ≤ complete) → IsStatus f set (name_of q) Refused
+pub refused_status : (f : RosterFields Cmnd) (set : List Message) (q : RequestFields) (v : VerdictFields) → StandsAlone set q → AdmitsRequest f q
+    → IsGiven f set q Refuse v → ((complete : ℕ) → IsComplete f set q complete → v.at ≤ complete) → IsStatus f set (name_of q) Refused
 refused_status f set q v alone admits given in_time =
     record { request = q; named = (refl, refl); alone = alone; admissible = admits; is = record { verdict = v; given = given; in_time = in_time } }
 
-pub refused_window : (f : RosterFields Cmnd) (set : List Message) (q : RequestFields) (v : VerdictFields) (moment : ℕ) → IsGiven f set q Refuse v → ((complete : ℕ) → IsComplete f set q complete → v.at ≤ complete) → ¬ InWindow f set q moment
+pub refused_window : (f : RosterFields Cmnd) (set : List Message) (q : RequestFields) (v : VerdictFields) (moment : ℕ)
+    → IsGiven f set q Refuse v → ((complete : ℕ) → IsComplete f set q complete → v.at ≤ complete) → ¬ InWindow f set q moment
 refused_window f set q v moment given in_time w = w.unrefused (record { verdict = v; given = given; in_time = in_time })
 
-pub revoked_before : (f : RosterFields Cmnd) (set : List Message) (q : RequestFields) (v : VerdictFields) (moment : ℕ) → IsGiven f set q Revoke v → InWindow f set q moment → moment < v.at
+pub revoked_before : (f : RosterFields Cmnd) (set : List Message) (q : RequestFields) (v : VerdictFields) (moment : ℕ)
+    → IsGiven f set q Revoke v → InWindow f set q moment → moment < v.at
 revoked_before f set q v moment given w =
     elim (cases_Bool (nat_le v.at moment)) as (λ _. moment < v.at) [
       | inl le ↦ absurd (w.unrevoked (record { verdict = v; given = given; by_then = leb-true v.at moment le }))
@@ -178,7 +186,8 @@ revoked_before f set q v moment given w =
 
 -- ---- disputed names
 
-pub disputed_status : (f : RosterFields Cmnd) (set : List Message) (p q : RequestFields) → Contains set (Request p) → Contains set (Request q) → SameName p q → p ≢ q → IsStatus f set (name_of p) Disputed
+pub disputed_status : (f : RosterFields Cmnd) (set : List Message) (p q : RequestFields) → Contains set (Request p)
+    → Contains set (Request q) → SameName p q → p ≢ q → IsStatus f set (name_of p) Disputed
 disputed_status f set p q asks also name differ = record {
   first = p;
   second = q;
@@ -189,22 +198,27 @@ disputed_status f set p q asks also name differ = record {
   differ = differ;
 }
 
-pub disputed_windows : (f : RosterFields Cmnd) (set : List Message) (p q : RequestFields) (moment : ℕ) → Contains set (Request p) → Contains set (Request q) → SameName p q → p ≢ q → (¬ InWindow f set p moment) × (¬ InWindow f set q moment)
+pub disputed_windows : (f : RosterFields Cmnd) (set : List Message) (p q : RequestFields) (moment : ℕ) → Contains set (Request p)
+    → Contains set (Request q) → SameName p q → p ≢ q → (¬ InWindow f set p moment) × (¬ InWindow f set q moment)
 disputed_windows f set p q moment asks also name differ =
     (λ w. differ (sym (w.alone.alone q also (sym name.0, sym name.1))), λ w. differ (w.alone.alone p asks name))
 
 -- ---- parked
 
-pub stays_parked : (set : List Message) (v : VerdictFields) (texts : List (List ℕ)) → Contains set (Verdict v) → NobodyAsks set (name_meant v) → AreParked set texts → Contains texts (wire (Verdict v))
+pub stays_parked : (set : List Message) (v : VerdictFields) (texts : List (List ℕ)) → Contains set (Verdict v)
+    → NobodyAsks set (name_meant v) → AreParked set texts → Contains texts (wire (Verdict v))
 stays_parked set v texts given nobody are = are.all v (record { given = given; waits = nobody })
 
 same_verdict : (v w : VerdictFields) → ◌≡◌ {A = Message} (Verdict v) (Verdict w) → v ≡ w
 same_verdict v w e = cc
 
-pub leaves_parked : (set : List Message) (q : RequestFields) (v : VerdictFields) (texts : List (List ℕ)) → ((m : Message) → Contains set m → IsMessage m) → Contains set (Verdict v) → IsAbout q v → AreParked (set ++ Request q ∷ []) texts → ¬ Contains texts (wire (Verdict v))
+pub leaves_parked : (set : List Message) (q : RequestFields) (v : VerdictFields) (texts : List (List ℕ)) → ((m : Message) → Contains set m → IsMessage m)
+    → Contains set (Verdict v) → IsAbout q v → AreParked (set ++ Request q ∷ []) texts → ¬ Contains texts (wire (Verdict v))
 leaves_parked set q v texts known given about are among =
     let found = are.each (wire (Verdict v)) among in
-    let before : Contains set (Verdict found.0) = elim (Contains-push_cases set (Request q) (Verdict found.0) found.1.given) as (λ _. Contains set (Verdict found.0)) [ inl old ↦ old | inr new ↦ absurd cc ] in
-    let same : v ≡ found.0 = same_verdict v found.0 (one_message (Verdict v) (Verdict found.0) (known (Verdict v) given) (known (Verdict found.0) before) found.2) in
+    let before : Contains set (Verdict found.0) = elim (Contains-push_cases set (Request q) (Verdict found.0) found.1.given)
+    as (λ _. Contains set (Verdict found.0)) [ inl old ↦ old | inr new ↦ absurd cc ] in
+    let same : v ≡ found.0 =
+    same_verdict v found.0 (one_message (Verdict v) (Verdict found.0) (known (Verdict v) given) (known (Verdict found.0) before) found.2) in
     let of_found : IsAbout q found.0 = subst (IsAbout q) same about in
     found.1.waits q (Contains-push set (Request q)) (sym of_found.0, sym of_found.1)

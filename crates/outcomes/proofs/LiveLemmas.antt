@@ -62,8 +62,10 @@ each_ordered at q Waiting = tt
 each_ordered at q Void = tt
 each_ordered at q (Granted w) = either_ordered (leb w.start at && leb at w.end) q w
 
-module _ (f : RosterFields Cmnd) (set : List Message) (at : ℕ) (ks : List Kept) (roll : IsRoll set ks) (list : List LiveGrant) (given : Give f set (live_for at) ks list) where
-  is_live : (k : Kept) (status : Status) (l : LiveGrant) → StandsFor set k → IsStatus f set (name_of k.request) status → IsGrant at k.request status l → IsLive f set at l
+module _ (f : RosterFields Cmnd) (set : List Message) (at : ℕ) (ks : List Kept)
+    (roll : IsRoll set ks) (list : List LiveGrant) (given : Give f set (live_for at) ks list) where
+  is_live : (k : Kept) (status : Status) (l : LiveGrant) → StandsFor set k
+      → IsStatus f set (name_of k.request) status → IsGrant at k.request status l → IsLive f set at l
   is_live k status l stands is i =
       let w = i.window in
       let moments = granted_moments f set k w stands (subst (IsStatus f set (name_of k.request)) i.granted is) in
@@ -84,28 +86,34 @@ module _ (f : RosterFields Cmnd) (set : List Message) (at : ℕ) (ks : List Kept
   grant_inside : (l : LiveGrant) (is : IsLive f set at l) → Contains (live_for at is.request (Granted l.window)) l
   grant_inside l is =
       let w = l.window in
-      let test : (leb w.start at && leb at w.end) ≡ true = and_from (leb w.start at) (leb at w.end) (le-leb w.start at (is.first.least at is.inside)) (le-leb at w.end (is.last.greatest at is.inside)) in
+      let test : (leb w.start at && leb at w.end) ≡ true =
+      and_from (leb w.start at) (leb at w.end) (le-leb w.start at (is.first.least at is.inside)) (le-leb at w.end (is.last.greatest at is.inside)) in
       let named : name_of is.request ≡ l.name = name_from_named is.request l.name is.named in
       let same : grant_of is.request w ≡ l = rw (named, sym is.ceiling_is) refl in
-      subst (λ (b : Bool). Contains (grants_of is.request (cond b (Some w) None)) l) (sym test) (subst (Contains (grant_of is.request w ∷ [])) same (Contains-head (grant_of is.request w) []))
+      subst (λ (b : Bool). Contains (grants_of is.request (cond b (Some w) None)) l) (sym test)
+      (subst (Contains (grant_of is.request w ∷ [])) same (Contains-head (grant_of is.request w) []))
 
   all_live : (l : LiveGrant) → IsLive f set at l → Contains list l
   all_live l is =
       let found = roll.alone is.request is.inside.alone in
       let status : Status = Granted l.window in
-      let here = subst (λ (q : RequestFields). IsStatus f set (name_of q) status) (sym found.2) (granted_name f set is.request l.window.start l.window.end is.first is.last) in
-      gives f set (live_for at) ks list given found.0 found.1 status here l (subst (λ (q : RequestFields). Contains (live_for at q status) l) (sym found.2) (grant_inside l is))
+      let here = subst (λ (q : RequestFields). IsStatus f set (name_of q) status) (sym found.2)
+      (granted_name f set is.request l.window.start l.window.end is.first is.last) in
+      gives f set (live_for at) ks list given found.0 found.1 status here l
+      (subst (λ (q : RequestFields). Contains (live_for at q status) l) (sym found.2) (grant_inside l is))
 
   pub are_live : AreLive f set at list
   are_live = record {
-    in_order = given_in_order f set (live_for at) LivePrecedes (λ (l : LiveGrant). l.name) (own_name at) (each_ordered at) (λ x y b. b) ks list roll.in_order given;
+    in_order =
+        given_in_order f set (live_for at) LivePrecedes (λ (l : LiveGrant). l.name) (own_name at) (each_ordered at) (λ x y b. b) ks list roll.in_order given;
     each = each_live;
     all = all_live;
   }
 
 -- ---- one more
 
-pub pushed : (q r : RequestFields) (at : ℕ) (status : Status) (w : Window) (old new : List LiveGrant) (l : LiveGrant) → window_at at status ≡ Some w → r ≡ q → l ≡ grant_of r w → new ≡ old ++ l ∷ [] → new ≡ old ++ live_for at q status
+pub pushed : (q r : RequestFields) (at : ℕ) (status : Status) (w : Window) (old new : List LiveGrant) (l : LiveGrant)
+    → window_at at status ≡ Some w → r ≡ q → l ≡ grant_of r w → new ≡ old ++ l ∷ [] → new ≡ old ++ live_for at q status
 pushed q r at status w old new l e same is more =
     more ∙ ap (λ (x : LiveGrant). old ++ x ∷ []) (is ∙ ap (λ (x : RequestFields). grant_of x w) same) ∙ ap (λ (o : Option Window). old ++ grants_of q o) (sym e)
 

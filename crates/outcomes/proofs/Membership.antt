@@ -51,7 +51,8 @@ member_from_test (x ∷ xs) host h =
       | inr later ↦ Contains-behind x xs host (member_from_test xs host later)
     ]
 
-test_from_cases : (x : List ℕ) (xs : List (List ℕ)) (host : List ℕ) → (x ≡ host) ⊎ Contains xs host → (Contains xs host → list_any (λ h. bytes_eq h host) xs ≡ true) → list_any (λ h. bytes_eq h host) (x ∷ xs) ≡ true
+test_from_cases : (x : List ℕ) (xs : List (List ℕ)) (host : List ℕ) → (x ≡ host) ⊎ Contains xs host
+    → (Contains xs host → list_any (λ h. bytes_eq h host) xs ≡ true) → list_any (λ h. bytes_eq h host) (x ∷ xs) ≡ true
 test_from_cases x xs host (inl same) f = or_left (bytes_eq x host) (list_any (λ h. bytes_eq h host) xs) ((bytes_eq-Decides x host).1 same)
 test_from_cases x xs host (inr later) f = or_right (bytes_eq x host) (list_any (λ h. bytes_eq h host) xs) (f later)
 

@@ -23,7 +23,8 @@ names_total =
 
 same_from_equal : (a b : RequestName) → name_cmp a b ≡ Equal → a ≡ b
 same_from_equal a b h =
-    let pairs : ◌≡◌ {A = List ℕ × ℕ} (a.by, a.no) (b.by, b.no) = exact_pairs (slice_cmp nat_cmp) nat_cmp exact_bytes exact_unsigned (a.by, a.no) (b.by, b.no) h in
+    let pairs : ◌≡◌ {A = List ℕ × ℕ} (a.by, a.no) (b.by, b.no) =
+    exact_pairs (slice_cmp nat_cmp) nat_cmp exact_bytes exact_unsigned (a.by, a.no) (b.by, b.no) h in
     ap (λ (p : List ℕ × ℕ). record { by = p.0; no = p.1 }) pairs
 
 equal_itself : (a : RequestName) → name_cmp a a ≡ Equal
@@ -53,9 +54,11 @@ pub record SetsAt {X : Type 0} (old new : BTreeMap RequestName X) (name : Reques
   pub elsewhere : (other : RequestName) → (name ≡ other → ⊥) → at_name new other ≡ at_name old other
 
 -- one name is set or taken out, and at the others there is what there was
-pub others_from : {X : Type 0} (old new : BTreeMap RequestName X) (name : RequestName) (w : Option X) → Updates name_cmp old new name w → (other : RequestName) → (name ≡ other → ⊥) → at_name new other ≡ at_name old other
+pub others_from : {X : Type 0} (old new : BTreeMap RequestName X) (name : RequestName) (w : Option X)
+    → Updates name_cmp old new name w → (other : RequestName) → (name ≡ other → ⊥) → at_name new other ≡ at_name old other
 others_from {X} old new name w updates other differ =
-    updates.2 other (false_from_ne_true (is_at (name_cmp name) other) (λ equal. differ (same_from_equal name other (equal_from_test (name_cmp name other) equal))))
+    updates.2 other
+    (false_from_ne_true (is_at (name_cmp name) other) (λ equal. differ (same_from_equal name other (equal_from_test (name_cmp name other) equal))))
 
 pub sets_from : {X : Type 0} (old new : BTreeMap RequestName X) (name : RequestName) (x : X) → Updates name_cmp old new name (Some x) → SetsAt old new name x
 sets_from {X} old new name x updates = record { here = updates.1; elsewhere = others_from old new name (Some x) updates }

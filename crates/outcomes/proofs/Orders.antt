@@ -25,8 +25,10 @@ module _ {X : Type 0} (P : X → X → Type 0) where
 
   pub ordered_both : (xs ys : List X) → AreInOrder P xs → AreInOrder P ys → ((x y : X) → Contains xs x → Contains ys y → P x y) → AreInOrder P (xs ++ ys)
   ordered_both [] ys f g before = g
-  ordered_both (x ∷ xs) ys f g before =
-      (behind_both x xs ys f.0 (behind_from_each x ys (λ y m. before x y (Contains-head x xs) m)), ordered_both xs ys f.1 g (λ a b m n. before a b (Contains-behind x xs a m) n))
+  ordered_both (x ∷ xs) ys f g before = (
+    behind_both x xs ys f.0 (behind_from_each x ys (λ y m. before x y (Contains-head x xs) m)),
+    ordered_both xs ys f.1 g (λ a b m n. before a b (Contains-behind x xs a m) n),
+  )
 
   behind_front : (a : X) (xs ys : List X) → AllAfter P a (xs ++ ys) → AllAfter P a xs
   behind_front a [] ys all = tt
@@ -51,7 +53,8 @@ module _ {X : Type 0} (P : X → X → Type 0) (strict : (a b : X) → P a b →
       absurd (strict a a before before)
   same_tail a b xs ys same o x m (inr later) = later
 
-  pub same_lists : (xs ys : List X) → AreInOrder P xs → AreInOrder P ys → ((x : X) → Contains xs x → Contains ys x) → ((x : X) → Contains ys x → Contains xs x) → xs ≡ ys
+  pub same_lists : (xs ys : List X) → AreInOrder P xs → AreInOrder P ys
+      → ((x : X) → Contains xs x → Contains ys x) → ((x : X) → Contains ys x → Contains xs x) → xs ≡ ys
   same_lists [] [] o p f g = refl
   same_lists [] (b ∷ ys) o p f g = absurd (no_member b (g b (Contains-head b ys)))
   same_lists (a ∷ xs) [] o p f g = absurd (no_member a (f a (Contains-head a xs)))
@@ -59,7 +62,8 @@ module _ {X : Type 0} (P : X → X → Type 0) (strict : (a b : X) → P a b →
       let head : a ≡ b =
       same_head a b xs ys o.0 p.0 (Contains-cases a xs b (g b (Contains-head b ys))) (Contains-cases b ys a (f a (Contains-head a xs))) in
       let tail : xs ≡ ys =
-      same_lists xs ys o.1 p.1 (λ x m. same_tail a b xs ys head o.0 x m (Contains-cases b ys x (f x (Contains-behind a xs x m)))) (λ x m. same_tail b a ys xs (sym head) p.0 x m (Contains-cases a xs x (g x (Contains-behind b ys x m)))) in
+      same_lists xs ys o.1 p.1 (λ x m. same_tail a b xs ys head o.0 x m (Contains-cases b ys x (f x (Contains-behind a xs x m))))
+      (λ x m. same_tail b a ys xs (sym head) p.0 x m (Contains-cases a xs x (g x (Contains-behind b ys x m)))) in
       cc
 
   -- the head of the one comes later in the other
@@ -78,10 +82,12 @@ module _ {X : Type 0} (P : X → X → Type 0) (strict : (a b : X) → P a b →
   no_longer (a ∷ xs) (b ∷ ys) o p f =
       elim (Contains-cases b ys a (f a (Contains-head a xs))) as (λ _. length (a ∷ xs) ≤ length (b ∷ ys)) [
         | inl same ↦
-            let shorter : length xs ≤ length ys = no_longer xs ys o.1 p.1 (λ x m. same_tail a b xs ys (sym same) o.0 x m (Contains-cases b ys x (f x (Contains-behind a xs x m)))) in
+            let shorter : length xs ≤ length ys =
+            no_longer xs ys o.1 p.1 (λ x m. same_tail a b xs ys (sym same) o.0 x m (Contains-cases b ys x (f x (Contains-behind a xs x m)))) in
             omega (arith, shorter)
         | inr later ↦
-            let shorter : length (a ∷ xs) ≤ length ys = no_longer (a ∷ xs) ys o p.1 (λ x m. past_head a b xs ys (behind_each P b ys p.0 a later) o.0 x m (Contains-cases b ys x (f x m))) in
+            let shorter : length (a ∷ xs) ≤ length ys =
+            no_longer (a ∷ xs) ys o p.1 (λ x m. past_head a b xs ys (behind_each P b ys p.0 a later) o.0 x m (Contains-cases b ys x (f x m))) in
             omega (arith, shorter)
       ]
 

@@ -25,7 +25,9 @@ use Rattle.outcomes.proofs.Membership.{no_member, Contains-head, Contains-behind
 
 -- ---- one more text
 
-pub one_text_more : (vs : List VerdictFields) (i : ℕ) (v : VerdictFields) → i < length vs → v ≡ get_or vs i v → (front : List (List ℕ)) (old new : List (String Global)) (x : String Global) → map string_bytes old ≡ front ++ map verdict_text (take i vs) → string_bytes x ≡ verdict_text v → new ≡ old ++ x ∷ [] → map string_bytes new ≡ front ++ map verdict_text (take (i + 1) vs)
+pub one_text_more : (vs : List VerdictFields) (i : ℕ) (v : VerdictFields) → i < length vs → v ≡ get_or vs i v
+    → (front : List (List ℕ)) (old new : List (String Global)) (x : String Global) → map string_bytes old ≡ front ++ map verdict_text (take i vs)
+    → string_bytes x ≡ verdict_text v → new ≡ old ++ x ∷ [] → map string_bytes new ≡ front ++ map verdict_text (take (i + 1) vs)
 one_text_more vs i v within is front old new x was text more =
     ap (map string_bytes) more
     ∙ map-append string_bytes old (x ∷ [])
@@ -41,7 +43,8 @@ text_among : (vs : List VerdictFields) (v : VerdictFields) → Contains vs v →
 text_among [] v m = absurd (no_member v m)
 text_among (w ∷ vs) v m =
     elim (Contains-cases w vs v m) as (λ _. Contains (map verdict_text (w ∷ vs)) (verdict_text v)) [
-      | inl same ↦ subst (λ (x : VerdictFields). Contains (map verdict_text (w ∷ vs)) (verdict_text x)) same (Contains-head (verdict_text w) (map verdict_text vs))
+      | inl same ↦
+          subst (λ (x : VerdictFields). Contains (map verdict_text (w ∷ vs)) (verdict_text x)) same (Contains-head (verdict_text w) (map verdict_text vs))
       | inr later ↦ Contains-behind (verdict_text w) (map verdict_text vs) (verdict_text v) (text_among vs v later)
     ]
 
@@ -59,11 +62,13 @@ pub in_texts : (xs : List (String Global)) (x : String Global) → Contains xs x
 in_texts [] x m = absurd (no_member x m)
 in_texts (y ∷ ys) x m =
     elim (Contains-cases y ys x m) as (λ _. Contains (string_bytes y ∷ map string_bytes ys) (string_bytes x)) [
-      | inl same ↦ subst (λ (z : String Global). Contains (string_bytes y ∷ map string_bytes ys) (string_bytes z)) same (Contains-head (string_bytes y) (map string_bytes ys))
+      | inl same ↦ subst (λ (z : String Global). Contains (string_bytes y ∷ map string_bytes ys) (string_bytes z)) same
+          (Contains-head (string_bytes y) (map string_bytes ys))
       | inr later ↦ Contains-behind (string_bytes y) (map string_bytes ys) (string_bytes x) (in_texts ys x later)
     ]
 
-pub from_texts : (xs : List (String Global)) (text : List ℕ) → Contains (map string_bytes xs) text → (x : String Global) × Contains xs x × (string_bytes x ≡ text)
+pub from_texts : (xs : List (String Global)) (text : List ℕ) → Contains (map string_bytes xs) text
+    → (x : String Global) × Contains xs x × (string_bytes x ≡ text)
 from_texts [] text m = absurd (no_member text m)
 from_texts (y ∷ ys) text m =
     elim (Contains-cases (string_bytes y) (map string_bytes ys) text m) as (λ _. (x : String Global) × Contains (y ∷ ys) x × (string_bytes x ≡ text)) [
@@ -71,7 +76,8 @@ from_texts (y ∷ ys) text m =
       | inr later ↦ let found = from_texts ys text later in (found.0, Contains-behind y ys found.0 found.1, found.2)
     ]
 
-texts_behind : (x : String Global) (xs : List (String Global)) → AllByRecursion (λ y. string_cmp x y ≡ Less) xs → AllAfter TextPrecedes (string_bytes x) (map string_bytes xs)
+texts_behind : (x : String Global) (xs : List (String Global)) → AllByRecursion (λ y. string_cmp x y ≡ Less) xs
+    → AllAfter TextPrecedes (string_bytes x) (map string_bytes xs)
 texts_behind x [] all = tt
 texts_behind x (y ∷ ys) all = (ap is_lt all.0, texts_behind x ys all.1)
 
@@ -80,19 +86,24 @@ texts_in_order [] s = tt
 texts_in_order (x ∷ xs) s =
     (texts_behind x xs (sorted_head string_cmp x xs s), texts_in_order xs (sorted_tail string_cmp x xs s))
 
-module _ (set : List Message) (known : Known) (g : AreGathered set known) (texts sorted kept : List (String Global)) (are : map string_bytes texts ≡ map verdict_text known.waiting) (moved : IsPermutation texts sorted) (ordered : IsSorted string_cmp sorted) (filtered : IsFiltered (DiffersFromLast string_eq) [] sorted kept) where
+module _ (set : List Message) (known : Known) (g : AreGathered set known) (texts sorted kept : List (String Global))
+    (are : map string_bytes texts ≡ map verdict_text known.waiting) (moved : IsPermutation texts sorted)
+    (ordered : IsSorted string_cmp sorted) (filtered : IsFiltered (DiffersFromLast string_eq) [] sorted kept) where
   kept_is : kept ≡ dedup string_eq sorted
   kept_is = dedup_is string_eq sorted kept filtered
 
   strictly : IsStrictlySortedBy string_cmp kept
   strictly =
-      subst (IsStrictlySortedBy string_cmp) (sym kept_is) (IsStrictlySortedBy-dedup string_cmp_total (λ x y. texts_ties (string_bytes x) (string_bytes y)) sorted ordered)
+      subst (IsStrictlySortedBy string_cmp) (sym kept_is)
+      (IsStrictlySortedBy-dedup string_cmp_total (λ x y. texts_ties (string_bytes x) (string_bytes y)) sorted ordered)
 
   each_parked : (text : List ℕ) → Contains (map string_bytes kept) text → (v : VerdictFields) × IsParked set v × (text ≡ wire (Verdict v))
   each_parked text m =
       let found = from_texts kept text m in
-      let there = Contains-permutation sorted texts found.0 (IsPermutation-sym texts sorted moved) (Contains-from_dedup string_eq sorted found.0 (subst (λ (l : List (String Global)). Contains l found.0) kept_is found.1)) in
-      let waits : Contains (map verdict_text known.waiting) text = subst (λ (l : List (List ℕ)). Contains l text) are (subst (Contains (map string_bytes texts)) found.2 (in_texts texts found.0 there)) in
+      let there = Contains-permutation sorted texts found.0 (IsPermutation-sym texts sorted moved)
+      (Contains-from_dedup string_eq sorted found.0 (subst (λ (l : List (String Global)). Contains l found.0) kept_is found.1)) in
+      let waits : Contains (map verdict_text known.waiting) text =
+      subst (λ (l : List (List ℕ)). Contains l text) are (subst (Contains (map string_bytes texts)) found.2 (in_texts texts found.0 there)) in
       let verdict = of_text known.waiting text waits in
       (verdict.0, (g.waiting verdict.0).0 verdict.1, verdict.2)
 

@@ -81,7 +81,8 @@ module _ (f g : RosterFields Cmnd) (set : List Message) (same : JudgeAlike f g s
     bare = λ i d here bare decides. gives.bare i d here (λ is. bare (covers f g set same i is)) decides;
   }
 
-  rights_after : (base : List Entry) (host : List ℕ) (moment : ℕ) (text : List ℕ) → GivesRightsAfter f base set host moment text → GivesRightsAfter g base set host moment text
+  rights_after : (base : List Entry) (host : List ℕ) (moment : ℕ) (text : List ℕ)
+      → GivesRightsAfter f base set host moment text → GivesRightsAfter g base set host moment text
   rights_after base host moment text gives = record {
     policy = gives.policy;
     spelled = gives.spelled;
@@ -95,7 +96,8 @@ module _ (f g : RosterFields Cmnd) (set : List Message) (same : JudgeAlike f g s
   file base host text is =
       record { lines = is.lines; lines_are = lines f g set same host is.lines is.lines_are; text_is = is.text_is }
 
-  file_after : (base : List Entry) (host : List ℕ) (moment : ℕ) (text : List ℕ) → IsHostFileAfter f base set host moment text → IsHostFileAfter g base set host moment text
+  file_after : (base : List Entry) (host : List ℕ) (moment : ℕ) (text : List ℕ)
+      → IsHostFileAfter f base set host moment text → IsHostFileAfter g base set host moment text
   file_after base host moment text is =
       record { lines = is.lines; lines_are = lines f g set same host is.lines is.lines_are; text_is = is.text_is }
 

@@ -89,7 +89,9 @@ module _ (set : List Message) (row : NameRow) (bare : HasNoVerdict set) (is : Is
       row_stands (Request row.request ∷ []) set k (no_verdict_one row.request) bare (subst (λ (q : RequestFields). Contains set (Request q)) (sym q_is) is.0)
       (subst (P k.request) (one ∙ sym (single row.request k stands)) (subst (λ (q : RequestFields). P q row.is_disputed) (sym q_is) is.1)) stands
 
-  pub row_double : (before after : Kept) → StandsFor (Request row.request ∷ []) before → after.request ≡ before.request → ((s : List Message) (p : RequestFields) → SameName p before.request → p ≢ before.request → StandsFor s before → StandsFor (s ++ Request p ∷ []) after) → row.is_disputed ≡ true → StandsFor set after
+  pub row_double : (before after : Kept) → StandsFor (Request row.request ∷ []) before → after.request ≡ before.request
+      → ((s : List Message) (p : RequestFields) → SameName p before.request → p ≢ before.request → StandsFor s before → StandsFor (s ++ Request p ∷ []) after)
+      → row.is_disputed ≡ true → StandsFor set after
   row_double before after stands same marks two =
       let q = row.request in
       let first : before.request ≡ q = of_itself q before stands in
@@ -99,13 +101,16 @@ module _ (set : List Message) (row : NameRow) (bare : HasNoVerdict set) (is : Is
       let alike : SameName p before.request = subst (SameName p) (sym first) found.2 in
       let differ : p ≢ before.request = subst (λ (r : RequestFields). p ≢ r) (sym first) found.3 in
       let both : StandsFor ((Request q ∷ []) ++ Request p ∷ []) after = marks (Request q ∷ []) p alike differ stands in
-      let now : after.is_disputed ≡ true = double (Request q ∷ []) p after (subst (SameName p) (sym same) alike) (subst (λ (r : RequestFields). p ≢ r) (sym same) differ) both in
-      row_stands ((Request q ∷ []) ++ Request p ∷ []) set after (no_verdict_more (Request q ∷ []) p (no_verdict_one q)) bare (subst (λ (r : RequestFields). Contains set (Request r)) (sym q_is) is.0)
+      let now : after.is_disputed ≡ true =
+      double (Request q ∷ []) p after (subst (SameName p) (sym same) alike) (subst (λ (r : RequestFields). p ≢ r) (sym same) differ) both in
+      row_stands ((Request q ∷ []) ++ Request p ∷ []) set after (no_verdict_more (Request q ∷ []) p (no_verdict_one q)) bare
+      (subst (λ (r : RequestFields). Contains set (Request r)) (sym q_is) is.0)
       (subst (IsMarked (In set) after.request) (sym now) (subst (λ (r : RequestFields). IsMarked (In set) r true) (sym q_is) found)) both
 
 -- ---- rows in turn
 
-no_row_more : (rows : List NameRow) (row : NameRow) (name : RequestName) → (name_of row.request ≡ name → ⊥) → NoRowOf rows name → NoRowOf (rows ++ row ∷ []) name
+no_row_more : (rows : List NameRow) (row : NameRow) (name : RequestName)
+    → (name_of row.request ≡ name → ⊥) → NoRowOf rows name → NoRowOf (rows ++ row ∷ []) name
 no_row_more rows row name other none r m named = elim (Contains-push_cases rows row r m) as (λ _. ⊥) [
   | inl old ↦ none r old named
   | inr new ↦ other (ap (λ (x : NameRow). name_of x.request) new ∙ name_from_named r.request name named)
@@ -114,7 +119,8 @@ no_row_more rows row name other none r m named = elim (Contains-push_cases rows 
 abbrev IsRowAt : List Message → List NameRow → RequestName → Option Kept → Type 0
 IsRowAt set rows name o = MatchOption o (NoRowOf rows name) (IsSummaryOf set name)
 
-row_still : (set : List Message) (rows : List NameRow) (row : NameRow) (name : RequestName) → (name_of row.request ≡ name → ⊥) → (o : Option Kept) → IsRowAt set rows name o → IsRowAt set (rows ++ row ∷ []) name o
+row_still : (set : List Message) (rows : List NameRow) (row : NameRow) (name : RequestName)
+    → (name_of row.request ≡ name → ⊥) → (o : Option Kept) → IsRowAt set rows name o → IsRowAt set (rows ++ row ∷ []) name o
 row_still set rows row name other None none = no_row_more rows row name other none
 row_still set rows row name other (Some k) is = is
 
@@ -124,14 +130,16 @@ module _ (set : List Message) (rows : List NameRow) (row : NameRow) where
   rows_again s k there g = record { ordered = g.ordered; each = λ name. at name (same_cases (name_of row.request) name) }
     where
       here : IsRowAt set (rows ++ row ∷ []) (name_of row.request) (at_name s (name_of row.request))
-      here = subst (IsRowAt set (rows ++ row ∷ []) (name_of row.request)) (sym there) (subst (IsRowAt set rows (name_of row.request)) there (g.each (name_of row.request)))
+      here = subst (IsRowAt set (rows ++ row ∷ []) (name_of row.request)) (sym there)
+          (subst (IsRowAt set rows (name_of row.request)) there (g.each (name_of row.request)))
 
       at : (name : RequestName) → (name_of row.request ≡ name) ⊎ (name_of row.request ≡ name → ⊥) → IsRowAt set (rows ++ row ∷ []) name (at_name s name)
       at name (inl same) = subst (λ (n : RequestName). IsRowAt set (rows ++ row ∷ []) n (at_name s n)) same here
       at name (inr differ) = row_still set rows row name differ (at_name s name) (g.each name)
 
   -- the first of its name
-  pub rows_first : (old new : Summaries) (k : Kept) → SetsAt old new (name_of row.request) k → IsOrdered name_cmp new → k.request ≡ row.request → StandsFor set k → GathersRows set rows old → GathersRows set (rows ++ row ∷ []) new
+  pub rows_first : (old new : Summaries) (k : Kept) → SetsAt old new (name_of row.request) k → IsOrdered name_cmp new
+      → k.request ≡ row.request → StandsFor set k → GathersRows set rows old → GathersRows set (rows ++ row ∷ []) new
   rows_first old new k sets ordered same stands g = record { ordered = ordered; each = λ name. at name (same_cases (name_of row.request) name) }
     where
       mine : IsSummaryOf set (name_of row.request) k
@@ -146,7 +154,10 @@ module _ (set : List Message) (rows : List NameRow) (row : NameRow) where
           subst (IsRowAt set (rows ++ row ∷ []) name) (sym (sets.elsewhere name differ)) (row_still set rows row name differ (at_name old name) (g.each name))
 
 pub no_rows : (set : List Message) (s : Summaries) → IsOrdered name_cmp s → s.entries ≡ [] → GathersRows set [] s
-no_rows set s ordered empty = record { ordered = ordered; each = λ name. subst (IsRowAt set [] name) (sym (at_none s name empty)) (λ row m named. no_member row m) }
+no_rows set s ordered empty = record {
+  ordered = ordered;
+  each = λ name. subst (IsRowAt set [] name) (sym (at_none s name empty)) (λ row m named. no_member row m);
+}
 
 pub rows_gathered : (set : List Message) (rows : List NameRow) (s : Summaries) → ShowSet (In set) rows [] → GathersRows set rows s → Gathers set s
 rows_gathered set rows s show g = record { ordered = g.ordered; each = λ name. at name (at_name s name) (g.each name) }
@@ -160,7 +171,17 @@ rows_gathered set rows s show g = record { ordered = g.ordered; each = λ name. 
 
 -- another request of the name
 abbrev other_of : RequestFields → RequestFields
-other_of q = record { at = suc q.at; by = q.by; ceiling = q.ceiling; cmnds = q.cmnds; from = q.from; hosts = q.hosts; no = q.no; runas = q.runas; until = q.until }
+other_of q = record {
+  at = suc q.at;
+  by = q.by;
+  ceiling = q.ceiling;
+  cmnds = q.cmnds;
+  from = q.from;
+  hosts = q.hosts;
+  no = q.no;
+  runas = q.runas;
+  until = q.until;
+}
 
 abbrev beside : RequestFields → Bool → RequestFields
 beside q true = other_of q
@@ -178,20 +199,23 @@ module _ (some : List Message) (row : NameRow) (nobody : NobodyAsks some (name_o
   with_row = (some ++ Request row.request ∷ []) ++ Request (beside row.request row.is_disputed) ∷ []
 
   there : Contains with_row (Request row.request)
-  there = Contains-append_left (some ++ Request row.request ∷ []) (Request (beside row.request row.is_disputed) ∷ []) (Request row.request) (Contains-push some (Request row.request))
+  there = Contains-append_left (some ++ Request row.request ∷ []) (Request (beside row.request row.is_disputed) ∷ []) (Request row.request)
+      (Contains-push some (Request row.request))
 
   alone_there : row.is_disputed ≡ false → IsMarked (In with_row) row.request false
-  alone_there one p m named = elim (Contains-push_cases (some ++ Request row.request ∷ []) (Request (beside row.request row.is_disputed)) (Request p) m) as (λ _. p ≡ row.request) [
-    | inl before ↦ elim (Contains-push_cases some (Request row.request) (Request p) before) as (λ _. p ≡ row.request) [
-      | inl old ↦ absurd (nobody p old named)
-      | inr new ↦ sym (one_request row.request p new)
-    ]
-    | inr last ↦ sym (one_request (beside row.request row.is_disputed) p last) ∙ ap (beside row.request) one
-  ]
+  alone_there one p m named =
+      elim (Contains-push_cases (some ++ Request row.request ∷ []) (Request (beside row.request row.is_disputed)) (Request p) m) as (λ _. p ≡ row.request) [
+        | inl before ↦ elim (Contains-push_cases some (Request row.request) (Request p) before) as (λ _. p ≡ row.request) [
+          | inl old ↦ absurd (nobody p old named)
+          | inr new ↦ sym (one_request row.request p new)
+        ]
+        | inr last ↦ sym (one_request (beside row.request row.is_disputed) p last) ∙ ap (beside row.request) one
+      ]
 
   other_there : row.is_disputed ≡ true → IsMarked (In with_row) row.request true
   other_there two =
-      let there : Contains with_row (Request (other_of row.request)) = subst (λ (d : Bool). Contains with_row (Request (beside row.request d))) two (Contains-push (some ++ Request row.request ∷ []) (Request (beside row.request row.is_disputed))) in
+      let there : Contains with_row (Request (other_of row.request)) = subst (λ (d : Bool). Contains with_row (Request (beside row.request d))) two
+      (Contains-push (some ++ Request row.request ∷ []) (Request (beside row.request row.is_disputed))) in
       (other_of row.request, there, (refl, refl), is_other row.request)
 
   is_row : IsRowOf with_row row
@@ -205,11 +229,14 @@ module _ (some : List Message) (row : NameRow) (nobody : NobodyAsks some (name_o
 
   still_beside : (name : RequestName) → (name_of row.request ≡ name → ⊥) → (o : Option Kept) → IsAt some name o → IsAt with_row name o
   still_beside name differ o is =
-      still_at (some ++ Request row.request ∷ []) (Request (beside row.request row.is_disputed)) name (λ named. differ (sym (beside_named row.request row.is_disputed) ∙ named)) o
-      (still_at some (Request row.request) name differ o is)
+      still_at (some ++ Request row.request ∷ []) (Request (beside row.request row.is_disputed)) name
+      (λ named. differ (sym (beside_named row.request row.is_disputed) ∙ named)) o (still_at some (Request row.request) name differ o is)
 
-pub alone_first : (row : NameRow) (old new : Summaries) (k : Kept) → at_name old (name_of row.request) ≡ None → SetsAt old new (name_of row.request) k → IsOrdered name_cmp new → k.request ≡ row.request → ((set : List Message) → HasNoVerdict set → IsRowOf set row → StandsFor set k) → AreAlone old → AreAlone new
-alone_first row old new k bare sets ordered same stands alone = (with_row some row nobody, none, record { ordered = ordered; each = λ name. at name (same_cases (name_of row.request) name) })
+pub alone_first : (row : NameRow) (old new : Summaries) (k : Kept) → at_name old (name_of row.request) ≡ None
+    → SetsAt old new (name_of row.request) k → IsOrdered name_cmp new → k.request ≡ row.request
+    → ((set : List Message) → HasNoVerdict set → IsRowOf set row → StandsFor set k) → AreAlone old → AreAlone new
+alone_first row old new k bare sets ordered same stands alone =
+    (with_row some row nobody, none, record { ordered = ordered; each = λ name. at name (same_cases (name_of row.request) name) })
   where
     some : List Message
     some = alone.0
@@ -221,19 +248,25 @@ alone_first row old new k bare sets ordered same stands alone = (with_row some r
     none = no_verdict_more (some ++ Request row.request ∷ []) (beside row.request row.is_disputed) (no_verdict_more some row.request alone.1)
 
     mine : IsSummaryOf (with_row some row nobody) (name_of row.request) k
-    mine = record { named = named_from_name k.request (name_of row.request) (ap name_of same); stands = stands (with_row some row nobody) none (is_row some row nobody) }
+    mine = record {
+      named = named_from_name k.request (name_of row.request) (ap name_of same);
+      stands = stands (with_row some row nobody) none (is_row some row nobody);
+    }
 
     at : (name : RequestName) → (name_of row.request ≡ name) ⊎ (name_of row.request ≡ name → ⊥) → IsAt (with_row some row nobody) name (at_name new name)
-    at name (inl is) = subst (λ (n : RequestName). IsAt (with_row some row nobody) n (at_name new n)) is (subst (IsAt (with_row some row nobody) (name_of row.request)) (sym sets.here) mine)
+    at name (inl is) = subst (λ (n : RequestName). IsAt (with_row some row nobody) n (at_name new n)) is
+        (subst (IsAt (with_row some row nobody) (name_of row.request)) (sym sets.here) mine)
     at name (inr differ) =
-        subst (IsAt (with_row some row nobody) name) (sym (sets.elsewhere name differ)) (still_beside some row nobody name differ (at_name old name) (alone.2.each name))
+        subst (IsAt (with_row some row nobody) name) (sym (sets.elsewhere name differ))
+        (still_beside some row nobody name differ (at_name old name) (alone.2.each name))
 
 pub none_alone : (s : Summaries) → IsOrdered name_cmp s → s.entries ≡ [] → AreAlone s
 none_alone s ordered empty = ([], (λ v m. no_member (Verdict v) m), none_gathered s ordered empty)
 
 -- ---- no verdict waits
 
-pub alone_by_name : (set : List Message) (s : Summaries) (w : Waiting) → HasNoVerdict set → Gathers set s → IsOrdered name_cmp w → w.entries ≡ [] → AreByName set s w
+pub alone_by_name : (set : List Message) (s : Summaries) (w : Waiting) → HasNoVerdict set
+    → Gathers set s → IsOrdered name_cmp w → w.entries ≡ [] → AreByName set s w
 alone_by_name set s w bare g ordered empty = record {
   summaries = g;
   waiting = record {
@@ -294,7 +327,8 @@ module _ (set : List Message) where
     given = λ v. (λ none. absurd (no_member v none), λ there. absurd (no_verdict_of v there));
   }
 
-  pub same_messages : (names : List NameRow) (verdicts : List VerdictFields) → ShowSet (In set) names verdicts → SameMessages (requests_of set ++ map of_verdict verdicts) set
+  pub same_messages : (names : List NameRow) (verdicts : List VerdictFields)
+      → ShowSet (In set) names verdicts → SameMessages (requests_of set ++ map of_verdict verdicts) set
   same_messages names verdicts show m = (to m, back m)
     where
       to : (m : Message) → Contains (requests_of set ++ map of_verdict verdicts) m → Contains set m

@@ -49,7 +49,9 @@ turned f s t a = record {
 }
 
 -- where the verdicts that count are the same
-pub alike_from_given : (f : RosterFields Cmnd) (s t : List Message) → ((q : RequestFields) → Both (Contains s (Request q)) (Contains t (Request q))) → ((q : RequestFields) → Contains s (Request q) → (kind : VerdictKind) (v : VerdictFields) → Both (IsGiven f s q kind v) (IsGiven f t q kind v)) → Alike f s t
+pub alike_from_given : (f : RosterFields Cmnd) (s t : List Message) → ((q : RequestFields) → Both (Contains s (Request q)) (Contains t (Request q)))
+    → ((q : RequestFields) → Contains s (Request q) → (kind : VerdictKind) (v : VerdictFields) → Both (IsGiven f s q kind v) (IsGiven f t q kind v))
+    → Alike f s t
 alike_from_given f s t requests given = record {
   requests = requests;
   complete = λ q asked moment. (
@@ -136,7 +138,8 @@ module _ (f : RosterFields Cmnd) (s t : List Message) (a : Alike f s t) where
     last = last_alike is.request l.window.end is.last;
   }
 
-  admitted_alike : (name : RequestName) (P Q : RequestFields → Type 0) → ((q : RequestFields) → Contains s (Request q) → P q → Q q) → IsAdmitted f s name P → IsAdmitted f t name Q
+  admitted_alike : (name : RequestName) (P Q : RequestFields → Type 0)
+      → ((q : RequestFields) → Contains s (Request q) → P q → Q q) → IsAdmitted f s name P → IsAdmitted f t name Q
   admitted_alike name P Q more x = record {
     request = x.request;
     named = x.named;
@@ -182,11 +185,13 @@ module _ (f : RosterFields Cmnd) (s t : List Message) (a : Alike f s t) where
   file_alike base host text file =
       record { lines = file.lines; lines_are = lines_alike host file.lines file.lines_are; text_is = file.text_is }
 
-  pub file_after_alike : (base : List Entry) (host : List ℕ) (moment : ℕ) (text : List ℕ) → IsHostFileAfter f base s host moment text → IsHostFileAfter f base t host moment text
+  pub file_after_alike : (base : List Entry) (host : List ℕ) (moment : ℕ) (text : List ℕ)
+      → IsHostFileAfter f base s host moment text → IsHostFileAfter f base t host moment text
   file_after_alike base host moment text file =
       record { lines = file.lines; lines_are = lines_alike host file.lines file.lines_are; text_is = file.text_is }
 
-  pub left_alike : (base : List Entry) (host : List ℕ) (after : Option ℕ) (text : List ℕ) → IsFileLeft f base s host after text → IsFileLeft f base t host after text
+  pub left_alike : (base : List Entry) (host : List ℕ) (after : Option ℕ) (text : List ℕ)
+      → IsFileLeft f base s host after text → IsFileLeft f base t host after text
   left_alike base host after text left =
       record { lines = left.lines; lines_are = lines_alike host left.lines left.lines_are; text_is = left.text_is; spelled = left.spelled }
 

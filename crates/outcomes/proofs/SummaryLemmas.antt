@@ -57,7 +57,8 @@ of_name (l ∷ ks) name m =
       | inr later ↦ let found = of_name ks name later in (found.0, Contains-behind l ks found.0 found.1, found.2)
     ]
 
-named_in_other : (set : List Message) (a b : List Kept) → AreSummaries set a → AreSummaries set b → (name : RequestName) → Contains (map kept_name a) name → Contains (map kept_name b) name
+named_in_other : (set : List Message) (a b : List Kept) → AreSummaries set a → AreSummaries set b
+    → (name : RequestName) → Contains (map kept_name a) name → Contains (map kept_name b) name
 named_in_other set a b x y name m =
     let found = of_name a name m in
     let other = y.all found.0.request (x.each found.0 found.1).asked in
@@ -84,15 +85,19 @@ first_of a b ms ns e = cc
 rest_of : (a b : RequestName) (ms ns : List RequestName) → ◌≡◌ {A = List RequestName} (a ∷ ms) (b ∷ ns) → ms ≡ ns
 rest_of a b ms ns e = cc
 
-all_keep : (set : List Message) (a b : List Kept) → ((k : Kept) → Contains a k → StandsFor set k) → ((k : Kept) → Contains b k → StandsFor set k) → map kept_name a ≡ map kept_name b → AllKeepTheSame a b
+all_keep : (set : List Message) (a b : List Kept) → ((k : Kept) → Contains a k → StandsFor set k)
+    → ((k : Kept) → Contains b k → StandsFor set k) → map kept_name a ≡ map kept_name b → AllKeepTheSame a b
 all_keep set [] [] s t e = tt
 all_keep set [] (l ∷ ls) s t e = absurd cc
 all_keep set (k ∷ ks) [] s t e = absurd cc
 all_keep set (k ∷ ks) (l ∷ ls) s t e = (
-  keep_the_same set k l (s k (Contains-head k ks)) (t l (Contains-head l ls)) (same_name k l (first_of (kept_name k) (kept_name l) (map kept_name ks) (map kept_name ls) e)),
-  all_keep set ks ls (λ j m. s j (Contains-behind k ks j m)) (λ j m. t j (Contains-behind l ls j m)) (rest_of (kept_name k) (kept_name l) (map kept_name ks) (map kept_name ls) e),
+  keep_the_same set k l (s k (Contains-head k ks)) (t l (Contains-head l ls))
+      (same_name k l (first_of (kept_name k) (kept_name l) (map kept_name ks) (map kept_name ls) e)),
+  all_keep set ks ls (λ j m. s j (Contains-behind k ks j m)) (λ j m. t j (Contains-behind l ls j m))
+      (rest_of (kept_name k) (kept_name l) (map kept_name ks) (map kept_name ls) e),
 )
 
 pub one_of_summaries : (set : List Message) (a b : List Kept) → AreSummaries set a → AreSummaries set b → AllKeepTheSame a b
 one_of_summaries set a b x y =
-    all_keep set a b x.each y.each (same_lists NamePrecedes names_strict (map kept_name a) (map kept_name b) (names_in_order a x.in_order) (names_in_order b y.in_order) (named_in_other set a b x y) (named_in_other set b a y x))
+    all_keep set a b x.each y.each (same_lists NamePrecedes names_strict (map kept_name a) (map kept_name b)
+    (names_in_order a x.in_order) (names_in_order b y.in_order) (named_in_other set a b x y) (named_in_other set b a y x))

@@ -82,7 +82,8 @@ none_waits m ordered empty = record {
 
 -- ---- the same waits
 
-pub wait_still : (set : List Message) (old new : Waiting) → IsOrdered name_cmp new → ((name : RequestName) → verdicts_at new name ≡ verdicts_at old name) → Waits set old → Waits set new
+pub wait_still : (set : List Message) (old new : Waiting) → IsOrdered name_cmp new
+    → ((name : RequestName) → verdicts_at new name ≡ verdicts_at old name) → Waits set old → Waits set new
 wait_still set old new ordered same waits = record {
   ordered = ordered;
   each = λ name v. (
@@ -94,10 +95,13 @@ wait_still set old new ordered same waits = record {
 -- ---- a request comes
 
 -- where it is the first of its name, nothing waits there any longer
-pub waits_first : (set : List Message) (q : RequestFields) (old new : Waiting) → IsOrdered name_cmp new → verdicts_at new (name_of q) ≡ [] → ((other : RequestName) → (name_of q ≡ other → ⊥) → verdicts_at new other ≡ verdicts_at old other) → Waits set old → Waits (set ++ Request q ∷ []) new
+pub waits_first : (set : List Message) (q : RequestFields) (old new : Waiting) → IsOrdered name_cmp new → verdicts_at new (name_of q) ≡ []
+    → ((other : RequestName) → (name_of q ≡ other → ⊥) → verdicts_at new other ≡ verdicts_at old other) → Waits set old → Waits (set ++ Request q ∷ []) new
 waits_first set q old new ordered taken others waits = record { ordered = ordered; each = λ name v. at name v (same_cases (name_of q) name) }
   where
-    at : (name : RequestName) (v : VerdictFields) → (name_of q ≡ name) ⊎ (name_of q ≡ name → ⊥) → (Contains (verdicts_at new name) v → (name_meant v ≡ name) × IsParked (set ++ Request q ∷ []) v) × ((name_meant v ≡ name) × IsParked (set ++ Request q ∷ []) v → Contains (verdicts_at new name) v)
+    at : (name : RequestName) (v : VerdictFields) → (name_of q ≡ name) ⊎ (name_of q ≡ name → ⊥)
+        → (Contains (verdicts_at new name) v → (name_meant v ≡ name) × IsParked (set ++ Request q ∷ []) v)
+        × ((name_meant v ≡ name) × IsParked (set ++ Request q ∷ []) v → Contains (verdicts_at new name) v)
     at name v (inl same) = (
       λ among. absurd (no_member v (subst (λ (vs : List VerdictFields). Contains vs v) (ap (verdicts_at new) (sym same) ∙ taken) among)),
       λ both. absurd (not_asked set q v both.1 (both.0 ∙ sym same)),
@@ -131,36 +135,45 @@ waits_heard set v m asked waits = record {
     λ among. let was = (waits.each name w).0 among in (was.0, still_parked set v w was.1),
     λ both. elim (parked_cases set v w both.1) as (λ _. Contains (verdicts_at m name) w) [
       | inl old ↦ (waits.each name w).1 (both.0, old)
-      | inr new ↦ absurd (asked (nobody_before set (Verdict v) (name_meant v) (subst (λ (x : VerdictFields). NobodyAsks (set ++ Verdict v ∷ []) (name_meant x)) (sym new) both.1.waits)))
+      | inr new ↦ absurd (asked (nobody_before set (Verdict v) (name_meant v)
+          (subst (λ (x : VerdictFields). NobodyAsks (set ++ Verdict v ∷ []) (name_meant x)) (sym new) both.1.waits)))
     ],
   );
 }
 
 -- that has to wait
-pub waits_more : (set : List Message) (v : VerdictFields) (old new : Waiting) → NobodyAsks set (name_meant v) → IsOrdered name_cmp new → verdicts_at new (name_meant v) ≡ verdicts_at old (name_meant v) ++ v ∷ [] → ((other : RequestName) → (name_meant v ≡ other → ⊥) → verdicts_at new other ≡ verdicts_at old other) → Waits set old → Waits (set ++ Verdict v ∷ []) new
+pub waits_more : (set : List Message) (v : VerdictFields) (old new : Waiting) → NobodyAsks set (name_meant v)
+    → IsOrdered name_cmp new → verdicts_at new (name_meant v) ≡ verdicts_at old (name_meant v) ++ v ∷ []
+    → ((other : RequestName) → (name_meant v ≡ other → ⊥) → verdicts_at new other ≡ verdicts_at old other) → Waits set old → Waits (set ++ Verdict v ∷ []) new
 waits_more set v old new nobody ordered more others waits = record { ordered = ordered; each = λ name w. at name w (same_cases (name_meant v) name) }
   where
     mine : IsParked (set ++ Verdict v ∷ []) v
     mine = record { given = Contains-push set (Verdict v); waits = nobody_with_verdict set v (name_meant v) nobody }
 
-    at : (name : RequestName) (w : VerdictFields) → (name_meant v ≡ name) ⊎ (name_meant v ≡ name → ⊥) → (Contains (verdicts_at new name) w → (name_meant w ≡ name) × IsParked (set ++ Verdict v ∷ []) w) × ((name_meant w ≡ name) × IsParked (set ++ Verdict v ∷ []) w → Contains (verdicts_at new name) w)
+    at : (name : RequestName) (w : VerdictFields) → (name_meant v ≡ name) ⊎ (name_meant v ≡ name → ⊥)
+        → (Contains (verdicts_at new name) w → (name_meant w ≡ name) × IsParked (set ++ Verdict v ∷ []) w)
+        × ((name_meant w ≡ name) × IsParked (set ++ Verdict v ∷ []) w → Contains (verdicts_at new name) w)
     at name w (inl same) =
-        let is : verdicts_at new name ≡ verdicts_at old name ++ v ∷ [] = subst (λ (n : RequestName). verdicts_at new n ≡ verdicts_at old n ++ v ∷ []) same more in (
-          λ among. elim (Contains-push_cases (verdicts_at old name) v w (subst (λ (vs : List VerdictFields). Contains vs w) is among)) as (λ _. (name_meant w ≡ name) × IsParked (set ++ Verdict v ∷ []) w) [
-            | inl there ↦ let was = (waits.each name w).0 there in (was.0, still_parked set v w was.1)
-            | inr new ↦ subst (λ (x : VerdictFields). (name_meant x ≡ name) × IsParked (set ++ Verdict v ∷ []) x) new (same, mine)
-          ],
-          λ both. subst (λ (vs : List VerdictFields). Contains vs w) (sym is) (elim (parked_cases set v w both.1) as (λ _. Contains (verdicts_at old name ++ v ∷ []) w) [
-            | inl was ↦ Contains-append_left (verdicts_at old name) (v ∷ []) w ((waits.each name w).1 (both.0, was))
-            | inr new ↦ subst (Contains (verdicts_at old name ++ v ∷ [])) new (Contains-push (verdicts_at old name) v)
-          ]),
+        let is : verdicts_at new name ≡ verdicts_at old name ++ v ∷ [] =
+        subst (λ (n : RequestName). verdicts_at new n ≡ verdicts_at old n ++ v ∷ []) same more in (
+          λ among. elim (Contains-push_cases (verdicts_at old name) v w (subst (λ (vs : List VerdictFields). Contains vs w) is among))
+              as (λ _. (name_meant w ≡ name) × IsParked (set ++ Verdict v ∷ []) w) [
+                | inl there ↦ let was = (waits.each name w).0 there in (was.0, still_parked set v w was.1)
+                | inr new ↦ subst (λ (x : VerdictFields). (name_meant x ≡ name) × IsParked (set ++ Verdict v ∷ []) x) new (same, mine)
+              ],
+          λ both. subst (λ (vs : List VerdictFields). Contains vs w) (sym is)
+              (elim (parked_cases set v w both.1) as (λ _. Contains (verdicts_at old name ++ v ∷ []) w) [
+                | inl was ↦ Contains-append_left (verdicts_at old name) (v ∷ []) w ((waits.each name w).1 (both.0, was))
+                | inr new ↦ subst (Contains (verdicts_at old name ++ v ∷ [])) new (Contains-push (verdicts_at old name) v)
+              ]),
         )
     at name w (inr differ) = (
       λ among.
           let was = (waits.each name w).0 (subst (λ (vs : List VerdictFields). Contains vs w) (others name differ) among) in
           (was.0, still_parked set v w was.1),
-      λ both. subst (λ (vs : List VerdictFields). Contains vs w) (sym (others name differ)) (elim (parked_cases set v w both.1) as (λ _. Contains (verdicts_at old name) w) [
-        | inl was ↦ (waits.each name w).1 (both.0, was)
-        | inr new ↦ absurd (differ (ap name_meant new ∙ both.0))
-      ]),
+      λ both. subst (λ (vs : List VerdictFields). Contains vs w) (sym (others name differ))
+          (elim (parked_cases set v w both.1) as (λ _. Contains (verdicts_at old name) w) [
+            | inl was ↦ (waits.each name w).1 (both.0, was)
+            | inr new ↦ absurd (differ (ap name_meant new ∙ both.0))
+          ]),
     )

@@ -35,7 +35,8 @@ module _ (f : RosterFields Cmnd) (set : List Message) (q : RequestFields) where
   -- a window with a moment in it has a first one
   pub first_of : (moment : ℕ) → (w : InWindow f set q moment) → IsFirstMoment f set q (max q.from w.complete)
   first_of moment w = record {
-    inside = sooner (max q.from w.complete) moment w (omega arith) (λ m is. omega (arith, one_completion m w.complete is w.complete_is)) (omega (arith, w.from, w.behind));
+    inside = sooner (max q.from w.complete) moment w (omega arith)
+        (λ m is. omega (arith, one_completion m w.complete is w.complete_is)) (omega (arith, w.from, w.behind));
     least = λ other v. omega (arith, v.from, v.behind, one_completion w.complete v.complete w.complete_is v.complete_is);
   }
 

@@ -48,7 +48,8 @@ only_request q m =
       | inl same ↦ one_request asked q same
       | inr later ↦ elim (Contains-cases (Verdict bob_approves) (Verdict early ∷ []) (Request q) later) as (λ _. asked ≡ q) [
         | inl wrong ↦ absurd cc
-        | inr last ↦ elim (Contains-cases (Verdict early) [] (Request q) last) as (λ _. asked ≡ q) [ inl wrong ↦ absurd cc | inr none ↦ absurd (no_member (Request q) none) ]
+        | inr last ↦ elim (Contains-cases (Verdict early) [] (Request q) last)
+            as (λ _. asked ≡ q) [ inl wrong ↦ absurd cc | inr none ↦ absurd (no_member (Request q) none) ]
       ]
     ]
 
@@ -72,7 +73,8 @@ other_name same =
 
 stands : StandsFor worked kept
 stands =
-    let approved : StandsFor (Request asked ∷ Verdict bob_approves ∷ []) kept = standing.approved (Request asked ∷ []) fresh bob_approves (codes "bob") 1_767_601_800 kept.approvals (refl, refl) refl refl refl refl (asked_alone asked) in
+    let approved : StandsFor (Request asked ∷ Verdict bob_approves ∷ []) kept = standing.approved (Request asked ∷ []) fresh bob_approves
+    (codes "bob") 1_767_601_800 kept.approvals (refl, refl) refl refl refl refl (asked_alone asked) in
     stands_still (Request asked ∷ Verdict bob_approves ∷ []) (Verdict early) kept other_name approved
 
 admits : AdmitsRequest site asked
@@ -94,7 +96,8 @@ granted =
 roll : IsRoll worked (kept ∷ [])
 roll = record {
   in_order = (tt, tt);
-  stands = λ k m. elim (Contains-cases kept [] k m) as (λ _. StandsFor worked k) [ inl same ↦ subst (StandsFor worked) same stands | inr none ↦ absurd (no_member k none) ];
+  stands = λ k m.
+      elim (Contains-cases kept [] k m) as (λ _. StandsFor worked k) [ inl same ↦ subst (StandsFor worked) same stands | inr none ↦ absurd (no_member k none) ];
   alone = λ q alone. (kept, Contains-head kept [], only_request q alone.asked);
 }
 
@@ -109,7 +112,8 @@ lines_on host = lines_for host asked status ++ []
 pub lines : (host : List ℕ) → AreLines site worked host (lines_on host)
 lines host = are_lines site worked host (kept ∷ []) roll (lines_on host) ([], status, refl, granted, refl)
 
-pub text_on_db1 : codes "bob db1 = (root) ALL\nann db1 = (root) NOTBEFORE=20260105090000Z NOTAFTER=20260105110000Z /bin/ls\n" ≡ canon (with_lines base (lines_on (codes "db1")))
+pub text_on_db1 : codes "bob db1 = (root) ALL\nann db1 = (root) NOTBEFORE=20260105090000Z NOTAFTER=20260105110000Z /bin/ls\n"
+    ≡ canon (with_lines base (lines_on (codes "db1")))
 unfolding digits date_of date_from_year date_from_month
 text_on_db1 = refl
 
@@ -134,7 +138,8 @@ only_parked v is =
       | inl wrong ↦ absurd cc
       | inr later ↦ elim (Contains-cases (Verdict bob_approves) (Verdict early ∷ []) (Verdict v) later) as (λ _. early ≡ v) [
         | inl same ↦
-            let waits : NobodyAsks worked (name_meant bob_approves) = subst (λ (w : VerdictFields). NobodyAsks worked (name_meant w)) (sym (one_verdict bob_approves v same)) is.waits in
+            let waits : NobodyAsks worked (name_meant bob_approves) =
+            subst (λ (w : VerdictFields). NobodyAsks worked (name_meant w)) (sym (one_verdict bob_approves v same)) is.waits in
             absurd (waits asked (Contains-head (Request asked) (Verdict bob_approves ∷ Verdict early ∷ [])) (refl, refl))
         | inr last ↦ elim (Contains-cases (Verdict early) [] (Verdict v) last) as (λ _. early ≡ v) [
           | inl same ↦ one_verdict early v same
@@ -150,9 +155,11 @@ parked = record {
     | inl same ↦ (early, record { given = there; waits = nobody_asks }, sym same ∙ text_is)
     | inr none ↦ absurd (no_member text none)
   ];
-  all = λ v is. subst (λ (w : VerdictFields). Contains (parked_text ∷ []) (wire (Verdict w))) (only_parked v is) (subst (Contains (parked_text ∷ [])) text_is (Contains-head parked_text []));
+  all = λ v is. subst (λ (w : VerdictFields). Contains (parked_text ∷ []) (wire (Verdict w)))
+      (only_parked v is) (subst (Contains (parked_text ∷ [])) text_is (Contains-head parked_text []));
 }
   where
     there : Contains worked (Verdict early)
     there =
-        Contains-behind (Request asked) (Verdict bob_approves ∷ Verdict early ∷ []) (Verdict early) (Contains-behind (Verdict bob_approves) (Verdict early ∷ []) (Verdict early) (Contains-head (Verdict early) []))
+        Contains-behind (Request asked) (Verdict bob_approves ∷ Verdict early ∷ []) (Verdict early)
+        (Contains-behind (Verdict bob_approves) (Verdict early ∷ []) (Verdict early) (Contains-head (Verdict early) []))

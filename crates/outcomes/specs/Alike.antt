@@ -14,15 +14,24 @@ use Rattle.outcomes.specs.HostFile.{IsHostFile, IsHostFileAfter}
 use Rattle.outcomes.specs.Outcomes.{AreLive, ComesTo, LiveGrant}
 use Rattle.outcomes.specs.Rights.{GivesRights, GivesRightsAfter}
 
--- By either roster each name comes to the same, each request is in force at the same moments, the same invocations are covered, the
--- same grants are in force at each moment, and each host has the same file after each base, the whole and that after each moment,
--- which gives the same rights.
+-- By either roster each name comes to the same, each request is in force at the same moments, the
+-- same invocations are covered, the same grants are in force at each moment, and each host has the
+-- same file after each base, the whole and that after each moment, which gives the same rights.
 pub record GrantAlike (f g : RosterFields Cmnd) (messages : List Message) : Type 0 where
-  pub statuses : (name : RequestName) (o : Option Status) → ComesTo f messages name o ↔ ComesTo g messages name o
-  pub windows : (q : RequestFields) (moment : ℕ) → InWindow f messages q moment ↔ InWindow g messages q moment
+  pub statuses : (name : RequestName) (o : Option Status)
+      → ComesTo f messages name o ↔ ComesTo g messages name o
+  pub windows : (q : RequestFields) (moment : ℕ)
+      → InWindow f messages q moment ↔ InWindow g messages q moment
   pub covers : (i : Invocation) → Covers f messages i ↔ Covers g messages i
-  pub live : (moment : ℕ) (list : List LiveGrant) → AreLive f messages moment list ↔ AreLive g messages moment list
-  pub files : (base : List Entry) (host text : List ℕ) → IsHostFile f base messages host text ↔ IsHostFile g base messages host text
-  pub files_after : (base : List Entry) (host : List ℕ) (moment : ℕ) (text : List ℕ) → IsHostFileAfter f base messages host moment text ↔ IsHostFileAfter g base messages host moment text
-  pub rights : (base : List Entry) (host text : List ℕ) → GivesRights f base messages host text ↔ GivesRights g base messages host text
-  pub rights_after : (base : List Entry) (host : List ℕ) (moment : ℕ) (text : List ℕ) → GivesRightsAfter f base messages host moment text ↔ GivesRightsAfter g base messages host moment text
+  pub live : (moment : ℕ) (list : List LiveGrant)
+      → AreLive f messages moment list ↔ AreLive g messages moment list
+  pub files : (base : List Entry) (host text : List ℕ)
+      → IsHostFile f base messages host text ↔ IsHostFile g base messages host text
+  pub files_after : (base : List Entry) (host : List ℕ) (moment : ℕ) (text : List ℕ)
+      → IsHostFileAfter f base messages host moment text
+      ↔ IsHostFileAfter g base messages host moment text
+  pub rights : (base : List Entry) (host text : List ℕ)
+      → GivesRights f base messages host text ↔ GivesRights g base messages host text
+  pub rights_after : (base : List Entry) (host : List ℕ) (moment : ℕ) (text : List ℕ)
+      → GivesRightsAfter f base messages host moment text
+      ↔ GivesRightsAfter g base messages host moment text

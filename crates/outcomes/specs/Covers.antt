@@ -1,5 +1,5 @@
--- When a grant is in force for an invocation. The set of messages is given as a list, of which each definition asks only
--- which messages it contains.
+-- When a grant is in force for an invocation. The set of messages is given as a list, of which each
+-- definition asks only which messages it contains.
 use Rattle.std.specs.Prelude.{◌≡◌, true, List, Contains}
 use Rattle.sudo_words.specs.Command.{matches}
 use Rattle.sudo_words.specs.declared.cmnd.Cmnd.{Cmnd}
@@ -9,8 +9,9 @@ use Rattle.sudo_decide.specs.declared.invocation.Invocation.{Invocation}
 use Rattle.roster.specs.Fields.{RosterFields}
 use Rattle.grants.specs.Statuses.{InWindow}
 
--- A grant of the set is in force for the invocation: a request of the user's, whose window holds the moment, names the host and
--- the target, and one of its commands matches the path and the arguments.
+-- A grant of the set is in force for the invocation: a request of the user's, whose window holds
+-- the moment, names the host and the target, and one of its commands matches the path and the
+-- arguments.
 pub record Covers (f : RosterFields Cmnd) (messages : List Message) (i : Invocation) : Type 0 where
   pub request : RequestFields
   pub cmnd : Cmnd

@@ -11,7 +11,8 @@ pub record Known : Type 0 where
   pub summaries : List Kept
   pub waiting : List VerdictFields
 
--- At each name that somebody asks under there is a summary that stands for the set, and at the other names wait exactly the set's verdicts about them.
+-- At each name that somebody asks under there is a summary that stands for the set, and at the
+-- other names wait exactly the set's verdicts about them.
 pub record AreGathered (messages : List Message) (known : Known) : Type 0 where
   pub summaries : AreSummaries messages known.summaries
   pub waiting : (v : VerdictFields) → Contains known.waiting v ↔ IsParked messages v

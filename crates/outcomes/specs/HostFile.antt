@@ -1,5 +1,6 @@
--- A host's file: the base's canonical text, and after it one line for each command of each request that names the host
--- and whose window is not empty, with the window's first and last moment as dates (sudoers(5), "NOTBEFORE").
+-- A host's file: the base's canonical text, and after it one line for each command of each request
+-- that names the host and whose window is not empty, with the window's first and last moment as
+-- dates (sudoers(5), "NOTBEFORE").
 use Rattle.std.specs.Prelude.{◌≡◌, ℕ, ◌<◌, ◌⊎◌, List, ◌++◌, Contains, Some, filter, map, slice_get}
 use Rattle.sudo_words.specs.declared.cmnd.Cmnd.{Cmnd}
 use Rattle.sudo_policy.specs.declared.entry.Rule.{Rule}
@@ -22,8 +23,10 @@ pub record Line : Type 0 where
   pub place : ℕ
   pub rule : Rule
 
--- The line of the command at a place of a request, on a host that it names, from the first moment of its window to the last.
-pub record IsLine (f : RosterFields Cmnd) (messages : List Message) (host : List ℕ) (line : Line) : Type 0 where
+-- The line of the command at a place of a request, on a host that it names, from the first moment
+-- of its window to the last.
+pub record IsLine (f : RosterFields Cmnd) (messages : List Message)
+    (host : List ℕ) (line : Line) : Type 0 where
   pub request : RequestFields
   pub first : ℕ
   pub last : ℕ
@@ -40,7 +43,8 @@ abbrev pub LinePrecedes : (a b : Line) → Type 0
 LinePrecedes a b = NamePrecedes a.name b.name ⊎ ((a.name ≡ b.name) × (a.place < b.place))
 
 -- the lines that the set of messages gives the host: these and no others, in order
-pub record AreLines (f : RosterFields Cmnd) (messages : List Message) (host : List ℕ) (lines : List Line) : Type 0 where
+pub record AreLines (f : RosterFields Cmnd) (messages : List Message)
+    (host : List ℕ) (lines : List Line) : Type 0 where
   pub in_order : AreInOrder LinePrecedes lines
   pub each : (line : Line) → Contains lines line → IsLine f messages host line
   pub all : (line : Line) → IsLine f messages host line → Contains lines line
@@ -49,7 +53,8 @@ abbrev pub with_lines : List Entry → List Line → List Entry
 with_lines base lines = base ++ map (λ line. entries.Rule line.rule) lines
 
 -- the text of the host's file
-pub record IsHostFile (f : RosterFields Cmnd) (base : List Entry) (messages : List Message) (host text : List ℕ) : Type 0 where
+pub record IsHostFile (f : RosterFields Cmnd) (base : List Entry)
+    (messages : List Message) (host text : List ℕ) : Type 0 where
   pub lines : List Line
   pub lines_are : AreLines f messages host lines
   pub text_is : text ≡ canon (with_lines base lines)
@@ -61,7 +66,8 @@ abbrev pub lines_after : ℕ → List Line → List Line
 lines_after moment lines = filter (λ line. is_not_after line.rule.not_after moment) lines
 
 -- the text of the host's file without the lines that end before the moment
-pub record IsHostFileAfter (f : RosterFields Cmnd) (base : List Entry) (messages : List Message) (host : List ℕ) (moment : ℕ) (text : List ℕ) : Type 0 where
+pub record IsHostFileAfter (f : RosterFields Cmnd) (base : List Entry)
+    (messages : List Message) (host : List ℕ) (moment : ℕ) (text : List ℕ) : Type 0 where
   pub lines : List Line
   pub lines_are : AreLines f messages host lines
   pub text_is : text ≡ canon (with_lines base (lines_after moment lines))

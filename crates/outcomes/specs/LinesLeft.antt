@@ -1,5 +1,6 @@
 -- What is left of a host's lines: all of them, or those that end at a moment or later.
-use Rattle.std.specs.Prelude.{◌≡◌, ◌⊎◌, ℕ, ◌<◌, Bool, true, List, filter, length, Option, Some, None}
+use Rattle.std.specs.Prelude.{◌≡◌, ◌⊎◌, ℕ, ◌<◌, Bool, true, List}
+use Rattle.std.specs.Prelude.{filter, length, Option, Some, None}
 use Rattle.sudo_words.specs.declared.cmnd.Cmnd.{Cmnd}
 use Rattle.sudo_policy.specs.declared.entry.Entry.{Entry}
 use Rattle.sudo_policy.specs.declared.entry.Rule.{Rule}
@@ -22,7 +23,8 @@ abbrev pub lines_left : Option ℕ → List Line → List Line
 lines_left after lines = filter (λ line. stays after line.rule) lines
 
 -- the text of the base with the lines that are left, which spells just that
-pub record IsFileLeft (f : RosterFields Cmnd) (base : List Entry) (messages : List Message) (host : List ℕ) (after : Option ℕ) (text : List ℕ) : Type 0 where
+pub record IsFileLeft (f : RosterFields Cmnd) (base : List Entry) (messages : List Message)
+    (host : List ℕ) (after : Option ℕ) (text : List ℕ) : Type 0 where
   pub lines : List Line
   pub lines_are : AreLines f messages host lines
   pub text_is : text ≡ canon (with_lines base (lines_left after lines))
@@ -31,4 +33,5 @@ pub record IsFileLeft (f : RosterFields Cmnd) (base : List Entry) (messages : Li
 -- why there are no lines: want of memory, or too many are left
 abbrev pub IsPast : RosterFields Cmnd → List Message → List ℕ → Option ℕ → HostFault → Type 0
 IsPast f messages host after e =
-    (e ≡ NoMemory) ⊎ ((e ≡ TooManyRules) × ((lines : List Line) → AreLines f messages host lines → 8_192 < length (lines_left after lines)))
+    (e ≡ NoMemory) ⊎ ((e ≡ TooManyRules) × ((lines : List Line)
+    → AreLines f messages host lines → 8_192 < length (lines_left after lines)))

@@ -28,7 +28,8 @@ pub record LiveGrant : Type 0 where
   pub window : Window
 
 -- The grant of a request whose window holds the moment.
-pub record IsLive (f : RosterFields Cmnd) (messages : List Message) (moment : ℕ) (l : LiveGrant) : Type 0 where
+pub record IsLive (f : RosterFields Cmnd) (messages : List Message)
+    (moment : ℕ) (l : LiveGrant) : Type 0 where
   pub request : RequestFields
   pub named : IsNamed request l.name
   pub ceiling_is : l.ceiling ≡ request.ceiling
@@ -39,8 +40,10 @@ pub record IsLive (f : RosterFields Cmnd) (messages : List Message) (moment : �
 abbrev pub LivePrecedes : (a b : LiveGrant) → Type 0
 LivePrecedes a b = NamePrecedes a.name b.name
 
--- the grants in force at the moment: these and no others, by the asker in byte order, then by the number
-pub record AreLive (f : RosterFields Cmnd) (messages : List Message) (moment : ℕ) (list : List LiveGrant) : Type 0 where
+-- the grants in force at the moment: these and no others, by the asker in byte order, then by the
+-- number
+pub record AreLive (f : RosterFields Cmnd) (messages : List Message)
+    (moment : ℕ) (list : List LiveGrant) : Type 0 where
   pub in_order : AreInOrder LivePrecedes list
   pub each : (l : LiveGrant) → Contains list l → IsLive f messages moment l
   pub all : (l : LiveGrant) → IsLive f messages moment l → Contains list l

@@ -16,5 +16,6 @@ pub record IsParked (messages : List Message) (v : VerdictFields) : Type 0 where
 -- the texts of the parked verdicts, each once, in byte order
 pub record AreParked (messages : List Message) (texts : List (List ℕ)) : Type 0 where
   pub in_order : AreInOrder TextPrecedes texts
-  pub each : (text : List ℕ) → Contains texts text → (v : VerdictFields) × IsParked messages v × (text ≡ wire (Verdict v))
+  pub each : (text : List ℕ) → Contains texts text
+      → (v : VerdictFields) × IsParked messages v × (text ≡ wire (Verdict v))
   pub all : (v : VerdictFields) → IsParked messages v → Contains texts (wire (Verdict v))

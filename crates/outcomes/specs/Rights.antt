@@ -11,19 +11,26 @@ use Rattle.sudo_decide.specs.declared.invocation.Invocation.{Invocation}
 use Rattle.roster.specs.Fields.{RosterFields}
 use Rattle.outcomes.specs.Covers.{Covers}
 
--- The text spells one policy. Of the host's invocations it allows each that a grant of the set covers, and decides every other one as the base does.
-pub record GivesRights (f : RosterFields Cmnd) (base : List Entry) (messages : List Message) (host text : List ℕ) : Type 0 where
+-- The text spells one policy. Of the host's invocations it allows each that a grant of the set
+-- covers, and decides every other one as the base does.
+pub record GivesRights (f : RosterFields Cmnd) (base : List Entry)
+    (messages : List Message) (host text : List ℕ) : Type 0 where
   pub policy : List Entry
   pub spelled : Spells text policy
   pub only : (other : List Entry) → Spells text other → other ≡ policy
   pub covered : (i : Invocation) → i.host ≡ host → Covers f messages i → Decides policy i Allow
-  pub bare : (i : Invocation) (d : Decision) → i.host ≡ host → (¬ Covers f messages i) → Decides base i d → Decides policy i d
+  pub bare : (i : Invocation) (d : Decision) → i.host ≡ host
+      → (¬ Covers f messages i) → Decides base i d → Decides policy i d
 
--- The text spells one policy. Of the host's invocations at the moment or later it allows each that a grant of the set covers, and decides every other one as
--- the base does. It says nothing of earlier ones.
-pub record GivesRightsAfter (f : RosterFields Cmnd) (base : List Entry) (messages : List Message) (host : List ℕ) (moment : ℕ) (text : List ℕ) : Type 0 where
+-- The text spells one policy. Of the host's invocations at the moment or later it allows each that
+-- a grant of the set covers, and decides every other one as the base does. It says nothing of
+-- earlier ones.
+pub record GivesRightsAfter (f : RosterFields Cmnd) (base : List Entry)
+    (messages : List Message) (host : List ℕ) (moment : ℕ) (text : List ℕ) : Type 0 where
   pub policy : List Entry
   pub spelled : Spells text policy
   pub only : (other : List Entry) → Spells text other → other ≡ policy
-  pub covered : (i : Invocation) → i.host ≡ host → moment ≤ i.at → Covers f messages i → Decides policy i Allow
-  pub bare : (i : Invocation) (d : Decision) → i.host ≡ host → moment ≤ i.at → (¬ Covers f messages i) → Decides base i d → Decides policy i d
+  pub covered : (i : Invocation) → i.host ≡ host → moment ≤ i.at
+      → Covers f messages i → Decides policy i Allow
+  pub bare : (i : Invocation) (d : Decision) → i.host ≡ host → moment ≤ i.at
+      → (¬ Covers f messages i) → Decides base i d → Decides policy i d

@@ -13,12 +13,16 @@ use Rattle.outcomes.specs.Covers.{Covers}
 use Rattle.outcomes.specs.HostFile.{IsHostFile, IsHostFileAfter}
 use Rattle.outcomes.specs.Outcomes.{AreLive, ComesTo, LiveGrant}
 
--- Each name comes to the same, each request is in force at the same moments, each invocation is covered by both or by neither,
--- the same grants are in force at each moment, and each host has the same file after each base, the whole and that after each moment.
+-- Each name comes to the same, each request is in force at the same moments, each invocation is
+-- covered by both or by neither, the same grants are in force at each moment, and each host has the
+-- same file after each base, the whole and that after each moment.
 pub record GrantTheSame (f : RosterFields Cmnd) (s t : List Message) : Type 0 where
   pub statuses : (name : RequestName) (o : Option Status) → ComesTo f s name o ↔ ComesTo f t name o
   pub windows : (q : RequestFields) (moment : ℕ) → InWindow f s q moment ↔ InWindow f t q moment
   pub covers : (i : Invocation) → Covers f s i ↔ Covers f t i
-  pub live : (moment : ℕ) (list : List LiveGrant) → AreLive f s moment list ↔ AreLive f t moment list
-  pub files : (base : List Entry) (host text : List ℕ) → IsHostFile f base s host text ↔ IsHostFile f base t host text
-  pub files_after : (base : List Entry) (host : List ℕ) (moment : ℕ) (text : List ℕ) → IsHostFileAfter f base s host moment text ↔ IsHostFileAfter f base t host moment text
+  pub live : (moment : ℕ) (list : List LiveGrant)
+      → AreLive f s moment list ↔ AreLive f t moment list
+  pub files : (base : List Entry) (host text : List ℕ)
+      → IsHostFile f base s host text ↔ IsHostFile f base t host text
+  pub files_after : (base : List Entry) (host : List ℕ) (moment : ℕ) (text : List ℕ)
+      → IsHostFileAfter f base s host moment text ↔ IsHostFileAfter f base t host moment text

@@ -10,11 +10,13 @@ use Rattle.messages.specs.Order.{AreInOrder}
 abbrev pub SummaryPrecedes : (a b : Kept) → Type 0
 SummaryPrecedes a b = NamePrecedes (name_of a.request) (name_of b.request)
 
--- One for each name that somebody asks under, in the order of the names, and each stands for the set.
+-- One for each name that somebody asks under, in the order of the names, and each stands for the
+-- set.
 pub record AreSummaries (messages : List Message) (list : List Kept) : Type 0 where
   pub in_order : AreInOrder SummaryPrecedes list
   pub each : (k : Kept) → Contains list k → StandsFor messages k
-  pub all : (q : RequestFields) → Contains messages (Request q) → (k : Kept) × Contains list k × IsNamed k.request (name_of q)
+  pub all : (q : RequestFields) → Contains messages (Request q)
+      → (k : Kept) × Contains list k × IsNamed k.request (name_of q)
 
 -- Both are of one name and keep the same; where it is disputed they may keep either request.
 pub record KeepTheSame (a b : Kept) : Type 0 where

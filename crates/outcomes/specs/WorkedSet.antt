@@ -1,4 +1,5 @@
--- Worked case: what ann asks at the small site and bob approves, and an approval whose request has not come.
+-- Worked case: what ann asks at the small site and bob approves, and an approval whose request has
+-- not come.
 use Rattle.std.specs.Prelude.{false, List, [], ◌∷◌, codes, None}
 use Rattle.sudo_words.specs.declared.cmnd.Cmnd.TheVariants.{All}
 use Rattle.sudo_policy.specs.declared.entry.Entry.{Entry}
@@ -25,7 +26,11 @@ worked = Request asked ∷ Verdict bob_approves ∷ Verdict early ∷ []
 
 -- ann's grant
 abbrev pub grant : LiveGrant
-grant = record { name = name_of asked; ceiling = codes "db-root"; window = record { start = 1_767_603_600; end = 1_767_610_800 } }
+grant = record {
+  name = name_of asked;
+  ceiling = codes "db-root";
+  window = record { start = 1_767_603_600; end = 1_767_610_800 };
+}
 
 -- a base of one rule, `bob db1 = ALL`
 abbrev pub base : List Entry

@@ -1,6 +1,7 @@
 //! What is known of a set of messages, as one message after another joins it.
 
-ghost use Rattle.std.specs.Prelude.{◌≡◌, List, [], ◌∷◌, ◌++◌, map, Contains, IfOk, OnOk, OnErr, MatchResult, None};
+ghost use Rattle.std.specs.Prelude.{◌≡◌, List, [], ◌∷◌, ◌++◌, map, Contains};
+ghost use Rattle.std.specs.Prelude.{IfOk, OnOk, OnErr, MatchResult, None};
 ghost use Rattle.std.specs.BTreeMap.{IsOrdered};
 ghost use Rattle.messages.specs.Fields.{VerdictFields};
 ghost use Rattle.messages.specs.Names.{IsAbout, name_cmp, name_of};
@@ -11,7 +12,9 @@ ghost use Rattle.messages.specs.declared.message.Message.{Message as AnyMessage}
 ghost use Rattle.messages.specs.declared.message.Message.TheVariants as message_of;
 ghost use Rattle.grants.specs.Summaries.{StandsFor};
 ghost use Rattle.outcomes.specs.Gathered.{AreGathered};
-ghost use Rattle.outcomes.specs.private.ByName.{AreAlone, AreByName, Gathers, GathersRows, HasNoVerdict, IsByName, IsRowOf, at_name, verdicts_at};
+ghost use Rattle.outcomes.specs.private.ByName.{AreAlone, AreByName, Gathers};
+ghost use Rattle.outcomes.specs.private.ByName.{GathersRows, HasNoVerdict, IsByName};
+ghost use Rattle.outcomes.specs.private.ByName.{IsRowOf, at_name, verdicts_at};
 
 use grants::{Summary, apply, ask, ask_again, dispute};
 use messages::{Message, NameRow, Request, RequestName, Verdict};
@@ -20,8 +23,9 @@ use std::collections::BTreeMap;
 use std::marker::Model;
 use sudo_words::NoMemory;
 
-/// What is known of a set of messages: a summary for each name that somebody asks under, and the verdicts that wait for their request.
-/// Both stand by name: a verdict is kept as it is until its request comes, and is part of the summary from then on.
+/// What is known of a set of messages: a summary for each name that somebody asks under, and the
+/// verdicts that wait for their request. Both stand by name: a verdict is kept as it is until its
+/// request comes, and is part of the summary from then on.
 #[derive(Drop)]
 pub struct Gathered {
     pub(crate) alloc: Global,
@@ -36,7 +40,10 @@ impl Model for Gathered {
 
     ghost Value = { Known };
 
-    ghost view = { λ g. record { summaries = values g.summaries; waiting = in_turn (values g.waiting) } };
+    ghost view = { λ g. record {
+      summaries = values g.summaries;
+      waiting = in_turn (values g.waiting);
+    } };
 
     ghost invariant = { λ g. IsByName g.summaries g.waiting };
 }
@@ -54,7 +61,8 @@ fn waited<'a>(waiting: &'a BTreeMap<RequestName, Vec<Verdict>>, name: &RequestNa
 /// The summary of a request with the verdicts that waited for it.
 fn first_of(alloc: Global, request: &Request, verdicts: &[Verdict]) -> Result<Summary, NoMemory>
     requires { (v : VerdictFields) → Contains verdicts.now v → IsAbout request.now v }
-    ensures stands { IfOk result (StandsFor (message_of.Request request.now ∷ map (λ v. message_of.Verdict v) verdicts.now)) }
+    ensures stands { IfOk result (StandsFor (message_of.Request request.now
+        ∷ map (λ v. message_of.Verdict v) verdicts.now)) }
     ensures same_request { IfOk result (λ s. s.request ≡ request.now) }
 {
     let mut summary = ask(alloc, request)?;
@@ -64,7 +72,8 @@ fn first_of(alloc: Global, request: &Request, verdicts: &[Verdict]) -> Result<Su
     Ok(summary)
 }
 
-/// Adds the first request of its name: what waited for it is part of its summary, and waits no longer.
+/// Adds the first request of its name: what waited for it is part of its summary, and waits no
+/// longer.
 fn put_first(
     alloc: Global,
     summaries: &mut BTreeMap<RequestName, Summary>,
@@ -75,8 +84,9 @@ fn put_first(
     requires known { IsByName summaries.old waiting.old }
     requires named { name ≡ name_of request.now }
     requires first { at_name summaries.old name ≡ None }
-    ensures { (set : List AnyMessage) → AreByName set summaries.old waiting.old
-        → MatchResult result (λ _. AreByName (set ++ message_of.Request request.now ∷ []) summaries.new waiting.new) (λ _. AreByName set summaries.new waiting.new) }
+    ensures { (set : List AnyMessage) → AreByName set summaries.old waiting.old → MatchResult result
+        (λ _. AreByName (set ++ message_of.Request request.now ∷ []) summaries.new waiting.new)
+        (λ _. AreByName set summaries.new waiting.new) }
 {
     let summary = first_of(alloc, request, waited(waiting, &name))?;
     let settled = name.clone()?;
@@ -93,8 +103,9 @@ fn put_request(
     request: &Request,
 ) -> Result<(), NoMemory>
     requires { IsByName summaries.old waiting.old }
-    ensures { (set : List AnyMessage) → AreByName set summaries.old waiting.old
-        → MatchResult result (λ _. AreByName (set ++ message_of.Request request.now ∷ []) summaries.new waiting.new) (λ _. AreByName set summaries.new waiting.new) }
+    ensures { (set : List AnyMessage) → AreByName set summaries.old waiting.old → MatchResult result
+        (λ _. AreByName (set ++ message_of.Request request.now ∷ []) summaries.new waiting.new)
+        (λ _. AreByName set summaries.new waiting.new) }
 {
     let name = request.name()?;
     match summaries.get_mut(&name) {
@@ -113,8 +124,10 @@ fn wait(
     name: RequestName,
     verdict: &Verdict,
 ) -> Result<(), NoMemory>
-    ensures waits { OnOk result (verdicts_at waiting.new name ≡ verdicts_at waiting.old name ++ verdict.now ∷ []) }
-    ensures others { (other : AnyName) → (name ≡ other → ⊥) → verdicts_at waiting.new other ≡ verdicts_at waiting.old other }
+    ensures waits { OnOk result
+        (verdicts_at waiting.new name ≡ verdicts_at waiting.old name ++ verdict.now ∷ []) }
+    ensures others { (other : AnyName) → (name ≡ other → ⊥)
+        → verdicts_at waiting.new other ≡ verdicts_at waiting.old other }
     ensures err { OnErr result (verdicts_at waiting.new name ≡ verdicts_at waiting.old name) }
     ensures ordered { IsOrdered name_cmp waiting.old → IsOrdered name_cmp waiting.new }
 {
@@ -138,8 +151,9 @@ fn put_verdict(
     verdict: &Verdict,
 ) -> Result<(), NoMemory>
     requires { IsByName summaries.old waiting.old }
-    ensures { (set : List AnyMessage) → AreByName set summaries.old waiting.old
-        → MatchResult result (λ _. AreByName (set ++ message_of.Verdict verdict.now ∷ []) summaries.new waiting.new) (λ _. AreByName set summaries.new waiting.new) }
+    ensures { (set : List AnyMessage) → AreByName set summaries.old waiting.old → MatchResult result
+        (λ _. AreByName (set ++ message_of.Verdict verdict.now ∷ []) summaries.new waiting.new)
+        (λ _. AreByName set summaries.new waiting.new) }
 {
     let name = verdict.name_meant()?;
     match summaries.get_mut(&name) {
@@ -150,7 +164,8 @@ fn put_verdict(
 
 /// The summary of the row's request, before any verdict.
 fn summary_of(alloc: Global, row: &NameRow) -> Result<Summary, NoMemory>
-    ensures stands { (set : List AnyMessage) → HasNoVerdict set → IsRowOf set row.now → IfOk result (StandsFor set) }
+    ensures stands { (set : List AnyMessage) → HasNoVerdict set
+        → IsRowOf set row.now → IfOk result (StandsFor set) }
     ensures same_request { IfOk result (λ s. s.request ≡ row.now.request) }
 {
     let mut summary = ask(alloc, &row.request)?;
@@ -168,7 +183,8 @@ fn put_row(
     row: &NameRow,
 ) -> Result<(), NoMemory>
     ensures alone { AreAlone summaries.old → OnOk result (AreAlone summaries.new) }
-    ensures rows { (set : List AnyMessage) (rows : List AnyRow) → HasNoVerdict set → IsRowOf set row.now → GathersRows set rows summaries.old
+    ensures rows { (set : List AnyMessage) (rows : List AnyRow) → HasNoVerdict set
+        → IsRowOf set row.now → GathersRows set rows summaries.old
         → OnOk result (GathersRows set (rows ++ row.now ∷ []) summaries.new) }
 {
     let name = row.request.name()?;
@@ -185,7 +201,8 @@ fn put_row(
 /// A summary for each name that has a row, before any verdict.
 fn summaries_of(alloc: Global, rows: &[NameRow]) -> Result<BTreeMap<RequestName, Summary>, NoMemory>
     ensures alone { IfOk result AreAlone }
-    ensures known { (set : List AnyMessage) → ShowSet (λ m. Contains set m) rows.now [] → IfOk result (Gathers set) }
+    ensures known { (set : List AnyMessage)
+        → ShowSet (λ m. Contains set m) rows.now [] → IfOk result (Gathers set) }
 {
     let mut summaries = BTreeMap::new(alloc);
     for row in rows {
@@ -208,7 +225,8 @@ impl Gathered {
 
     /// What is known of the requests of which these are the rows, before any verdict.
     fn of_names(alloc: Global, names: &[NameRow]) -> Result<Gathered, NoMemory>
-        ensures { (set : List AnyMessage) → ShowSet (λ m. Contains set m) names.now [] → IfOk result (AreGathered set) }
+        ensures { (set : List AnyMessage) → ShowSet (λ m. Contains set m) names.now []
+            → IfOk result (AreGathered set) }
     {
         let summaries = summaries_of(alloc, names)?;
         Ok(Gathered {
@@ -218,20 +236,24 @@ impl Gathered {
         })
     }
 
-    /// Adds a verdict: what is known is then that of the set with the verdict. Where memory runs out, it is still that of the set.
+    /// Adds a verdict: what is known is then that of the set with the verdict. Where memory runs
+    /// out, it is still that of the set.
     fn hear(&mut self, verdict: &Verdict) -> Result<(), NoMemory>
         ensures ok { (set : List AnyMessage) → AreGathered set self.old
             → OnOk result (AreGathered (set ++ message_of.Verdict verdict.now ∷ []) self.new) }
-        ensures err { (set : List AnyMessage) → AreGathered set self.old → OnErr result (AreGathered set self.new) }
+        ensures err { (set : List AnyMessage) → AreGathered set self.old
+            → OnErr result (AreGathered set self.new) }
     {
         put_verdict(self.alloc, &mut self.summaries, &mut self.waiting, verdict)
     }
 
-    /// Adds a message: what is known is then that of the set with the message. Where memory runs out, it is still that of the set.
+    /// Adds a message: what is known is then that of the set with the message. Where memory runs
+    /// out, it is still that of the set.
     pub fn take(&mut self, message: &Message) -> Result<(), NoMemory>
         ensures ok { (set : List AnyMessage) → AreGathered set self.old
             → OnOk result (AreGathered (set ++ message.now ∷ []) self.new) }
-        ensures err { (set : List AnyMessage) → AreGathered set self.old → OnErr result (AreGathered set self.new) }
+        ensures err { (set : List AnyMessage) → AreGathered set self.old
+            → OnErr result (AreGathered set self.new) }
     {
         match message {
             Message::Request(request) => put_request(
@@ -255,13 +277,15 @@ impl Gathered {
         Ok(gathered)
     }
 
-    /// What is known of the set that the rows of names and the verdicts show, the verdicts that wait among them. No other message is read.
+    /// What is known of the set that the rows of names and the verdicts show, the verdicts that
+    /// wait among them. No other message is read.
     pub fn of_rows(
         alloc: Global,
         names: &[NameRow],
         verdicts: &[Verdict],
     ) -> Result<Gathered, NoMemory>
-        ensures { (set : List AnyMessage) → ShowSet (λ m. Contains set m) names.now verdicts.now → IfOk result (AreGathered set) }
+        ensures { (set : List AnyMessage) → ShowSet (λ m. Contains set m) names.now verdicts.now
+            → IfOk result (AreGathered set) }
     {
         let mut gathered = Gathered::of_names(alloc, names)?;
         for verdict in verdicts {

@@ -1,6 +1,7 @@
 //! Laws of what a set of messages grants, each the contract of a function that does nothing.
 
-ghost use Rattle.std.specs.Prelude.{◌≡◌, ◌≢◌, ◌↔◌, ◌<◌, ◌≤◌, ℕ, List, [], ◌∷◌, ◌++◌, Contains, Option, Some, length};
+ghost use Rattle.std.specs.Prelude.{◌≡◌, ◌≢◌, ◌↔◌, ◌<◌, ◌≤◌, ℕ, List, [], ◌∷◌};
+ghost use Rattle.std.specs.Prelude.{◌++◌, Contains, Option, Some, length};
 ghost use Rattle.sudo_words.specs.declared.cmnd.Cmnd.{Cmnd};
 ghost use Rattle.sudo_policy.specs.declared.entry.Entry.{Entry};
 ghost use Rattle.messages.specs.Fields.{RequestFields, VerdictFields};
@@ -28,86 +29,108 @@ ghost use Rattle.outcomes.specs.Same.{GrantTheSame};
 ghost use Rattle.outcomes.specs.Summaries.{AllKeepTheSame, AreSummaries};
 ghost use Rattle.outcomes.specs.Uncounted.{HoldsConflicting, MayNotRevoke};
 
-/// Two lists of the same messages grant the same, the same verdicts are parked, and the same summaries are theirs: neither order nor
-/// repeats mean anything.
+/// Two lists of the same messages grant the same, the same verdicts are parked, and the same
+/// summaries are theirs: neither order nor repeats mean anything.
 pub fn order_free()
-    ensures grants { (f : RosterFields Cmnd) (s t : List Message) → SameMessages s t → GrantTheSame f s t }
-    ensures parked { (s t : List Message) (texts : List (List ℕ)) → SameMessages s t → AreParked s texts → AreParked t texts }
-    ensures summaries { (s t : List Message) (list : List Kept) → SameMessages s t → AreSummaries s list → AreSummaries t list }
+    ensures grants { (f : RosterFields Cmnd) (s t : List Message)
+        → SameMessages s t → GrantTheSame f s t }
+    ensures parked { (s t : List Message) (texts : List (List ℕ))
+        → SameMessages s t → AreParked s texts → AreParked t texts }
+    ensures summaries { (s t : List Message) (list : List Kept)
+        → SameMessages s t → AreSummaries s list → AreSummaries t list }
 {}
 
-/// A set of messages gives a name one status, or none; a moment one list of grants; one list of parked texts; one list of summaries, but
-/// for which request a disputed one keeps; and a host one file after each base, and one after each moment.
+/// A set of messages gives a name one status, or none; a moment one list of grants; one list of
+/// parked texts; one list of summaries, but for which request a disputed one keeps; and a host one
+/// file after each base, and one after each moment.
 pub fn one_of_each()
-    ensures status { (f : RosterFields Cmnd) (set : List Message) (name : AnyName) (a b : Option Status) →
-        ComesTo f set name a → ComesTo f set name b → a ≡ b }
-    ensures live { (f : RosterFields Cmnd) (set : List Message) (moment : ℕ) (a b : List LiveGrant) →
-        AreLive f set moment a → AreLive f set moment b → a ≡ b }
-    ensures parked { (set : List Message) (a b : List (List ℕ)) → AreParked set a → AreParked set b → a ≡ b }
-    ensures summaries { (set : List Message) (a b : List Kept) → AreSummaries set a → AreSummaries set b → AllKeepTheSame a b }
-    ensures file { (f : RosterFields Cmnd) (base : List Entry) (set : List Message) (host a b : List ℕ) →
-        IsHostFile f base set host a → IsHostFile f base set host b → a ≡ b }
-    ensures file_after { (f : RosterFields Cmnd) (base : List Entry) (set : List Message) (host : List ℕ) (moment : ℕ) (a b : List ℕ) →
-        IsHostFileAfter f base set host moment a → IsHostFileAfter f base set host moment b → a ≡ b }
+    ensures status { (f : RosterFields Cmnd) (set : List Message) (name : AnyName)
+        (a b : Option Status) → ComesTo f set name a → ComesTo f set name b → a ≡ b }
+    ensures live { (f : RosterFields Cmnd) (set : List Message) (moment : ℕ) (a b : List LiveGrant)
+        → AreLive f set moment a → AreLive f set moment b → a ≡ b }
+    ensures parked { (set : List Message) (a b : List (List ℕ))
+        → AreParked set a → AreParked set b → a ≡ b }
+    ensures summaries { (set : List Message) (a b : List Kept)
+        → AreSummaries set a → AreSummaries set b → AllKeepTheSame a b }
+    ensures file { (f : RosterFields Cmnd) (base : List Entry) (set : List Message)
+        (host a b : List ℕ) → IsHostFile f base set host a → IsHostFile f base set host b → a ≡ b }
+    ensures file_after { (f : RosterFields Cmnd) (base : List Entry) (set : List Message)
+        (host : List ℕ) (moment : ℕ) (a b : List ℕ) → IsHostFileAfter f base set host moment a
+        → IsHostFileAfter f base set host moment b → a ≡ b }
 {}
 
-/// Each set of messages has them all, where a roster's text says who may do what: a name its status or none, a moment its grants,
-/// a host its lines and so its file after each base, the whole and that after each moment; and it has its parked texts and its summaries.
+/// Each set of messages has them all, where a roster's text says who may do what: a name its status
+/// or none, a moment its grants, a host its lines and so its file after each base, the whole and
+/// that after each moment; and it has its parked texts and its summaries.
 pub fn each_has_one()
-    ensures status { (text : List ℕ) (f : RosterFields Cmnd) (set : List Message) (name : AnyName) →
-        IsRosterText text f → ((m : Message) → Contains set m → IsMessage m) → (o : Option Status) × ComesTo f set name o }
-    ensures live { (text : List ℕ) (f : RosterFields Cmnd) (set : List Message) (moment : ℕ) →
-        IsRosterText text f → ((m : Message) → Contains set m → IsMessage m) → (list : List LiveGrant) × AreLive f set moment list }
-    ensures file { (text : List ℕ) (f : RosterFields Cmnd) (base : List Entry) (set : List Message) (host : List ℕ) →
-        IsRosterText text f → ((m : Message) → Contains set m → IsMessage m) → (file : List ℕ) × IsHostFile f base set host file }
-    ensures file_after { (text : List ℕ) (f : RosterFields Cmnd) (base : List Entry) (set : List Message) (host : List ℕ) (moment : ℕ) →
-        IsRosterText text f → ((m : Message) → Contains set m → IsMessage m) → (file : List ℕ) × IsHostFileAfter f base set host moment file }
+    ensures status { (text : List ℕ) (f : RosterFields Cmnd) (set : List Message) (name : AnyName)
+        → IsRosterText text f → ((m : Message) → Contains set m → IsMessage m)
+        → (o : Option Status) × ComesTo f set name o }
+    ensures live { (text : List ℕ) (f : RosterFields Cmnd) (set : List Message) (moment : ℕ)
+        → IsRosterText text f → ((m : Message) → Contains set m → IsMessage m)
+        → (list : List LiveGrant) × AreLive f set moment list }
+    ensures file { (text : List ℕ) (f : RosterFields Cmnd) (base : List Entry) (set : List Message)
+        (host : List ℕ) → IsRosterText text f → ((m : Message) → Contains set m → IsMessage m)
+        → (file : List ℕ) × IsHostFile f base set host file }
+    ensures file_after { (text : List ℕ) (f : RosterFields Cmnd)
+        (base : List Entry) (set : List Message) (host : List ℕ) (moment : ℕ)
+        → IsRosterText text f → ((m : Message) → Contains set m → IsMessage m)
+        → (file : List ℕ) × IsHostFileAfter f base set host moment file }
     ensures parked { (set : List Message) → (texts : List (List ℕ)) × AreParked set texts }
-    ensures summaries { (set : List Message) →
-        ((m : Message) → Contains set m → IsMessage m) → (list : List Kept) × AreSummaries set list }
+    ensures summaries { (set : List Message) → ((m : Message) → Contains set m → IsMessage m)
+        → (list : List Kept) × AreSummaries set list }
 {}
 
-/// What is a host's file gives its rights: read by the rules of sudoers(5) it allows what a grant of the set covers, and decides
-/// all else as the base does. So it is for every base within the limits, every set of messages, and at most 8,192 lines.
+/// What is a host's file gives its rights: read by the rules of sudoers(5) it allows what a grant
+/// of the set covers, and decides all else as the base does. So it is for every base within the
+/// limits, every set of messages, and at most 8,192 lines.
 pub fn file_gives_rights()
-    ensures { (f : RosterFields Cmnd) (base : List Entry) (set : List Message) (host text : List ℕ) →
-        FitsBase base → ((m : Message) → Contains set m → IsMessage m) →
-        (file : IsHostFile f base set host text) → length file.lines ≤ 8_192 → GivesRights f base set host text }
+    ensures { (f : RosterFields Cmnd) (base : List Entry) (set : List Message) (host text : List ℕ)
+        → FitsBase base → ((m : Message) → Contains set m → IsMessage m)
+        → (file : IsHostFile f base set host text)
+        → length file.lines ≤ 8_192 → GivesRights f base set host text }
 {}
 
-/// A line is left after a moment exactly where it is one of the host's and the last moment of its window is not before that one: one
-/// that ends at the moment stays, and after the first moment of all the file is the whole. What is the file after a moment gives the
-/// rights from then on, whatever lines were left out.
+/// A line is left after a moment exactly where it is one of the host's and the last moment of its
+/// window is not before that one: one that ends at the moment stays, and after the first moment of
+/// all the file is the whole. What is the file after a moment gives the rights from then on,
+/// whatever lines were left out.
 pub fn ended_lines_give_nothing()
-    ensures left { (f : RosterFields Cmnd) (set : List Message) (host : List ℕ) (moment : ℕ) (lines : List Line) (line : Line) →
-        (is : IsLine f set host line) → Contains (lines_after moment lines) line ↔ (Contains lines line × (moment ≤ is.last)) }
-    ensures worked { (a b : Line) → a.rule.not_after ≡ Some 1_767_610_800 → b.rule.not_after ≡ Some 1_767_610_801 →
-        (lines_after 1_767_610_800 (a ∷ b ∷ []) ≡ a ∷ b ∷ []) × (lines_after 1_767_610_801 (a ∷ b ∷ []) ≡ b ∷ [])
+    ensures left { (f : RosterFields Cmnd) (set : List Message) (host : List ℕ)
+        (moment : ℕ) (lines : List Line) (line : Line) → (is : IsLine f set host line)
+        → Contains (lines_after moment lines) line ↔ (Contains lines line × (moment ≤ is.last)) }
+    ensures worked { (a b : Line) → a.rule.not_after ≡ Some 1_767_610_800 → b.rule.not_after
+        ≡ Some 1_767_610_801 → (lines_after 1_767_610_800 (a ∷ b ∷ []) ≡ a ∷ b ∷ [])
+        × (lines_after 1_767_610_801 (a ∷ b ∷ []) ≡ b ∷ [])
         × (lines_after 1_767_610_802 (a ∷ b ∷ []) ≡ []) }
-    ensures whole { (f : RosterFields Cmnd) (base : List Entry) (set : List Message) (host text : List ℕ) →
-        IsHostFileAfter f base set host 0 text ↔ IsHostFile f base set host text }
-    ensures rights { (f : RosterFields Cmnd) (base : List Entry) (set : List Message) (host : List ℕ) (moment : ℕ) (text : List ℕ) →
-        FitsBase base → ((m : Message) → Contains set m → IsMessage m) →
-        (file : IsHostFileAfter f base set host moment text) → length (lines_after moment file.lines) ≤ 8_192 →
-        GivesRightsAfter f base set host moment text }
+    ensures whole { (f : RosterFields Cmnd) (base : List Entry)
+        (set : List Message) (host text : List ℕ)
+        → IsHostFileAfter f base set host 0 text ↔ IsHostFile f base set host text }
+    ensures rights { (f : RosterFields Cmnd) (base : List Entry) (set : List Message)
+        (host : List ℕ) (moment : ℕ) (text : List ℕ) → FitsBase base → ((m : Message)
+        → Contains set m → IsMessage m) → (file : IsHostFileAfter f base set host moment text)
+        → length (lines_after moment file.lines) ≤ 8_192
+        → GivesRightsAfter f base set host moment text }
 {}
 
 /// Two different requests of one name dispute it, and neither is ever granted.
 pub fn disputed_gives_nothing()
-    ensures status { (f : RosterFields Cmnd) (set : List Message) (p q : RequestFields) →
-        Contains set (Request p) → Contains set (Request q) → SameName p q → p ≢ q → IsStatus f set (name_of p) Disputed }
-    ensures window { (f : RosterFields Cmnd) (set : List Message) (p q : RequestFields) (moment : ℕ) →
-        Contains set (Request p) → Contains set (Request q) → SameName p q → p ≢ q →
-        (¬ InWindow f set p moment) × (¬ InWindow f set q moment) }
+    ensures status { (f : RosterFields Cmnd) (set : List Message) (p q : RequestFields)
+        → Contains set (Request p) → Contains set (Request q)
+        → SameName p q → p ≢ q → IsStatus f set (name_of p) Disputed }
+    ensures window { (f : RosterFields Cmnd) (set : List Message) (p q : RequestFields) (moment : ℕ)
+        → Contains set (Request p) → Contains set (Request q) → SameName p q
+        → p ≢ q → (¬ InWindow f set p moment) × (¬ InWindow f set q moment) }
 {}
 
-/// Separation of duties (NIST SP 800-53 AC-5): the asker's own approval or refusal may be added or taken away, or that of somebody
-/// who holds a duty at its moment that conflicts with the approving duty, or the revocation of somebody who may not revoke then: the same is granted.
+/// Separation of duties (NIST SP 800-53 AC-5): the asker's own approval or refusal may be added or
+/// taken away, or that of somebody who holds a duty at its moment that conflicts with the approving
+/// duty, or the revocation of somebody who may not revoke then: the same is granted.
 pub fn who_changes_nothing()
     ensures asker { (f : RosterFields Cmnd) (set : List Message) (v : VerdictFields) →
         v.kind ≢ kinds.Revoke → v.by ≡ v.of → GrantTheSame f set (set ++ Verdict v ∷ []) }
-    ensures conflict { (f : RosterFields Cmnd) (set : List Message) (v : VerdictFields) →
-        v.kind ≢ kinds.Revoke → HoldsConflicting f set v → GrantTheSame f set (set ++ Verdict v ∷ []) }
+    ensures conflict { (f : RosterFields Cmnd) (set : List Message) (v : VerdictFields) → v.kind
+        ≢ kinds.Revoke → HoldsConflicting f set v → GrantTheSame f set (set ++ Verdict v ∷ []) }
     ensures revocation { (f : RosterFields Cmnd) (set : List Message) (v : VerdictFields) →
         v.kind ≡ kinds.Revoke → MayNotRevoke f set v → GrantTheSame f set (set ++ Verdict v ∷ []) }
     // So it is of each verdict that never counts.
@@ -117,27 +140,34 @@ pub fn who_changes_nothing()
 
 /// A revocation that counts ends the window before its moment.
 pub fn revocation_ends()
-    ensures { (f : RosterFields Cmnd) (set : List Message) (q : RequestFields) (v : VerdictFields) (moment : ℕ) →
-        IsGiven f set q kinds.Revoke v → InWindow f set q moment → moment < v.at }
+    ensures { (f : RosterFields Cmnd) (set : List Message) (q : RequestFields) (v : VerdictFields)
+        (moment : ℕ) → IsGiven f set q kinds.Revoke v → InWindow f set q moment → moment < v.at }
 {}
 
-/// A refusal that counts, and is not later than the completion, refuses; a later one may be added or taken away, and the same is granted.
+/// A refusal that counts, and is not later than the completion, refuses; a later one may be added
+/// or taken away, and the same is granted.
 pub fn refusal_in_time()
-    ensures status { (f : RosterFields Cmnd) (set : List Message) (q : RequestFields) (v : VerdictFields) →
-        StandsAlone set q → AdmitsRequest f q → IsGiven f set q kinds.Refuse v →
-        ((complete : ℕ) → IsComplete f set q complete → v.at ≤ complete) → IsStatus f set (name_of q) Refused }
-    ensures window { (f : RosterFields Cmnd) (set : List Message) (q : RequestFields) (v : VerdictFields) (moment : ℕ) →
-        IsGiven f set q kinds.Refuse v → ((complete : ℕ) → IsComplete f set q complete → v.at ≤ complete) → ¬ InWindow f set q moment }
-    ensures later { (f : RosterFields Cmnd) (set : List Message) (q : RequestFields) (v : VerdictFields) (complete : ℕ) →
-        StandsAlone set q → IsAbout q v → v.kind ≡ kinds.Refuse → IsComplete f set q complete → complete < v.at →
-        GrantTheSame f set (set ++ Verdict v ∷ []) }
+    ensures status { (f : RosterFields Cmnd) (set : List Message) (q : RequestFields)
+        (v : VerdictFields) → StandsAlone set q → AdmitsRequest f q → IsGiven f set q kinds.Refuse v
+        → ((complete : ℕ) → IsComplete f set q complete → v.at ≤ complete)
+        → IsStatus f set (name_of q) Refused }
+    ensures window { (f : RosterFields Cmnd) (set : List Message)
+        (q : RequestFields) (v : VerdictFields) (moment : ℕ) → IsGiven f set q kinds.Refuse v
+        → ((complete : ℕ) → IsComplete f set q complete → v.at ≤ complete)
+        → ¬ InWindow f set q moment }
+    ensures later { (f : RosterFields Cmnd) (set : List Message)
+        (q : RequestFields) (v : VerdictFields) (complete : ℕ) → StandsAlone set q
+        → IsAbout q v → v.kind ≡ kinds.Refuse → IsComplete f set q complete
+        → complete < v.at → GrantTheSame f set (set ++ Verdict v ∷ []) }
 {}
 
 /// A verdict without its request is parked, and leaves the parked when the request comes.
 pub fn parked_until_asked()
-    ensures parked { (set : List Message) (v : VerdictFields) (texts : List (List ℕ)) →
-        Contains set (Verdict v) → NobodyAsks set (name_meant v) → AreParked set texts → Contains texts (wire (Verdict v)) }
-    ensures leaves { (set : List Message) (q : RequestFields) (v : VerdictFields) (texts : List (List ℕ)) →
-        ((m : Message) → Contains set m → IsMessage m) → Contains set (Verdict v) → IsAbout q v →
-        AreParked (set ++ Request q ∷ []) texts → ¬ Contains texts (wire (Verdict v)) }
+    ensures parked { (set : List Message) (v : VerdictFields) (texts : List (List ℕ))
+        → Contains set (Verdict v) → NobodyAsks set (name_meant v)
+        → AreParked set texts → Contains texts (wire (Verdict v)) }
+    ensures leaves { (set : List Message)
+        (q : RequestFields) (v : VerdictFields) (texts : List (List ℕ))
+        → ((m : Message) → Contains set m → IsMessage m) → Contains set (Verdict v) → IsAbout q v
+        → AreParked (set ++ Request q ∷ []) texts → ¬ Contains texts (wire (Verdict v)) }
 {}

@@ -1,6 +1,7 @@
 //! One host's file.
 
-ghost use Rattle.std.specs.Prelude.{◌≡◌, ◌⊎◌, ◌<◌, ◌≤◌, List, IfOk, IfErr, OnOk, MatchResult, length, string_bytes};
+ghost use Rattle.std.specs.Prelude.{◌≡◌, ◌⊎◌, ◌<◌, ◌≤◌, List, IfOk, IfErr};
+ghost use Rattle.std.specs.Prelude.{OnOk, MatchResult, length, string_bytes};
 ghost use Rattle.std.specs.BTreeMap.{values};
 ghost use Rattle.messages.specs.declared.message.Message.{Message as AnyMessage};
 ghost use Rattle.grants.specs.Bases.{FitsBase};
@@ -23,7 +24,8 @@ use sudo_words::{HostName, Moment, NoMemory};
 /// The most lines of a host's file beside the base's.
 const MOST_LINES: usize = 8_192;
 
-/// Adds the lines that the summaries' requests give the host and that are left, in the order of their names: `TooManyRules` past 8,192.
+/// Adds the lines that the summaries' requests give the host and that are left, in the order of
+/// their names: `TooManyRules` past 8,192.
 fn push_all(
     alloc: Global,
     text: &mut String,
@@ -33,8 +35,10 @@ fn push_all(
     after: &Option<Moment>,
 ) -> Result<(), HostFault>
     ensures ok { (set : List AnyMessage) → Gathers set summaries.now
-        → OnOk result (AreBehind roster.now.says set host.now after.now (values summaries.now) (string_bytes text.old) (string_bytes text.new)) }
-    ensures err { (set : List AnyMessage) → Gathers set summaries.now → IfErr result (left.IsPast roster.now.says set host.now after.now) }
+        → OnOk result (AreBehind roster.now.says set host.now after.now
+        (values summaries.now) (string_bytes text.old) (string_bytes text.new)) }
+    ensures err { (set : List AnyMessage) → Gathers set summaries.now
+        → IfErr result (left.IsPast roster.now.says set host.now after.now) }
 {
     let mut count = 0;
     for summary in summaries.values() {
@@ -47,10 +51,12 @@ fn push_all(
     Ok(())
 }
 
-/// The text of the host's sudoers file: the base's canonical text, and after it a line for each command of each request that is
-/// granted on the host, with the first and the last moment of its window. With a moment, the lines that end before it are left out.
+/// The text of the host's sudoers file: the base's canonical text, and after it a line for each
+/// command of each request that is granted on the host, with the first and the last moment of its
+/// window. With a moment, the lines that end before it are left out.
 ///
-/// `TooManyRules` comes exactly where the lines after the base are more than 8,192, and `NoMemory` where memory runs out.
+/// `TooManyRules` comes exactly where the lines after the base are more than 8,192, and `NoMemory`
+/// where memory runs out.
 pub fn host_file_in(
     alloc: Global,
     roster: &Roster,
@@ -60,14 +66,17 @@ pub fn host_file_in(
     after: Option<Moment>,
 ) -> Result<String, HostFault>
     requires { FitsBase base.now }
-    ensures file { (set : List AnyMessage) → AreGathered set gathered.now
-        → IfOk result (λ s. left.IsFileLeft roster.now.says base.now set host.now after (string_bytes s)) }
+    ensures file { (set : List AnyMessage) → AreGathered set gathered.now → IfOk result
+        (λ s. left.IsFileLeft roster.now.says base.now set host.now after (string_bytes s)) }
     // Where the lines are few it comes, and where they are too many it is refused.
-    ensures few { (set : List AnyMessage) (ls : List Line) → AreGathered set gathered.now → AreLines roster.now.says set host.now ls
+    ensures few { (set : List AnyMessage) (ls : List Line)
+        → AreGathered set gathered.now → AreLines roster.now.says set host.now ls
         → length (left.lines_left after ls) ≤ 8_192 → IfErr result (λ e. e ≡ fault.NoMemory) }
-    ensures many { (set : List AnyMessage) (ls : List Line) → AreGathered set gathered.now → AreLines roster.now.says set host.now ls
-        → 8_192 < length (left.lines_left after ls) → MatchResult result (λ _. ⊥) (λ e. (e ≡ fault.TooManyRules) ⊎ (e ≡ fault.NoMemory)) }
-    ensures err { (set : List AnyMessage) → AreGathered set gathered.now → IfErr result (left.IsPast roster.now.says set host.now after) }
+    ensures many { (set : List AnyMessage) (ls : List Line) → AreGathered set gathered.now
+        → AreLines roster.now.says set host.now ls → 8_192 < length (left.lines_left after ls)
+        → MatchResult result (λ _. ⊥) (λ e. (e ≡ fault.TooManyRules) ⊎ (e ≡ fault.NoMemory)) }
+    ensures err { (set : List AnyMessage) → AreGathered set gathered.now
+        → IfErr result (left.IsPast roster.now.says set host.now after) }
 {
     let mut text = print_policy(alloc, base)?;
     push_all(alloc, &mut text, roster, &gathered.summaries, host, &after)?;

@@ -1,5 +1,6 @@
-//! What a set of messages comes to, where a roster says who may do what: each name's status, the grants in force at a moment, the verdicts
-//! that wait for their request, and each host's lines and file. And the laws of all that.
+//! What a set of messages comes to, where a roster says who may do what: each name's status, the
+//! grants in force at a moment, the verdicts that wait for their request, and each host's lines and
+//! file. And the laws of all that.
 #![tactic(auto)]
 
 mod gathering;

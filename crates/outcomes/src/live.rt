@@ -55,8 +55,8 @@ fn push_live(
     summary: &Summary,
     at: Moment,
 ) -> Result<(), NoMemory>
-    ensures { (set : List AnyMessage) → StandsFor set summary.now
-        → OnOk result (Adds roster.now.says set (live_for at) summary.now list.old.items list.new.items) }
+    ensures { (set : List AnyMessage) → StandsFor set summary.now → OnOk result
+        (Adds roster.now.says set (live_for at) summary.now list.old.items list.new.items) }
 {
     let Some(window) = status(roster, summary).window_at(at) else {
         return Ok(());
@@ -77,8 +77,8 @@ fn live_among(
     summaries: &BTreeMap<RequestName, Summary>,
     at: Moment,
 ) -> Result<Vec<Live>, NoMemory>
-    ensures { (set : List AnyMessage) → Gathers set summaries.now
-        → IfOk result (λ list. Give roster.now.says set (live_for at) (values summaries.now) list.items) }
+    ensures { (set : List AnyMessage) → Gathers set summaries.now → IfOk result
+        (λ list. Give roster.now.says set (live_for at) (values summaries.now) list.items) }
 {
     let mut list = Vec::new(alloc);
     for summary in summaries.values() {
@@ -94,7 +94,8 @@ pub fn live_in(
     gathered: &Gathered,
     at: Moment,
 ) -> Result<Vec<Live>, NoMemory>
-    ensures { (set : List AnyMessage) → AreGathered set gathered.now → IfOk result (λ list. AreLive roster.now.says set at list.items) }
+    ensures { (set : List AnyMessage) → AreGathered set gathered.now
+        → IfOk result (λ list. AreLive roster.now.says set at list.items) }
 {
     live_among(alloc, roster, &gathered.summaries, at)
 }

@@ -12,7 +12,8 @@ use roster::Roster;
 
 /// The name's status, none where the set has no request of it. It takes no memory.
 pub fn status_in(roster: &Roster, gathered: &Gathered, name: &RequestName) -> Option<Status>
-    ensures { (set : List AnyMessage) → AreGathered set gathered.now → ComesTo roster.now.says set name.now result }
+    ensures { (set : List AnyMessage) → AreGathered set gathered.now
+        → ComesTo roster.now.says set name.now result }
 {
     match gathered.summaries.get(name) {
         Some(summary) => Some(status(roster, summary)),

@@ -16,7 +16,8 @@ use sudo_words::NoMemory;
 
 /// Adds the texts of the verdicts.
 fn push_texts(alloc: Global, texts: &mut Vec<String>, verdicts: &[Verdict]) -> Result<(), NoMemory>
-    ensures { OnOk result (map string_bytes texts.new.items ≡ map string_bytes texts.old.items ++ map wires.verdict_text verdicts.now) }
+    ensures { OnOk result (map string_bytes texts.new.items
+        ≡ map string_bytes texts.old.items ++ map wires.verdict_text verdicts.now) }
 {
     for verdict in verdicts {
         texts.push(verdict_text(alloc, verdict)?)?;
@@ -29,7 +30,8 @@ fn texts_of(
     alloc: Global,
     waiting: &BTreeMap<RequestName, Vec<Verdict>>,
 ) -> Result<Vec<String>, NoMemory>
-    ensures { IfOk result (λ texts. map string_bytes texts.items ≡ map wires.verdict_text (in_turn (values waiting.now))) }
+    ensures { IfOk result (λ texts.
+        map string_bytes texts.items ≡ map wires.verdict_text (in_turn (values waiting.now))) }
 {
     let mut texts = Vec::new(alloc);
     for verdicts in waiting.values() {
@@ -40,7 +42,8 @@ fn texts_of(
 
 /// The texts of the set's verdicts without their request, each once, in byte order.
 pub fn parked_in(alloc: Global, gathered: &Gathered) -> Result<Vec<String>, NoMemory>
-    ensures { (set : List AnyMessage) → AreGathered set gathered.now → IfOk result (λ texts. AreParked set (map string_bytes texts.items)) }
+    ensures { (set : List AnyMessage) → AreGathered set gathered.now
+        → IfOk result (λ texts. AreParked set (map string_bytes texts.items)) }
 {
     let mut texts = texts_of(alloc, &gathered.waiting)?;
     texts.sort_unstable();

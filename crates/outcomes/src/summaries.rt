@@ -29,7 +29,8 @@ fn in_order(
 
 /// The summaries of the set, by the asker in byte order, then by the number.
 pub fn summaries_in(alloc: Global, gathered: &Gathered) -> Result<Vec<Summary>, NoMemory>
-    ensures { (set : List AnyMessage) → AreGathered set gathered.now → IfOk result (λ list. AreSummaries set list.items) }
+    ensures { (set : List AnyMessage) → AreGathered set gathered.now
+        → IfOk result (λ list. AreSummaries set list.items) }
 {
     in_order(alloc, &gathered.summaries)
 }

@@ -1,5 +1,6 @@
 -- The desk's answers as replies.
-use Rattle.std.proofs.Common.{◌≡◌, ◌⊎◌, ◌<◌, ◌≤◌, ◌&&◌, ◌==◌, ◌∙◌, ℕ, Bool, true, false, List, [], ◌∷◌, length, nat_le, Result, Ok, Err, String, sym, ap, refl, inl, inr}
+use Rattle.std.proofs.Common.{◌≡◌, ◌⊎◌, ◌<◌, ◌≤◌, ◌&&◌, ◌==◌, ◌∙◌, ℕ, Bool, true, false, List, []}
+use Rattle.std.proofs.Common.{◌∷◌, length, nat_le, Result, Ok, Err, String, sym, ap, refl, inl, inr}
 use Rattle.std.proofs.lemmas.Bool.{cases_Bool, leb-true, leb-false}
 use Rattle.std.specs.Prelude.{◌↔◌, ◌≢◌, IfOk, IfErr, IsErrAnd, MatchResult, string_bytes}
 use Rattle.std.specs.declared.alloc.Global.{Global}
@@ -17,7 +18,8 @@ use Rattle.desk_store.specs.Serving.{IsServed}
 use Rattle.desk_store.proofs.ServingLemmas.{served_as}
 use Rattle.desk.specs.Refusals.{IsWant}
 use Rattle.desk.specs.declared.refusal.Refusal.{Refusal}
-use Rattle.desk.specs.declared.refusal.Refusal.TheVariants.{UnknownRelay, UnknownHost, TooLong, NotCanonical, BadField, Denied, TooManyRules, RosterChanged, NotADesk, OldSchema, Storage, NoMemory, BaseTooLarge}
+use Rattle.desk.specs.declared.refusal.Refusal.TheVariants.{UnknownRelay, UnknownHost, TooLong, NotCanonical, BadField, Denied, TooManyRules}
+use Rattle.desk.specs.declared.refusal.Refusal.TheVariants.{RosterChanged, NotADesk, OldSchema, Storage, NoMemory, BaseTooLarge}
 use Rattle.review.specs.Report.{IsReport}
 use Rattle.relay_http.specs.Asked.{report}
 use Rattle.relay_http.specs.Prepared.{to_question}
@@ -71,8 +73,8 @@ text_cause (Ok s) same =
 text_cause (Err e) same = ap (λ (x : Refusal). Err x) (is_storage e same)
 
 -- nor one of a want
-pub text_served : {K : Type 0} {is_up is_clean : K → Type 0} {failures : K → ℕ} {beside : K → TableWithRows → Type 0} {a b : K} (r : Result (String Global) Refusal)
-    → IsServed is_up is_clean failures beside a b (r ≡ Err Storage) (IsErrAnd r IsWant)
+pub text_served : {K : Type 0} {is_up is_clean : K → Type 0} {failures : K → ℕ} {beside : K → TableWithRows
+    → Type 0} {a b : K} (r : Result (String Global) Refusal) → IsServed is_up is_clean failures beside a b (r ≡ Err Storage) (IsErrAnd r IsWant)
     → IsServed is_up is_clean failures beside a b (to_question r ≡ refusal Storage) (IsWanting (to_question r))
 text_served r served = served_as (to_question r ≡ refusal Storage) (IsWanting (to_question r)) (text_cause r) (text_want r) served
   where
@@ -126,7 +128,8 @@ module _ (left : List Line → List Line) (f : RosterFields Cmnd) (base : List E
       let there = among f host (Err e) (λ same. let wrong : e ≡ UnknownHost = cc in absurd cc) unknown in
       let long : (ls : List Line) → AreLines f set host ls → 8_192 < length (left ls) = λ ls are.
       elim (cases_Bool (nat_le (length (left ls)) 8_192)) as (λ _. 8_192 < length (left ls)) [
-        | inl le ↦ elim (few ls are (leb-true (length (left ls)) 8_192 le)) as (λ _. 8_192 < length (left ls)) [ inl x ↦ absurd cc | inr (inl x) ↦ absurd cc | inr (inr x) ↦ absurd cc ]
+        | inl le ↦ elim (few ls are (leb-true (length (left ls)) 8_192 le))
+            as (λ _. 8_192 < length (left ls)) [ inl x ↦ absurd cc | inr (inl x) ↦ absurd cc | inr (inr x) ↦ absurd cc ]
         | inr gt ↦ leb-false (length (left ls)) 8_192 gt
       ] in
       inl (inr (inr (known_is f host name ∙ there, long, ap refusal past)))

@@ -1,5 +1,6 @@
 -- What an exchange leaves, by what its bytes ask for.
-use Rattle.std.proofs.Common.{◌≡◌, ◌⊎◌, ◌+◌, ◌<◌, ◌≤◌, ◌∙◌, ℕ, Bool, true, List, ◌++◌, Option, Some, None, IfSome, nat_le, not, sym, ap, subst, refl, inl, inr, drop, take, length, map, arith, codes}
+use Rattle.std.proofs.Common.{◌≡◌, ◌⊎◌, ◌+◌, ◌<◌, ◌≤◌, ◌∙◌, ℕ, Bool, true, List, ◌++◌, Option, Some, None, IfSome}
+use Rattle.std.proofs.Common.{nat_le, not, sym, ap, subst, refl, inl, inr, drop, take, length, map, arith, codes}
 use Rattle.std.proofs.lemmas.Bool.{cases_Bool, leb-true, leb-false}
 use Rattle.std.proofs.lemmas.List.{take-append-le, take_all}
 use Rattle.std.specs.Prelude.{◌≢◌}
@@ -22,7 +23,8 @@ use Rattle.relay_http.specs.Reply.{written}
 use Rattle.relay_http.specs.Wanted.{Asks, Dates, HasHead, asks_by, front, is_head}
 use Rattle.relay_http.specs.declared.fault.RequestFault.TheVariants.{BadHead}
 use Rattle.relay_http.specs.declared.status.Status.{Status}
-use Rattle.relay_http.specs.declared.status.Status.TheVariants.{Done, BadRequest, Forbidden, NotFound, MethodNotAllowed, LengthRequired, ContentTooLarge, ServiceUnavailable}
+use Rattle.relay_http.specs.declared.status.Status.TheVariants.{Done, BadRequest, Forbidden, NotFound, MethodNotAllowed}
+use Rattle.relay_http.specs.declared.status.Status.TheVariants.{LengthRequired, ContentTooLarge, ServiceUnavailable}
 use Rattle.relay_http.proofs.LawLemmas.{only_messages_deliver, only_post_delivers}
 use Rattle.relay_http.proofs.WantedLemmas.{one_request}
 
@@ -117,7 +119,8 @@ only_done_leaves Same old new (host_file_after host at) reply left = inl left
 only_done_leaves Same old new (report at) reply left = inl left
 only_done_leaves Same old new (refused fault) reply left = inl left
 
-module _ (f : RosterFields Cmnd) (base : List Entry) (IsUp : Type 0) (old new : Message → Type 0) (Same : Type 0) (Served : Type 0 → Type 0 → Type 0) (Wrote : List ℕ → Type 0) where
+module _ (f : RosterFields Cmnd) (base : List Entry) (IsUp : Type 0) (old new : Message
+    → Type 0) (Same : Type 0) (Served : Type 0 → Type 0 → Type 0) (Wrote : List ℕ → Type 0) where
   -- an exchange changes nothing, or it is acknowledged
   pub changes : (bytes : List ℕ) (request : Request ℕ) → Asks bytes request → IsExchange f base IsUp old new Same Served Wrote request → IsUp
       → Same ⊎ IsAcknowledged bytes Wrote
@@ -161,8 +164,9 @@ module _ (f : RosterFields Cmnd) (base : List Entry) (IsUp : Type 0) (old new : 
 
 -- ---- what storage did
 
-pub exchange_served : {K : Type 0} {is_up is_clean : K → Type 0} {failures : K → ℕ} {beside : K → TableWithRows → Type 0} {a b : K} (f : RosterFields Cmnd) (base : List Entry) (IsUp : Type 0) (old new : Message → Type 0) (Same : Type 0)
-    (Wrote : List ℕ → Type 0) (request : Request ℕ) → IsExchange f base IsUp old new Same (IsServed is_up is_clean failures beside a b) Wrote request
+pub exchange_served : {K : Type 0} {is_up is_clean : K → Type 0} {failures : K → ℕ} {beside : K → TableWithRows → Type 0} {a b : K} (f : RosterFields Cmnd)
+    (base : List Entry) (IsUp : Type 0) (old new : Message → Type 0) (Same : Type 0) (Wrote : List ℕ → Type 0) (request : Request ℕ)
+    → IsExchange f base IsUp old new Same (IsServed is_up is_clean failures beside a b) Wrote request
     → IsServed is_up is_clean failures beside a b ⊥ (WritesWant Wrote)
 exchange_served f base IsUp old new Same Wrote request x =
     served_as ⊥ (WritesWant Wrote) (λ none. absurd none) (λ want. (x.reply, request.with_body, want, x.wrote)) x.answered.served

@@ -1,5 +1,6 @@
 -- What the definitions say of methods and of what is delivered.
-use Rattle.std.proofs.Common.{◌≡◌, ◌≤◌, ℕ, List, [], ◌∷◌, ◌++◌, Bool, true, false, Option, Some, None, Result, Ok, Err, refl, sym, ap, subst, inl, take, length, arith, length-take, nat_lt, not, codes, cond}
+use Rattle.std.proofs.Common.{◌≡◌, ◌≤◌, ℕ, List, [], ◌∷◌, ◌++◌, Bool, true, false, Option, Some, None, Result, Ok, Err}
+use Rattle.std.proofs.Common.{refl, sym, ap, subst, inl, take, length, arith, length-take, nat_lt, not, codes, cond}
 use Rattle.std.specs.Str.Parse.{digits_value}
 use Rattle.std.proofs.lemmas.Bool.Decides.{nat_tests}
 use Rattle.std.proofs.lemmas.Slice.Eq.{bytes_eq-Decides}
@@ -17,7 +18,8 @@ use Rattle.relay_http.specs.declared.place.Place.{Place}
 use Rattle.relay_http.specs.declared.place.Place.TheVariants.{Messages, AllMessages, Grants, Parked, HostFile, HostFileAfter, Report}
 use Rattle.relay_http.proofs.SettleLemmas.{kept}
 
-pub rest_ignored : (bytes more : List ℕ) (request : Request ℕ) → AsksByHead bytes request → (request.asked ≡ refused ShortBody → ⊥) → Asks (bytes ++ more) request
+pub rest_ignored : (bytes more : List ℕ) (request : Request ℕ) → AsksByHead bytes request
+    → (request.asked ≡ refused ShortBody → ⊥) → Asks (bytes ++ more) request
 rest_ignored bytes more request x whole =
     kept bytes more request x (inl (λ e. whole (subst (λ (r : Asked (List ℕ)). Dates r request.asked) e x.2.1)))
 
@@ -61,7 +63,8 @@ module _ (rest : List ℕ) where
   sized_content : (n : ℕ) → IsContent rest (sized n rest)
   sized_content n = by (nat_lt most_content n) refl (nat_lt (length rest) n) refl
     where
-      by : (a : Bool) → nat_lt most_content n ≡ a → (b : Bool) → nat_lt (length rest) n ≡ b → IsContent rest (cond a (Err TooLong) (cond b (Err ShortBody) (Ok (take n rest))))
+      by : (a : Bool) → nat_lt most_content n ≡ a → (b : Bool) → nat_lt (length rest) n ≡ b
+          → IsContent rest (cond a (Err TooLong) (cond b (Err ShortBody) (Ok (take n rest))))
       by true e b f = tt
       by false e true f = tt
       by false e false f =
@@ -83,16 +86,19 @@ module _ (rest : List ℕ) where
   is_content [] vs = lengths_content vs
   is_content (c ∷ cs) vs = tt
 
-  posted : (method relay : List ℕ) → method ≡ codes "POST" → (found : Result (List ℕ) RequestFault) → IsContent rest found → IsPosted method rest (delivered relay found)
+  posted : (method relay : List ℕ) → method ≡ codes "POST" → (found : Result (List ℕ) RequestFault)
+      → IsContent rest found → IsPosted method rest (delivered relay found)
   posted method relay is (Ok body) h = (is, h.0, h.1)
   posted method relay is (Err fault) h = tt
 
   posted_at : (place : Place) (method : List ℕ) (named : List ℕ → List ℕ) (fields : Fields) → IsPosted method rest (at_place place method named fields rest)
   posted_at place method named fields = by place (allow (methods_of place) method) refl
     where
-      by : (place : Place) (b : Bool) → allow (methods_of place) method ≡ b → IsPosted method rest (cond b (sought place named fields rest) (refused (BadMethod (methods_of place))))
+      by : (place : Place) (b : Bool) → allow (methods_of place) method ≡ b
+          → IsPosted method rest (cond b (sought place named fields rest) (refused (BadMethod (methods_of place))))
       by place false e = tt
-      by Messages true e = posted method (named (codes "relay")) ((bytes_eq-Decides method (codes "POST")).0 e) _ (is_content (values (codes "transfer-encoding") fields) (values (codes "content-length") fields))
+      by Messages true e = posted method (named (codes "relay")) ((bytes_eq-Decides method (codes "POST")).0 e) _
+          (is_content (values (codes "transfer-encoding") fields) (values (codes "content-length") fields))
       by AllMessages true e = tt
       by Grants true e = tt
       by Parked true e = tt
@@ -107,7 +113,8 @@ module _ (rest : List ℕ) where
   posted_by : (method target : List ℕ) (minor : ℕ) (fields : Fields) → IsPosted method rest (asked_by method target minor fields rest)
   posted_by method target minor fields = by (is_bad_host minor (values (codes "host") fields)) (not (is_plain target))
     where
-      by : (a b : Bool) → IsPosted method rest (cond a (refused BadHead) (cond b (refused BadTarget) (on_route (first routes target) method target fields rest)))
+      by : (a b : Bool)
+          → IsPosted method rest (cond a (refused BadHead) (cond b (refused BadTarget) (on_route (first routes target) method target fields rest)))
       by true b = tt
       by false true = tt
       by false false = posted_on (first routes target) method target fields
@@ -153,7 +160,8 @@ module _ (method target rest : List ℕ) (fields : Fields) where
   messages_by : (minor : ℕ) → IsOfMessages (first routes target) (asked_by method target minor fields rest)
   messages_by minor = by (is_bad_host minor (values (codes "host") fields)) (not (is_plain target))
     where
-      by : (a b : Bool) → IsOfMessages (first routes target) (cond a (refused BadHead) (cond b (refused BadTarget) (on_route (first routes target) method target fields rest)))
+      by : (a b : Bool) → IsOfMessages (first routes target)
+          (cond a (refused BadHead) (cond b (refused BadTarget) (on_route (first routes target) method target fields rest)))
       by true b = tt
       by false true = tt
       by false false = messages_on (first routes target)

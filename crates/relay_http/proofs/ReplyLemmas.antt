@@ -32,7 +32,8 @@ one_file_reply left f base set host a b (inr (inl x)) (inr (inr y)) = absurd (om
 one_file_reply left f base set host a b (inr (inr x)) (inr (inl y)) = absurd (omega (arith, y.1.2, x.1 y.1.0 y.1.1))
 one_file_reply left f base set host a b (inr (inr x)) (inr (inr y)) = x.2 ∙ sym y.2
 
-pub one_reply : (f : RosterFields Cmnd) (base : List Entry) (set : List Message) (asked : Asked ℕ) (a b : Reply) → IsReply f base set asked a → IsReply f base set asked b → a ≡ b
+pub one_reply : (f : RosterFields Cmnd) (base : List Entry) (set : List Message) (asked : Asked ℕ) (a b : Reply)
+    → IsReply f base set asked a → IsReply f base set asked b → a ≡ b
 one_reply f base set (deliver relay body) a b x y = x.2 ∙ ap to_delivery (one_answer f (delivery relay body) x.0 y.0 x.1 y.1) ∙ sym y.2
 one_reply f base set all_messages a b x y =
     x.2 ∙ ap (λ (texts : List (List ℕ)). done (each_on_a_line texts)) (one_texts set set x.0 y.0 (λ m. (λ held. held, λ held. held)) x.1 y.1) ∙ sym y.2

@@ -1,5 +1,6 @@
 -- Each route of the desk is known by its value.
-use Rattle.std.proofs.Common.{zero, suc, ◌-◌, ◌&&◌, IsTrue, unwrap_or, take, drop, length, arith, nat_lt, leb, ◌≡◌, ℕ, List, [], ◌∷◌, Option, Some, None, Result, Ok, Err, refl, sym, ap, ◌∙◌, subst, codes, OnOk, Bool, true, false, cond}
+use Rattle.std.proofs.Common.{zero, suc, ◌-◌, ◌&&◌, IsTrue, unwrap_or, take, drop, length, arith, nat_lt, leb, ◌≡◌, ℕ, List, [], ◌∷◌}
+use Rattle.std.proofs.Common.{Option, Some, None, Result, Ok, Err, refl, sym, ap, ◌∙◌, subst, codes, OnOk, Bool, true, false, cond}
 use Rattle.matchit.specs.Rows.{RowsOf}
 use Rattle.matchit.specs.Route.{Scan, scan}
 use Rattle.matchit.specs.Seek.{first}
@@ -51,23 +52,30 @@ pub free_grants : IsFree (parse_route (codes "/v1/grants/{at}")) (with_route (co
 unfolding scan
 free_grants = refl
 
-pub free_parked : IsFree (parse_route (codes "/v1/parked")) (with_route (codes "/v1/grants/{at}") Grants (with_route (codes "/v1/relays/{relay}/messages") Messages []))
+pub free_parked :
+    IsFree (parse_route (codes "/v1/parked")) (with_route (codes "/v1/grants/{at}") Grants (with_route (codes "/v1/relays/{relay}/messages") Messages []))
 unfolding scan
 free_parked = refl
 
-pub free_host_file : IsFree (parse_route (codes "/v1/hosts/{host}/sudoers")) (with_route (codes "/v1/parked") Parked (with_route (codes "/v1/grants/{at}") Grants (with_route (codes "/v1/relays/{relay}/messages") Messages [])))
+pub free_host_file : IsFree (parse_route (codes "/v1/hosts/{host}/sudoers"))
+    (with_route (codes "/v1/parked") Parked (with_route (codes "/v1/grants/{at}") Grants (with_route (codes "/v1/relays/{relay}/messages") Messages [])))
 unfolding scan
 free_host_file = refl
 
-pub free_report : IsFree (parse_route (codes "/v1/reviews/{at}")) (with_route (codes "/v1/hosts/{host}/sudoers") HostFile (with_route (codes "/v1/parked") Parked (with_route (codes "/v1/grants/{at}") Grants (with_route (codes "/v1/relays/{relay}/messages") Messages []))))
+pub free_report : IsFree (parse_route (codes "/v1/reviews/{at}")) (with_route (codes "/v1/hosts/{host}/sudoers") HostFile
+    (with_route (codes "/v1/parked") Parked (with_route (codes "/v1/grants/{at}") Grants (with_route (codes "/v1/relays/{relay}/messages") Messages []))))
 unfolding scan
 free_report = refl
 
-pub free_host_file_after : IsFree (parse_route (codes "/v1/hosts/{host}/sudoers/{at}")) (with_route (codes "/v1/reviews/{at}") Report (with_route (codes "/v1/hosts/{host}/sudoers") HostFile (with_route (codes "/v1/parked") Parked (with_route (codes "/v1/grants/{at}") Grants (with_route (codes "/v1/relays/{relay}/messages") Messages [])))))
+pub free_host_file_after : IsFree (parse_route (codes "/v1/hosts/{host}/sudoers/{at}"))
+    (with_route (codes "/v1/reviews/{at}") Report (with_route (codes "/v1/hosts/{host}/sudoers") HostFile
+    (with_route (codes "/v1/parked") Parked (with_route (codes "/v1/grants/{at}") Grants (with_route (codes "/v1/relays/{relay}/messages") Messages [])))))
 unfolding scan
 free_host_file_after = refl
 
-pub free_all_messages : IsFree (parse_route (codes "/v1/messages")) (with_route (codes "/v1/hosts/{host}/sudoers/{at}") HostFileAfter (with_route (codes "/v1/reviews/{at}") Report (with_route (codes "/v1/hosts/{host}/sudoers") HostFile (with_route (codes "/v1/parked") Parked (with_route (codes "/v1/grants/{at}") Grants (with_route (codes "/v1/relays/{relay}/messages") Messages []))))))
+pub free_all_messages : IsFree (parse_route (codes "/v1/messages")) (with_route (codes "/v1/hosts/{host}/sudoers/{at}") HostFileAfter
+    (with_route (codes "/v1/reviews/{at}") Report (with_route (codes "/v1/hosts/{host}/sudoers") HostFile
+    (with_route (codes "/v1/parked") Parked (with_route (codes "/v1/grants/{at}") Grants (with_route (codes "/v1/relays/{relay}/messages") Messages []))))))
 unfolding scan
 free_all_messages = refl
 
@@ -118,7 +126,8 @@ all_remade = refl
 -- a route that is found is the route of its value
 pub known : (target : List ℕ) (e : RouteOf Place) → first routes target ≡ Some e → e ≡ route_for e.value
 known target e found =
-    let twice : Some e ≡ Some (remade e) = sym found ∙ sym (ap (λ (r : RowsOf (RouteOf Place)). first r target) all_remade) ∙ first-rename remade routes target ∙ ap (map_key remade) found in
+    let twice : Some e ≡ Some (remade e) =
+    sym found ∙ sym (ap (λ (r : RowsOf (RouteOf Place)). first r target) all_remade) ∙ first-rename remade routes target ∙ ap (map_key remade) found in
     ap (λ (o : Option (RouteOf Place)). unwrap_or o e) twice
 
 part_utf8 : (bytes : List ℕ) (start end : ℕ) → IsAscii bytes → IsUtf8 (part_of bytes start end)
@@ -146,4 +155,5 @@ text_ascii Report = below_ascii (route_for Report).text refl
 pub texts : (target : List ℕ) (e : RouteOf Place) → first routes target ≡ Some e → IsTrue (is_plain target)
     → AllText (walk e.pattern e.text target e.names 0 0)
 texts target e found plain =
-    subst (λ (r : RouteOf Place). AllText (walk r.pattern r.text target r.names 0 0)) (sym (known target e found)) (all_text _ _ target _ 0 0 (text_ascii e.value) (plain_ascii target plain))
+    subst (λ (r : RouteOf Place). AllText (walk r.pattern r.text target r.names 0 0))
+    (sym (known target e found)) (all_text _ _ target _ 0 0 (text_ascii e.value) (plain_ascii target plain))

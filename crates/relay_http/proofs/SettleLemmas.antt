@@ -1,5 +1,6 @@
 -- Bytes that follow do not change what is asked, once that is settled or as many have come as may count.
-use Rattle.std.proofs.Common.{zero, suc, ◌≡◌, ◌≤◌, ℕ, ◌+◌, ◌-◌, List, [], ◌∷◌, ◌++◌, Bool, true, false, Option, Some, None, Result, Ok, Err, ◌⊎◌, refl, sym, ap, ◌∙◌, subst, inl, inr, take, drop, length, map, arith, length-take, length-drop, length-append, nat_lt, not, codes, cond}
+use Rattle.std.proofs.Common.{zero, suc, ◌≡◌, ◌≤◌, ℕ, ◌+◌, ◌-◌, List, [], ◌∷◌, ◌++◌, Bool, true, false, Option, Some, None, Result, Ok, Err, ◌⊎◌, refl, sym}
+use Rattle.std.proofs.Common.{ap, ◌∙◌, subst, inl, inr, take, drop, length, map, arith, length-take, length-drop, length-append, nat_lt, not, codes, cond}
 use Rattle.std.specs.Str.Parse.{digits_value}
 use Rattle.std.proofs.lemmas.List.{take-append-le, drop-append-le}
 use Rattle.std.proofs.lemmas.Bool.Decides.{nat_tests}
@@ -14,7 +15,8 @@ use Rattle.relay_http.specs.Fields.{Fields, values, is_bad_host}
 use Rattle.relay_http.specs.Routes.{routes, part}
 use Rattle.relay_http.specs.Settled.{is_short, lacks_content}
 use Rattle.relay_http.specs.Target.{is_plain}
-use Rattle.relay_http.specs.Wanted.{Asks, AsksByHead, Dates, DatesRequest, HasHead, allow, asked_by, asks_by, at_place, delivered, front, is_head, methods_of, on_route, request_by, sought}
+use Rattle.relay_http.specs.Wanted.{Asks, AsksByHead, Dates, DatesRequest, HasHead, allow, asked_by, asks_by}
+use Rattle.relay_http.specs.Wanted.{at_place, delivered, front, is_head, methods_of, on_route, request_by, sought}
 use Rattle.relay_http.specs.declared.fault.RequestFault.{RequestFault}
 use Rattle.relay_http.specs.declared.fault.RequestFault.TheVariants.{BadHead, BadLength, BadMethod, BadTarget, ShortBody, TooLong}
 use Rattle.relay_http.specs.declared.place.Place.{Place}
@@ -63,8 +65,8 @@ module _ (rest more : List ℕ) where
   sought_more : (place : Place) (named : List ℕ → List ℕ) (fields : Fields) → EnoughAsked (sought place named fields rest) rest
       → sought place named fields (rest ++ more) ≡ sought place named fields rest
   sought_more Messages named fields h =
-      ap (λ (r : Result (List ℕ) RequestFault). delivered (named (codes "relay")) r)
-      (content_more (values (codes "transfer-encoding") fields) (values (codes "content-length") fields) (enough_content (named (codes "relay")) (content_of fields rest) h))
+      ap (λ (r : Result (List ℕ) RequestFault). delivered (named (codes "relay")) r) (content_more (values (codes "transfer-encoding") fields)
+      (values (codes "content-length") fields) (enough_content (named (codes "relay")) (content_of fields rest) h))
   sought_more AllMessages named fields h = refl
   sought_more Grants named fields h = refl
   sought_more Parked named fields h = refl
@@ -77,7 +79,8 @@ module _ (rest more : List ℕ) where
   place_more place method named fields h = by (allow (methods_of place) method) h
     where
       by : (b : Bool) → EnoughAsked (cond b (sought place named fields rest) (refused (BadMethod (methods_of place)))) rest
-          → cond b (sought place named fields (rest ++ more)) (refused (BadMethod (methods_of place))) ≡ cond b (sought place named fields rest) (refused (BadMethod (methods_of place)))
+          → cond b (sought place named fields (rest ++ more)) (refused (BadMethod (methods_of place)))
+          ≡ cond b (sought place named fields rest) (refused (BadMethod (methods_of place)))
       by true e = sought_more place named fields e
       by false e = refl
 
@@ -118,8 +121,13 @@ front_more bytes more = (take (8192 - length bytes) more, take-append-split 8192
 
 has_more : (bytes more : List ℕ) (h : RequestHead) → HasHead bytes h → HasHead (bytes ++ more) h
 has_more bytes more h has =
-    let longer = front_more bytes more in
-    ((has.0.0 ++ longer.0, subst (λ (f : List ℕ). ReadsRequest f h (has.0.0 ++ longer.0)) (sym longer.1) (ReadsRequest-append (front bytes) h has.0.0 longer.0 has.0.1)), has.1)
+    let longer = front_more bytes more in (
+      (
+        has.0.0 ++ longer.0,
+        subst (λ (f : List ℕ). ReadsRequest f h (has.0.0 ++ longer.0)) (sym longer.1) (ReadsRequest-append (front bytes) h has.0.0 longer.0 has.0.1),
+      ),
+      has.1,
+    )
 
 front_full : (bytes more : List ℕ) → 8192 ≤ length bytes → front (bytes ++ more) ≡ front bytes
 unfolding front
@@ -132,17 +140,19 @@ not_short asked dated dates whole e =
     let no : true ≡ false = sym (ap lacks_content is) ∙ whole in
     grind (arith, no)
 
-pub kept : (bytes more : List ℕ) (request : Request ℕ) (x : AsksByHead bytes request) → EnoughAsked (asks_by x.0 bytes).asked (drop (length (print_request x.0)) bytes)
-    → Asks (bytes ++ more) request
+pub kept : (bytes more : List ℕ) (request : Request ℕ) (x : AsksByHead bytes request)
+    → EnoughAsked (asks_by x.0 bytes).asked (drop (length (print_request x.0)) bytes) → Asks (bytes ++ more) request
 kept bytes more request x enough =
     let h = x.0 in
     let rest = drop (length (print_request h)) bytes in
     let fits = head_fits bytes h x.1.0.0 x.1.0.1 in
-    let same : asked_by h.method h.target h.minor (map name_and_value h.fields) (rest ++ more) ≡ asked_by h.method h.target h.minor (map name_and_value h.fields) rest =
+    let same : asked_by h.method h.target h.minor (map name_and_value h.fields) (rest ++ more)
+    ≡ asked_by h.method h.target h.minor (map name_and_value h.fields) rest =
     asked_more rest more h.method h.target h.minor (map name_and_value h.fields) enough in
     let longer : asks_by h bytes ≡ asks_by h (bytes ++ more) =
     ap (λ (a : Asked (List ℕ)). record { with_body = not (is_head h.method); asked = a }) (sym same)
-    ∙ ap (λ (r : List ℕ). request_by h.method h.target h.minor (map name_and_value h.fields) r) (sym (drop-append-le (length (print_request h)) bytes more fits.0)) in
+    ∙ ap (λ (r : List ℕ). request_by h.method h.target h.minor (map name_and_value h.fields) r)
+    (sym (drop-append-le (length (print_request h)) bytes more fits.0)) in
     inl (h, has_more bytes more h x.1, subst (λ (r : Request (List ℕ)). DatesRequest r request) longer x.2)
 
 -- a head is there, and the content where it is asked for
@@ -158,7 +168,8 @@ headless_more bytes more full none h has =
 pub overflow_more : (bytes more found : List ℕ) → found ≡ front bytes → RequestOverflows 32 found → (h : RequestHead) → HasHead (bytes ++ more) h → ⊥
 overflow_more bytes more found is over h has =
     let longer = front_more bytes more in
-    let reads : ReadsRequest (found ++ longer.0) h has.0.0 = subst (λ (f : List ℕ). ReadsRequest f h has.0.0) (longer.1 ∙ ap (λ (f : List ℕ). f ++ longer.0) (sym is)) has.0.1 in
+    let reads : ReadsRequest (found ++ longer.0) h has.0.0 =
+    subst (λ (f : List ℕ). ReadsRequest f h has.0.0) (longer.1 ∙ ap (λ (f : List ℕ). f ++ longer.0) (sym is)) has.0.1 in
     omega (arith, over longer.0 h has.0.0 reads, has.1)
 
 -- the buffer is full

@@ -36,24 +36,27 @@ complete_at {A} P s a e h = subst (λ (t : Status A). IfComplete {E = Error} (Ok
 fields_fit : (buf : List ℕ) (headers : List HeaderSpan) (count : ℕ) (fields : List Field)
     → map (header_bytes buf) (take count headers) ≡ map name_and_value fields → length headers ≡ 32 → length fields ≤ 32
 fields_fit buf headers count fields e len =
-    let lengths : length (take count headers) ≡ length fields = sym (length-map (take count headers) (header_bytes buf)) ∙ ap length e ∙ length-map fields name_and_value in
+    let lengths : length (take count headers) ≡ length fields =
+    sym (length-map (take count headers) (header_bytes buf)) ∙ ap length e ∙ length-map fields name_and_value in
     omega (arith, length-take count headers, len, lengths)
 
 -- the parts that the spans cover are those of a head, so what they ask for is asked
 pub asks_at : (buf found : List ℕ) (headers : List HeaderSpan) (spans : RequestSpans) (h : RequestHead) (result : Request ℕ)
-    → found ≡ front buf → length headers ≡ 32 → IsRequestAt found headers spans h
-    → DatesRequest (request_by (span_bytes found spans.method) (span_bytes found spans.path) spans.version (map (header_bytes found) (take spans.headers headers)) (drop spans.len buf)) result
-    → AsksByHead buf result
+    → found ≡ front buf → length headers ≡ 32 → IsRequestAt found headers spans h → DatesRequest (request_by (span_bytes found spans.method)
+    (span_bytes found spans.path) spans.version (map (header_bytes found) (take spans.headers headers)) (drop spans.len buf)) result → AsksByHead buf result
 asks_at buf found headers spans h result is_front len at is = (
   h,
-  ((drop spans.len found, subst (λ (f : List ℕ). ReadsRequest f h (drop spans.len found)) is_front at.reads), fields_fit found headers spans.headers h.fields at.fields len),
+  (
+    (drop spans.len found, subst (λ (f : List ℕ). ReadsRequest f h (drop spans.len found)) is_front at.reads),
+    fields_fit found headers spans.headers h.fields at.fields len,
+  ),
   subst (λ (r : Request (List ℕ)). DatesRequest r result)
-      (ap (λ (m : List ℕ). request_by m (span_bytes found spans.path) spans.version (map (header_bytes found) (take spans.headers headers)) (drop spans.len buf)) at.method
+      (ap (λ (m : List ℕ).
+      request_by m (span_bytes found spans.path) spans.version (map (header_bytes found) (take spans.headers headers)) (drop spans.len buf)) at.method
       ∙ ap (λ (t : List ℕ). request_by h.method t spans.version (map (header_bytes found) (take spans.headers headers)) (drop spans.len buf)) at.path
       ∙ ap (λ (v : ℕ). request_by h.method h.target v (map (header_bytes found) (take spans.headers headers)) (drop spans.len buf)) at.version
       ∙ ap (λ (fs : List (List ℕ × List ℕ)). request_by h.method h.target h.minor fs (drop spans.len buf)) at.fields
-      ∙ ap (λ (n : ℕ). request_by h.method h.target h.minor (map name_and_value h.fields) (drop n buf)) at.len)
-      is,
+      ∙ ap (λ (n : ℕ). request_by h.method h.target h.minor (map name_and_value h.fields) (drop n buf)) at.len) is,
 )
 
 -- a text is of one moment

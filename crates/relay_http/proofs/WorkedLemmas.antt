@@ -7,7 +7,8 @@ use Rattle.std.proofs.lemmas.List.{take_all}
 use Rattle.std.proofs.lemmas.List.Sums.{AllPass-from_list_all}
 use Rattle.std.proofs.lemmas.Str.{IsUtf8-from_ascii}
 use Rattle.std.proofs.Math.Seq.{drop-append_seam}
-use Rattle.httparse.specs.Grammar.{Field, IsField, IsRequestHead, IsToken, RequestHead, crlf, is_token, is_token_byte, is_uri_byte, is_value_byte, print_request}
+use Rattle.httparse.specs.Grammar.{Field, IsField, IsRequestHead, IsToken, RequestHead, crlf}
+use Rattle.httparse.specs.Grammar.{is_token, is_token_byte, is_uri_byte, is_value_byte, print_request}
 use Rattle.httparse.specs.Spans.{name_and_value}
 use Rattle.relay_http.specs.Asked.{Request}
 use Rattle.relay_http.specs.Wanted.{Asks, DatesRequest, front, request_by}

@@ -2,10 +2,13 @@
 use Rattle.std.specs.Prelude.{ℕ, List, Bool}
 use Rattle.relay_http.specs.declared.fault.RequestFault.{RequestFault}
 use Rattle.relay_http.specs.declared.asked.Ask.{Ask}
-use Rattle.relay_http.specs.declared.asked.Ask.TheVariants.{Deliver, AllMessages, Grants, Parked, HostFile, HostFileAfter, Report, Refused}
+use Rattle.relay_http.specs.declared.asked.Ask.TheVariants.{Deliver, AllMessages, Grants}
+use Rattle.relay_http.specs.declared.asked.Ask.TheVariants.{Parked, HostFile}
+use Rattle.relay_http.specs.declared.asked.Ask.TheVariants.{HostFileAfter, Report, Refused}
 use Rattle.relay_http.specs.declared.asked.Wanted.{Wanted}
 
--- A delivery by a relay, a query, or the first fault that applies. `At` is what stands for a moment: its seconds, or a text that is still to be read.
+-- A delivery by a relay, a query, or the first fault that applies. `At` is what stands for a
+-- moment: its seconds, or a text that is still to be read.
 pub data Asked (At : Type 0) : Type 0 where
   deliver : (relay body : List ℕ) → Asked At
   all_messages : Asked At
@@ -16,7 +19,8 @@ pub data Asked (At : Type 0) : Type 0 where
   report : (at : At) → Asked At
   refused : RequestFault → Asked At
 
--- what is asked, and whether the reply has its body (RFC 9110, section 9.3.2: the reply to HEAD has none)
+-- what is asked, and whether the reply has its body (RFC 9110, section 9.3.2: the reply to HEAD has
+-- none)
 pub record Request (At : Type 0) : Type 0 where
   pub with_body : Bool
   pub asked : Asked At

@@ -1,5 +1,7 @@
--- What a desk replies to what is asked of it, by the set of messages that it holds, and what it holds then.
-use Rattle.std.specs.Prelude.{◌≡◌, ◌≢◌, ◌⊎◌, ◌≤◌, ◌<◌, ◌&&◌, ℕ, true, false, Bool, List, [], ◌∷◌, ◌++◌, Result, Ok, Err, codes, decimal, length, map}
+-- What a desk replies to what is asked of it, by the set of messages that it holds, and what it
+-- holds then.
+use Rattle.std.specs.Prelude.{◌≡◌, ◌≢◌, ◌⊎◌, ◌≤◌, ◌<◌, ◌&&◌, ℕ, true, false, Bool, List}
+use Rattle.std.specs.Prelude.{[], ◌∷◌, ◌++◌, Result, Ok, Err, codes, decimal, length, map}
 use Rattle.sudo_words.specs.Word.{is_host_name}
 use Rattle.sudo_words.specs.Moment.{stamp}
 use Rattle.sudo_words.specs.declared.cmnd.Cmnd.{Cmnd}
@@ -20,9 +22,14 @@ use Rattle.desk.specs.Refusals.{refusal_text}
 use Rattle.desk.specs.Texts.{AreTexts}
 use Rattle.desk.specs.declared.ack.Ack.{Ack}
 use Rattle.desk.specs.declared.refusal.Refusal.{Refusal}
-use Rattle.desk.specs.declared.refusal.Refusal.TheVariants.{UnknownRelay, UnknownHost, TooLong, NotCanonical, BadField, Denied, TooManyRules, RosterChanged, NotADesk, OldSchema, Storage, NoMemory, BaseTooLarge}
+use Rattle.desk.specs.declared.refusal.Refusal.TheVariants.{UnknownRelay, UnknownHost, TooLong}
+use Rattle.desk.specs.declared.refusal.Refusal.TheVariants.{NotCanonical, BadField, Denied}
+use Rattle.desk.specs.declared.refusal.Refusal.TheVariants.{TooManyRules, RosterChanged}
+use Rattle.desk.specs.declared.refusal.Refusal.TheVariants.{NotADesk, OldSchema, Storage}
+use Rattle.desk.specs.declared.refusal.Refusal.TheVariants.{NoMemory, BaseTooLarge}
 use Rattle.review.specs.Report.{IsReport}
-use Rattle.relay_http.specs.Asked.{Asked, deliver, all_messages, grants, parked, host_file, host_file_after, report, refused}
+use Rattle.relay_http.specs.Asked.{Asked, deliver, all_messages, grants, parked}
+use Rattle.relay_http.specs.Asked.{host_file, host_file_after, report, refused}
 use Rattle.relay_http.specs.Reply.{fault_line, status_of}
 use Rattle.relay_http.specs.declared.status.Status.{Status}
 use Rattle.relay_http.specs.declared.status.Status.TheVariants as status
@@ -66,7 +73,8 @@ live_line l = name_text l.name ++ space ∷ [] ++ l.ceiling ++ window_text l.win
 abbrev pub done : List ℕ → Reply
 done body = record { status = status.Done; body = body }
 
--- The status of a refusal of the desk (RFC 9110, section 15): of the message's form, of the message, of what is not there, or for now.
+-- The status of a refusal of the desk (RFC 9110, section 15): of the message's form, of the
+-- message, of what is not there, or for now.
 abbrev pub refusal_status : Refusal → Status
 refusal_status UnknownRelay = status.Forbidden
 refusal_status UnknownHost = status.NotFound
@@ -99,25 +107,38 @@ delivery relay body = record { relay = relay; body = body }
 abbrev pub is_known_host : RosterFields Cmnd → List ℕ → Bool
 is_known_host f host = is_host_name host && is_among f.hosts host
 
--- The reply to who asks for a host's file, of which some lines are left: the roster lacks the host; or few enough lines are left, and it is the base with
--- these; or too many are.
-abbrev pub IsFileReply : (left : List Line → List Line) → RosterFields Cmnd → (base : List Entry) → List Message → (host : List ℕ) → Reply → Type 0
+-- The reply to who asks for a host's file, of which some lines are left: the roster lacks the host;
+-- or few enough lines are left, and it is the base with these; or too many are.
+abbrev pub IsFileReply : (left : List Line → List Line) → RosterFields Cmnd
+    → (base : List Entry) → List Message → (host : List ℕ) → Reply → Type 0
 IsFileReply left f base set host reply =
     ((is_known_host f host ≡ false) × (reply ≡ refusal UnknownHost))
-    ⊎ ((is_known_host f host ≡ true)
-    × ((lines : List Line) × AreLines f set host lines × (length (left lines) ≤ 8192) × (reply ≡ done (canon (with_lines base (left lines))))))
-    ⊎ ((is_known_host f host ≡ true) × ((lines : List Line) → AreLines f set host lines → 8192 < length (left lines)) × (reply ≡ refusal TooManyRules))
+    ⊎ ((is_known_host f host ≡ true) × ((lines : List Line) × AreLines f set host lines
+    × (length (left lines) ≤ 8192) × (reply ≡ done (canon (with_lines base (left lines))))))
+    ⊎ ((is_known_host f host ≡ true) × ((lines : List Line) → AreLines f set host lines
+    → 8192 < length (left lines)) × (reply ≡ refusal TooManyRules))
 
--- The reply to what is asked, by a roster, a base and the messages of a set, where memory lasts and the storage holds: at most one, by a law.
-abbrev pub IsReply : RosterFields Cmnd → (base : List Entry) → List Message → Asked ℕ → Reply → Type 0
-IsReply f base set (deliver relay body) reply = (answer : Result Ack Refusal) × Answers f (delivery relay body) answer × (reply ≡ to_delivery answer)
-IsReply f base set all_messages reply = (texts : List (List ℕ)) × AreTexts set texts × (reply ≡ done (each_on_a_line texts))
-IsReply f base set (grants at) reply = (list : List LiveGrant) × AreLive f set at list × (reply ≡ done (each_on_a_line (map live_line list)))
-IsReply f base set parked reply = (texts : List (List ℕ)) × AreParked set texts × (reply ≡ done (each_on_a_line texts))
+-- The reply to what is asked, by a roster, a base and the messages of a set, where memory lasts and
+-- the storage holds: at most one, by a law.
+abbrev pub IsReply : RosterFields Cmnd → (base : List Entry)
+    → List Message → Asked ℕ → Reply → Type 0
+IsReply f base set (deliver relay body) reply = (answer : Result Ack Refusal)
+    × Answers f (delivery relay body) answer × (reply ≡ to_delivery answer)
+IsReply f base set all_messages reply =
+    (texts : List (List ℕ)) × AreTexts set texts × (reply ≡ done (each_on_a_line texts))
+IsReply f base set (grants at) reply = (list : List LiveGrant)
+    × AreLive f set at list × (reply ≡ done (each_on_a_line (map live_line list)))
+IsReply f base set parked reply =
+    (texts : List (List ℕ)) × AreParked set texts × (reply ≡ done (each_on_a_line texts))
 IsReply f base set (host_file host) reply = IsFileReply (λ lines. lines) f base set host reply
-IsReply f base set (host_file_after host at) reply = IsFileReply (lines_after at) f base set host reply
-IsReply f base set (report at) reply = (text : List ℕ) × IsReport f base set at text × (reply ≡ done text)
-IsReply f base set (refused fault) reply = reply ≡ record { status = status_of fault; body = fault_line fault }
+IsReply f base set (host_file_after host at) reply =
+    IsFileReply (lines_after at) f base set host reply
+IsReply f base set (report at) reply =
+    (text : List ℕ) × IsReport f base set at text × (reply ≡ done text)
+IsReply f base set (refused fault) reply = reply ≡ record {
+  status = status_of fault;
+  body = fault_line fault;
+}
 
 -- memory or the storage was wanting: no right reply to anything
 abbrev pub IsWanting : Reply → Type 0
@@ -129,10 +150,11 @@ IsWanting reply = (reply ≡ refusal NoMemory) ⊎ (reply ≡ refusal Storage)
 abbrev pub Stores : (body : List ℕ) → Reply → Message → Type 0
 Stores body reply m = IsMessage m × (body ≡ wire m) × (reply.status ≡ status.Done)
 
--- What is held then: with a delivery exactly what was held, and the message that is acknowledged; and all is kept the same but with the
--- one reply 200 to a delivery.
+-- What is held then: with a delivery exactly what was held, and the message that is acknowledged;
+-- and all is kept the same but with the one reply 200 to a delivery.
 abbrev pub Leaves : (Same : Type 0) → (old new : Message → Type 0) → Asked ℕ → Reply → Type 0
-Leaves Same old new (deliver relay body) reply = SameSet (λ m. old m ⊎ Stores body reply m) new × (reply.status ≢ status.Done → Same)
+Leaves Same old new (deliver relay body) reply =
+    SameSet (λ m. old m ⊎ Stores body reply m) new × (reply.status ≢ status.Done → Same)
 Leaves Same old new all_messages reply = Same
 Leaves Same old new (grants at) reply = Same
 Leaves Same old new parked reply = Same

@@ -1,7 +1,10 @@
 -- The bytes of a reply (RFC 9112, sections 2 and 4).
 use Rattle.std.specs.Prelude.{ℕ, List, [], ◌∷◌, ◌++◌, Bool, length, if◌then◌else◌, codes, decimal}
 use Rattle.relay_http.specs.declared.fault.RequestFault.{RequestFault}
-use Rattle.relay_http.specs.declared.fault.RequestFault.TheVariants.{BadHead, BadTarget, NoRoute, BadMethod, LengthRequired, BadLength, TooLong, ShortBody, BadMoment}
+use Rattle.relay_http.specs.declared.fault.RequestFault.TheVariants.{BadHead, BadTarget, NoRoute}
+use Rattle.relay_http.specs.declared.fault.RequestFault.TheVariants.{BadMethod, LengthRequired}
+use Rattle.relay_http.specs.declared.fault.RequestFault.TheVariants.{BadLength, TooLong}
+use Rattle.relay_http.specs.declared.fault.RequestFault.TheVariants.{ShortBody, BadMoment}
 use Rattle.relay_http.specs.declared.place.Methods.TheVariants.{Post, GetOrHead}
 use Rattle.relay_http.specs.declared.status.Status.{Status}
 use Rattle.relay_http.specs.declared.status.Status.TheVariants as status

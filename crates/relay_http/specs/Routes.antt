@@ -1,5 +1,6 @@
 -- The routes of the desk, and what a route's parameter takes of a target.
-use Rattle.std.specs.Prelude.{◌≡◌, ℕ, List, [], Option, Some, None, Result, Ok, Err, codes, unwrap_or}
+use Rattle.std.specs.Prelude.{◌≡◌, ℕ, List, [], Option, Some, None}
+use Rattle.std.specs.Prelude.{Result, Ok, Err, codes, unwrap_or}
 use Rattle.matchit.specs.Rows.{RowsOf}
 use Rattle.matchit.specs.Order.{placed}
 use Rattle.matchit.specs.Route.{Scan, parse_route}
@@ -7,7 +8,8 @@ use Rattle.matchit.specs.Router.{RouteOf, nearest, route_from}
 use Rattle.matchit.specs.Params.{walk, named}
 use Rattle.matchit.specs.declared.error.InsertError.{InsertError}
 use Rattle.relay_http.specs.declared.place.Place.{Place}
-use Rattle.relay_http.specs.declared.place.Place.TheVariants.{Messages, AllMessages, Grants, Parked, HostFile, HostFileAfter, Report}
+use Rattle.relay_http.specs.declared.place.Place.TheVariants.{Messages, AllMessages, Grants, Parked}
+use Rattle.relay_http.specs.declared.place.Place.TheVariants.{HostFile, HostFileAfter, Report}
 
 -- the routes with one more
 abbrev pub added : Result Scan InsertError → Place → RowsOf (RouteOf Place) → RowsOf (RouteOf Place)
@@ -22,7 +24,8 @@ abbrev pub IsFree : Result Scan InsertError → RowsOf (RouteOf Place) → Type 
 IsFree (Ok s) rows = nearest s.pattern rows ≡ None
 IsFree (Err e) rows = ⊥
 
--- the route of each place: a parameter in braces takes one component of the path, which is not empty
+-- the route of each place: a parameter in braces takes one component of the path, which is not
+-- empty
 unfoldable pub routes : RowsOf (RouteOf Place)
 routes =
     with_route (codes "/v1/messages") AllMessages
@@ -35,7 +38,8 @@ routes =
 
 -- the part of the target that the route's parameter of this name takes
 unfoldable pub part : List ℕ → RouteOf Place → List ℕ → List ℕ
-part name route target = unwrap_or (named name (walk route.pattern route.text target route.names 0 0)) []
+part name route target =
+    unwrap_or (named name (walk route.pattern route.text target route.names 0 0)) []
 
 -- the name of the first parameter in the route of a place
 abbrev pub parameter : Place → List ℕ
@@ -62,4 +66,5 @@ abbrev pub Takes : Option (RouteOf Place) → List ℕ → Option (Place × List
 Takes None target None = Unit {0}
 Takes None target (Some x) = ⊥
 Takes (Some route) target None = ⊥
-Takes (Some route) target (Some x) = (route.value ≡ x.0) × (part (parameter x.0) route target ≡ x.1) × (part (moment_parameter x.0) route target ≡ x.2)
+Takes (Some route) target (Some x) = (route.value ≡ x.0)
+    × (part (parameter x.0) route target ≡ x.1) × (part (moment_parameter x.0) route target ≡ x.2)

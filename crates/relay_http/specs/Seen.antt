@@ -1,4 +1,5 @@
--- How many fields a name has, as far as it matters: none, one or more. Of the program alone: no promise cites it.
+-- How many fields a name has, as far as it matters: none, one or more. Of the program alone: no
+-- promise cites it.
 use Rattle.std.specs.Prelude.{◌≡◌, ℕ, List, [], ◌∷◌}
 use Rattle.relay_http.specs.declared.values.Values.{Values}
 use Rattle.relay_http.specs.declared.values.Values.TheVariants.{Nothing, One, Many}

@@ -1,9 +1,14 @@
--- When the content is not there yet, and how many bytes may count. Of the program alone: no promise cites it.
+-- When the content is not there yet, and how many bytes may count. Of the program alone: no promise
+-- cites it.
 use Rattle.std.specs.Prelude.{◌++◌, ℕ, List, Bool, true, false}
-use Rattle.relay_http.specs.Asked.{Asked, Request, deliver, all_messages, grants, parked, host_file, host_file_after, report, refused}
+use Rattle.relay_http.specs.Asked.{Asked, Request, deliver, all_messages, grants}
+use Rattle.relay_http.specs.Asked.{parked, host_file, host_file_after, report, refused}
 use Rattle.relay_http.specs.Wanted.{Asks}
 use Rattle.relay_http.specs.declared.fault.RequestFault.{RequestFault}
-use Rattle.relay_http.specs.declared.fault.RequestFault.TheVariants.{BadHead, BadTarget, NoRoute, BadMethod, LengthRequired, BadLength, TooLong, ShortBody, BadMoment}
+use Rattle.relay_http.specs.declared.fault.RequestFault.TheVariants.{BadHead, BadTarget, NoRoute}
+use Rattle.relay_http.specs.declared.fault.RequestFault.TheVariants.{BadMethod, LengthRequired}
+use Rattle.relay_http.specs.declared.fault.RequestFault.TheVariants.{BadLength, TooLong}
+use Rattle.relay_http.specs.declared.fault.RequestFault.TheVariants.{ShortBody, BadMoment}
 
 abbrev pub is_short_body : RequestFault → Bool
 is_short_body ShortBody = true
@@ -35,4 +40,5 @@ most_read = 24_576
 
 -- no bytes that follow change what these ask
 abbrev pub IsSettled : List ℕ → Type 0
-IsSettled bytes = (request : Request ℕ) → Asks bytes request → (more : List ℕ) → Asks (bytes ++ more) request
+IsSettled bytes =
+    (request : Request ℕ) → Asks bytes request → (more : List ℕ) → Asks (bytes ++ more) request

@@ -7,15 +7,18 @@ use Rattle.httparse.specs.Spans.{name_and_value}
 use Rattle.matchit.specs.Router.{RouteOf}
 use Rattle.matchit.specs.Seek.{first}
 use Rattle.sudo_words.specs.Moment.{IsStamp}
-use Rattle.relay_http.specs.Asked.{Asked, Request, deliver, all_messages, grants, parked, host_file, host_file_after, report, refused}
+use Rattle.relay_http.specs.Asked.{Asked, Request, deliver, all_messages, grants}
+use Rattle.relay_http.specs.Asked.{parked, host_file, host_file_after, report, refused}
 use Rattle.relay_http.specs.Fields.{Fields, values, is_bad_host}
 use Rattle.relay_http.specs.Content.{content_of}
 use Rattle.relay_http.specs.Target.{is_plain}
 use Rattle.relay_http.specs.Routes.{routes, part}
 use Rattle.relay_http.specs.declared.fault.RequestFault.{RequestFault}
-use Rattle.relay_http.specs.declared.fault.RequestFault.TheVariants.{BadHead, BadTarget, NoRoute, BadMethod, BadMoment}
+use Rattle.relay_http.specs.declared.fault.RequestFault.TheVariants.{BadHead, BadTarget, NoRoute}
+use Rattle.relay_http.specs.declared.fault.RequestFault.TheVariants.{BadMethod, BadMoment}
 use Rattle.relay_http.specs.declared.place.Place.{Place}
-use Rattle.relay_http.specs.declared.place.Place.TheVariants.{Messages, AllMessages, Grants, Parked, HostFile, HostFileAfter, Report}
+use Rattle.relay_http.specs.declared.place.Place.TheVariants.{Messages, AllMessages, Grants, Parked}
+use Rattle.relay_http.specs.declared.place.Place.TheVariants.{HostFile, HostFileAfter, Report}
 use Rattle.relay_http.specs.declared.place.Methods.{Methods}
 use Rattle.relay_http.specs.declared.place.Methods.TheVariants.{Post, GetOrHead}
 
@@ -51,40 +54,54 @@ delivered relay (Err fault) = refused fault
 
 -- what is sought at a place, where the route's parameter of a name took this part of the target
 abbrev pub sought : Place → (List ℕ → List ℕ) → Fields → (rest : List ℕ) → Asked (List ℕ)
-sought Messages part_named fields rest = delivered (part_named (codes "relay")) (content_of fields rest)
+sought Messages part_named fields rest =
+    delivered (part_named (codes "relay")) (content_of fields rest)
 sought AllMessages part_named fields rest = all_messages
 sought Grants part_named fields rest = grants (part_named (codes "at"))
 sought Parked part_named fields rest = parked
 sought HostFile part_named fields rest = host_file (part_named (codes "host"))
-sought HostFileAfter part_named fields rest = host_file_after (part_named (codes "host")) (part_named (codes "at"))
+sought HostFileAfter part_named fields rest =
+    host_file_after (part_named (codes "host")) (part_named (codes "at"))
 sought Report part_named fields rest = report (part_named (codes "at"))
 
 -- what is asked of a place by a method
-abbrev pub at_place : Place → (method : List ℕ) → (List ℕ → List ℕ) → Fields → (rest : List ℕ) → Asked (List ℕ)
+abbrev pub at_place : Place → (method : List ℕ)
+    → (List ℕ → List ℕ) → Fields → (rest : List ℕ) → Asked (List ℕ)
 at_place place method part_named fields rest =
-    if allow (methods_of place) method then sought place part_named fields rest else refused (BadMethod (methods_of place))
+    if allow (methods_of place) method then sought place part_named fields rest else refused
+    (BadMethod (methods_of place))
 
 -- what is asked on the route that the target has
-abbrev pub on_route : Option (RouteOf Place) → (method target : List ℕ) → Fields → (rest : List ℕ) → Asked (List ℕ)
+abbrev pub on_route : Option (RouteOf Place) → (method target : List ℕ)
+    → Fields → (rest : List ℕ) → Asked (List ℕ)
 on_route None method target fields rest = refused NoRoute
-on_route (Some route) method target fields rest = at_place route.value method (λ name. part name route target) fields rest
+on_route (Some route) method target fields rest =
+    at_place route.value method (λ name. part name route target) fields rest
 
--- what a head asks for, by its parts and the bytes after it; each fault where it is the first that applies
-abbrev pub asked_by : (method target : List ℕ) → (minor : ℕ) → Fields → (rest : List ℕ) → Asked (List ℕ)
+-- what a head asks for, by its parts and the bytes after it; each fault where it is the first that
+-- applies
+abbrev pub asked_by : (method target : List ℕ) → (minor : ℕ)
+    → Fields → (rest : List ℕ) → Asked (List ℕ)
 asked_by method target minor fields rest =
     if is_bad_host minor (values (codes "host") fields) then refused BadHead
     else (if not (is_plain target) then refused BadTarget
     else on_route (first routes target) method target fields rest)
 
 -- the reply to HEAD has no body, a refusal's neither (RFC 9110, section 9.3.2)
-abbrev pub request_by : (method target : List ℕ) → (minor : ℕ) → Fields → (rest : List ℕ) → Request (List ℕ)
-request_by method target minor fields rest = record { with_body = not (is_head method); asked = asked_by method target minor fields rest }
+abbrev pub request_by : (method target : List ℕ) → (minor : ℕ)
+    → Fields → (rest : List ℕ) → Request (List ℕ)
+request_by method target minor fields rest = record {
+  with_body = not (is_head method);
+  asked = asked_by method target minor fields rest;
+}
 
 -- what the head asks for that these bytes begin with
 abbrev pub asks_by : RequestHead → List ℕ → Request (List ℕ)
-asks_by h bytes = request_by h.method h.target h.minor (map name_and_value h.fields) (drop (length (print_request h)) bytes)
+asks_by h bytes = request_by h.method h.target h.minor
+    (map name_and_value h.fields) (drop (length (print_request h)) bytes)
 
--- a moment stands as its canonical text; of any other text in its place the request is refused, last of all
+-- a moment stands as its canonical text; of any other text in its place the request is refused,
+-- last of all
 abbrev pub DatesAt : (question : ℕ → Asked ℕ) → (at : List ℕ) → Asked ℕ → Type 0
 DatesAt question at asked =
     ((t : ℕ) × IsStamp at t × (asked ≡ question t))
@@ -109,16 +126,19 @@ DatesRequest r request = (request.with_body ≡ r.with_body) × Dates r.asked re
 unfoldable pub front : List ℕ → List ℕ
 front bytes = take most_head_bytes bytes
 
--- The front begins with this head, which has no more fields than may be. No head is the beginning of another: it is the shortest.
+-- The front begins with this head, which has no more fields than may be. No head is the beginning
+-- of another: it is the shortest.
 abbrev pub HasHead : List ℕ → RequestHead → Type 0
-HasHead bytes h = ((rest : List ℕ) × ReadsRequest (front bytes) h rest) × (length h.fields ≤ most_fields)
+HasHead bytes h =
+    ((rest : List ℕ) × ReadsRequest (front bytes) h rest) × (length h.fields ≤ most_fields)
 
 -- what the head of the bytes asks for
 abbrev pub AsksByHead : List ℕ → Request ℕ → Type 0
-AsksByHead bytes request = (h : RequestHead) × HasHead bytes h × DatesRequest (asks_by h bytes) request
+AsksByHead bytes request =
+    (h : RequestHead) × HasHead bytes h × DatesRequest (asks_by h bytes) request
 
 -- What the bytes ask for: what their head does. With no head they are refused, with a body.
 abbrev pub Asks : List ℕ → Request ℕ → Type 0
 Asks bytes request =
-    AsksByHead bytes request
-    ⊎ (((h : RequestHead) → ¬ (HasHead bytes h)) × (request ≡ record { with_body = true; asked = refused BadHead }))
+    AsksByHead bytes request ⊎ (((h : RequestHead) → ¬ (HasHead bytes h))
+    × (request ≡ record { with_body = true; asked = refused BadHead }))

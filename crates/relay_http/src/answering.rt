@@ -2,7 +2,8 @@
 
 ghost use Rattle.std.specs.Prelude.{◌≡◌};
 ghost use Rattle.desk_store.specs.Serves.{Serves};
-ghost use Rattle.relay_http.specs.Asked.{all_messages, asked_of, deliver, grants, host_file, host_file_after, parked, report};
+ghost use Rattle.relay_http.specs.Asked.{all_messages, asked_of, deliver, grants};
+ghost use Rattle.relay_http.specs.Asked.{host_file, host_file_after, parked, report};
 ghost use Rattle.relay_http.specs.Exchange.{IsAnswered};
 ghost use Rattle.relay_http.specs.Prepared.{reply_of, to_question};
 
@@ -15,8 +16,10 @@ use sudo_words::{HostName, Moment, WordFault};
 
 /// The answer to a delivery. Once the message is acknowledged no memory is taken.
 fn delivered<K: Keeper>(desk: &mut Desk<K>, relay: &str, body: &[u8]) -> Answer
-    ensures answered { IsAnswered desk.old.roster.says desk.old.base (K.is_up desk.new.keeper) (K.holds desk.old.keeper) (K.holds desk.new.keeper)
-        (K.is_same desk.old.keeper desk.new.keeper) (Serves K.Keeper desk.old.keeper desk.new.keeper) (deliver relay.now body.now) (reply_of result) }
+    ensures answered { IsAnswered desk.old.roster.says desk.old.base
+        (K.is_up desk.new.keeper) (K.holds desk.old.keeper) (K.holds desk.new.keeper)
+        (K.is_same desk.old.keeper desk.new.keeper) (Serves K.Keeper desk.old.keeper
+        desk.new.keeper) (deliver relay.now body.now) (reply_of result) }
     ensures roster { desk.new.roster ≡ desk.old.roster }
     ensures base { desk.new.base ≡ desk.old.base }
 {
@@ -25,8 +28,10 @@ fn delivered<K: Keeper>(desk: &mut Desk<K>, relay: &str, body: &[u8]) -> Answer
 
 /// The lines of all messages.
 fn all_messages<K: Keeper>(alloc: Global, desk: &mut Desk<K>) -> Result<String, Refusal>
-    ensures answered { IsAnswered desk.old.roster.says desk.old.base (K.is_up desk.new.keeper) (K.holds desk.old.keeper) (K.holds desk.new.keeper)
-        (K.is_same desk.old.keeper desk.new.keeper) (Serves K.Keeper desk.old.keeper desk.new.keeper) all_messages (to_question result) }
+    ensures answered { IsAnswered desk.old.roster.says desk.old.base
+        (K.is_up desk.new.keeper) (K.holds desk.old.keeper) (K.holds desk.new.keeper)
+        (K.is_same desk.old.keeper desk.new.keeper)
+        (Serves K.Keeper desk.old.keeper desk.new.keeper) all_messages (to_question result) }
     ensures roster { desk.new.roster ≡ desk.old.roster }
     ensures base { desk.new.base ≡ desk.old.base }
 {
@@ -41,8 +46,10 @@ fn all_messages<K: Keeper>(alloc: Global, desk: &mut Desk<K>) -> Result<String, 
 
 /// The lines of the grants in force.
 fn live<K: Keeper>(alloc: Global, desk: &mut Desk<K>, at: Moment) -> Result<String, Refusal>
-    ensures answered { IsAnswered desk.old.roster.says desk.old.base (K.is_up desk.new.keeper) (K.holds desk.old.keeper) (K.holds desk.new.keeper)
-        (K.is_same desk.old.keeper desk.new.keeper) (Serves K.Keeper desk.old.keeper desk.new.keeper) (grants at) (to_question result) }
+    ensures answered { IsAnswered desk.old.roster.says desk.old.base
+        (K.is_up desk.new.keeper) (K.holds desk.old.keeper) (K.holds desk.new.keeper)
+        (K.is_same desk.old.keeper desk.new.keeper)
+        (Serves K.Keeper desk.old.keeper desk.new.keeper) (grants at) (to_question result) }
     ensures roster { desk.new.roster ≡ desk.old.roster }
     ensures base { desk.new.base ≡ desk.old.base }
 {
@@ -57,8 +64,10 @@ fn live<K: Keeper>(alloc: Global, desk: &mut Desk<K>, at: Moment) -> Result<Stri
 
 /// The lines of the parked verdicts.
 fn parked<K: Keeper>(alloc: Global, desk: &mut Desk<K>) -> Result<String, Refusal>
-    ensures answered { IsAnswered desk.old.roster.says desk.old.base (K.is_up desk.new.keeper) (K.holds desk.old.keeper) (K.holds desk.new.keeper)
-        (K.is_same desk.old.keeper desk.new.keeper) (Serves K.Keeper desk.old.keeper desk.new.keeper) parked (to_question result) }
+    ensures answered { IsAnswered desk.old.roster.says desk.old.base
+        (K.is_up desk.new.keeper) (K.holds desk.old.keeper) (K.holds desk.new.keeper)
+        (K.is_same desk.old.keeper desk.new.keeper)
+        (Serves K.Keeper desk.old.keeper desk.new.keeper) parked (to_question result) }
     ensures roster { desk.new.roster ≡ desk.old.roster }
     ensures base { desk.new.base ≡ desk.old.base }
 {
@@ -73,8 +82,10 @@ fn parked<K: Keeper>(alloc: Global, desk: &mut Desk<K>) -> Result<String, Refusa
 
 /// The host's file. A text that is no host's name is a host that the roster lacks.
 fn host_file<K: Keeper>(alloc: Global, desk: &mut Desk<K>, host: &str) -> Result<String, Refusal>
-    ensures answered { IsAnswered desk.old.roster.says desk.old.base (K.is_up desk.new.keeper) (K.holds desk.old.keeper) (K.holds desk.new.keeper)
-        (K.is_same desk.old.keeper desk.new.keeper) (Serves K.Keeper desk.old.keeper desk.new.keeper) (host_file host.now) (to_question result) }
+    ensures answered { IsAnswered desk.old.roster.says desk.old.base
+        (K.is_up desk.new.keeper) (K.holds desk.old.keeper) (K.holds desk.new.keeper)
+        (K.is_same desk.old.keeper desk.new.keeper) (Serves K.Keeper
+        desk.old.keeper desk.new.keeper) (host_file host.now) (to_question result) }
     ensures roster { desk.new.roster ≡ desk.old.roster }
     ensures base { desk.new.base ≡ desk.old.base }
 {
@@ -92,8 +103,10 @@ fn host_file_after<K: Keeper>(
     host: &str,
     at: Moment,
 ) -> Result<String, Refusal>
-    ensures answered { IsAnswered desk.old.roster.says desk.old.base (K.is_up desk.new.keeper) (K.holds desk.old.keeper) (K.holds desk.new.keeper)
-        (K.is_same desk.old.keeper desk.new.keeper) (Serves K.Keeper desk.old.keeper desk.new.keeper) (host_file_after host.now at) (to_question result) }
+    ensures answered { IsAnswered desk.old.roster.says desk.old.base
+        (K.is_up desk.new.keeper) (K.holds desk.old.keeper) (K.holds desk.new.keeper)
+        (K.is_same desk.old.keeper desk.new.keeper) (Serves K.Keeper desk.old.keeper
+        desk.new.keeper) (host_file_after host.now at) (to_question result) }
     ensures roster { desk.new.roster ≡ desk.old.roster }
     ensures base { desk.new.base ≡ desk.old.base }
 {
@@ -106,8 +119,10 @@ fn host_file_after<K: Keeper>(
 
 /// The report of what the desk holds.
 fn report<K: Keeper>(desk: &mut Desk<K>, at: Moment) -> Result<String, Refusal>
-    ensures answered { IsAnswered desk.old.roster.says desk.old.base (K.is_up desk.new.keeper) (K.holds desk.old.keeper) (K.holds desk.new.keeper)
-        (K.is_same desk.old.keeper desk.new.keeper) (Serves K.Keeper desk.old.keeper desk.new.keeper) (report at) (to_question result) }
+    ensures answered { IsAnswered desk.old.roster.says desk.old.base
+        (K.is_up desk.new.keeper) (K.holds desk.old.keeper) (K.holds desk.new.keeper)
+        (K.is_same desk.old.keeper desk.new.keeper)
+        (Serves K.Keeper desk.old.keeper desk.new.keeper) (report at) (to_question result) }
     ensures roster { desk.new.roster ≡ desk.old.roster }
     ensures base { desk.new.base ≡ desk.old.base }
 {
@@ -116,8 +131,10 @@ fn report<K: Keeper>(desk: &mut Desk<K>, at: Moment) -> Result<String, Refusal>
 
 /// The answer of the desk to what is asked.
 pub fn answered<K: Keeper>(alloc: Global, desk: &mut Desk<K>, ask: Ask<'_>) -> Answer
-    ensures answered { IsAnswered desk.old.roster.says desk.old.base (K.is_up desk.new.keeper) (K.holds desk.old.keeper) (K.holds desk.new.keeper)
-        (K.is_same desk.old.keeper desk.new.keeper) (Serves K.Keeper desk.old.keeper desk.new.keeper) (asked_of ask.entry) (reply_of result) }
+    ensures answered { IsAnswered desk.old.roster.says desk.old.base
+        (K.is_up desk.new.keeper) (K.holds desk.old.keeper) (K.holds desk.new.keeper)
+        (K.is_same desk.old.keeper desk.new.keeper)
+        (Serves K.Keeper desk.old.keeper desk.new.keeper) (asked_of ask.entry) (reply_of result) }
     ensures roster { desk.new.roster ≡ desk.old.roster }
     ensures base { desk.new.base ≡ desk.old.base }
 {

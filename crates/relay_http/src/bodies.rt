@@ -1,7 +1,8 @@
 //! The bodies of replies to questions.
 
 ghost use Rattle.std.specs.Prelude.{◌≡◌, ◌++◌, ◌∷◌, [], IfOk, OnOk, map, string_bytes};
-ghost use Rattle.relay_http.specs.Replies.{each_on_a_line, live_line, moment_text, name_text, newline, window_text};
+ghost use Rattle.relay_http.specs.Replies.{each_on_a_line, live_line, moment_text};
+ghost use Rattle.relay_http.specs.Replies.{name_text, newline, window_text};
 
 use desk::{Live, RequestName};
 use grants::Window;
@@ -40,7 +41,8 @@ fn push_name(out: &mut String, name: &RequestName) -> Result<(), AllocError>
 /// Appends the line of a grant in force.
 #[tactic(auto, unfolding(crate::specs::Replies::live_line))]
 fn push_live(out: &mut String, live: &Live) -> Result<(), AllocError>
-    ensures { OnOk result (string_bytes out.new ≡ string_bytes out.old ++ live_line live.now ++ newline ∷ []) }
+    ensures { OnOk result
+        (string_bytes out.new ≡ string_bytes out.old ++ live_line live.now ++ newline ∷ []) }
 {
     push_name(out, &live.name)?;
     out.push_str(" ")?;
@@ -61,7 +63,8 @@ pub fn live_text(alloc: Global, list: &[Live]) -> Result<String, AllocError>
 }
 
 fn push_line(out: &mut String, text: &str) -> Result<(), AllocError>
-    ensures { OnOk result (string_bytes out.new ≡ string_bytes out.old ++ text.now ++ newline ∷ []) }
+    ensures { OnOk result
+        (string_bytes out.new ≡ string_bytes out.old ++ text.now ++ newline ∷ []) }
 {
     out.push_str(text)?;
     out.push_str("\n")

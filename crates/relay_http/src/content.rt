@@ -34,7 +34,8 @@ fn sized(n: u64, rest: &[u8]) -> Result<&[u8], RequestFault>
 }
 
 fn by_lengths<'b>(lengths: Values<'_>, rest: &'b [u8]) -> Result<&'b [u8], RequestFault>
-    ensures { (vs : List (List ℕ)) → AreValues lengths.entry vs → result_map_both (λ b. b.now) (λ e. e) result ≡ by_lengths vs rest.now }
+    ensures { (vs : List (List ℕ)) → AreValues lengths.entry vs
+        → result_map_both (λ b. b.now) (λ e. e) result ≡ by_lengths vs rest.now }
 {
     match lengths {
         Values::Nothing => Err(RequestFault::LengthRequired),
@@ -54,7 +55,8 @@ pub fn lacking(lengths: Values<'_>, come: usize) -> usize {
     }
 }
 
-/// The content, by the values of Transfer-Encoding and Content-Length and the bytes that follow the head.
+/// The content, by the values of Transfer-Encoding and Content-Length and the bytes that follow the
+/// head.
 pub fn content<'b>(
     codings: Values<'_>,
     lengths: Values<'_>,

@@ -7,7 +7,8 @@ ghost use Rattle.relay_http.specs.Counting.{after_read, after_write, one_failure
 
 use std::io::{self, Read, Write};
 
-/// Reads or writes through what it holds, and counts the failures: each `Err`, and each write that takes nothing, up to the greatest number.
+/// Reads or writes through what it holds, and counts the failures: each `Err`, and each write that
+/// takes nothing, up to the greatest number.
 #[derive(Debug, Drop)]
 pub struct Counted<T> {
     inner: T,
@@ -51,7 +52,8 @@ impl<R: Read> Read for Counted<R> {
     /// Reads through the reader.
     fn read(&mut self, buf: &mut [u8]) -> io::Result<usize>
         ensures bound { ReadsAtMost result buf.new }
-        ensures bytes { ReadConsumes (R.remaining self.old.inner) (R.remaining self.new.inner) result buf.new }
+        ensures bytes { ReadConsumes (R.remaining self.old.inner)
+            (R.remaining self.new.inner) result buf.new }
         ensures counted { self.new.failures ≡ after_read result self.old.failures }
     {
         let result = self.inner.read(buf);
@@ -68,7 +70,8 @@ impl<W: Write> Write for Counted<W> {
     /// Writes through the writer.
     fn write(&mut self, buf: &[u8]) -> io::Result<usize>
         ensures bound { WritesAtMost result buf.now }
-        ensures bytes { WriteAppends (W.contents self.old.inner) (W.contents self.new.inner) result buf.now }
+        ensures bytes { WriteAppends (W.contents self.old.inner)
+            (W.contents self.new.inner) result buf.now }
         ensures counted { self.new.failures ≡ after_write result self.old.failures }
     {
         let result = self.inner.write(buf);

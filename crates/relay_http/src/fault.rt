@@ -8,9 +8,11 @@ use std::fmt;
 /// Why a request is refused by its bytes alone. It is shown as its code and name.
 #[derive(Clone, Copy, Debug, PartialEq, Eq)]
 pub enum RequestFault {
-    /// The first 8,192 bytes begin with no request head of at most 32 fields, or its Host field is missing or there twice.
+    /// The first 8,192 bytes begin with no request head of at most 32 fields, or its Host field is
+    /// missing or there twice.
     BadHead,
-    /// The target does not begin with `/`, or has a query, a fragment, an encoded byte or one past ASCII.
+    /// The target does not begin with `/`, or has a query, a fragment, an encoded byte or one past
+    /// ASCII.
     BadTarget,
     /// No route has the target.
     NoRoute,

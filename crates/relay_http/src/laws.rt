@@ -1,7 +1,8 @@
 //! The laws, each the contract of a function that does nothing. Those of requests and replies
 //! stand here.
 
-ghost use Rattle.std.specs.Prelude.{◌≡◌, ◌≤◌, ◌++◌, ℕ, List, [], Some, codes, false, length, take, true};
+ghost use Rattle.std.specs.Prelude.{◌≡◌, ◌≤◌, ◌++◌, ℕ, List, [], Some};
+ghost use Rattle.std.specs.Prelude.{codes, false, length, take, true};
 ghost use Rattle.httparse.specs.Grammar.{ReadsRequest, RequestHead};
 ghost use Rattle.matchit.specs.Router.{RouteOf};
 ghost use Rattle.matchit.specs.Seek.{first};
@@ -43,29 +44,33 @@ pub fn rest_ignored()
 
 /// HEAD asks for what GET does, and the reply to it is that to GET without the body.
 pub fn head_is_get()
-    ensures asks { (target : List ℕ) (minor : ℕ) (fields : Fields) (rest : List ℕ)
-        → asked_by (codes "HEAD") target minor fields rest ≡ asked_by (codes "GET") target minor fields rest }
-    ensures reply { (s : Status) (body : List ℕ) → written s body true ≡ written s body false ++ body }
+    ensures asks { (target : List ℕ) (minor : ℕ) (fields : Fields) (rest : List ℕ) → asked_by
+        (codes "HEAD") target minor fields rest ≡ asked_by (codes "GET") target minor fields rest }
+    ensures reply { (s : Status) (body : List ℕ)
+        → written s body true ≡ written s body false ++ body }
 {}
 
-/// Nothing but a POST to the route of a relay's messages delivers; and what it delivers is a beginning of the bytes after the head, of at
-/// most 16,384 bytes.
+/// Nothing but a POST to the route of a relay's messages delivers; and what it delivers is a
+/// beginning of the bytes after the head, of at most 16,384 bytes.
 pub fn only_post_delivers()
-    ensures content { (method target : List ℕ) (minor : ℕ) (fields : Fields) (rest relay body : List ℕ)
-        → asked_by method target minor fields rest ≡ deliver relay body
+    ensures content { (method target : List ℕ) (minor : ℕ) (fields : Fields)
+        (rest relay body : List ℕ) → asked_by method target minor fields rest ≡ deliver relay body
         → (method ≡ codes "POST") × (length body ≤ 16384) × (body ≡ take (length body) rest) }
-    ensures route { (method target : List ℕ) (minor : ℕ) (fields : Fields) (rest relay body : List ℕ)
-        → asked_by method target minor fields rest ≡ deliver relay body
+    ensures route { (method target : List ℕ) (minor : ℕ) (fields : Fields)
+        (rest relay body : List ℕ) → asked_by method target minor fields rest ≡ deliver relay body
         → (route : RouteOf Place) × (first routes target ≡ Some route) × (route.value ≡ Messages) }
 {}
 
-/// What is asked is decided by the first 24,576 bytes, which is a longest head and a longest content.
+/// What is asked is decided by the first 24,576 bytes, which is a longest head and a longest
+/// content.
 pub fn first_bytes_decide()
-    ensures { (bytes more : List ℕ) (request : Request ℕ) → 24576 ≤ length bytes → Asks bytes request → Asks (bytes ++ more) request }
+    ensures { (bytes more : List ℕ) (request : Request ℕ) → 24576 ≤ length bytes
+        → Asks bytes request → Asks (bytes ++ more) request }
 {}
 
-/// What is asked of a roster, a base and a set of messages has at most one right reply: so requests that ask for the same get the same.
+/// What is asked of a roster, a base and a set of messages has at most one right reply: so requests
+/// that ask for the same get the same.
 pub fn one_reply()
-    ensures { (f : RosterFields AnyCmnd) (base : List Entry) (set : List Message) (asked : Asked ℕ) (a b : Reply)
-        → IsReply f base set asked a → IsReply f base set asked b → a ≡ b }
+    ensures { (f : RosterFields AnyCmnd) (base : List Entry) (set : List Message) (asked : Asked ℕ)
+        (a b : Reply) → IsReply f base set asked a → IsReply f base set asked b → a ≡ b }
 {}

@@ -32,7 +32,8 @@ impl Line {
     }
 }
 
-/// Where the scan stands after more bytes, and whether one of them ended the request line or the head.
+/// Where the scan stands after more bytes, and whether one of them ended the request line or the
+/// head.
 pub fn scan(line: Line, bytes: &[u8]) -> (Line, bool) {
     let mut line = line;
     let mut is_end = false;

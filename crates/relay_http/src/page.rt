@@ -32,7 +32,8 @@ fn put_decimal(page: &mut [u8], at: usize, n: usize) -> usize
     put(page, at, digits.format(n).as_bytes())
 }
 
-/// Puts the head of a reply, whose body has so many bytes, at the page's beginning, and answers where it ends.
+/// Puts the head of a reply, whose body has so many bytes, at the page's beginning, and answers
+/// where it ends.
 pub fn put_head(page: &mut [u8], status: Status, size: usize) -> usize
     requires { length page.old ≡ 4_096 }
     ensures len { length page.new ≡ length page.old }

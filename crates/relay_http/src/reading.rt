@@ -1,6 +1,7 @@
 //! Reading a request.
 
-ghost use Rattle.std.specs.Prelude.{◌≡◌, ◌≤◌, ◌<◌, ◌+◌, ℕ, length, take, drop, IfOk, IfSome, IsTrue};
+ghost use Rattle.std.specs.Prelude.{◌≡◌, ◌≤◌, ◌<◌, ◌+◌, ℕ, length};
+ghost use Rattle.std.specs.Prelude.{take, drop, IfOk, IfSome, IsTrue};
 ghost use Rattle.std.specs.Io.KnownBytes.{Consumes, IsAtEnd};
 ghost use Rattle.relay_http.specs.Asked.{Request};
 ghost use Rattle.relay_http.specs.Counting.{after_read};
@@ -34,7 +35,8 @@ enum Awaited {
     Nothing,
 }
 
-/// A buffer for the bytes that count. Zeros that stand somewhere are copied, which costs less than to write one after the other.
+/// A buffer for the bytes that count. Zeros that stand somewhere are copied, which costs less than
+/// to write one after the other.
 pub fn buffer(alloc: Global) -> Result<Vec<u8>, AllocError>
     ensures { IfOk result (λ buf. length buf.items ≡ most_read) }
 {
@@ -52,7 +54,8 @@ fn look(routes: &Routes, bytes: &[u8]) -> Awaited
     }
 }
 
-/// What is waited for after more bytes came, from this place on. The bytes are looked at where what was waited for is there.
+/// What is waited for after more bytes came, from this place on. The bytes are looked at where what
+/// was waited for is there.
 fn look_where_due(awaited: Awaited, routes: &Routes, bytes: &[u8], from: usize) -> Awaited
     requires { from ≤ length bytes.now }
     ensures { result ≡ Nothing → IsSettled bytes.now }
@@ -82,7 +85,8 @@ fn read_on<R: Read>(reader: &mut Counted<R>, buf: &mut [u8], filled: usize) -> i
     ensures fits { IfOk result (λ n. filled + n ≤ length buf.new) }
     ensures len { length buf.new ≡ length buf.old }
     ensures front { take filled buf.new ≡ take filled buf.old }
-    ensures bytes { IfOk result (λ n. Consumes (R.remaining reader.old.inner) (R.remaining reader.new.inner) (take n (drop filled buf.new))) }
+    ensures bytes { IfOk result (λ n. Consumes (R.remaining reader.old.inner)
+        (R.remaining reader.new.inner) (take n (drop filled buf.new))) }
     ensures end { IfOk result (λ n. n ≡ 0 → IsAtEnd (R.remaining reader.new.inner)) }
     ensures counted { reader.new.failures ≡ after_read result reader.old.failures }
 {
@@ -91,7 +95,8 @@ fn read_on<R: Read>(reader: &mut Counted<R>, buf: &mut [u8], filled: usize) -> i
 
 /// Reads until what has come says what the whole stream asks, and answers how many bytes that is.
 ///
-/// What has come is not looked at for each read, but for the first, once the request line is there, once the head is, and once its content is.
+/// What has come is not looked at for each read, but for the first, once the request line is there,
+/// once the head is, and once its content is.
 pub fn read_request<R: Read>(
     routes: &Routes,
     reader: &mut Counted<R>,
@@ -100,7 +105,8 @@ pub fn read_request<R: Read>(
     requires length { length buf.old ≡ most_read }
     ensures within { IfOk result (λ n. n ≤ length buf.new) }
     ensures len { length buf.new ≡ length buf.old }
-    ensures bytes { IfOk result (λ n. Consumes (R.remaining reader.old.inner) (R.remaining reader.new.inner) (take n buf.new)) }
+    ensures bytes { IfOk result (λ n.
+        Consumes (R.remaining reader.old.inner) (R.remaining reader.new.inner) (take n buf.new)) }
     ensures asks { IfOk result (λ n. IfSome (R.remaining reader.old.inner) (λ all.
         (request : Request ℕ) → Asks (take n buf.new) request → Asks all request)) }
     ensures counted { reader.new.failures ≡ after_read result reader.old.failures }

@@ -42,7 +42,8 @@ fn denial_line(denial: Denial) -> &'static [u8]
     }
 }
 
-/// The body of a refusal: its code and name, and a newline. It stands ready, since it is needed also where memory ran out.
+/// The body of a refusal: its code and name, and a newline. It stands ready, since it is needed
+/// also where memory ran out.
 pub fn refusal_line(refusal: Refusal) -> &'static [u8]
     ensures { result.now ≡ (replies.refusal refusal).body }
 {

@@ -15,7 +15,8 @@ fn push(out: &mut Vec<u8>, bytes: &[u8]) -> Result<(), AllocError>
     out.extend_from_slice(bytes)
 }
 
-/// The bytes of the reply of a status with a body. Content-Length is the body's length also where the body is left out, as in the reply to HEAD.
+/// The bytes of the reply of a status with a body. Content-Length is the body's length also where
+/// the body is left out, as in the reply to HEAD.
 pub fn written(
     alloc: Global,
     status: Status,
@@ -35,7 +36,8 @@ pub fn written(
 
 /// The bytes of the reply to a request that is refused by its bytes alone.
 pub fn refused(alloc: Global, fault: RequestFault, with_body: bool) -> Result<Vec<u8>, NoMemory>
-    ensures { IfOk result (λ out. out.items ≡ written (status_of fault) (fault_line fault) with_body) }
+    ensures { IfOk result
+        (λ out. out.items ≡ written (status_of fault) (fault_line fault) with_body) }
 {
     written(alloc, fault.status(), fault.line(), with_body)
 }

@@ -2,12 +2,14 @@
 
 ghost use Rattle.std.specs.Prelude.{◌≡◌, ◌≤◌, ◌++◌, ℕ, List, length, map, All, false};
 ghost use Rattle.httparse.specs.Spans.{IsHeaderWithin, header_bytes};
-ghost use Rattle.relay_http.specs.Asked.{Request, asked_of, grants, host_file_after, report, request_of};
+ghost use Rattle.relay_http.specs.Asked.{Request, asked_of, grants};
+ghost use Rattle.relay_http.specs.Asked.{host_file_after, report, request_of};
 ghost use Rattle.relay_http.specs.Content.{content_of};
 ghost use Rattle.relay_http.specs.Routes.{moment_parameter, parameter};
 ghost use Rattle.relay_http.specs.Settled.{is_short};
 ghost use Rattle.relay_http.specs.declared.request.More.TheVariants as more;
-ghost use Rattle.relay_http.specs.Wanted.{Asks, Dates, DatesRequest, asked_by, at_place, delivered, request_by};
+ghost use Rattle.relay_http.specs.Wanted.{Asks, Dates, DatesRequest, asked_by};
+ghost use Rattle.relay_http.specs.Wanted.{at_place, delivered, request_by};
 
 use crate::asked::{Ask, Wanted};
 use crate::content::{content, lacking};
@@ -68,7 +70,8 @@ fn report_at<'b>(at: &str) -> Ask<'b>
 /// A delivery by this relay.
 fn delivery<'b>(relay: &'b str, buf: &'b [u8], headers: &[HeaderSpan], rest: &'b [u8]) -> Ask<'b>
     requires { All (IsHeaderWithin (length buf.now)) headers.now }
-    ensures { asked_of result ≡ delivered relay.now (content_of (map (header_bytes buf.now) headers.now) rest.now) }
+    ensures { asked_of result
+        ≡ delivered relay.now (content_of (map (header_bytes buf.now) headers.now) rest.now) }
 {
     let codings = values_of(buf, headers, b"transfer-encoding");
     let lengths = values_of(buf, headers, b"content-length");
@@ -89,8 +92,9 @@ fn at_place<'b>(
     rest: &'b [u8],
 ) -> Ask<'b>
     requires { All (IsHeaderWithin (length buf.now)) headers.now }
-    ensures { (part_named : List ℕ → List ℕ) → part_named (parameter place) ≡ taken.now → part_named (moment_parameter place) ≡ moment.now
-        → Dates (at_place place method.now part_named (map (header_bytes buf.now) headers.now) rest.now) (asked_of result) }
+    ensures { (part_named : List ℕ → List ℕ) → part_named (parameter place) ≡ taken.now
+        → part_named (moment_parameter place) ≡ moment.now → Dates (at_place place method.now
+        part_named (map (header_bytes buf.now) headers.now) rest.now) (asked_of result) }
 {
     if !allow(place.methods(), method) {
         return Ask::Refused(RequestFault::BadMethod(place.methods()));
@@ -117,7 +121,8 @@ fn asked_by<'b>(
     rest: &'b [u8],
 ) -> Ask<'b>
     requires { All (IsHeaderWithin (length buf.now)) headers.now }
-    ensures { Dates (asked_by method.now target.now minor (map (header_bytes buf.now) headers.now) rest.now) (asked_of result) }
+    ensures { Dates (asked_by method.now target.now minor
+        (map (header_bytes buf.now) headers.now) rest.now) (asked_of result) }
 {
     if is_bad_host(minor, values_of(buf, headers, b"host")) {
         return Ask::Refused(RequestFault::BadHead);
@@ -144,7 +149,8 @@ fn wanted_by<'b>(
     rest: &'b [u8],
 ) -> Wanted<'b>
     requires { All (IsHeaderWithin (length buf.now)) headers.now }
-    ensures { DatesRequest (request_by method.now target.now minor (map (header_bytes buf.now) headers.now) rest.now) (request_of result) }
+    ensures { DatesRequest (request_by method.now target.now minor
+        (map (header_bytes buf.now) headers.now) rest.now) (request_of result) }
 {
     Wanted {
         with_body: !is_head(method),
@@ -203,7 +209,8 @@ fn head_awaited(come: usize) -> More
 /// What the bytes ask for, and what may still change that. It takes no memory.
 pub fn wanted_so_far<'b>(routes: &Routes, bytes: &'b [u8]) -> SoFar<'b>
     ensures asks { Asks bytes.now (request_of result.wanted) }
-    ensures settled { result.more ≡ more.Nothing → (behind : List ℕ) → Asks (bytes.now ++ behind) (request_of result.wanted) }
+    ensures settled { result.more ≡ more.Nothing → (behind : List ℕ)
+        → Asks (bytes.now ++ behind) (request_of result.wanted) }
 {
     let front = &bytes[..bytes.len().min(MOST_HEAD_BYTES)];
     let mut headers = [EMPTY_HEADER_SPAN; MOST_FIELDS];

@@ -4,7 +4,8 @@ ghost use Rattle.std.specs.Prelude.{◌≡◌, [], IfOk, IsTrue, OnOk, option_ma
 ghost use Rattle.matchit.specs.Params.{AllText, named, walk};
 ghost use Rattle.matchit.specs.Route.{parse_route};
 ghost use Rattle.matchit.specs.Seek.{first};
-ghost use Rattle.relay_http.specs.Routes.{IsFree, Takes, moment_parameter, parameter, routes, with_route};
+ghost use Rattle.relay_http.specs.Routes.{IsFree, Takes, moment_parameter};
+ghost use Rattle.relay_http.specs.Routes.{parameter, routes, with_route};
 ghost use Rattle.relay_http.specs.Target.{is_plain};
 
 use crate::place::Place;
@@ -38,10 +39,12 @@ impl Routes {
         })
     }
 
-    /// The place that a target's route leads to, with what the route's parameters took: the first, and the moment behind it.
+    /// The place that a target's route leads to, with what the route's parameters took: the first,
+    /// and the moment behind it.
     pub(crate) fn find<'b>(&self, target: &'b str) -> Option<(Place, &'b str, &'b str)>
         requires { IsTrue (is_plain target.now) }
-        ensures { Takes (first routes target.now) target.now (option_map (λ x. (x.0, x.1.now, x.2.now)) result) }
+        ensures { Takes (first routes target.now) target.now
+            (option_map (λ x. (x.0, x.1.now, x.2.now)) result) }
     {
         match self.router.at(target) {
             Ok(found) => Some((
@@ -115,16 +118,20 @@ fn moment_parameter(place: Place) -> &'static str
 
 /// What the first parameter of a place's route took.
 fn taken<'b>(place: Place, params: &Params<'_, 'b>) -> &'b str
-    requires { AllText (walk params.now.pattern.now params.now.text.now params.now.path.now params.now.names.now 0 0) }
-    ensures { result.now ≡ unwrap_or (named (parameter place) (walk params.now.pattern.now params.now.text.now params.now.path.now params.now.names.now 0 0)) [] }
+    requires { AllText (walk params.now.pattern.now params.now.text.now
+        params.now.path.now params.now.names.now 0 0) }
+    ensures { result.now ≡ unwrap_or (named (parameter place) (walk params.now.pattern.now
+        params.now.text.now params.now.path.now params.now.names.now 0 0)) [] }
 {
     params.get(parameter(place)).unwrap_or("")
 }
 
 /// What the moment behind it took.
 fn moment_taken<'b>(place: Place, params: &Params<'_, 'b>) -> &'b str
-    requires { AllText (walk params.now.pattern.now params.now.text.now params.now.path.now params.now.names.now 0 0) }
-    ensures { result.now ≡ unwrap_or (named (moment_parameter place) (walk params.now.pattern.now params.now.text.now params.now.path.now params.now.names.now 0 0)) [] }
+    requires { AllText (walk params.now.pattern.now params.now.text.now
+        params.now.path.now params.now.names.now 0 0) }
+    ensures { result.now ≡ unwrap_or (named (moment_parameter place) (walk params.now.pattern.now
+        params.now.text.now params.now.path.now params.now.names.now 0 0)) [] }
 {
     params.get(moment_parameter(place)).unwrap_or("")
 }

@@ -1,6 +1,7 @@
 //! Writing a reply.
 
-ghost use Rattle.std.specs.Prelude.{◌≡◌, ◌≤◌, ◌+◌, ◌++◌, [], drop, length, take, IfOk, MatchResult, OnErr};
+ghost use Rattle.std.specs.Prelude.{◌≡◌, ◌≤◌, ◌+◌, ◌++◌, [], drop, length};
+ghost use Rattle.std.specs.Prelude.{take, IfOk, MatchResult, OnErr};
 ghost use Rattle.std.specs.Io.KnownBytes.{Appends};
 ghost use Rattle.relay_http.specs.Counting.{one_failure};
 ghost use Rattle.relay_http.specs.Reply.{reply_head, written};
@@ -23,10 +24,13 @@ fn write_on<W: Write>(
 ) -> Result<usize, WriteFailed>
     requires { sent ≤ length bytes.now }
     ensures within { IfOk result (λ n. sent + n ≤ length bytes.now) }
-    ensures taken { IfOk result (λ n. Appends (W.contents writer.old.inner) (W.contents writer.new.inner) (take n (drop sent bytes.now))) }
-    ensures none { OnErr result (Appends (W.contents writer.old.inner) (W.contents writer.new.inner) []) }
+    ensures taken { IfOk result (λ n. Appends (W.contents writer.old.inner)
+        (W.contents writer.new.inner) (take n (drop sent bytes.now))) }
+    ensures none { OnErr result
+        (Appends (W.contents writer.old.inner) (W.contents writer.new.inner) []) }
     ensures some { IfOk result (λ n. 1 ≤ n) }
-    ensures counted { MatchResult result (λ _. writer.new.failures ≡ writer.old.failures) (λ _. writer.new.failures ≡ one_failure writer.old.failures) }
+    ensures counted { MatchResult result (λ _. writer.new.failures ≡ writer.old.failures)
+        (λ _. writer.new.failures ≡ one_failure writer.old.failures) }
 {
     match writer.write(&bytes[sent..]) {
         Ok(0) | Err(_) => Err(WriteFailed),
@@ -36,8 +40,10 @@ fn write_on<W: Write>(
 
 /// Writes all the bytes. Where a write fails or takes nothing, a beginning of them went out.
 fn send<W: Write>(writer: &mut Counted<W>, bytes: &[u8]) -> Result<(), WriteFailed>
-    ensures sent { Sends (W.contents writer.old.inner) (W.contents writer.new.inner) result bytes.now }
-    ensures counted { MatchResult result (λ _. writer.new.failures ≡ writer.old.failures) (λ _. writer.new.failures ≡ one_failure writer.old.failures) }
+    ensures sent { Sends (W.contents writer.old.inner)
+        (W.contents writer.new.inner) result bytes.now }
+    ensures counted { MatchResult result (λ _. writer.new.failures ≡ writer.old.failures)
+        (λ _. writer.new.failures ≡ one_failure writer.old.failures) }
 {
     let mut sent = 0;
     while sent < bytes.len() {
@@ -51,8 +57,10 @@ fn send<W: Write>(writer: &mut Counted<W>, bytes: &[u8]) -> Result<(), WriteFail
 
 /// Writes the one after the other.
 fn send_both<W: Write>(writer: &mut Counted<W>, head: &[u8], body: &[u8]) -> Result<(), WriteFailed>
-    ensures sent { Sends (W.contents writer.old.inner) (W.contents writer.new.inner) result (head.now ++ body.now) }
-    ensures counted { MatchResult result (λ _. writer.new.failures ≡ writer.old.failures) (λ _. writer.new.failures ≡ one_failure writer.old.failures) }
+    ensures sent { Sends (W.contents writer.old.inner)
+        (W.contents writer.new.inner) result (head.now ++ body.now) }
+    ensures counted { MatchResult result (λ _. writer.new.failures ≡ writer.old.failures)
+        (λ _. writer.new.failures ≡ one_failure writer.old.failures) }
 {
     let Ok(()) = send(writer, head) else {
         return Err(WriteFailed);
@@ -66,8 +74,10 @@ fn send_head<W: Write>(
     status: Status,
     size: usize,
 ) -> Result<(), WriteFailed>
-    ensures sent { Sends (W.contents writer.old.inner) (W.contents writer.new.inner) result (reply_head status size) }
-    ensures counted { MatchResult result (λ _. writer.new.failures ≡ writer.old.failures) (λ _. writer.new.failures ≡ one_failure writer.old.failures) }
+    ensures sent { Sends (W.contents writer.old.inner)
+        (W.contents writer.new.inner) result (reply_head status size) }
+    ensures counted { MatchResult result (λ _. writer.new.failures ≡ writer.old.failures)
+        (λ _. writer.new.failures ≡ one_failure writer.old.failures) }
 {
     let mut page = [0; PAGE];
     let end = put_head(&mut page, status, size);
@@ -80,8 +90,10 @@ fn send_whole<W: Write>(
     status: Status,
     body: &[u8],
 ) -> Result<(), WriteFailed>
-    ensures sent { Sends (W.contents writer.old.inner) (W.contents writer.new.inner) result (reply_head status (length body.now) ++ body.now) }
-    ensures counted { MatchResult result (λ _. writer.new.failures ≡ writer.old.failures) (λ _. writer.new.failures ≡ one_failure writer.old.failures) }
+    ensures sent { Sends (W.contents writer.old.inner) (W.contents writer.new.inner) result
+        (reply_head status (length body.now) ++ body.now) }
+    ensures counted { MatchResult result (λ _. writer.new.failures ≡ writer.old.failures)
+        (λ _. writer.new.failures ≡ one_failure writer.old.failures) }
 {
     let mut page = [0; PAGE];
     let end = put_head(&mut page, status, body.len());
@@ -92,15 +104,18 @@ fn send_whole<W: Write>(
     send(writer, &page[..end])
 }
 
-/// Writes the reply of a status with a body, or its head alone. It takes no memory. Where a write fails, a beginning of the reply went out.
+/// Writes the reply of a status with a body, or its head alone. It takes no memory. Where a write
+/// fails, a beginning of the reply went out.
 pub fn send_reply<W: Write>(
     writer: &mut Counted<W>,
     status: Status,
     body: &[u8],
     with_body: bool,
 ) -> Result<(), WriteFailed>
-    ensures sent { Sends (W.contents writer.old.inner) (W.contents writer.new.inner) result (written status body.now with_body) }
-    ensures counted { MatchResult result (λ _. writer.new.failures ≡ writer.old.failures) (λ _. writer.new.failures ≡ one_failure writer.old.failures) }
+    ensures sent { Sends (W.contents writer.old.inner)
+        (W.contents writer.new.inner) result (written status body.now with_body) }
+    ensures counted { MatchResult result (λ _. writer.new.failures ≡ writer.old.failures)
+        (λ _. writer.new.failures ≡ one_failure writer.old.failures) }
 {
     if with_body {
         send_whole(writer, status, body)

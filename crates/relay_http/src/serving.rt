@@ -9,7 +9,8 @@ ghost use Rattle.relay_http.specs.Counting.{one_failure};
 ghost use Rattle.relay_http.specs.Exchange.{HasReplied, IsAcknowledged, IsExchange, WritesWant};
 ghost use Rattle.relay_http.specs.Sent.{Sends};
 ghost use Rattle.relay_http.specs.Wanted.{Asks, HasHead};
-ghost use Rattle.relay_http.specs.declared.serving.ServeFault.TheVariants.{NoMemory, ReadFailed, WriteFailed};
+ghost use Rattle.relay_http.specs.declared.serving.ServeFault.TheVariants.{NoMemory, ReadFailed};
+ghost use Rattle.relay_http.specs.declared.serving.ServeFault.TheVariants.{WriteFailed};
 
 use crate::answering::answered;
 use crate::counted::Counted;
@@ -29,7 +30,8 @@ use std::io::{Read, Write};
 pub enum ServeFault {
     /// A read failed: nothing was written, and nothing was asked of the desk.
     ReadFailed,
-    /// A write failed, or took nothing: a beginning of the reply went out, and a message that was acknowledged stays.
+    /// A write failed, or took nothing: a beginning of the reply went out, and a message that was
+    /// acknowledged stays.
     WriteFailed,
     /// Memory ran out before anything was read.
     NoMemory,
@@ -52,7 +54,8 @@ impl fmt::Display for ServeFault {
 
 impl Error for ServeFault {}
 
-/// Has the desk answer what the bytes ask for, and writes the reply. Once a message is acknowledged no memory is taken.
+/// Has the desk answer what the bytes ask for, and writes the reply. Once a message is acknowledged
+/// no memory is taken.
 fn reply_to<K: Keeper, W: Write>(
     alloc: Global,
     routes: &Routes,
@@ -61,10 +64,12 @@ fn reply_to<K: Keeper, W: Write>(
     bytes: &[u8],
 ) -> Result<(), sending::WriteFailed>
     ensures exchange { (request : Request ℕ) × Asks bytes.now request
-        × IsExchange desk.old.roster.says desk.old.base (K.is_up desk.new.keeper) (K.holds desk.old.keeper) (K.holds desk.new.keeper)
-        (K.is_same desk.old.keeper desk.new.keeper) (Serves K.Keeper desk.old.keeper desk.new.keeper)
-        (λ reply. Sends (W.contents writer.old.inner) (W.contents writer.new.inner) result reply) request }
-    ensures counted { MatchResult result (λ _. writer.new.failures ≡ writer.old.failures) (λ _. writer.new.failures ≡ one_failure writer.old.failures) }
+        × IsExchange desk.old.roster.says desk.old.base (K.is_up desk.new.keeper)
+        (K.holds desk.old.keeper) (K.holds desk.new.keeper) (K.is_same desk.old.keeper
+        desk.new.keeper) (Serves K.Keeper desk.old.keeper desk.new.keeper) (λ reply.
+        Sends (W.contents writer.old.inner) (W.contents writer.new.inner) result reply) request }
+    ensures counted { MatchResult result (λ _. writer.new.failures ≡ writer.old.failures)
+        (λ _. writer.new.failures ≡ one_failure writer.old.failures) }
     ensures roster { desk.new.roster ≡ desk.old.roster }
     ensures base { desk.new.base ≡ desk.old.base }
 {
@@ -80,8 +85,10 @@ fn reply_to<K: Keeper, W: Write>(
 
 /// Does what `serve_one` does, in the workspace that one exchange leaves to the next.
 ///
-/// The buffer and the routes are those of the workspace. Where an earlier exchange did not leave them there, they are made before anything is read: where memory is refused for
-/// them it is `NoMemory`, and nothing was read. Want of memory later is a reply of the desk. Once a message is acknowledged no memory is taken.
+/// The buffer and the routes are those of the workspace. Where an earlier exchange did not leave
+/// them there, they are made before anything is read: where memory is refused for them it is
+/// `NoMemory`, and nothing was read. Want of memory later is a reply of the desk. Once a message is
+/// acknowledged no memory is taken.
 pub fn serve_in<K: Keeper, R: Read, W: Write>(
     alloc: Global,
     desk: &mut Desk<K>,
@@ -89,27 +96,38 @@ pub fn serve_in<K: Keeper, R: Read, W: Write>(
     reader: &mut Counted<R>,
     writer: &mut Counted<W>,
 ) -> Result<(), ServeFault>
-    // The bytes that the reader has left ask for one thing. The desk's reply to it was written, or where a write failed a beginning of it.
-    ensures exchange { HasReplied result → IfSome (R.remaining reader.old.inner) (λ all. (request : Request ℕ) → Asks all request
-        → IsExchange desk.old.roster.says desk.old.base (K.is_up desk.new.keeper) (K.holds desk.old.keeper) (K.holds desk.new.keeper)
-        (K.is_same desk.old.keeper desk.new.keeper) (Serves K.Keeper desk.old.keeper desk.new.keeper)
-        (λ bytes. Sends (W.contents writer.old.inner) (W.contents writer.new.inner) result bytes) request) }
-    // A GET or HEAD leaves all as it was, and so does each exchange but that of a POST to a relay's messages with the status 200.
-    ensures queries { HasReplied result → K.is_up desk.new.keeper → IfSome (R.remaining reader.old.inner) (λ all. (head : RequestHead) → HasHead all head
+    // The bytes that the reader has left ask for one thing. The desk's reply to it was written, or
+    // where a write failed a beginning of it.
+    ensures exchange { HasReplied result
+        → IfSome (R.remaining reader.old.inner) (λ all. (request : Request ℕ) → Asks all request
+        → IsExchange desk.old.roster.says desk.old.base (K.is_up desk.new.keeper)
+        (K.holds desk.old.keeper) (K.holds desk.new.keeper) (K.is_same desk.old.keeper
+        desk.new.keeper) (Serves K.Keeper desk.old.keeper desk.new.keeper) (λ bytes.
+        Sends (W.contents writer.old.inner) (W.contents writer.new.inner) result bytes) request) }
+    // A GET or HEAD leaves all as it was, and so does each exchange but that of a POST to a relay's
+    // messages with the status 200.
+    ensures queries { HasReplied result → K.is_up desk.new.keeper
+        → IfSome (R.remaining reader.old.inner) (λ all. (head : RequestHead) → HasHead all head
         → head.method ≢ codes "POST" → K.is_same desk.old.keeper desk.new.keeper) }
-    ensures changes { HasReplied result → K.is_up desk.new.keeper → IfSome (R.remaining reader.old.inner) (λ all. K.is_same desk.old.keeper desk.new.keeper
-        ⊎ IsAcknowledged all (λ bytes. Sends (W.contents writer.old.inner) (W.contents writer.new.inner) result bytes)) }
-    ensures unanswered { (result ≡ Err ReadFailed) ⊎ (result ≡ Err NoMemory) → (desk.new ≡ desk.old) × (writer.new ≡ writer.old) }
+    ensures changes { HasReplied result → K.is_up desk.new.keeper
+        → IfSome (R.remaining reader.old.inner)
+        (λ all. K.is_same desk.old.keeper desk.new.keeper ⊎ IsAcknowledged all
+        (λ bytes. Sends (W.contents writer.old.inner) (W.contents writer.new.inner) result bytes)) }
+    ensures unanswered { (result ≡ Err ReadFailed) ⊎ (result ≡ Err NoMemory)
+        → (desk.new ≡ desk.old) × (writer.new ≡ writer.old) }
     ensures unread { result ≡ Err NoMemory → reader.new ≡ reader.old }
-    ensures read_failed { result ≡ Err ReadFailed → HasFailed reader.old.failures reader.new.failures }
-    ensures write_failed { result ≡ Err WriteFailed → HasFailed writer.old.failures writer.new.failures }
+    ensures read_failed { result ≡ Err ReadFailed
+        → HasFailed reader.old.failures reader.new.failures }
+    ensures write_failed { result ≡ Err WriteFailed
+        → HasFailed writer.old.failures writer.new.failures }
     // At Ok no read and no write failed, not even one that was tried again.
-    ensures unfailing { OnOk result ((reader.new.failures ≡ reader.old.failures) × (writer.new.failures ≡ writer.old.failures)) }
+    ensures unfailing { OnOk result ((reader.new.failures ≡ reader.old.failures)
+        × (writer.new.failures ≡ writer.old.failures)) }
     ensures roster { desk.new.roster ≡ desk.old.roster }
     ensures base { desk.new.base ≡ desk.old.base }
     // The keeper is up then, unless a reply of K4 or K5 was written, or a beginning of it.
-    ensures served { Serves K.Keeper desk.old.keeper desk.new.keeper ⊥
-        (WritesWant (λ bytes. Sends (W.contents writer.old.inner) (W.contents writer.new.inner) result bytes)) }
+    ensures served { Serves K.Keeper desk.old.keeper desk.new.keeper ⊥ (WritesWant
+        (λ bytes. Sends (W.contents writer.old.inner) (W.contents writer.new.inner) result bytes)) }
 {
     let Ok(kept) = workspace.kept(alloc) else {
         return Err(ServeFault::NoMemory);
@@ -125,35 +143,47 @@ pub fn serve_in<K: Keeper, R: Read, W: Write>(
 
 /// Reads a request, has the desk answer it, and writes the reply.
 ///
-/// The buffer and the routes are made before anything is read: where memory is refused for them it is `NoMemory`, and nothing was read.
-/// Want of memory later is a reply of the desk. Once a message is acknowledged no memory is taken.
+/// The buffer and the routes are made before anything is read: where memory is refused for them it
+/// is `NoMemory`, and nothing was read. Want of memory later is a reply of the desk. Once a message
+/// is acknowledged no memory is taken.
 pub fn serve_one<K: Keeper, R: Read, W: Write>(
     alloc: Global,
     desk: &mut Desk<K>,
     reader: &mut Counted<R>,
     writer: &mut Counted<W>,
 ) -> Result<(), ServeFault>
-    // The bytes that the reader has left ask for one thing. The desk's reply to it was written, or where a write failed a beginning of it.
-    ensures exchange { HasReplied result → IfSome (R.remaining reader.old.inner) (λ all. (request : Request ℕ) → Asks all request
-        → IsExchange desk.old.roster.says desk.old.base (K.is_up desk.new.keeper) (K.holds desk.old.keeper) (K.holds desk.new.keeper)
-        (K.is_same desk.old.keeper desk.new.keeper) (Serves K.Keeper desk.old.keeper desk.new.keeper)
-        (λ bytes. Sends (W.contents writer.old.inner) (W.contents writer.new.inner) result bytes) request) }
-    // A GET or HEAD leaves all as it was, and so does each exchange but that of a POST to a relay's messages with the status 200.
-    ensures queries { HasReplied result → K.is_up desk.new.keeper → IfSome (R.remaining reader.old.inner) (λ all. (head : RequestHead) → HasHead all head
+    // The bytes that the reader has left ask for one thing. The desk's reply to it was written, or
+    // where a write failed a beginning of it.
+    ensures exchange { HasReplied result
+        → IfSome (R.remaining reader.old.inner) (λ all. (request : Request ℕ) → Asks all request
+        → IsExchange desk.old.roster.says desk.old.base (K.is_up desk.new.keeper)
+        (K.holds desk.old.keeper) (K.holds desk.new.keeper) (K.is_same desk.old.keeper
+        desk.new.keeper) (Serves K.Keeper desk.old.keeper desk.new.keeper) (λ bytes.
+        Sends (W.contents writer.old.inner) (W.contents writer.new.inner) result bytes) request) }
+    // A GET or HEAD leaves all as it was, and so does each exchange but that of a POST to a relay's
+    // messages with the status 200.
+    ensures queries { HasReplied result → K.is_up desk.new.keeper
+        → IfSome (R.remaining reader.old.inner) (λ all. (head : RequestHead) → HasHead all head
         → head.method ≢ codes "POST" → K.is_same desk.old.keeper desk.new.keeper) }
-    ensures changes { HasReplied result → K.is_up desk.new.keeper → IfSome (R.remaining reader.old.inner) (λ all. K.is_same desk.old.keeper desk.new.keeper
-        ⊎ IsAcknowledged all (λ bytes. Sends (W.contents writer.old.inner) (W.contents writer.new.inner) result bytes)) }
-    ensures unanswered { (result ≡ Err ReadFailed) ⊎ (result ≡ Err NoMemory) → (desk.new ≡ desk.old) × (writer.new ≡ writer.old) }
+    ensures changes { HasReplied result → K.is_up desk.new.keeper
+        → IfSome (R.remaining reader.old.inner)
+        (λ all. K.is_same desk.old.keeper desk.new.keeper ⊎ IsAcknowledged all
+        (λ bytes. Sends (W.contents writer.old.inner) (W.contents writer.new.inner) result bytes)) }
+    ensures unanswered { (result ≡ Err ReadFailed) ⊎ (result ≡ Err NoMemory)
+        → (desk.new ≡ desk.old) × (writer.new ≡ writer.old) }
     ensures unread { result ≡ Err NoMemory → reader.new ≡ reader.old }
-    ensures read_failed { result ≡ Err ReadFailed → HasFailed reader.old.failures reader.new.failures }
-    ensures write_failed { result ≡ Err WriteFailed → HasFailed writer.old.failures writer.new.failures }
+    ensures read_failed { result ≡ Err ReadFailed
+        → HasFailed reader.old.failures reader.new.failures }
+    ensures write_failed { result ≡ Err WriteFailed
+        → HasFailed writer.old.failures writer.new.failures }
     // At Ok no read and no write failed, not even one that was tried again.
-    ensures unfailing { OnOk result ((reader.new.failures ≡ reader.old.failures) × (writer.new.failures ≡ writer.old.failures)) }
+    ensures unfailing { OnOk result ((reader.new.failures ≡ reader.old.failures)
+        × (writer.new.failures ≡ writer.old.failures)) }
     ensures roster { desk.new.roster ≡ desk.old.roster }
     ensures base { desk.new.base ≡ desk.old.base }
     // The keeper is up then, unless a reply of K4 or K5 was written, or a beginning of it.
-    ensures served { Serves K.Keeper desk.old.keeper desk.new.keeper ⊥
-        (WritesWant (λ bytes. Sends (W.contents writer.old.inner) (W.contents writer.new.inner) result bytes)) }
+    ensures served { Serves K.Keeper desk.old.keeper desk.new.keeper ⊥ (WritesWant
+        (λ bytes. Sends (W.contents writer.old.inner) (W.contents writer.new.inner) result bytes)) }
 {
     let mut workspace = Workspace::new();
     serve_in(alloc, desk, &mut workspace, reader, writer)

@@ -36,7 +36,8 @@ fn and_one<'b>(found: Values<'b>, value: &'b [u8]) -> Values<'b>
 
 fn count<'b>(buf: &'b [u8], headers: &[HeaderSpan], name: &[u8]) -> Values<'b>
     requires { All (IsHeaderWithin (length buf.now)) headers.now }
-    ensures { seen_of result ≡ and_all nothing (values name.now (map (header_bytes buf.now) headers.now)) }
+    ensures { seen_of result
+        ≡ and_all nothing (values name.now (map (header_bytes buf.now) headers.now)) }
 {
     let mut found = Values::Nothing;
     for header in headers {

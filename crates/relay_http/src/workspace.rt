@@ -8,7 +8,8 @@ use crate::routes::Routes;
 use std::alloc::Global;
 use sudo_words::NoMemory;
 
-/// The routes, and a buffer for a request. What an earlier request left in the buffer is never looked at.
+/// The routes, and a buffer for a request. What an earlier request left in the buffer is never
+/// looked at.
 #[derive(Drop)]
 pub(crate) struct Kept {
     pub(crate) routes: Routes,
@@ -25,7 +26,8 @@ impl Kept {
     }
 }
 
-/// What one exchange leaves to the next, so that it is not made anew for each: the routes, and a buffer for a request. The first exchange makes it.
+/// What one exchange leaves to the next, so that it is not made anew for each: the routes, and a
+/// buffer for a request. The first exchange makes it.
 #[derive(Drop)]
 pub struct Workspace {
     kept: Option<Kept>,

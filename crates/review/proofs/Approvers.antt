@@ -54,7 +54,8 @@ less_is_le x y e =
 -- the first approval comes before each of the others
 after : (a x : List ℕ × ℕ) (others : List (List ℕ × ℕ)) → IsStrictlySortedBy approval_cmp (a ∷ others) → Contains others x → approval_cmp a x ≡ Less
 after a x others sorted there =
-    All-contains (λ y. approval_cmp a y ≡ Less) others x (All-from_recursion (λ y. approval_cmp a y ≡ Less) others (sorted_head approval_cmp a others sorted)) there
+    All-contains (λ y. approval_cmp a y ≡ Less) others x
+    (All-from_recursion (λ y. approval_cmp a y ≡ Less) others (sorted_head approval_cmp a others sorted)) there
 
 -- and so, where it is the same person's, no later
 no_later : (a : List ℕ × ℕ) (at : ℕ) (others : List (List ℕ × ℕ)) → IsStrictlySortedBy approval_cmp (a ∷ others) → Contains others (a.0, at) → a.1 ≤ at
@@ -70,7 +71,8 @@ keys ws = map (λ w. w.0) ws
 -- ---- one person
 
 module _ (f : RosterFields Cmnd) (c : CeilingFields Cmnd) (asker : List ℕ) where
-  alike : (person : List ℕ) (P Q : ℕ → Type 0) → ((at : ℕ) → P at → Q at) → ((at : ℕ) → Q at → P at) → (why : Option Reason) → IsWhy f c asker person P why → IsWhy f c asker person Q why
+  alike : (person : List ℕ) (P Q : ℕ → Type 0) → ((at : ℕ) → P at → Q at) → ((at : ℕ) → Q at → P at)
+      → (why : Option Reason) → IsWhy f c asker person P why → IsWhy f c asker person Q why
   alike person P Q to back None is = record { moment = is.moment; approved = to is.moment is.approved; eligible_then = is.eligible_then }
   alike person P Q to back (Some why) is = record {
     first = is.first;
@@ -98,11 +100,17 @@ module _ (f : RosterFields Cmnd) (c : CeilingFields Cmnd) (asker : List ℕ) whe
   }
     where
       own : (at : ℕ) → Contains (a ∷ others) (a.0, at) → a.1 ≡ at
-      own at there = elim (cases_behind a others (a.0, at) there) as (λ _. a.1 ≡ at) [ inl same ↦ ap (λ (x : List ℕ × ℕ). x.1) same | inr more ↦ absurd (none at more) ]
+      own at there =
+          elim (cases_behind a others (a.0, at) there) as (λ _. a.1 ≡ at) [ inl same ↦ ap (λ (x : List ℕ × ℕ). x.1) same | inr more ↦ absurd (none at more) ]
 
-  with_later : (a : List ℕ × ℕ) (others : List (List ℕ × ℕ)) (why later : Option Reason) → reason f c asker a.0 a.1 ≡ why → ((at : ℕ) → Contains others (a.0, at) → a.1 ≤ at)
+  with_later : (a : List ℕ × ℕ) (others : List (List ℕ × ℕ)) (why later : Option Reason)
+      → reason f c asker a.0 a.1 ≡ why → ((at : ℕ) → Contains others (a.0, at) → a.1 ≤ at)
       → IsWhy f c asker a.0 (λ at. Contains others (a.0, at)) later → IsWhy f c asker a.0 (λ at. Contains (a ∷ others) (a.0, at)) (both why later)
-  with_later a others None later e sooner is = record { moment = a.1; approved = Contains-head a others; eligible_then = unbarred_is_eligible f c asker a.0 a.1 e }
+  with_later a others None later e sooner is = record {
+    moment = a.1;
+    approved = Contains-head a others;
+    eligible_then = unbarred_is_eligible f c asker a.0 a.1 e;
+  }
   with_later a others (Some why) None e sooner is =
       record { moment = is.moment; approved = Contains-behind a others (a.0, is.moment) is.approved; eligible_then = is.eligible_then }
   with_later a others (Some why) (Some other) e sooner is = record {
@@ -120,8 +128,8 @@ module _ (f : RosterFields Cmnd) (c : CeilingFields Cmnd) (asker : List ℕ) whe
   }
 
   -- an approval changes nothing of other people
-  of_another : (a : List ℕ × ℕ) (others : List (List ℕ × ℕ)) (person : List ℕ) (why : Option Reason) → (person ≡ a.0 → ⊥) → IsWhy f c asker person (λ at. Contains others (person, at)) why
-      → IsWhy f c asker person (λ at. Contains (a ∷ others) (person, at)) why
+  of_another : (a : List ℕ × ℕ) (others : List (List ℕ × ℕ)) (person : List ℕ) (why : Option Reason) → (person ≡ a.0 → ⊥)
+      → IsWhy f c asker person (λ at. Contains others (person, at)) why → IsWhy f c asker person (λ at. Contains (a ∷ others) (person, at)) why
   of_another a others person why other is =
       alike person (λ at. Contains others (person, at)) (λ at. Contains (a ∷ others) (person, at))
       (λ at there. Contains-behind a others (person, at) there)
@@ -148,18 +156,22 @@ module _ (f : RosterFields Cmnd) (c : CeilingFields Cmnd) (asker : List ℕ) whe
   differs : (p person : List ℕ) → text_order p person ≡ Less → person ≡ p → ⊥
   differs p person e same = not_below_itself p (subst (λ (x : List ℕ). text_order p x ≡ Less) same e)
 
-  rising_more : (p : List ℕ) (ps : List (List ℕ)) → AllByRecursion (λ y. text_order p y ≡ Less) ps → IsStrictlySortedBy text_order ps → IsStrictlySortedBy text_order (p ∷ ps)
+  rising_more : (p : List ℕ) (ps : List (List ℕ)) → AllByRecursion (λ y. text_order p y ≡ Less) ps
+      → IsStrictlySortedBy text_order ps → IsStrictlySortedBy text_order (p ∷ ps)
   unfolding IsStrictlySortedBy
   rising_more p ps all rising = (all, rising)
 
-  in_front : (a : List ℕ × ℕ) (others : List (List ℕ × ℕ)) (ws : List (List ℕ × Option Reason)) → AllByRecursion (λ y. text_order a.0 y ≡ Less) (keys ws) → WhysAre others ws
-      → WhysAre (a ∷ others) ((a.0, reason f c asker a.0 a.1) ∷ ws)
+  in_front : (a : List ℕ × ℕ) (others : List (List ℕ × ℕ)) (ws : List (List ℕ × Option Reason))
+      → AllByRecursion (λ y. text_order a.0 y ≡ Less) (keys ws) → WhysAre others ws → WhysAre (a ∷ others) ((a.0, reason f c asker a.0 a.1) ∷ ws)
   in_front a others ws low was = record {
     rising = rising_more a.0 (keys ws) low was.rising;
-    each = λ person why there. elim (cases_behind (a.0, (reason f c asker a.0 a.1)) ws (person, why) there) as (λ _. IsWhy f c asker person (λ at. Contains (a ∷ others) (person, at)) why) [
-      | inl same ↦ subst (λ (w : List ℕ × Option Reason). IsWhy f c asker w.0 (λ at. Contains (a ∷ others) (w.0, at)) w.1) same (alone a others (reason f c asker a.0 a.1) refl none)
-      | inr more ↦ of_another a others person why (differs a.0 person (above a.0 person (keys ws) low (key_of ws person why more))) (was.each person why more)
-    ];
+    each = λ person why there. elim (cases_behind (a.0, (reason f c asker a.0 a.1)) ws (person, why) there)
+        as (λ _. IsWhy f c asker person (λ at. Contains (a ∷ others) (person, at)) why) [
+          | inl same ↦ subst (λ (w : List ℕ × Option Reason). IsWhy f c asker w.0 (λ at. Contains (a ∷ others) (w.0, at)) w.1) same
+              (alone a others (reason f c asker a.0 a.1) refl none)
+          | inr more ↦
+              of_another a others person why (differs a.0 person (above a.0 person (keys ws) low (key_of ws person why more))) (was.each person why more)
+        ];
     all = λ person at there. elim (cases_behind a others (person, at) there) as (λ _. Contains (a.0 ∷ keys ws) person) [
       | inl same ↦ subst (λ (x : List ℕ × ℕ). Contains (a.0 ∷ keys ws) x.0) same (Contains-head a.0 (keys ws))
       | inr more ↦ Contains-behind a.0 (keys ws) person (was.all person at more)
@@ -169,31 +181,33 @@ module _ (f : RosterFields Cmnd) (c : CeilingFields Cmnd) (asker : List ℕ) whe
       none : (at : ℕ) → Contains others (a.0, at) → ⊥
       none at there = not_below_itself a.0 (above a.0 a.0 (keys ws) low (was.all a.0 at there))
 
-  one_more : (a : List ℕ × ℕ) (others : List (List ℕ × ℕ)) (w : List ℕ × Option Reason) (ws : List (List ℕ × Option Reason)) → w.0 ≡ a.0 → IsStrictlySortedBy approval_cmp (a ∷ others)
-      → WhysAre others (w ∷ ws) → WhysAre (a ∷ others) ((a.0, both (reason f c asker a.0 a.1) w.1) ∷ ws)
+  one_more : (a : List ℕ × ℕ) (others : List (List ℕ × ℕ)) (w : List ℕ × Option Reason) (ws : List (List ℕ × Option Reason)) → w.0 ≡ a.0
+      → IsStrictlySortedBy approval_cmp (a ∷ others) → WhysAre others (w ∷ ws) → WhysAre (a ∷ others) ((a.0, both (reason f c asker a.0 a.1) w.1) ∷ ws)
   one_more a others w ws same sorted was = record {
     rising = subst (λ (p : List ℕ). IsStrictlySortedBy text_order (p ∷ keys ws)) same was.rising;
-    each = λ person why there. elim (cases_behind (a.0, both (reason f c asker a.0 a.1) w.1) ws (person, why) there) as (λ _. IsWhy f c asker person (λ at. Contains (a ∷ others) (person, at)) why) [
-      | inl is ↦ subst (λ (x : List ℕ × Option Reason). IsWhy f c asker x.0 (λ at. Contains (a ∷ others) (x.0, at)) x.1) is
-          (with_later a others (reason f c asker a.0 a.1) w.1 refl (λ at more. no_later a at others sorted more)
-          (subst (λ (p : List ℕ). IsWhy f c asker p (λ at. Contains others (p, at)) w.1) same (was.each w.0 w.1 (Contains-head w ws))))
-      | inr more ↦ of_another a others person why
-          (λ e. differs w.0 person (above w.0 person (keys ws) (sorted_head text_order w.0 (keys ws) was.rising) (key_of ws person why more)) (e ∙ sym same))
-          (was.each person why (Contains-behind w ws (person, why) more))
-    ];
+    each = λ person why there. elim (cases_behind (a.0, both (reason f c asker a.0 a.1) w.1) ws (person, why) there)
+        as (λ _. IsWhy f c asker person (λ at. Contains (a ∷ others) (person, at)) why) [
+          | inl is ↦ subst (λ (x : List ℕ × Option Reason). IsWhy f c asker x.0 (λ at. Contains (a ∷ others) (x.0, at)) x.1) is
+              (with_later a others (reason f c asker a.0 a.1) w.1 refl (λ at more. no_later a at others sorted more)
+              (subst (λ (p : List ℕ). IsWhy f c asker p (λ at. Contains others (p, at)) w.1) same (was.each w.0 w.1 (Contains-head w ws))))
+          | inr more ↦ of_another a others person why (λ e.
+              differs w.0 person (above w.0 person (keys ws) (sorted_head text_order w.0 (keys ws) was.rising) (key_of ws person why more)) (e ∙ sym same))
+              (was.each person why (Contains-behind w ws (person, why) more))
+        ];
     all = λ person at there. elim (cases_behind a others (person, at) there) as (λ _. Contains (a.0 ∷ keys ws) person) [
       | inl is ↦ subst (λ (x : List ℕ × ℕ). Contains (a.0 ∷ keys ws) x.0) is (Contains-head a.0 (keys ws))
       | inr more ↦ subst (λ (p : List ℕ). Contains (p ∷ keys ws) person) same (was.all person at more)
     ];
   }
 
-  all_above : (p q : List ℕ) (ps : List (List ℕ)) → text_order p q ≡ Less → AllByRecursion (λ y. text_order q y ≡ Less) ps → AllByRecursion (λ y. text_order p y ≡ Less) ps
+  all_above : (p q : List ℕ) (ps : List (List ℕ)) → text_order p q ≡ Less
+      → AllByRecursion (λ y. text_order q y ≡ Less) ps → AllByRecursion (λ y. text_order p y ≡ Less) ps
   all_above p q [] e all = tt
   all_above p q (x ∷ xs) e all = (nat_list_cmp_total.trans p q x e all.0, all_above p q xs e all.1)
 
   -- whoever comes next and is somebody else comes after
-  next_above : (a : List ℕ × ℕ) (others : List (List ℕ × ℕ)) (person : List ℕ) (at : ℕ) → bytes_eq person a.0 ≡ false → IsStrictlySortedBy approval_cmp (a ∷ others) → Contains others (person, at)
-      → text_order a.0 person ≡ Less
+  next_above : (a : List ℕ × ℕ) (others : List (List ℕ × ℕ)) (person : List ℕ) (at : ℕ) → bytes_eq person a.0 ≡ false
+      → IsStrictlySortedBy approval_cmp (a ∷ others) → Contains others (person, at) → text_order a.0 person ≡ Less
   next_above a others person at other sorted there =
       elim (then_less (text_order a.0 person) (nat_cmp a.1 at) (after a (person, at) others sorted there)) as (λ _. text_order a.0 person ≡ Less) [
         | inl below ↦ below
@@ -202,8 +216,8 @@ module _ (f : RosterFields Cmnd) (c : CeilingFields Cmnd) (asker : List ℕ) whe
             absurd (both_ways _ other ((bytes_eq-Decides person a.0).1 (sym same)))
       ]
 
-  joined_are : (a : List ℕ × ℕ) (others : List (List ℕ × ℕ)) (ws : List (List ℕ × Option Reason)) → IsStrictlySortedBy approval_cmp (a ∷ others) → WhysAre others ws
-      → WhysAre (a ∷ others) (joined a.0 (reason f c asker a.0 a.1) ws)
+  joined_are : (a : List ℕ × ℕ) (others : List (List ℕ × ℕ)) (ws : List (List ℕ × Option Reason))
+      → IsStrictlySortedBy approval_cmp (a ∷ others) → WhysAre others ws → WhysAre (a ∷ others) (joined a.0 (reason f c asker a.0 a.1) ws)
   joined_are a others [] sorted was = in_front a others [] tt was
   joined_are a others (w ∷ ws) sorted was =
       let own = reason f c asker a.0 a.1 in
@@ -240,7 +254,8 @@ why_of (w ∷ ws) person there =
     ]
 
 module _ (f : RosterFields Cmnd) (set : List Message) (c : CeilingFields Cmnd) (q : RequestFields) where
-  pub their_lines : (ws : List (List ℕ × Option Reason)) → ((person : List ℕ) (why : Option Reason) → Contains ws (person, why) → IsWhy f c q.by person (HasApprovedAt set q person) why)
+  pub their_lines : (ws : List (List ℕ × Option Reason))
+      → ((person : List ℕ) (why : Option Reason) → Contains ws (person, why) → IsWhy f c q.by person (HasApprovedAt set q person) why)
       → AreParts (AreBarredLines f set c q) (map (λ w. w.0) ws) (flat_map (λ w. barred_for q w.0 w.1) ws)
   their_lines [] each = refl
   their_lines (w ∷ ws) each = (
@@ -252,10 +267,11 @@ module _ (f : RosterFields Cmnd) (set : List Message) (c : CeilingFields Cmnd) (
   )
 
   module _ (others : List (List ℕ × ℕ)) (are : AreApprovals set q others) where
-    each_why : (person : List ℕ) (why : Option Reason) → Contains (whys (reason f c q.by) others) (person, why) → IsWhy f c q.by person (HasApprovedAt set q person) why
+    each_why : (person : List ℕ) (why : Option Reason) → Contains (whys (reason f c q.by) others) (person, why)
+        → IsWhy f c q.by person (HasApprovedAt set q person) why
     each_why person why there =
-        alike f c q.by person (λ at. Contains others (person, at)) (HasApprovedAt set q person) (λ at. (are.each person at).0) (λ at. (are.each person at).1) why
-        ((whys_are f c q.by others are.in_order).each person why there)
+        alike f c q.by person (λ at. Contains others (person, at)) (HasApprovedAt set q person) (λ at. (are.each person at).0)
+        (λ at. (are.each person at).1) why ((whys_are f c q.by others are.in_order).each person why there)
 
     pub approvers_are : AreAll text_order (HasApproved set q) (map (λ w. w.0) (whys (reason f c q.by) others))
     approvers_are = record {
@@ -266,5 +282,6 @@ module _ (f : RosterFields Cmnd) (set : List Message) (c : CeilingFields Cmnd) (
       all = λ person is. (whys_are f c q.by others are.in_order).all person is.0 ((are.each person is.0).1 is.1);
     }
 
-    pub barred_are : AreParts (AreBarredLines f set c q) (map (λ w. w.0) (whys (reason f c q.by) others)) (flat_map (λ w. barred_for q w.0 w.1) (whys (reason f c q.by) others))
+    pub barred_are : AreParts (AreBarredLines f set c q) (map (λ w. w.0) (whys (reason f c q.by) others))
+        (flat_map (λ w. barred_for q w.0 w.1) (whys (reason f c q.by) others))
     barred_are = their_lines (whys (reason f c q.by) others) each_why

@@ -12,7 +12,8 @@ use Rattle.review.specs.private.Whys.{both, joined, with_lines}
 use Rattle.review.proofs.ReportLists.{lines_both}
 
 -- the person stands first
-first_is : (p : List ℕ) (x : Option Reason) (ws : List (List ℕ × Option Reason)) → (y : Option Reason) × (rest : List (List ℕ × Option Reason)) × (joined p x ws ≡ (p, y) ∷ rest)
+first_is : (p : List ℕ) (x : Option Reason) (ws : List (List ℕ × Option Reason))
+    → (y : Option Reason) × (rest : List (List ℕ × Option Reason)) × (joined p x ws ≡ (p, y) ∷ rest)
 first_is p x [] = (x, [], refl)
 first_is p x (w ∷ ws) =
     elim (cases_Bool (bytes_eq w.0 p)) as (λ _. (y : Option Reason) × (rest : List (List ℕ × Option Reason)) × (joined p x (w ∷ ws) ≡ (p, y) ∷ rest)) [
@@ -20,7 +21,8 @@ first_is p x (w ∷ ws) =
       | inr e ↦ (x, w ∷ ws, cond-false (bytes_eq w.0 p) ((p, both x w.1) ∷ ws) ((p, x) ∷ w ∷ ws) e)
     ]
 
-joined_other : (p r : List ℕ) (x y : Option Reason) (ws : List (List ℕ × Option Reason)) → bytes_eq r p ≡ false → joined p x (joined r y ws) ≡ (p, x) ∷ joined r y ws
+joined_other : (p r : List ℕ) (x y : Option Reason) (ws : List (List ℕ × Option Reason))
+    → bytes_eq r p ≡ false → joined p x (joined r y ws) ≡ (p, x) ∷ joined r y ws
 joined_other p r x y ws e =
     let shape = first_is r y ws in
     ap (joined p x) shape.2

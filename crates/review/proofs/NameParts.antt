@@ -16,7 +16,8 @@ pub empty_part : (IsPart : Kept → List (List ℕ) → Type 0) (text : List ℕ
 empty_part IsPart text none = ([], none, refl)
 
 module _ (f : RosterFields Cmnd) (base : List Entry) (set : List Message) (at : ℕ) where
-  pub one_more_name : (xs : List Kept) (i : ℕ) (k : Kept) (old new : Parts) → i < length xs → k ≡ get_or xs i k → HaveNames f base set at (take i xs) old → AddsName f base set at k old new → HaveNames f base set at (take (i + 1) xs) new
+  pub one_more_name : (xs : List Kept) (i : ℕ) (k : Kept) (old new : Parts) → i < length xs → k ≡ get_or xs i k
+      → HaveNames f base set at (take i xs) old → AddsName f base set at k old new → HaveNames f base set at (take (i + 1) xs) new
   one_more_name xs i k old new below is have adds = record {
     live = more_lines (AreLiveOf f base set at) xs i k [] (string_bytes old.live) (string_bytes new.live) below is have.live adds.live;
     barred = more_lines (AreBarredOf f set) xs i k [] (string_bytes old.barred) (string_bytes new.barred) below is have.barred adds.barred;

@@ -35,7 +35,8 @@ one_need_beyond s a b Unknown Needed x y = absurd (few_or_many s a b y.0 x)
 one_need_beyond s a b Unknown Needless x y = absurd (few_or_many s a b y.0 x)
 one_need_beyond s a b Unknown Unknown x y = refl
 
-pub one_need_on : (base : List Entry) (q : RequestFields) (w : Window) (host : List ℕ) (m n : Need) → IsNeedOn base q w host m → IsNeedOn base q w host n → m ≡ n
+pub one_need_on : (base : List Entry) (q : RequestFields) (w : Window) (host : List ℕ) (m n : Need)
+    → IsNeedOn base q w host m → IsNeedOn base q w host n → m ≡ n
 one_need_on base q w host m n is also = one_need_beyond (grant_scope q host) (own_policy q w host) base m n is also
 
 needed_is_not_needless : ◌≡◌ {A = Need} Needed Needless → ⊥
@@ -49,7 +50,8 @@ module _ (On : List ℕ → Need → Type 0) (one : (host : List ℕ) (m n : Nee
   before : (hosts : List (List ℕ)) (last x : List ℕ) → Contains hosts x → Contains (hosts ++ last ∷ []) x
   before hosts last x among = Contains-append_left hosts (last ∷ []) x among
 
-  each_of : (hosts : List (List ℕ)) (last : List ℕ) (P : List ℕ → Type 0) → ((x : List ℕ) → Contains hosts x → P x) → P last → (x : List ℕ) → Contains (hosts ++ last ∷ []) x → P x
+  each_of : (hosts : List (List ℕ)) (last : List ℕ) (P : List ℕ → Type 0)
+      → ((x : List ℕ) → Contains hosts x → P x) → P last → (x : List ℕ) → Contains (hosts ++ last ∷ []) x → P x
   each_of hosts last P there here x among =
       elim (Contains-push_cases hosts last x among) as (λ _. P x) [ inl earlier ↦ there x earlier | inr same ↦ subst P same here ]
 
@@ -59,25 +61,35 @@ module _ (On : List ℕ → Need → Type 0) (one : (host : List ℕ) (m n : Nee
   pub no_hosts : IsNeedOver On [] Needless
   no_hosts = λ host none. absurd (no_element host none)
 
-  pub need_of_more : (hosts : List (List ℕ)) (last : List ℕ) (m n : Need) → IsNeedOver On hosts m → On last n → IsNeedOver On (hosts ++ last ∷ []) (over_both m n)
+  pub need_of_more : (hosts : List (List ℕ)) (last : List ℕ) (m n : Need)
+      → IsNeedOver On hosts m → On last n → IsNeedOver On (hosts ++ last ∷ []) (over_both m n)
   need_of_more hosts last Needed n there here = (there.0, before hosts last there.0 there.1, there.2)
   need_of_more hosts last Needless Needed there here = (last, Contains-push hosts last, here)
   need_of_more hosts last Needless Needless there here = each_of hosts last (λ x. On x Needless) there here
-  need_of_more hosts last Needless Unknown there here =
-      ((last, Contains-push hosts last, here), each_of hosts last (λ x. ¬ On x Needed) (λ x among. none_needed x Needless (there x among) (λ e. needed_is_not_needless (sym e))) (none_needed last Unknown here (λ e. needed_is_not_unknown (sym e))))
+  need_of_more hosts last Needless Unknown there here = (
+    (last, Contains-push hosts last, here),
+    each_of hosts last (λ x. ¬ On x Needed) (λ x among. none_needed x Needless (there x among) (λ e. needed_is_not_needless (sym e)))
+        (none_needed last Unknown here (λ e. needed_is_not_unknown (sym e))),
+  )
   need_of_more hosts last Unknown Needed there here = (last, Contains-push hosts last, here)
-  need_of_more hosts last Unknown Needless there here =
-      ((there.0.0, before hosts last there.0.0 there.0.1, there.0.2), each_of hosts last (λ x. ¬ On x Needed) there.1 (none_needed last Needless here (λ e. needed_is_not_needless (sym e))))
-  need_of_more hosts last Unknown Unknown there here =
-      ((there.0.0, before hosts last there.0.0 there.0.1, there.0.2), each_of hosts last (λ x. ¬ On x Needed) there.1 (none_needed last Unknown here (λ e. needed_is_not_unknown (sym e))))
+  need_of_more hosts last Unknown Needless there here = (
+    (there.0.0, before hosts last there.0.0 there.0.1, there.0.2),
+    each_of hosts last (λ x. ¬ On x Needed) there.1 (none_needed last Needless here (λ e. needed_is_not_needless (sym e))),
+  )
+  need_of_more hosts last Unknown Unknown there here = (
+    (there.0.0, before hosts last there.0.0 there.0.1, there.0.2),
+    each_of hosts last (λ x. ¬ On x Needed) there.1 (none_needed last Unknown here (λ e. needed_is_not_unknown (sym e))),
+  )
 
   -- one more host in turn
-  pub need_next : (hosts : List (List ℕ)) (k : ℕ) (host : List ℕ) (m n both : Need) → k < length hosts → host ≡ get_or hosts k host → IsNeedOver On (take k hosts) m → On host n → both ≡ over_both m n → IsNeedOver On (take (k + 1) hosts) both
+  pub need_next : (hosts : List (List ℕ)) (k : ℕ) (host : List ℕ) (m n both : Need) → k < length hosts → host ≡ get_or hosts k host
+      → IsNeedOver On (take k hosts) m → On host n → both ≡ over_both m n → IsNeedOver On (take (k + 1) hosts) both
   need_next hosts k host m n both below is there here e =
       subst (λ (xs : List (List ℕ)). IsNeedOver On xs both) (sym (take_next hosts k host below is))
       (subst (λ (r : Need). IsNeedOver On (take k hosts ++ host ∷ []) r) (sym e) (need_of_more (take k hosts) host m n there here))
 
-  pub needed_here : (hosts : List (List ℕ)) (k : ℕ) (host : List ℕ) (m : Need) → k < length hosts → host ≡ get_or hosts k host → On host m → m ≡ Needed → IsNeedOver On hosts Needed
+  pub needed_here : (hosts : List (List ℕ)) (k : ℕ) (host : List ℕ) (m : Need) → k < length hosts
+      → host ≡ get_or hosts k host → On host m → m ≡ Needed → IsNeedOver On hosts Needed
   needed_here hosts k host m below is here e = (host, (k, below, sym is), subst (λ (n : Need). On host n) e here)
 
   pub one_need_over : (hosts : List (List ℕ)) (m n : Need) → IsNeedOver On hosts m → IsNeedOver On hosts n → m ≡ n

@@ -1,5 +1,6 @@
 -- What a report says of needless grants, and of those whose approvals do not count.
-use Rattle.std.proofs.Common.{◌≡◌, ℕ, Bool, true, false, not, ◌&&◌, if◌then◌else◌, List, [], ◌∷◌, ◌++◌, reverse, Some, None, refl, sym, ap, ap₂, ◌∙◌, subst, inl, inr}
+use Rattle.std.proofs.Common.{◌≡◌, ℕ, Bool, true, false, not, ◌&&◌, if◌then◌else◌, List, [], ◌∷◌}
+use Rattle.std.proofs.Common.{◌++◌, reverse, Some, None, refl, sym, ap, ap₂, ◌∙◌, subst, inl, inr}
 use Rattle.std.specs.List.{Contains}
 use Rattle.std.specs.Prelude.{◌↔◌}
 use Rattle.std.proofs.lemmas.List.Elements.{Contains-push}
@@ -40,7 +41,8 @@ allowed_or base i Deny is other = absurd (other is)
 allowed_or base i Allow is other = inl is
 allowed_or base i AllowNoPassword is other = inr is
 
-pub needless_gives_nothing : (base : List Entry) (q : RequestFields) (w : Window) (i : Invocation) → IsNeed base q w Needless → IsInvocation i → i.user ≡ q.by → Contains q.hosts i.host → i.runas ≡ q.runas → Allows (own_policy q w i.host) i → Allows base i
+pub needless_gives_nothing : (base : List Entry) (q : RequestFields) (w : Window) (i : Invocation) → IsNeed base q w Needless
+    → IsInvocation i → i.user ≡ q.by → Contains q.hosts i.host → i.runas ≡ q.runas → Allows (own_policy q w i.host) i → Allows base i
 needless_gives_nothing base q w i needless form user host runas allowed =
     let on = needless i.host host in
     let some = some_decision (reverse base) base i in
@@ -55,22 +57,27 @@ needless_gives_nothing base q w i needless form user host runas allowed =
 
 -- ---- barred
 
-barred_by : (asker duty against : Bool) (r : Reason) → (if asker then Some Asker else if not duty then Some Duty else if against then Some Conflict else None) ≡ Some r → (not asker && duty && not against) ≡ false
+barred_by : (asker duty against : Bool) (r : Reason)
+    → (if asker then Some Asker else if not duty then Some Duty else if against then Some Conflict else None) ≡ Some r
+    → (not asker && duty && not against) ≡ false
 barred_by true duty against r e = refl
 barred_by false false against r e = refl
 barred_by false true true r e = refl
 barred_by false true false r e = absurd cc
 
-open_by : (asker duty against : Bool) → (if asker then Some Asker else if not duty then Some Duty else if against then Some Conflict else None) ≡ None → (not asker && duty && not against) ≡ true
+open_by : (asker duty against : Bool) → (if asker then Some Asker else if not duty then Some Duty else if against then Some Conflict else None) ≡ None
+    → (not asker && duty && not against) ≡ true
 open_by true duty against e = absurd cc
 open_by false false against e = absurd cc
 open_by false true true e = absurd cc
 open_by false true false e = refl
 
-pub barred_is_not_eligible : (f : RosterFields Cmnd) (c : CeilingFields Cmnd) (asker person : List ℕ) (at : ℕ) (r : Reason) → reason f c asker person at ≡ Some r → eligible f person asker c at ≡ false
+pub barred_is_not_eligible : (f : RosterFields Cmnd) (c : CeilingFields Cmnd) (asker person : List ℕ) (at : ℕ) (r : Reason)
+    → reason f c asker person at ≡ Some r → eligible f person asker c at ≡ false
 barred_is_not_eligible f c asker person at r e = barred_by (bytes_eq person asker) (holds f person c.approve at) (holds_against f person c.approve at) r e
 
-pub unbarred_is_eligible : (f : RosterFields Cmnd) (c : CeilingFields Cmnd) (asker person : List ℕ) (at : ℕ) → reason f c asker person at ≡ None → eligible f person asker c at ≡ true
+pub unbarred_is_eligible : (f : RosterFields Cmnd) (c : CeilingFields Cmnd) (asker person : List ℕ) (at : ℕ)
+    → reason f c asker person at ≡ None → eligible f person asker c at ≡ true
 unbarred_is_eligible f c asker person at e = open_by (bytes_eq person asker) (holds f person c.approve at) (holds_against f person c.approve at) e
 
 same_ceiling : (f : RosterFields Cmnd) (label : List ℕ) (c d : CeilingFields Cmnd) → ceiling_at f label ≡ Some c → ceiling_at f label ≡ Some d → c ≡ d
@@ -82,7 +89,8 @@ own_approval q v about kind =
     ap (λ (k : VerdictKind). record { at = v.at; by = v.by; kind = k; no = v.no; of = v.of }) kind
     ∙ ap₂ (λ (n : ℕ) (of : List ℕ). record { at = v.at; by = v.by; kind = Approve; no = n; of = of }) about.1 about.0
 
-never_counts : (f : RosterFields Cmnd) (set : List Message) (q : RequestFields) (c : CeilingFields Cmnd) (v : VerdictFields) (r : Reason) → StandsAlone set q → ceiling_at f q.ceiling ≡ Some c → IsAbout q v → v.kind ≡ Approve
+never_counts : (f : RosterFields Cmnd) (set : List Message) (q : RequestFields) (c : CeilingFields Cmnd) (v : VerdictFields) (r : Reason)
+    → StandsAlone set q → ceiling_at f q.ceiling ≡ Some c → IsAbout q v → v.kind ≡ Approve
     → IsBarred f c q.by v.by (HasApprovedAt (set ++ Verdict v ∷ []) q v.by) r → NeverCounts f set v
 never_counts f set q c v r alone ceiling_is about kind barred p d asked about_p ceiling_p =
     let same : p ≡ q = alone.alone p asked (sym about_p.0 ∙ about.0, sym about_p.1 ∙ about.1) in
@@ -90,10 +98,13 @@ never_counts f set q c v r alone ceiling_is about kind barred p d asked about_p 
     let there : HasApprovedAt (set ++ Verdict v ∷ []) q v.by v.at =
     subst (λ (x : VerdictFields). Contains (set ++ Verdict v ∷ []) (Verdict x)) (own_approval q v about kind) (Contains-push set (Verdict v)) in
     let out : eligible f v.by q.by c v.at ≡ false = barred.never v.at there in
-    let here : eligible f v.by v.of d v.at ≡ false = subst (λ (x : CeilingFields Cmnd). eligible f v.by v.of x v.at ≡ false) ceilings (subst (λ (x : List ℕ). eligible f v.by x c v.at ≡ false) (sym about.0) out) in
+    let here : eligible f v.by v.of d v.at ≡ false = subst (λ (x : CeilingFields Cmnd). eligible f v.by v.of x v.at ≡ false) ceilings
+    (subst (λ (x : List ℕ). eligible f v.by x c v.at ≡ false) (sym about.0) out) in
     ap (λ (k : VerdictKind). may_give f d k v.by v.of v.at) kind ∙ here
 
-pub barred_changes_nothing : (f : RosterFields Cmnd) (set : List Message) (q : RequestFields) (c : CeilingFields Cmnd) (v : VerdictFields) (r : Reason) (name : RequestName) (status : Status) → StandsAlone set q → ceiling_at f q.ceiling ≡ Some c → IsAbout q v → v.kind ≡ Approve
+pub barred_changes_nothing : (f : RosterFields Cmnd) (set : List Message) (q : RequestFields) (c : CeilingFields Cmnd)
+    (v : VerdictFields) (r : Reason) (name : RequestName) (status : Status)
+    → StandsAlone set q → ceiling_at f q.ceiling ≡ Some c → IsAbout q v → v.kind ≡ Approve
     → IsBarred f c q.by v.by (HasApprovedAt (set ++ Verdict v ∷ []) q v.by) r → IsStatus f set name status ↔ IsStatus f (set ++ Verdict v ∷ []) name status
 barred_changes_nothing f set q c v r name status alone ceiling_is about kind barred =
     let never = never_counts f set q c v r alone ceiling_is about kind barred in

@@ -1,5 +1,6 @@
 -- The lines of a report, as loops add them.
-use Rattle.std.proofs.Common.{◌≡◌, ℕ, Bool, true, false, if◌then◌else◌, zero, suc, ◌+◌, ◌<◌, ◌≤◌, List, [], ◌∷◌, ◌++◌, length, map, take, get_or, sym, ap, ◌∙◌, subst, arith, append_assoc}
+use Rattle.std.proofs.Common.{◌≡◌, ℕ, Bool, true, false, if◌then◌else◌, zero, suc, ◌+◌, ◌<◌, ◌≤◌, List, []}
+use Rattle.std.proofs.Common.{◌∷◌, ◌++◌, length, map, take, get_or, sym, ap, ◌∙◌, subst, arith, append_assoc}
 use Rattle.std.specs.List.{AllByRecursion, flat_map}
 use Rattle.std.specs.Prelude.{codes}
 use Rattle.std.proofs.lemmas.Grind.{flat_map-append}
@@ -46,7 +47,8 @@ flat_more {X} lines xs k x old mid new below is before adds =
     ∙ ap (λ (l : List (List ℕ)). old ++ lines_text l) (sym part)
     ∙ ap (λ (zs : List X). old ++ lines_text (flat_map lines zs)) (sym (take_next xs k x below is))
 
-pub parts_mapped : {X Y Z : Type 0} (IsPart : Y → List Z → Type 0) (name : X → Y) (xs : List X) (ys : List Z) → AreParts (λ x. IsPart (name x)) xs ys → AreParts IsPart (map name xs) ys
+pub parts_mapped : {X Y Z : Type 0} (IsPart : Y → List Z → Type 0) (name : X → Y) (xs : List X) (ys : List Z)
+    → AreParts (λ x. IsPart (name x)) xs ys → AreParts IsPart (map name xs) ys
 parts_mapped IsPart name [] ys are = are
 parts_mapped IsPart name (x ∷ xs) ys are = (are.0, are.1, are.2, are.3, parts_mapped IsPart name xs are.1 are.4)
 
@@ -56,14 +58,16 @@ one_line old line new e = e ∙ append_assoc old line (codes "\n") ∙ ap (λ (t
 -- ---- whole sections
 
 -- a first line, the first heading, and its lines
-pub first_section : (head : List ℕ) (more : List (List ℕ)) (old new : List ℕ) → old ≡ head ++ codes "\nLIVE\n" → new ≡ old ++ lines_text more → new ≡ lines_text (head ∷ codes "LIVE" ∷ more)
+pub first_section : (head : List ℕ) (more : List (List ℕ)) (old new : List ℕ) → old ≡ head ++ codes "\nLIVE\n"
+    → new ≡ old ++ lines_text more → new ≡ lines_text (head ∷ codes "LIVE" ∷ more)
 first_section head more old new headed adds =
     adds ∙ ap (λ (t : List ℕ). t ++ lines_text more) headed
     ∙ append_assoc head (codes "\nLIVE\n") (lines_text more)
     ∙ sym (append_assoc head (codes "\n") (codes "LIVE\n" ++ lines_text more))
 
 -- a further heading, and its lines
-pub next_section : (lines : List (List ℕ)) (title : List ℕ) (more : List (List ℕ)) (old mid new : List ℕ) → old ≡ lines_text lines → mid ≡ old ++ (title ++ codes "\n") → new ≡ mid ++ lines_text more → new ≡ lines_text (lines ++ title ∷ more)
+pub next_section : (lines : List (List ℕ)) (title : List ℕ) (more : List (List ℕ)) (old mid new : List ℕ) → old ≡ lines_text lines
+    → mid ≡ old ++ (title ++ codes "\n") → new ≡ mid ++ lines_text more → new ≡ lines_text (lines ++ title ∷ more)
 next_section lines title more old mid new before headed adds =
     adds ∙ ap (λ (t : List ℕ). t ++ lines_text more) headed
     ∙ append_assoc old (title ++ codes "\n") (lines_text more)

@@ -19,14 +19,17 @@ use Rattle.review.specs.Report.{AreBarred, AreBarredUnder, AreInForce, BarredLin
 use Rattle.review.specs.private.Reporting.{AddsLines}
 
 module _ (f : RosterFields Cmnd) (set : List Message) (name : RequestName) (old new : List ℕ) where
-  pub none_in_force : (at : ℕ) (Of : RequestFields → Window → List (List ℕ) → Type 0) (status : Status) → IsStatus f set name status → window_at at status ≡ None → AddsLines (AreInForce f set at Of name) old old
+  pub none_in_force : (at : ℕ) (Of : RequestFields → Window → List (List ℕ) → Type 0) (status : Status)
+      → IsStatus f set name status → window_at at status ≡ None → AddsLines (AreInForce f set at Of name) old old
   none_in_force at Of status is none = (
     [],
     sym (append-nil old),
     record { status = status; status_is = is; lines_are = subst (λ (o : Option Window). LinesInForce Of set name o []) (sym none) refl },
   )
 
-  pub one_in_force : (at : ℕ) (Of : RequestFields → Window → List (List ℕ) → Type 0) (status : Status) (w : Window) (q : RequestFields) (lines : List (List ℕ)) → IsStatus f set name status → window_at at status ≡ Some w → IsOnlyRequest set name q → Of q w lines → new ≡ old ++ lines_text lines → AddsLines (AreInForce f set at Of name) old new
+  pub one_in_force : (at : ℕ) (Of : RequestFields → Window → List (List ℕ) → Type 0) (status : Status) (w : Window) (q : RequestFields) (lines : List (List ℕ))
+      → IsStatus f set name status → window_at at status ≡ Some w → IsOnlyRequest set name q
+      → Of q w lines → new ≡ old ++ lines_text lines → AddsLines (AreInForce f set at Of name) old new
   one_in_force at Of status w q lines is some only of adds = (
     lines,
     adds,
@@ -40,7 +43,8 @@ module _ (f : RosterFields Cmnd) (set : List Message) (name : RequestName) (old 
     record { status = status; status_is = is; lines_are = subst (λ (b : Bool). BarredLines f set name b []) (sym shut) refl },
   )
 
-  pub some_barred : (status : Status) (q : RequestFields) (lines : List (List ℕ)) → IsStatus f set name status → is_open status ≡ true → IsOnlyRequest set name q → AreBarredUnder f set q lines → new ≡ old ++ lines_text lines → AddsLines (AreBarred f set name) old new
+  pub some_barred : (status : Status) (q : RequestFields) (lines : List (List ℕ)) → IsStatus f set name status → is_open status ≡ true
+      → IsOnlyRequest set name q → AreBarredUnder f set q lines → new ≡ old ++ lines_text lines → AddsLines (AreBarred f set name) old new
   some_barred status q lines is opened only under adds = (
     lines,
     adds,
@@ -52,18 +56,24 @@ admitted_ceiling : (f : RosterFields Cmnd) (q : RequestFields) → AdmitsRequest
 admitted_ceiling f q admits none =
     let both : Some admits.ceiling ≡ None = sym admits.may_ask.ceiling_is ∙ none in cc
 
-admitted_only : (f : RosterFields Cmnd) (set : List Message) (name : RequestName) (q p : RequestFields) → IsOnlyRequest set name p → AdmitsRequest f p → IsOnlyRequest set name q → AdmitsRequest f q
+admitted_only : (f : RosterFields Cmnd) (set : List Message) (name : RequestName) (q p : RequestFields)
+    → IsOnlyRequest set name p → AdmitsRequest f p → IsOnlyRequest set name q → AdmitsRequest f q
 admitted_only f set name q p own admits only =
     let same : p ≡ q = only.alone.alone p own.alone.asked (own.named.0 ∙ sym only.named.0, own.named.1 ∙ sym only.named.1) in
     subst (λ (r : RequestFields). AdmitsRequest f r) same admits
 
-pub open_ceiling : (f : RosterFields Cmnd) (set : List Message) (name : RequestName) (q : RequestFields) (status : Status) → IsStatus f set name status → is_open status ≡ true → IsOnlyRequest set name q → ceiling_at f q.ceiling ≡ None → ⊥
+pub open_ceiling : (f : RosterFields Cmnd) (set : List Message) (name : RequestName) (q : RequestFields) (status : Status)
+    → IsStatus f set name status → is_open status ≡ true → IsOnlyRequest set name q → ceiling_at f q.ceiling ≡ None → ⊥
 open_ceiling f set name q Disputed is opened only none = absurd cc
 open_ceiling f set name q Lapsed is opened only none = absurd cc
-open_ceiling f set name q Refused is opened only none = admitted_ceiling f q (admitted_only f set name q is.request (record { named = is.named; alone = is.alone }) is.admissible only) none
-open_ceiling f set name q Waiting is opened only none = admitted_ceiling f q (admitted_only f set name q is.request (record { named = is.named; alone = is.alone }) is.admissible only) none
-open_ceiling f set name q Void is opened only none = admitted_ceiling f q (admitted_only f set name q is.request (record { named = is.named; alone = is.alone }) is.admissible only) none
-open_ceiling f set name q (Granted w) is opened only none = admitted_ceiling f q (admitted_only f set name q is.request (record { named = is.named; alone = is.alone }) is.admissible only) none
+open_ceiling f set name q Refused is opened only none =
+    admitted_ceiling f q (admitted_only f set name q is.request (record { named = is.named; alone = is.alone }) is.admissible only) none
+open_ceiling f set name q Waiting is opened only none =
+    admitted_ceiling f q (admitted_only f set name q is.request (record { named = is.named; alone = is.alone }) is.admissible only) none
+open_ceiling f set name q Void is opened only none =
+    admitted_ceiling f q (admitted_only f set name q is.request (record { named = is.named; alone = is.alone }) is.admissible only) none
+open_ceiling f set name q (Granted w) is opened only none =
+    admitted_ceiling f q (admitted_only f set name q is.request (record { named = is.named; alone = is.alone }) is.admissible only) none
 
 -- a request that is kept, and stands alone, is the only one of its name
 pub own_request : (set : List Message) (kept q : RequestFields) → q ≡ kept → StandsAlone set q → IsOnlyRequest set (name_of kept) q

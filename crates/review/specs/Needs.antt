@@ -1,4 +1,5 @@
--- What a grant gives beyond the base, on the hosts that it names (least privilege, NIST SP 800-53 AC-6(7)).
+-- What a grant gives beyond the base, on the hosts that it names (least privilege, NIST SP 800-53
+-- AC-6(7)).
 use Rattle.std.specs.Prelude.{ℕ, List, Contains, Some, map, codes}
 use Rattle.sudo_policy.specs.declared.entry.Entry.{Entry}
 use Rattle.sudo_policy.specs.declared.entry.Entry.TheVariants as entries
@@ -19,8 +20,8 @@ own_policy q w host = map entries.Rule (map (grant_rule host q w.start w.end) q.
 abbrev pub grant_scope : RequestFields → (host : List ℕ) → Scope
 grant_scope q host = record { user = Some q.by; host = Some host; runas = Some q.runas }
 
--- What the first policy is beyond the second: needed where it allows something more, needless where it allows nothing more, and
--- unknown where there are too many cases to tell.
+-- What the first policy is beyond the second: needed where it allows something more, needless where
+-- it allows nothing more, and unknown where there are too many cases to tell.
 abbrev pub IsNeedBeyond : Scope → (a b : List Entry) → Need → Type 0
 IsNeedBeyond s a b Needed = AreFew s a b × SomethingBeyond s a b
 IsNeedBeyond s a b Needless = AreFew s a b × ¬ SomethingBeyond s a b
@@ -35,7 +36,8 @@ abbrev pub IsNeedOver : (On : List ℕ → Need → Type 0) → (hosts : List (L
 IsNeedOver On hosts Needed = (host : List ℕ) × Contains hosts host × On host Needed
 IsNeedOver On hosts Needless = (host : List ℕ) → Contains hosts host → On host Needless
 IsNeedOver On hosts Unknown =
-    ((host : List ℕ) × Contains hosts host × On host Unknown) × ((host : List ℕ) → Contains hosts host → ¬ On host Needed)
+    ((host : List ℕ) × Contains hosts host × On host Unknown)
+    × ((host : List ℕ) → Contains hosts host → ¬ On host Needed)
 
 -- whether the grant is needed, beside the base
 abbrev pub IsNeed : (base : List Entry) → RequestFields → Window → Need → Type 0

@@ -1,6 +1,8 @@
--- The report of a set of messages at a moment: who holds what, whose approvals did not count and why, who holds conflicting duties,
--- which grants are broad, and which verdicts wait for their request (NIST SP 800-53 AC-5, AC-6(7)).
-use Rattle.std.specs.Prelude.{◌≡◌, ℕ, ◌&&◌, Bool, true, false, List, [], ◌∷◌, ◌++◌, Contains, Option, Some, None, map, if◌then◌else◌, codes}
+-- The report of a set of messages at a moment: who holds what, whose approvals did not count and
+-- why, who holds conflicting duties, which grants are broad, and which verdicts wait for their
+-- request (NIST SP 800-53 AC-5, AC-6(7)).
+use Rattle.std.specs.Prelude.{◌≡◌, ℕ, ◌&&◌, Bool, true, false, List, [], ◌∷◌, ◌++◌}
+use Rattle.std.specs.Prelude.{Contains, Option, Some, None, map, if◌then◌else◌, codes}
 use Rattle.std.specs.List.{AllByRecursion, flat_map}
 use Rattle.std.specs.List.Sorted.{IsStrictlySortedBy}
 use Rattle.std.specs.Ordering.{nat_cmp, ordering_then}
@@ -22,7 +24,8 @@ use Rattle.grants.specs.Statuses.{IsStatus, window_at}
 use Rattle.grants.specs.Summaries.{Kept, StandsFor}
 use Rattle.grants.specs.Verdicts.{StandsAlone}
 use Rattle.grants.specs.declared.outcome.Status.{Status}
-use Rattle.grants.specs.declared.outcome.Status.TheVariants.{Disputed, Lapsed, Refused, Waiting, Void, Granted}
+use Rattle.grants.specs.declared.outcome.Status.TheVariants.{Disputed, Lapsed, Refused}
+use Rattle.grants.specs.declared.outcome.Status.TheVariants.{Waiting, Void, Granted}
 use Rattle.grants.specs.declared.outcome.Window.{Window}
 use Rattle.review.specs.declared.need.Need.{Need}
 use Rattle.review.specs.Barred.{AreBarredLines, HasApproved}
@@ -33,7 +36,8 @@ use Rattle.review.specs.Needs.{IsNeed, need_text}
 -- ---- whole lists
 
 -- everything that is so, each once, in order, and nothing else
-pub record AreAll {X : Type 0} (order : X → X → Ordering) (Is : X → Type 0) (list : List X) : Type 0 where
+pub record AreAll {X : Type 0} (order : X → X
+    → Ordering) (Is : X → Type 0) (list : List X) : Type 0 where
   pub in_order : IsStrictlySortedBy order list
   pub each : (x : X) → Contains list x → Is x
   pub all : (x : X) → Is x → Contains list x
@@ -51,21 +55,26 @@ pub record IsAsked (messages : List Message) (name : RequestName) : Type 0 where
 -- ---- what a name comes to has lines or none
 
 -- this is the only request of the name
-pub record IsOnlyRequest (messages : List Message) (name : RequestName) (q : RequestFields) : Type 0 where
+pub record IsOnlyRequest (messages : List Message)
+    (name : RequestName) (q : RequestFields) : Type 0 where
   pub named : IsNamed q name
   pub alone : StandsAlone messages q
 
 -- the lines of a grant that is in force, and none elsewhere
-abbrev pub LinesInForce : (RequestFields → Window → List (List ℕ) → Type 0) → List Message → RequestName → Option Window → List (List ℕ) → Type 0
+abbrev pub LinesInForce : (RequestFields → Window → List (List ℕ) → Type 0)
+    → List Message → RequestName → Option Window → List (List ℕ) → Type 0
 LinesInForce Of messages name None lines = lines ≡ []
-LinesInForce Of messages name (Some w) lines = (q : RequestFields) × IsOnlyRequest messages name q × Of q w lines
+LinesInForce Of messages name (Some w) lines =
+    (q : RequestFields) × IsOnlyRequest messages name q × Of q w lines
 
-pub record AreInForce (f : RosterFields Cmnd) (messages : List Message) (at : ℕ) (Of : RequestFields → Window → List (List ℕ) → Type 0) (name : RequestName) (lines : List (List ℕ)) : Type 0 where
+pub record AreInForce (f : RosterFields Cmnd) (messages : List Message) (at : ℕ) (Of : RequestFields
+    → Window → List (List ℕ) → Type 0) (name : RequestName) (lines : List (List ℕ)) : Type 0 where
   pub status : Status
   pub status_is : IsStatus f messages name status
   pub lines_are : LinesInForce Of messages name (window_at at status) lines
 
--- ---- LIVE: who asked, the number, the ceiling, the first and the last moment, and whether the grant is needed beside the base
+-- ---- LIVE: who asked, the number, the ceiling, the first and the last moment, and whether the
+-- grant is needed beside the base
 
 abbrev pub grant_columns : RequestFields → List ℕ
 grant_columns q = name_columns (name_of q) ++ codes " " ++ left q.ceiling
@@ -92,7 +101,8 @@ broad_for q (Dir dir) = broad_line q (Dir dir) ∷ []
 abbrev pub AreBroadLines : RequestFields → Window → List (List ℕ) → Type 0
 AreBroadLines q w lines = lines ≡ flat_map (broad_for q) q.cmnds
 
--- ---- BARRED: of a name that is neither disputed nor lapsed, each person who approved and was eligible at none of the approvals, and why not at
+-- ---- BARRED: of a name that is neither disputed nor lapsed, each person who approved and was
+-- eligible at none of the approvals, and why not at
 -- the earliest
 
 abbrev pub is_open : Status → Bool
@@ -103,23 +113,28 @@ is_open Waiting = true
 is_open Void = true
 is_open (Granted w) = true
 
-pub record AreBarredUnder (f : RosterFields Cmnd) (messages : List Message) (q : RequestFields) (lines : List (List ℕ)) : Type 0 where
+pub record AreBarredUnder (f : RosterFields Cmnd) (messages : List Message)
+    (q : RequestFields) (lines : List (List ℕ)) : Type 0 where
   pub ceiling : CeilingFields Cmnd
   pub people : List (List ℕ)
   pub ceiling_is : ceiling_at f q.ceiling ≡ Some ceiling
   pub people_are : AreAll text_order (HasApproved messages q) people
   pub lines_are : AreParts (AreBarredLines f messages ceiling q) people lines
 
-abbrev pub BarredLines : RosterFields Cmnd → List Message → RequestName → Bool → List (List ℕ) → Type 0
+abbrev pub BarredLines : RosterFields Cmnd → List Message
+    → RequestName → Bool → List (List ℕ) → Type 0
 BarredLines f messages name false lines = lines ≡ []
-BarredLines f messages name true lines = (q : RequestFields) × IsOnlyRequest messages name q × AreBarredUnder f messages q lines
+BarredLines f messages name true lines =
+    (q : RequestFields) × IsOnlyRequest messages name q × AreBarredUnder f messages q lines
 
-pub record AreBarred (f : RosterFields Cmnd) (messages : List Message) (name : RequestName) (lines : List (List ℕ)) : Type 0 where
+pub record AreBarred (f : RosterFields Cmnd) (messages : List Message)
+    (name : RequestName) (lines : List (List ℕ)) : Type 0 where
   pub status : Status
   pub status_is : IsStatus f messages name status
   pub lines_are : BarredLines f messages name (is_open status) lines
 
--- ---- CONFLICTS: each conflicting pair of duties that a person holds at the moment, the lesser duty first
+-- ---- CONFLICTS: each conflicting pair of duties that a person holds at the moment, the lesser
+-- duty first
 
 abbrev pub lesser_first : List ℕ × List ℕ → List ℕ × List ℕ
 lesser_first pair = if is_before pair.1 pair.0 then (pair.1, pair.0) else pair
@@ -133,10 +148,13 @@ holds_both f at person pair = holds f person pair.0 at && holds f person pair.1 
 abbrev pub conflict_line : (person : List ℕ) → List ℕ × List ℕ → List ℕ
 conflict_line person pair = left person ++ codes " " ++ left pair.0 ++ codes " " ++ pair.1
 
-abbrev pub conflict_for : RosterFields Cmnd → (at : ℕ) → (person : List ℕ) → List ℕ × List ℕ → List (List ℕ)
-conflict_for f at person pair = if holds_both f at person pair then conflict_line person pair ∷ [] else []
+abbrev pub conflict_for : RosterFields Cmnd → (at : ℕ)
+    → (person : List ℕ) → List ℕ × List ℕ → List (List ℕ)
+conflict_for f at person pair =
+    if holds_both f at person pair then conflict_line person pair ∷ [] else []
 
-abbrev pub conflicts_of : RosterFields Cmnd → (at : ℕ) → (pairs : List (List ℕ × List ℕ)) → List ℕ × List Entry → List (List ℕ)
+abbrev pub conflicts_of : RosterFields Cmnd → (at : ℕ)
+    → (pairs : List (List ℕ × List ℕ)) → List ℕ × List Entry → List (List ℕ)
 conflicts_of f at pairs person = flat_map (conflict_for f at person.0) pairs
 
 -- ---- PARKED: the texts of the verdicts whose request is not among the messages
@@ -158,7 +176,8 @@ report_lines at live barred conflicts broad parked =
     ++ codes "PARKED" ∷ parked
 
 -- The report's text. Each part goes over the names that somebody asks under, in their order.
-pub record IsReport (f : RosterFields Cmnd) (base : List PolicyEntry) (messages : List Message) (at : ℕ) (text : List ℕ) : Type 0 where
+pub record IsReport (f : RosterFields Cmnd) (base : List PolicyEntry)
+    (messages : List Message) (at : ℕ) (text : List ℕ) : Type 0 where
   pub names : List RequestName
   pub pairs : List (List ℕ × List ℕ)
   pub live : List (List ℕ)
@@ -171,11 +190,13 @@ pub record IsReport (f : RosterFields Cmnd) (base : List PolicyEntry) (messages 
   pub barred_are : AreParts (AreBarred f messages) names barred
   pub broad_are : AreParts (AreInForce f messages at AreBroadLines) names broad
   pub parked_are : AreAll text_order (IsParkedText messages) parked
-  pub text_is : text ≡ lines_text (report_lines at live barred (flat_map (conflicts_of f at pairs) f.people) broad parked)
+  pub text_is : text ≡ lines_text
+      (report_lines at live barred (flat_map (conflicts_of f at pairs) f.people) broad parked)
 
 -- ---- what a report is made from
 
--- The summaries stand for the set: one for each name that somebody asks under, in the order of the names.
+-- The summaries stand for the set: one for each name that somebody asks under, in the order of the
+-- names.
 pub record AreSummaries (messages : List Message) (summaries : List Kept) : Type 0 where
   pub names : AreAll name_order (IsAsked messages) (map (λ k. name_of k.request) summaries)
   pub stand : AllByRecursion (StandsFor messages) summaries

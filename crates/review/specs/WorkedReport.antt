@@ -1,4 +1,5 @@
--- Worked lines of a report: of what ann asked of the small team, which is in force from ten past nine to eleven.
+-- Worked lines of a report: of what ann asked of the small team, which is in force from ten past
+-- nine to eleven.
 use Rattle.std.specs.Prelude.{ℕ, List, [], ◌∷◌, codes}
 use Rattle.std.specs.List.{flat_map}
 use Rattle.sudo_words.specs.declared.cmnd.Cmnd.{Cmnd}
@@ -21,7 +22,9 @@ lesser_first_pairs = (codes "approve", codes "audit") ∷ []
 -- the grant's line, carol's approval of eight, when she may not approve, and her duties
 abbrev pub team_text : List ℕ
 team_text =
-    lines_text (report_lines 34_200 (live_line asked held Needed ∷ []) (barred_for asked (codes "carol") (reason team by_two (codes "ann") (codes "carol") 28_800)) (flat_map (conflicts_of team 34_200 lesser_first_pairs) team.people) [] [])
+    lines_text (report_lines 34_200 (live_line asked held Needed ∷ [])
+    (barred_for asked (codes "carol") (reason team by_two (codes "ann") (codes "carol") 28_800))
+    (flat_map (conflicts_of team 34_200 lesser_first_pairs) team.people) [] [])
 
 -- a command of each kind
 abbrev pub three_commands : List Cmnd

@@ -37,7 +37,8 @@ fn open_request<'s>(
     summary: &'s Summary,
     status: &Status,
 ) -> Option<OpenRequest<'s>>
-    ensures { (set : List AnyMessage) → IsOutcome roster.now.says set summary.now status.now → IsOpenOf roster.now.says set summary.now result }
+    ensures { (set : List AnyMessage) → IsOutcome roster.now.says set summary.now status.now
+        → IsOpenOf roster.now.says set summary.now result }
 {
     if !is_open(status) {
         return None;
@@ -54,7 +55,8 @@ pub(crate) struct Approver<'s> {
     why: Option<Reason>,
 }
 
-/// Of an approval and later ones of the same person: why the first does not count, unless one of them does.
+/// Of an approval and later ones of the same person: why the first does not count, unless one of
+/// them does.
 fn both(first: Option<Reason>, later: Option<Reason>) -> Option<Reason>
     ensures { result ≡ spec.both first later }
 {
@@ -71,7 +73,8 @@ fn push_barred_line(
     request: &Request,
     approver: &Approver,
 ) -> Result<(), NoMemory>
-    ensures { OnOk result (string_bytes out.new ≡ string_bytes out.old ++ lines_text (barred_for request.now approver.now.person.now approver.now.why)) }
+    ensures { OnOk result (string_bytes out.new ≡ string_bytes out.old
+        ++ lines_text (barred_for request.now approver.now.person.now approver.now.why)) }
 {
     let Some(why) = approver.why else {
         return Ok(());
@@ -84,7 +87,8 @@ fn push_barred_line(
     Ok(())
 }
 
-/// The approver so far with one more approval, or that of the approval alone, once the line of another one so far is added.
+/// The approver so far with one more approval, or that of the approval alone, once the line of
+/// another one so far is added.
 fn next<'s>(
     alloc: Global,
     out: &mut String,
@@ -92,9 +96,10 @@ fn next<'s>(
     last: Option<Approver<'s>>,
     approver: Approver<'s>,
 ) -> Result<Approver<'s>, NoMemory>
-    ensures { IfOk result (λ then. (ws : List (List ℕ × Option AnyReason)) →
-        spec.with_lines request.now (string_bytes out.new) (spec.joined then.person.now then.why ws)
-        ≡ spec.with_lines request.now (string_bytes out.old) (spec.before last.entry (spec.joined approver.entry.person.now approver.entry.why ws))) }
+    ensures { IfOk result (λ then. (ws : List (List ℕ × Option AnyReason))
+        → spec.with_lines request.now (string_bytes out.new) (spec.joined then.person.now
+        then.why ws) ≡ spec.with_lines request.now (string_bytes out.old)
+        (spec.before last.entry (spec.joined approver.entry.person.now approver.entry.why ws))) }
 {
     let Some(last) = last else {
         return Ok(approver);
@@ -119,8 +124,8 @@ fn push_barred_people(
     request: &Request,
     approvals: &[(Name, Moment)],
 ) -> Result<(), NoMemory>
-    ensures { OnOk result (string_bytes out.new
-        ≡ spec.with_lines request.now (string_bytes out.old) (spec.whys (reason roster.now.says ceiling.now request.now.by) approvals.now)) }
+    ensures { OnOk result (string_bytes out.new ≡ spec.with_lines request.now (string_bytes out.old)
+        (spec.whys (reason roster.now.says ceiling.now request.now.by) approvals.now)) }
 {
     let mut last = None;
     for (person, at) in approvals {
@@ -142,7 +147,8 @@ pub(crate) fn push_barred(
     status: &Status,
 ) -> Result<(), NoMemory>
     ensures { (set : List AnyMessage) → IsOutcome roster.now.says set summary.now status.now
-        → OnOk result (AddsLines (report.AreBarred roster.now.says set (kept_name summary.now)) (string_bytes out.old) (string_bytes out.new)) }
+        → OnOk result (AddsLines (report.AreBarred roster.now.says set (kept_name summary.now))
+        (string_bytes out.old) (string_bytes out.new)) }
 {
     let Some(open) = open_request(roster, summary, status) else {
         return Ok(());

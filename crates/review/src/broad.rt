@@ -24,7 +24,8 @@ fn push_broad_text(
     request: &Request,
     text: &str,
 ) -> Result<(), NoMemory>
-    ensures { OnOk result (string_bytes out.new ≡ string_bytes out.old ++ (name_columns (name_of request.now) ++ codes " " ++ text.now) ++ codes "\n") }
+    ensures { OnOk result (string_bytes out.new ≡ string_bytes out.old
+        ++ (name_columns (name_of request.now) ++ codes " " ++ text.now) ++ codes "\n") }
 {
     push_name(alloc, out, request)?;
     out.push_str(text)?;
@@ -39,7 +40,8 @@ fn push_broad_line(
     request: &Request,
     cmnd: &Cmnd,
 ) -> Result<(), NoMemory>
-    ensures { OnOk result (string_bytes out.new ≡ string_bytes out.old ++ lines_text (report.broad_for request.now cmnd.now)) }
+    ensures { OnOk result (string_bytes out.new
+        ≡ string_bytes out.old ++ lines_text (report.broad_for request.now cmnd.now)) }
 {
     match cmnd {
         Cmnd::All => push_broad_text(alloc, out, request, "ALL"),
@@ -50,7 +52,8 @@ fn push_broad_line(
 
 /// Adds those of a request's commands.
 fn push_broad_lines(alloc: Global, out: &mut String, request: &Request) -> Result<(), NoMemory>
-    ensures { OnOk result (string_bytes out.new ≡ string_bytes out.old ++ lines_text (flat_map (report.broad_for request.now) request.now.cmnds)) }
+    ensures { OnOk result (string_bytes out.new ≡ string_bytes out.old
+        ++ lines_text (flat_map (report.broad_for request.now) request.now.cmnds)) }
 {
     for cmnd in request.cmnds() {
         push_broad_line(alloc, out, request, cmnd)?;
@@ -66,8 +69,10 @@ pub(crate) fn push_broad(
     status: &Status,
     at: Moment,
 ) -> Result<(), NoMemory>
-    ensures { (f : RosterFields AnyCmnd) (set : List AnyMessage) → IsOutcome f set summary.now status.now
-        → OnOk result (AddsLines (report.AreInForce f set at report.AreBroadLines (kept_name summary.now)) (string_bytes out.old) (string_bytes out.new)) }
+    ensures { (f : RosterFields AnyCmnd) (set : List AnyMessage)
+        → IsOutcome f set summary.now status.now
+        → OnOk result (AddsLines (report.AreInForce f set at report.AreBroadLines
+        (kept_name summary.now)) (string_bytes out.old) (string_bytes out.new)) }
 {
     let Some(grant) = in_force(summary, status, at) else {
         return Ok(());

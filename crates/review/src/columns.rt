@@ -43,7 +43,8 @@ fn push_right(alloc: Global, out: &mut String, number: u32) -> Result<(), NoMemo
 
 /// Adds who asked, the number of the request, and a space.
 pub(crate) fn push_name(alloc: Global, out: &mut String, request: &Request) -> Result<(), NoMemory>
-    ensures { OnOk result (string_bytes out.new ≡ string_bytes out.old ++ columns.name_columns (name_of request.now) ++ codes " ") }
+    ensures { OnOk result (string_bytes out.new
+        ≡ string_bytes out.old ++ columns.name_columns (name_of request.now) ++ codes " ") }
 {
     push_left(out, request.by().as_str())?;
     out.push_str(" ")?;

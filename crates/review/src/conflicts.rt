@@ -42,7 +42,8 @@ fn holds_both(roster: &Roster, at: Moment, person: &Name, pair: &(Label, Label))
 
 /// Adds the line of a pair.
 fn push_pair(out: &mut String, person: &Name, pair: &(Label, Label)) -> Result<(), NoMemory>
-    ensures { OnOk result (string_bytes out.new ≡ string_bytes out.old ++ report.conflict_line person.now pair.now ++ codes "\n") }
+    ensures { OnOk result (string_bytes out.new
+        ≡ string_bytes out.old ++ report.conflict_line person.now pair.now ++ codes "\n") }
 {
     let (lesser, greater) = pair;
     push_left(out, person.as_str())?;
@@ -62,7 +63,8 @@ fn push_conflict(
     person: &Name,
     pair: &(Label, Label),
 ) -> Result<(), NoMemory>
-    ensures { OnOk result (string_bytes out.new ≡ string_bytes out.old ++ lines_text (report.conflict_for roster.now.says at person.now pair.now)) }
+    ensures { OnOk result (string_bytes out.new ≡ string_bytes out.old
+        ++ lines_text (report.conflict_for roster.now.says at person.now pair.now)) }
 {
     if !holds_both(roster, at, person, pair) {
         return Ok(());
@@ -78,7 +80,8 @@ fn push_conflicts(
     person: &Name,
     pairs: &[(Label, Label)],
 ) -> Result<(), NoMemory>
-    ensures { OnOk result (string_bytes out.new ≡ string_bytes out.old ++ lines_text (flat_map (report.conflict_for roster.now.says at person.now) pairs.now)) }
+    ensures { OnOk result (string_bytes out.new ≡ string_bytes out.old
+        ++ lines_text (flat_map (report.conflict_for roster.now.says at person.now) pairs.now)) }
 {
     for pair in pairs {
         push_conflict(out, roster, at, person, pair)?;
@@ -94,7 +97,8 @@ pub(crate) fn push_all_conflicts(
     at: Moment,
 ) -> Result<(), NoMemory>
     ensures { OnOk result ((pairs : List (List ℕ × List ℕ)) × report.ArePairs roster.now.says pairs
-        × (string_bytes out.new ≡ string_bytes out.old ++ lines_text (flat_map (report.conflicts_of roster.now.says at pairs) roster.now.says.people))) }
+        × (string_bytes out.new ≡ string_bytes out.old ++ lines_text
+        (flat_map (report.conflicts_of roster.now.says at pairs) roster.now.says.people))) }
 {
     let pairs = in_order(turned(alloc, roster.conflicts())?);
     for entry in roster.people() {

@@ -1,4 +1,5 @@
-//! Reviews: the report of what a set of messages has granted. What one policy allows beyond another stands in `sudo_beyond`, whose `beyond` is re-exported.
+//! Reviews: the report of what a set of messages has granted. What one policy allows beyond another
+//! stands in `sudo_beyond`, whose `beyond` is re-exported.
 #![tactic(auto)]
 
 mod barred;

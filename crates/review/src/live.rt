@@ -5,7 +5,8 @@ ghost use Rattle.sudo_words.specs.declared.cmnd.Cmnd.{Cmnd};
 ghost use Rattle.messages.specs.declared.message.Message.{Message as AnyMessage};
 ghost use Rattle.roster.specs.Fields.{RosterFields};
 ghost use Rattle.review.specs.Report as report;
-ghost use Rattle.review.specs.private.Reporting.{AddsLines, IsInForceOf, IsOutcome, IsSpan, kept_name};
+ghost use Rattle.review.specs.private.Reporting.{AddsLines, IsInForceOf};
+ghost use Rattle.review.specs.private.Reporting.{IsOutcome, IsSpan, kept_name};
 
 use crate::columns::{push_left, push_name};
 use crate::need::{Need, need_of};
@@ -24,9 +25,11 @@ pub(crate) struct InForce<'s> {
     pub(crate) window: Window,
 }
 
-/// The summary's request and its window, where its status is that it is granted, and the window holds the moment.
+/// The summary's request and its window, where its status is that it is granted, and the window
+/// holds the moment.
 pub(crate) fn in_force<'s>(summary: &'s Summary, status: &Status, at: Moment) -> Option<InForce<'s>>
-    ensures given { (f : RosterFields Cmnd) (set : List AnyMessage) → IsOutcome f set summary.now status.now → IsInForceOf f set at summary.now result }
+    ensures given { (f : RosterFields Cmnd) (set : List AnyMessage)
+        → IsOutcome f set summary.now status.now → IsInForceOf f set at summary.now result }
     ensures span { IfSome result (λ grant. IsSpan grant.window) }
 {
     let window = status.window_at(at)?;
@@ -36,7 +39,8 @@ pub(crate) fn in_force<'s>(summary: &'s Summary, status: &Status, at: Moment) ->
 
 /// Adds who asked, the number of the request, and its ceiling.
 fn push_grant(alloc: Global, out: &mut String, request: &Request) -> Result<(), NoMemory>
-    ensures { OnOk result (string_bytes out.new ≡ string_bytes out.old ++ report.grant_columns request.now) }
+    ensures { OnOk result
+        (string_bytes out.new ≡ string_bytes out.old ++ report.grant_columns request.now) }
 {
     push_name(alloc, out, request)?;
     push_left(out, request.ceiling().as_str())
@@ -44,7 +48,8 @@ fn push_grant(alloc: Global, out: &mut String, request: &Request) -> Result<(), 
 
 /// Adds the window's first and last moment.
 fn push_span(out: &mut String, window: &Window) -> Result<(), NoMemory>
-    ensures { OnOk result (string_bytes out.new ≡ string_bytes out.old ++ report.span_columns window.now) }
+    ensures { OnOk result
+        (string_bytes out.new ≡ string_bytes out.old ++ report.span_columns window.now) }
 {
     let start = window.start;
     let end = window.end;
@@ -60,7 +65,8 @@ fn push_live_line(
     window: &Window,
     need: Need,
 ) -> Result<(), NoMemory>
-    ensures { OnOk result (string_bytes out.new ≡ string_bytes out.old ++ report.live_line request.now window.now need ++ codes "\n") }
+    ensures { OnOk result (string_bytes out.new
+        ≡ string_bytes out.old ++ report.live_line request.now window.now need ++ codes "\n") }
 {
     push_grant(alloc, out, request)?;
     push_span(out, window)?;
@@ -80,8 +86,10 @@ pub(crate) fn push_live(
     at: Moment,
 ) -> Result<(), NoMemory>
     requires { empty.now ≡ [] }
-    ensures { (f : RosterFields Cmnd) (set : List AnyMessage) → IsOutcome f set summary.now status.now
-        → OnOk result (AddsLines (report.AreInForce f set at (report.IsLiveLine base.now) (kept_name summary.now)) (string_bytes out.old) (string_bytes out.new)) }
+    ensures { (f : RosterFields Cmnd) (set : List AnyMessage)
+        → IsOutcome f set summary.now status.now
+        → OnOk result (AddsLines (report.AreInForce f set at (report.IsLiveLine base.now)
+        (kept_name summary.now)) (string_bytes out.old) (string_bytes out.new)) }
 {
     let Some(grant) = in_force(summary, status, at) else {
         return Ok(());

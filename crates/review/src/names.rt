@@ -25,7 +25,8 @@ pub(crate) struct Parts {
     pub(crate) broad: String,
 }
 
-/// Adds the lines of a summary's name to each part. What the name has come to is worked out once, for all of them.
+/// Adds the lines of a summary's name to each part. What the name has come to is worked out once,
+/// for all of them.
 fn push_parts(
     alloc: Global,
     parts: &mut Parts,
@@ -45,7 +46,8 @@ fn push_parts(
     push_broad(alloc, &mut parts.broad, summary, &status, at)
 }
 
-/// The lines of the names of summaries, in their order. The base is compiled and measured once, for all of them.
+/// The lines of the names of summaries, in their order. The base is compiled and measured once, for
+/// all of them.
 pub(crate) fn parts_of(
     alloc: Global,
     roster: &Roster,

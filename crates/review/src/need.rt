@@ -133,7 +133,8 @@ fn need_over(
     requires request { IsRequest request.now }
     requires window { IsSpan window.now }
     requires hosts { All (λ host. is_host_name host ≡ true) hosts.now }
-    ensures { IfOk result (needs.IsNeedOver (needs.IsNeedOn base.now request.now window.now) hosts.now) }
+    ensures { IfOk result
+        (needs.IsNeedOver (needs.IsNeedOn base.now request.now window.now) hosts.now) }
 {
     let mut need = Need::Needless;
     for host in hosts {

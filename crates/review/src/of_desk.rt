@@ -11,13 +11,15 @@ use crate::reporting::report_of;
 use desk::{Desk, Holdings, Keeper, Refusal};
 use sudo_words::Moment;
 
-/// The report of what the desk holds, at the moment: which grants are in force and whether they are needed beside the base, whose
-/// approvals did not count and why, who holds conflicting duties, which grants are of ALL or of a directory, and which
-/// verdicts wait for their request (NIST SP 800-53 AC-5, AC-6(7)).
+/// The report of what the desk holds, at the moment: which grants are in force and whether they are
+/// needed beside the base, whose approvals did not count and why, who holds conflicting duties,
+/// which grants are of ALL or of a directory, and which verdicts wait for their request (NIST SP
+/// 800-53 AC-5, AC-6(7)).
 ///
 /// `Storage` and `NoMemory` come as of every question to a desk.
 pub fn report<K: Keeper>(desk: &mut Desk<K>, at: Moment) -> Result<String, Refusal>
-    ensures report { (set : List AnyMessage) → K.is_up desk.new.keeper → Lists (K.holds desk.old.keeper) set
+    ensures report { (set : List AnyMessage) → K.is_up desk.new.keeper
+        → Lists (K.holds desk.old.keeper) set
         → IfOk result (λ s. IsReport desk.old.roster.says desk.old.base set at (string_bytes s)) }
     ensures err { IfErr result IsWant }
     ensures unchanged { K.is_up desk.new.keeper → K.is_same desk.old.keeper desk.new.keeper }

@@ -1,4 +1,5 @@
-//! The law of reports of what was asked and answered in the past, the contract of a function that does nothing.
+//! The law of reports of what was asked and answered in the past, the contract of a function that
+//! does nothing.
 
 ghost use Rattle.std.specs.Prelude.{◌↔◌, ◌≤◌, ℕ, List};
 ghost use Rattle.std.specs.List.{flat_map};
@@ -11,13 +12,17 @@ ghost use Rattle.grants.specs.Past.{AreMadeBy};
 ghost use Rattle.review.specs.Columns.{lines_text};
 ghost use Rattle.review.specs.Report.{IsReport, conflicts_of, report_lines};
 
-/// The past is not rewritten. By rosters that agree until a moment the reports of what was asked and answered up to it have the same
-/// lines under LIVE, BARRED, BROAD and PARKED, at whatever moment they are made; under CONFLICTS each tells who holds which
-/// duties at its own moment. So a report of that moment or an earlier one is the same.
+/// The past is not rewritten. By rosters that agree until a moment the reports of what was asked
+/// and answered up to it have the same lines under LIVE, BARRED, BROAD and PARKED, at whatever
+/// moment they are made; under CONFLICTS each tells who holds which duties at its own moment. So a
+/// report of that moment or an earlier one is the same.
 pub fn past_reports_stay()
-    ensures lines { (f g : RosterFields Cmnd) (moment : ℕ) (base : List Entry) (set : List Message) (at : ℕ) (text : List ℕ) →
-        AgreeUntil moment f g → AreMadeBy moment set → (r : IsReport f base set at text) →
-        IsReport g base set at (lines_text (report_lines at r.live r.barred (flat_map (conflicts_of g at r.pairs) g.people) r.broad r.parked)) }
-    ensures whole { (f g : RosterFields Cmnd) (moment : ℕ) (base : List Entry) (set : List Message) (at : ℕ) (text : List ℕ) →
-        AgreeUntil moment f g → AreMadeBy moment set → at ≤ moment → IsReport f base set at text ↔ IsReport g base set at text }
+    ensures lines { (f g : RosterFields Cmnd) (moment : ℕ) (base : List Entry)
+        (set : List Message) (at : ℕ) (text : List ℕ) → AgreeUntil moment f g
+        → AreMadeBy moment set → (r : IsReport f base set at text)
+        → IsReport g base set at (lines_text (report_lines at r.live r.barred
+        (flat_map (conflicts_of g at r.pairs) g.people) r.broad r.parked)) }
+    ensures whole { (f g : RosterFields Cmnd) (moment : ℕ) (base : List Entry) (set : List Message)
+        (at : ℕ) (text : List ℕ) → AgreeUntil moment f g → AreMadeBy moment set
+        → at ≤ moment → IsReport f base set at text ↔ IsReport g base set at text }
 {}

@@ -18,7 +18,8 @@ use sudo_words::{Moment, NoMemory};
 
 /// Adds the first line and the first heading.
 fn push_head(out: &mut String, at: Moment) -> Result<(), NoMemory>
-    ensures { OnOk result (string_bytes out.new ≡ string_bytes out.old ++ (codes "REVIEW " ++ stamp at ++ codes "\nLIVE\n")) }
+    ensures { OnOk result (string_bytes out.new
+        ≡ string_bytes out.old ++ (codes "REVIEW " ++ stamp at ++ codes "\nLIVE\n")) }
 {
     write!(out, "REVIEW {at}\nLIVE\n")?;
     Ok(())
@@ -26,7 +27,8 @@ fn push_head(out: &mut String, at: Moment) -> Result<(), NoMemory>
 
 /// Adds each text as a line.
 fn push_texts(out: &mut String, texts: &[String]) -> Result<(), NoMemory>
-    ensures { OnOk result (string_bytes out.new ≡ string_bytes out.old ++ lines_text (map string_bytes texts.now)) }
+    ensures { OnOk result
+        (string_bytes out.new ≡ string_bytes out.old ++ lines_text (map string_bytes texts.now)) }
 {
     for text in texts {
         out.push_str(text.as_str())?;
@@ -35,11 +37,13 @@ fn push_texts(out: &mut String, texts: &[String]) -> Result<(), NoMemory>
     Ok(())
 }
 
-/// The report of a set of messages at the moment: which grants are in force and whether they are needed beside the base, whose
-/// approvals did not count and why, who holds conflicting duties, which grants are of ALL or of a directory, and which
-/// verdicts wait for their request (NIST SP 800-53 AC-5, AC-6(7)).
+/// The report of a set of messages at the moment: which grants are in force and whether they are
+/// needed beside the base, whose approvals did not count and why, who holds conflicting duties,
+/// which grants are of ALL or of a directory, and which verdicts wait for their request (NIST SP
+/// 800-53 AC-5, AC-6(7)).
 ///
-/// It is given the summaries of the set in the order of their names, and the parked texts in byte order.
+/// It is given the summaries of the set in the order of their names, and the parked texts in byte
+/// order.
 pub fn report_of(
     alloc: Global,
     roster: &Roster,
@@ -48,7 +52,8 @@ pub fn report_of(
     parked: &[String],
     at: Moment,
 ) -> Result<String, NoMemory>
-    ensures { (set : List AnyMessage) → AreSummaries set summaries.now → AreAll text_order (IsParkedText set) (map string_bytes parked.now)
+    ensures { (set : List AnyMessage) → AreSummaries set summaries.now
+        → AreAll text_order (IsParkedText set) (map string_bytes parked.now)
         → IfOk result (λ s. IsReport roster.now.says base.now set at (string_bytes s)) }
 {
     let parts = parts_of(alloc, roster, base, summaries, at)?;

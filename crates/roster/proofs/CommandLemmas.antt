@@ -1,5 +1,6 @@
 -- Commands in their order: where a search by halving ends, and what stands where.
-use Rattle.std.proofs.Common.{◌≡◌, ◌<◌, ◌≤◌, ◌+◌, ℕ, ◌∙◌, Bool, true, false, ◌&&◌, List, length, get_or, Ordering, Less, Equal, Greater, refl, sym, ap, subst, arith, ⊎_elim}
+use Rattle.std.proofs.Common.{◌≡◌, ◌<◌, ◌≤◌, ◌+◌, ℕ, ◌∙◌, Bool, true, false, ◌&&◌, List, length, get_or}
+use Rattle.std.proofs.Common.{Ordering, Less, Equal, Greater, refl, sym, ap, subst, arith, ⊎_elim}
 use Rattle.std.specs.Cmp.{IsTotalOrder, nat_cmp_total, on_total, then_total}
 use Rattle.std.specs.Cmp.Lexicographic.{lists_ties, lists_total, nat_list_cmp_total, texts_ties}
 use Rattle.std.specs.List.{list_any}
@@ -43,19 +44,22 @@ climbs cs rising p = searchable_from_sorted place_total place cs p rising
 abbrev pub Rank : List Cmnd → Place → Ordering → (from to : ℕ) → Type 0
 Rank cs p r from to = (k : ℕ) (d : Cmnd) → from ≤ k → k < to → k < length cs → place_order (place (get_or cs k d)) p ≡ r
 
-pub all_less : (cs : List Cmnd) → AreCmndsInOrder cs → (p : Place) (m : ℕ) (c : Cmnd) → m < length cs → c ≡ get_or cs m c → place_order (place c) p ≡ Less → Rank cs p Less 0 (m + 1)
+pub all_less : (cs : List Cmnd) → AreCmndsInOrder cs → (p : Place) (m : ℕ) (c : Cmnd)
+    → m < length cs → c ≡ get_or cs m c → place_order (place c) p ≡ Less → Rank cs p Less 0 (m + 1)
 all_less cs rising p m c l is lt k d from to within =
     let here : place_order (place (get_or cs m d)) p ≡ Less = ap (λ x. place_order (place x) p) (same_place cs m d c l ∙ sym is) ∙ lt in
     less (place_order (place (get_or cs k d)) p)
     (subst (λ r. ordering_index (place_order (place (get_or cs k d)) p) ≤ ordering_index r) here (climbs cs rising p k m d (omega arith) l))
 
-pub all_greater : (cs : List Cmnd) → AreCmndsInOrder cs → (p : Place) (m : ℕ) (c : Cmnd) → m < length cs → c ≡ get_or cs m c → place_order (place c) p ≡ Greater → Rank cs p Greater m (length cs)
+pub all_greater : (cs : List Cmnd) → AreCmndsInOrder cs → (p : Place) (m : ℕ) (c : Cmnd) → m < length cs
+    → c ≡ get_or cs m c → place_order (place c) p ≡ Greater → Rank cs p Greater m (length cs)
 all_greater cs rising p m c l is gt k d from to within =
     let here : place_order (place (get_or cs m d)) p ≡ Greater = ap (λ x. place_order (place x) p) (same_place cs m d c l ∙ sym is) ∙ gt in
     greater (place_order (place (get_or cs k d)) p)
     (subst (λ r. ordering_index r ≤ ordering_index (place_order (place (get_or cs k d)) p)) here (climbs cs rising p m k d from within))
 
-pub one_there : (cs : List Cmnd) (p : Place) (m : ℕ) (c : Cmnd) → m < length cs → c ≡ get_or cs m c → place_order (place c) p ≡ Equal → list_any (is_at p) cs ≡ true
+pub one_there : (cs : List Cmnd) (p : Place) (m : ℕ) (c : Cmnd) → m < length cs
+    → c ≡ get_or cs m c → place_order (place c) p ≡ Equal → list_any (is_at p) cs ≡ true
 one_there cs p m c l is eq = list_any_at (is_at p) cs m c l (ap (is_at p) (sym is) ∙ ap is_eq eq)
 
 pub none_there : (cs : List Cmnd) (p : Place) (m : ℕ) → Rank cs p Less 0 m → Rank cs p Greater m (length cs) → list_any (is_at p) cs ≡ false

@@ -41,7 +41,8 @@ is_found (suc later) day d text low high e = elim (cases_Bool (bytes_eq (date_te
             let same : d ≡ day = omega (arith, above, low) in
             absurd (true≢false (sym (subst (λ x. bytes_eq (date_text x) text ≡ true) same e) ∙ other))
       ] in
-      rw (cond-false _ day (day_from later (day + 1) text) other) (omega (arith, is_found later (day + 1) d text (omega (arith, behind)) (omega (arith, high)) e))
+      rw (cond-false _ day (day_from later (day + 1) text) other)
+      (omega (arith, is_found later (day + 1) d text (omega (arith, behind)) (omega (arith, high)) e))
 ]
 
 pub spelled_is_day : (text : List ℕ) → IsDay (day_spelled text) → IsDateText text (pos (day_spelled text))

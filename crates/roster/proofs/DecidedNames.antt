@@ -1,5 +1,6 @@
 -- Whether a text is a lawful command's, and whether what a draft names are names and commands.
-use Rattle.std.proofs.Common.{◌≡◌, ◌≤◌, ◌⊎◌, ℕ, ◌∙◌, Bool, true, false, not, ◌==◌, if◌then◌else◌, nat_le, List, [], ◌∷◌, ◌++◌, length, map, filter, All, eqb, refl, sym, ap, ap₂, subst, arith, inl, inr}
+use Rattle.std.proofs.Common.{◌≡◌, ◌≤◌, ◌⊎◌, ℕ, ◌∙◌, Bool, true, false, not, ◌==◌, if◌then◌else◌, nat_le, List, []}
+use Rattle.std.proofs.Common.{◌∷◌, ◌++◌, length, map, filter, All, eqb, refl, sym, ap, ap₂, subst, arith, inl, inr}
 use Rattle.std.specs.Prelude.{codes}
 use Rattle.std.specs.List.{AllByRecursion, list_all, slice_split}
 use Rattle.std.specs.Str.{bytes_eq}
@@ -111,7 +112,8 @@ rule_again Empty h = refl
 rule_again (Exactly []) h = absurd (omega (arith, h.1))
 rule_again (Exactly (a ∷ args)) h =
     let no_quotes : bytes_eq (arg_text a) (codes "\"\"") ≡ false =
-    false_from_ne_true _ (λ e. no_quoted_args (a ∷ []) ((h.0.0, tt), omega arith, omega arith) (ap (λ (t : List ℕ). t ∷ []) ((bytes_eq-Decides (arg_text a) (codes "\"\"")).0 e))) in
+    false_from_ne_true _
+    (λ e. no_quoted_args (a ∷ []) ((h.0.0, tt), omega arith, omega arith) (ap (λ (t : List ℕ). t ∷ []) ((bytes_eq-Decides (arg_text a) (codes "\"\"")).0 e))) in
     cond-false _ Empty (Exactly (map plain (map arg_text (a ∷ args)))) no_quotes ∙ ap (λ (xs : List (List ℕ)). Exactly xs) (plain_args (a ∷ args) h.0)
 
 head_again : (c : Cmnd) → IsHead c → command_from (head_text c) (rule_of c) ≡ c
@@ -145,7 +147,8 @@ command_again c lawful =
 head_or_not : (c : Cmnd) → Decided (IsHead c)
 head_or_not cmnds.All = inl tt
 head_or_not (cmnds.Path file rule) =
-    three_or_not (is_file_path file ≡ true) (length file ≤ 255) (is_sudoedit file ≡ false) (holds_or_not (is_file_path file)) (at_most_or_not (length file) 255) (fails_or_not (is_sudoedit file))
+    three_or_not (is_file_path file ≡ true) (length file ≤ 255) (is_sudoedit file ≡ false) (holds_or_not (is_file_path file))
+    (at_most_or_not (length file) 255) (fails_or_not (is_sudoedit file))
 head_or_not (cmnds.Dir dir) =
     both_or_not (is_dir_path dir ≡ true) (length dir ≤ 255) (holds_or_not (is_dir_path dir)) (at_most_or_not (length dir) 255)
 
@@ -153,7 +156,8 @@ rule_or_not : (r : ArgRule) → Decided (IsArgRule r)
 rule_or_not Any = inl tt
 rule_or_not Empty = inl tt
 rule_or_not (Exactly args) =
-    three_or_not (AllByRecursion (λ arg. is_arg arg ≡ true) args) (1 ≤ length args) (length args ≤ 16) (each_or_not is_arg args) (at_most_or_not 1 (length args)) (at_most_or_not (length args) 16)
+    three_or_not (AllByRecursion (λ arg. is_arg arg ≡ true) args) (1 ≤ length args)
+    (length args ≤ 16) (each_or_not is_arg args) (at_most_or_not 1 (length args)) (at_most_or_not (length args) 16)
 
 lawful_or_not : (c : Cmnd) → Decided (IsLawful c)
 lawful_or_not c = of (head_or_not c) (rule_or_not (rule_of c)) (at_most_or_not (length (cmnd_text c)) 1024)
@@ -190,7 +194,9 @@ ceiling_or_not c =
     of (holds_or_not (is_label c.0)) (holds_or_not (is_label c.1.ask)) (holds_or_not (is_label c.1.approve))
     (holds_or_not (list_all is_host_name c.1.hosts)) (holds_or_not (list_all is_name c.1.runas)) (all_or_not IsCmndText command_or_not c.1.commands)
   where
-    of : Decided (is_label c.0 ≡ true) → Decided (is_label c.1.ask ≡ true) → Decided (is_label c.1.approve ≡ true) → Decided (list_all is_host_name c.1.hosts ≡ true) → Decided (list_all is_name c.1.runas ≡ true) → Decided (All IsCmndText c.1.commands) → Decided (IsNamedCeiling IsCmndText c)
+    of : Decided (is_label c.0 ≡ true) → Decided (is_label c.1.ask ≡ true) → Decided (is_label c.1.approve ≡ true)
+        → Decided (list_all is_host_name c.1.hosts ≡ true) → Decided (list_all is_name c.1.runas ≡ true)
+        → Decided (All IsCmndText c.1.commands) → Decided (IsNamedCeiling IsCmndText c)
     of (inr lacks) a p h r m = inr (λ n. lacks n.label)
     of (inl l) (inr lacks) p h r m = inr (λ n. lacks n.ask)
     of (inl l) (inl a) (inr lacks) h r m = inr (λ n. lacks n.approve)

@@ -77,7 +77,8 @@ record Approves (f : RosterFields Cmnd) (person asker : List ℕ) (c : CeilingFi
   holds_it : holds f person c.approve at ≡ true
   none_against : holds_against f person c.approve at ≡ false
 
-approver : (f : RosterFields Cmnd) (person asker : List ℕ) (c : CeilingFields Cmnd) (at : ℕ) → eligible f person asker c at ≡ true → Approves f person asker c at
+approver : (f : RosterFields Cmnd) (person asker : List ℕ) (c : CeilingFields Cmnd) (at : ℕ)
+    → eligible f person asker c at ≡ true → Approves f person asker c at
 approver f person asker c at e =
     let is_asker = bytes_eq person asker in
     let has_it = holds f person c.approve at in
@@ -90,14 +91,16 @@ approver f person asker c at e =
       none_against = not-true against last.1;
     }
 
-may_approve : (f : RosterFields Cmnd) (person asker : List ℕ) (c : CeilingFields Cmnd) (at : ℕ) → Approves f person asker c at → eligible f person asker c at ≡ true
+may_approve : (f : RosterFields Cmnd) (person asker : List ℕ) (c : CeilingFields Cmnd) (at : ℕ)
+    → Approves f person asker c at → eligible f person asker c at ≡ true
 may_approve f person asker c at a = rw (a.someone_else, a.holds_it, a.none_against) refl
 
 pub not_who_asks : (f : RosterFields Cmnd) (asker : List ℕ) (c : CeilingFields Cmnd) (at : ℕ) → eligible f asker asker c at ≡ false
 not_who_asks f asker c at =
     false_from_ne_true (eligible f asker asker c at) (λ e. true≢false (sym (itself asker) ∙ (approver f asker asker c at e).someone_else))
 
-pub holds_duty : (f : RosterFields Cmnd) (person asker : List ℕ) (c : CeilingFields Cmnd) (at : ℕ) → eligible f person asker c at ≡ true → holds f person c.approve at ≡ true
+pub holds_duty : (f : RosterFields Cmnd) (person asker : List ℕ) (c : CeilingFields Cmnd) (at : ℕ)
+    → eligible f person asker c at ≡ true → holds f person c.approve at ≡ true
 holds_duty f person asker c at e = (approver f person asker c at e).holds_it
 
 -- one of the duties held then conflicts with this one

@@ -77,7 +77,8 @@ pub none_below_one : (text : List ℕ) (lower : RosterFault) → number lower < 
 none_below_one text NoMemory l h = h
 none_below_one text _ l h = omega arith
 
-only_from_three : (text : List ℕ) (d : Members) → parse_document text ≡ Some d → has_known_keys d ≡ true → (lower : RosterFault) → number lower < 3 → ¬ Has text lower
+only_from_three : (text : List ℕ) (d : Members) → parse_document text ≡ Some d
+    → has_known_keys d ≡ true → (lower : RosterFault) → number lower < 3 → ¬ Has text lower
 only_from_three text d toml keys NotToml l h = none-some d (sym h ∙ toml)
 only_from_three text d toml keys UnknownKey l h =
     true≢false (sym keys ∙ ap has_known_keys (one_document text d h.0 toml h.1) ∙ h.2)
@@ -102,7 +103,8 @@ pub of_bad_name : (text : List ℕ) (t : RosterFields (List ℕ)) → IsDraftOf 
 of_bad_name text t d bad = ((t, (d.document, d.toml, d.types), bad), only_from_four text t d)
 
 -- nor has it that one where its names are good
-only_from_five : (text : List ℕ) (t : RosterFields (List ℕ)) → IsDraftOf text t → GoodNames IsCmndText t → (lower : RosterFault) → number lower < 5 → ¬ Has text lower
+only_from_five : (text : List ℕ) (t : RosterFields (List ℕ)) → IsDraftOf text t
+    → GoodNames IsCmndText t → (lower : RosterFault) → number lower < 5 → ¬ Has text lower
 only_from_five text t d good NotToml l h = only_from_four text t d NotToml (omega arith) h
 only_from_five text t d good UnknownKey l h = only_from_four text t d UnknownKey (omega arith) h
 only_from_five text t d good WrongType l h = only_from_four text t d WrongType (omega arith) h
@@ -110,11 +112,13 @@ only_from_five text t d good BadName l h = h.2 (subst (GoodNames IsCmndText) (on
 only_from_five text t d good NoMemory l h = h
 only_from_five text t d good _ l h = omega arith
 
-pub of_unknown_name : (text : List ℕ) (t : RosterFields (List ℕ)) → IsDraftOf text t → GoodNames IsCmndText t → are_known t ≡ false → IsLeastFault text UnknownName
+pub of_unknown_name : (text : List ℕ) (t : RosterFields (List ℕ)) → IsDraftOf text t
+    → GoodNames IsCmndText t → are_known t ≡ false → IsLeastFault text UnknownName
 of_unknown_name text t d good unknown = ((t, (d.document, d.toml, d.types), unknown), only_from_five text t d good)
 
 -- nor that one where they are listed
-only_from_six : (text : List ℕ) (t : RosterFields (List ℕ)) → IsDraftOf text t → GoodNames IsCmndText t → are_known t ≡ true → (lower : RosterFault) → number lower < 6 → ¬ Has text lower
+only_from_six : (text : List ℕ) (t : RosterFields (List ℕ)) → IsDraftOf text t → GoodNames IsCmndText t
+    → are_known t ≡ true → (lower : RosterFault) → number lower < 6 → ¬ Has text lower
 only_from_six text t d good known NotToml l h = only_from_five text t d good NotToml (omega arith) h
 only_from_six text t d good known UnknownKey l h = only_from_five text t d good UnknownKey (omega arith) h
 only_from_six text t d good known WrongType l h = only_from_five text t d good WrongType (omega arith) h
@@ -124,7 +128,8 @@ only_from_six text t d good known SelfConflict l h = omega arith
 only_from_six text t d good known OutOfRange l h = omega arith
 only_from_six text t d good known NoMemory l h = h
 
-pub of_self_conflict : (text : List ℕ) (t : RosterFields (List ℕ)) → IsDraftOf text t → GoodNames IsCmndText t → are_known t ≡ true → has_self_conflict t ≡ true → IsLeastFault text SelfConflict
+pub of_self_conflict : (text : List ℕ) (t : RosterFields (List ℕ)) → IsDraftOf text t → GoodNames IsCmndText t
+    → are_known t ≡ true → has_self_conflict t ≡ true → IsLeastFault text SelfConflict
 of_self_conflict text t d good known itself = ((t, (d.document, d.toml, d.types), itself), only_from_six text t d good known)
 
 -- nor that one where no duty conflicts with itself

@@ -38,15 +38,17 @@ one_of_seven : (a b c d e f g : Bool) → (a || (b || (c || (d || (e || (f || (g
 one_of_seven true b c d e f g = refl
 one_of_seven false b c d e f g = one_of_six b c d e f g
 
-pub roster_keys : (k : List ℕ)
-    → (bytes_eq (codes "relays") k || (bytes_eq (codes "hosts") k || (bytes_eq (codes "duties") k || (bytes_eq (codes "conflicts") k || (bytes_eq (codes "people") k || (bytes_eq (codes "ceilings") k || false)))))) ≡ is_roster_key k
-roster_keys k = one_of_six (bytes_eq (codes "relays") k) (bytes_eq (codes "hosts") k) (bytes_eq (codes "duties") k) (bytes_eq (codes "conflicts") k) (bytes_eq (codes "people") k) (bytes_eq (codes "ceilings") k)
-    ∙ (λ i. turned (codes "relays") k i || turned (codes "hosts") k i || turned (codes "duties") k i || turned (codes "conflicts") k i || turned (codes "people") k i || turned (codes "ceilings") k i)
+pub roster_keys : (k : List ℕ) → (bytes_eq (codes "relays") k || (bytes_eq (codes "hosts") k || (bytes_eq (codes "duties") k
+    || (bytes_eq (codes "conflicts") k || (bytes_eq (codes "people") k || (bytes_eq (codes "ceilings") k || false)))))) ≡ is_roster_key k
+roster_keys k = one_of_six (bytes_eq (codes "relays") k) (bytes_eq (codes "hosts") k) (bytes_eq (codes "duties") k) (bytes_eq (codes "conflicts") k)
+    (bytes_eq (codes "people") k) (bytes_eq (codes "ceilings") k) ∙ (λ i. turned (codes "relays") k i || turned (codes "hosts") k i
+    || turned (codes "duties") k i || turned (codes "conflicts") k i || turned (codes "people") k i || turned (codes "ceilings") k i)
 
-pub ceiling_keys : (k : List ℕ)
-    → (bytes_eq (codes "ask") k || (bytes_eq (codes "approve") k || (bytes_eq (codes "needs") k || (bytes_eq (codes "hosts") k || (bytes_eq (codes "runas") k || (bytes_eq (codes "commands") k || (bytes_eq (codes "longest") k || false))))))) ≡ is_ceiling_key k
-ceiling_keys k = one_of_seven (bytes_eq (codes "ask") k) (bytes_eq (codes "approve") k) (bytes_eq (codes "needs") k) (bytes_eq (codes "hosts") k) (bytes_eq (codes "runas") k) (bytes_eq (codes "commands") k) (bytes_eq (codes "longest") k)
-    ∙ (λ i. turned (codes "ask") k i || turned (codes "approve") k i || turned (codes "needs") k i || turned (codes "hosts") k i || turned (codes "runas") k i || turned (codes "commands") k i || turned (codes "longest") k i)
+pub ceiling_keys : (k : List ℕ) → (bytes_eq (codes "ask") k || (bytes_eq (codes "approve") k || (bytes_eq (codes "needs") k || (bytes_eq (codes "hosts") k
+    || (bytes_eq (codes "runas") k || (bytes_eq (codes "commands") k || (bytes_eq (codes "longest") k || false))))))) ≡ is_ceiling_key k
+ceiling_keys k = one_of_seven (bytes_eq (codes "ask") k) (bytes_eq (codes "approve") k) (bytes_eq (codes "needs") k) (bytes_eq (codes "hosts") k)
+    (bytes_eq (codes "runas") k) (bytes_eq (codes "commands") k) (bytes_eq (codes "longest") k) ∙ (λ i. turned (codes "ask") k i || turned (codes "approve") k i
+    || turned (codes "needs") k i || turned (codes "hosts") k i || turned (codes "runas") k i || turned (codes "commands") k i || turned (codes "longest") k i)
 
 pub entry_keys : (k : List ℕ) → (bytes_eq (codes "duty") k || (bytes_eq (codes "from") k || (bytes_eq (codes "until") k || false))) ≡ is_entry_key k
 entry_keys k = one_of_three (bytes_eq (codes "duty") k) (bytes_eq (codes "from") k) (bytes_eq (codes "until") k)

@@ -31,8 +31,7 @@ known_in_order f duties hosts d h =
     let duty = among_in_order f.duties duties d in
     let host = among_in_order f.hosts hosts h in
     ap₂ (λ a b. a && b)
-    (ap₂ (λ a b. a && b)
-    (all_same (is_known_pair duties) (is_known_pair f.duties) (λ p. ap₂ (λ a b. a && b) (duty p.0) (duty p.1)) f.conflicts)
-    (all_same (is_known_person duties) (is_known_person f.duties) (λ p. all_same (is_known_entry duties) (is_known_entry f.duties) (λ e. duty e.0) p.1) f.people))
+    (ap₂ (λ a b. a && b) (all_same (is_known_pair duties) (is_known_pair f.duties) (λ p. ap₂ (λ a b. a && b) (duty p.0) (duty p.1)) f.conflicts) (all_same
+    (is_known_person duties) (is_known_person f.duties) (λ p. all_same (is_known_entry duties) (is_known_entry f.duties) (λ e. duty e.0) p.1) f.people))
     (all_same (is_known_ceiling duties hosts) (is_known_ceiling f.duties f.hosts)
     (λ c. ap₂ (λ a b. a && b) (ap₂ (λ a b. a && b) (duty c.1.ask) (duty c.1.approve)) (all_same (is_among hosts) (is_among f.hosts) host c.1.hosts)) f.ceilings)

@@ -1,5 +1,6 @@
 -- The first of some words in byte order.
-use Rattle.std.proofs.Common.{◌≡◌, ◌<◌, ◌+◌, ℕ, ◌∙◌, Bool, true, false, not, ◌&&◌, List, [], ◌∷◌, length, take, get_or, Ordering, Less, Equal, Greater, refl, sym, ap, ap₂}
+use Rattle.std.proofs.Common.{◌≡◌, ◌<◌, ◌+◌, ℕ, ◌∙◌, Bool, true, false, not, ◌&&◌, List, [], ◌∷◌}
+use Rattle.std.proofs.Common.{length, take, get_or, Ordering, Less, Equal, Greater, refl, sym, ap, ap₂}
 use Rattle.std.specs.List.{list_all}
 use Rattle.std.specs.Str.{bytes_eq}
 use Rattle.std.proofs.lemmas.Slice.Eq.{bytes_eq-Decides}
@@ -41,8 +42,8 @@ pub first_changes : (words : List (List ℕ)) (i : ℕ) (first w : List ℕ) →
     → list_all (λ v. not (is_before v first)) (take i words) ≡ true → list_all (λ v. not (is_before v w)) (take (i + 1) words) ≡ true
 first_changes words i first w l is lower so_far =
     let still = all_weaker (λ v. not (is_before v first)) (λ v. not (is_before v w))
-    (λ v e. not_from_false (is_before v w) (false_from_ne_true (is_before v w) (λ b. true≢false (sym (before_then v w first b lower) ∙ not-true (is_before v first) e))))
-    (take i words) so_far in
+    (λ v e. not_from_false (is_before v w)
+    (false_from_ne_true (is_before v w) (λ b. true≢false (sym (before_then v w first b lower) ∙ not-true (is_before v first) e)))) (take i words) so_far in
     let last : not (is_before (get_or words i w) w) ≡ true = ap (λ x. not (is_before x w)) (sym is) ∙ ap not (before_itself w) in
     list_all_more (λ v. not (is_before v w)) words i w l ∙ ap₂ (λ a b. a && b) still last
 

@@ -1,5 +1,6 @@
 -- Pairs in their order: where a search by halving ends.
-use Rattle.std.proofs.Common.{◌≡◌, ◌<◌, ◌≤◌, ◌+◌, ℕ, ◌∙◌, Bool, true, false, ◌||◌, List, [], ◌∷◌, length, get_or, Ordering, Less, Equal, Greater, refl, sym, ap, subst, arith, ⊎_elim}
+use Rattle.std.proofs.Common.{◌≡◌, ◌<◌, ◌≤◌, ◌+◌, ℕ, ◌∙◌, Bool, true, false, ◌||◌, List, [], ◌∷◌, length}
+use Rattle.std.proofs.Common.{get_or, Ordering, Less, Equal, Greater, refl, sym, ap, subst, arith, ⊎_elim}
 use Rattle.std.specs.Cmp.{IsTotalOrder, both_tied, on_total, then_total}
 use Rattle.std.specs.Cmp.Lexicographic.{nat_list_cmp_total, texts_ties}
 use Rattle.std.specs.List.{list_any}
@@ -37,13 +38,15 @@ greater Greater l = refl
 abbrev pub Rank : List Pair → Pair → Ordering → (from to : ℕ) → Type 0
 Rank ps p r from to = (k : ℕ) (d : Pair) → from ≤ k → k < to → k < length ps → pair_order (get_or ps k d) p ≡ r
 
-pub all_less : (ps : List Pair) → AreInOrder ps → (p : Pair) (m : ℕ) (q : Pair) → m < length ps → q ≡ get_or ps m q → pair_order q p ≡ Less → Rank ps p Less 0 (m + 1)
+pub all_less : (ps : List Pair) → AreInOrder ps → (p : Pair) (m : ℕ) (q : Pair)
+    → m < length ps → q ≡ get_or ps m q → pair_order q p ≡ Less → Rank ps p Less 0 (m + 1)
 all_less ps rising p m q l is lt k d from to within =
     let here : pair_order (get_or ps m d) p ≡ Less = ap (λ x. pair_order x p) (same_place ps m d q l ∙ sym is) ∙ lt in
     less (pair_order (get_or ps k d) p)
     (subst (λ r. ordering_index (pair_order (get_or ps k d) p) ≤ ordering_index r) here (climbs ps rising p k m d (omega arith) l))
 
-pub all_greater : (ps : List Pair) → AreInOrder ps → (p : Pair) (m : ℕ) (q : Pair) → m < length ps → q ≡ get_or ps m q → pair_order q p ≡ Greater → Rank ps p Greater m (length ps)
+pub all_greater : (ps : List Pair) → AreInOrder ps → (p : Pair) (m : ℕ) (q : Pair) → m < length ps
+    → q ≡ get_or ps m q → pair_order q p ≡ Greater → Rank ps p Greater m (length ps)
 all_greater ps rising p m q l is gt k d from to within =
     let here : pair_order (get_or ps m d) p ≡ Greater = ap (λ x. pair_order x p) (same_place ps m d q l ∙ sym is) ∙ gt in
     greater (pair_order (get_or ps k d) p)

@@ -12,7 +12,8 @@ use Rattle.roster.specs.Relations.{entry_of, ceiling_at}
 use Rattle.roster.specs.Rules.{is_within, is_ranged, has_ceiling_counts, in_range}
 
 -- what holds of each entry holds of the one that is found
-found_holds : {X : Type 0} (test : List ℕ × X → Bool) (entries : List (List ℕ × X)) (name : List ℕ) (x : X) → list_all test entries ≡ true → entry_of entries name ≡ Some x → (e : List ℕ × X) × (test e ≡ true) × (e.1 ≡ x)
+found_holds : {X : Type 0} (test : List ℕ × X → Bool) (entries : List (List ℕ × X)) (name : List ℕ) (x : X)
+    → list_all test entries ≡ true → entry_of entries name ≡ Some x → (e : List ℕ × X) × (test e ≡ true) × (e.1 ≡ x)
 found_holds {X = X} test [] name x all found = absurd (none-some x found)
 found_holds {X = X} test (e ∷ es) name x all found =
     let parts = and_parts (test e) (list_all test es) all in
@@ -34,12 +35,14 @@ few e ranged =
     (leb-true 1 e.1.needs both.0, leb-true e.1.needs 3 both.1)
 
 -- each ceiling of a roster needs one to three people
-needs_few : (text : List ℕ) (f : RosterFields Cmnd) (label : List ℕ) (c : CeilingFields Cmnd) → IsRosterText text f → ceiling_at f label ≡ Some c → (1 ≤ c.needs) × (c.needs ≤ 3)
+needs_few : (text : List ℕ) (f : RosterFields Cmnd) (label : List ℕ) (c : CeilingFields Cmnd)
+    → IsRosterText text f → ceiling_at f label ≡ Some c → (1 ≤ c.needs) × (c.needs ≤ 3)
 needs_few text f label c r found =
     let at = found_holds is_ranged f.ceilings label c (ceilings_ranged text f r) found in
     subst (λ (d : CeilingFields Cmnd). (1 ≤ d.needs) × (d.needs ≤ 3)) at.2 (few at.0 at.1)
 
 -- so does the one that a look-up gives
-pub found_few : {X : Type 0} (text : List ℕ) (f : RosterFields Cmnd) (label : List ℕ) (view : X → CeilingFields Cmnd) (o : Option X) → IsRosterText text f → option_map view o ≡ ceiling_at f label → IfSome o (λ x. (1 ≤ (view x).needs) × ((view x).needs ≤ 3))
+pub found_few : {X : Type 0} (text : List ℕ) (f : RosterFields Cmnd) (label : List ℕ) (view : X → CeilingFields Cmnd) (o : Option X)
+    → IsRosterText text f → option_map view o ≡ ceiling_at f label → IfSome o (λ x. (1 ≤ (view x).needs) × ((view x).needs ≤ 3))
 found_few text f label view None r found = tt
 found_few text f label view (Some x) r found = needs_few text f label (view x) r (sym found)

@@ -1,5 +1,6 @@
 -- Names that rise: where a search by halving ends; and a table's keys rise.
-use Rattle.std.proofs.Common.{◌≡◌, ◌<◌, ◌≤◌, ◌+◌, ℕ, zero, suc, ◌∙◌, false, List, [], ◌∷◌, length, get_or, map, Option, Some, None, String, Ordering, Less, Equal, Greater, string_bytes, refl, sym, ap, subst, arith, ⊎_elim}
+use Rattle.std.proofs.Common.{◌≡◌, ◌<◌, ◌≤◌, ◌+◌, ℕ, zero, suc, ◌∙◌, false, List, [], ◌∷◌, length, get_or, map, Option, Some}
+use Rattle.std.proofs.Common.{None, String, Ordering, Less, Equal, Greater, string_bytes, refl, sym, ap, subst, arith, ⊎_elim}
 use Rattle.std.specs.Prelude.{if◌then◌else◌}
 use Rattle.std.specs.declared.alloc.Global.{Global}
 use Rattle.std.specs.Cmp.Lexicographic.{slice_cmp, nat_list_cmp_total, texts_ties}

@@ -26,15 +26,20 @@ commands_for (t ∷ texts) a =
     let more = commands_for texts (All-tail IsCmndText t texts a) in
     (one.0 ∷ more.0, All-cons IsLawful one.0 more.0 one.1 more.1, ap₂ (λ (x : List ℕ) (xs : List (List ℕ)). x ∷ xs) (sym one.2) more.2)
 
-ceiling_for : (d : List ℕ × CeilingFields (List ℕ)) → IsNamedCeiling IsCmndText d → (c : List ℕ × CeilingFields Cmnd) × IsNamedCeiling IsLawful c × (entry_in_texts c ≡ d)
+ceiling_for : (d : List ℕ × CeilingFields (List ℕ)) → IsNamedCeiling IsCmndText d
+    → (c : List ℕ × CeilingFields Cmnd) × IsNamedCeiling IsLawful c × (entry_in_texts c ≡ d)
 ceiling_for d n =
     let cs = commands_for d.1.commands n.commands in (
       (d.0, record { ask = d.1.ask; approve = d.1.approve; needs = d.1.needs; hosts = d.1.hosts; runas = d.1.runas; commands = cs.0; longest = d.1.longest }),
       record { label = n.label; ask = n.ask; approve = n.approve; hosts = n.hosts; runas = n.runas; commands = cs.1 },
-      ap (λ (texts : List (List ℕ)). (d.0, record { ask = d.1.ask; approve = d.1.approve; needs = d.1.needs; hosts = d.1.hosts; runas = d.1.runas; commands = texts; longest = d.1.longest })) cs.2,
+      ap (λ (texts : List (List ℕ)). (
+        d.0,
+        record { ask = d.1.ask; approve = d.1.approve; needs = d.1.needs; hosts = d.1.hosts; runas = d.1.runas; commands = texts; longest = d.1.longest },
+      )) cs.2,
     )
 
-ceilings_for : (ds : List (List ℕ × CeilingFields (List ℕ))) → All (IsNamedCeiling IsCmndText) ds → (cs : List (List ℕ × CeilingFields Cmnd)) × All (IsNamedCeiling IsLawful) cs × (map entry_in_texts cs ≡ ds)
+ceilings_for : (ds : List (List ℕ × CeilingFields (List ℕ))) → All (IsNamedCeiling IsCmndText) ds
+    → (cs : List (List ℕ × CeilingFields Cmnd)) × All (IsNamedCeiling IsLawful) cs × (map entry_in_texts cs ≡ ds)
 ceilings_for [] a = ([], All-nil (IsNamedCeiling IsLawful), refl)
 ceilings_for (d ∷ ds) a =
     let one = ceiling_for d (All-head (IsNamedCeiling IsCmndText) d ds a) in
@@ -50,7 +55,8 @@ roster_for t n =
     let cs = ceilings_for t.ceilings n.ceilings in (
       record { relays = t.relays; hosts = t.hosts; duties = t.duties; conflicts = t.conflicts; people = t.people; ceilings = cs.0 },
       record { names = n.names; ceilings = cs.1 },
-      ap (λ (ceilings : List (List ℕ × CeilingFields (List ℕ))). record { relays = t.relays; hosts = t.hosts; duties = t.duties; conflicts = t.conflicts; people = t.people; ceilings = ceilings }) cs.2,
+      ap (λ (ceilings : List (List ℕ × CeilingFields (List ℕ))).
+          record { relays = t.relays; hosts = t.hosts; duties = t.duties; conflicts = t.conflicts; people = t.people; ceilings = ceilings }) cs.2,
     )
 
 -- ---- the answer

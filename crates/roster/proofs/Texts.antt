@@ -10,7 +10,8 @@ use Rattle.sudo_words.specs.Command.{IsLawful, cmnd_text}
 use Rattle.sudo_words.specs.declared.cmnd.Cmnd.{Cmnd}
 use Rattle.roster.specs.Faults.{IsRosterText}
 use Rattle.roster.specs.Fields.{CeilingFields, RosterFields, entry_in_texts, in_texts}
-use Rattle.roster.specs.Rules.{IsCmndText, IsNamedCeiling, GoodNames, good_names, are_known, has_self_conflict, in_range, is_ranged, is_within, is_known_ceiling, is_known_pair, is_known_person, has_counts, has_ceiling_counts}
+use Rattle.roster.specs.Rules.{IsCmndText, IsNamedCeiling, GoodNames, good_names, are_known, has_self_conflict, in_range, is_ranged}
+use Rattle.roster.specs.Rules.{is_within, is_known_ceiling, is_known_pair, is_known_person, has_counts, has_ceiling_counts}
 use Rattle.roster.specs.private.Stages.{IsDraftOf, KeepsRules}
 
 commands_in_texts : (cs : List Cmnd) → All IsLawful cs → All IsCmndText (map cmnd_text cs)
@@ -30,7 +31,8 @@ pub good_in_texts : (f : RosterFields Cmnd) → GoodNames IsLawful f → GoodNam
 unfolding good_names
 good_in_texts f n = record {
   names = n.names;
-  ceilings = All-map (IsNamedCeiling IsCmndText) entry_in_texts f.ceilings (All-weaker (IsNamedCeiling IsLawful) (λ c. IsNamedCeiling IsCmndText (entry_in_texts c)) named_in_texts f.ceilings n.ceilings);
+  ceilings = All-map (IsNamedCeiling IsCmndText) entry_in_texts f.ceilings
+      (All-weaker (IsNamedCeiling IsLawful) (λ c. IsNamedCeiling IsCmndText (entry_in_texts c)) named_in_texts f.ceilings n.ceilings);
 }
 
 pub known_in_texts : (f : RosterFields Cmnd) → are_known (in_texts f) ≡ are_known f
@@ -50,7 +52,8 @@ ranged_in_texts : (cs : List (List ℕ × CeilingFields Cmnd)) → list_all is_r
 ranged_in_texts [] = refl
 ranged_in_texts (c ∷ cs) =
     let one : is_ranged (entry_in_texts c) ≡ is_ranged c =
-    ap (λ n. is_within 1 3 c.1.needs && is_within 1 256 (length c.1.hosts) && is_within 1 256 (length c.1.runas) && is_within 1 256 n && is_within 1 2_592_000 c.1.longest) (length-map c.1.commands cmnd_text) in
+    ap (λ n. is_within 1 3 c.1.needs && is_within 1 256 (length c.1.hosts) && is_within 1 256 (length c.1.runas)
+    && is_within 1 256 n && is_within 1 2_592_000 c.1.longest) (length-map c.1.commands cmnd_text) in
     ap₂ (λ a b. a && b) one (ranged_in_texts cs)
 
 pub range_in_texts : (text : List ℕ) (f : RosterFields Cmnd) → in_range text (in_texts f) ≡ in_range text f

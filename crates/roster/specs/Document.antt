@@ -1,7 +1,9 @@
 -- Which TOML document is which roster: its keys, and the type of each value (TOML 1.1).
-use Rattle.std.specs.Prelude.{ℕ, zero, suc, ◌+◌, ℤ, pos, negsuc, List, [], ◌∷◌, Option, Some, None, Bool, true, if◌then◌else◌, codes, ◌&&◌, ◌||◌}
+use Rattle.std.specs.Prelude.{ℕ, zero, suc, ◌+◌, ℤ, pos, negsuc, List, [], ◌∷◌, Option}
+use Rattle.std.specs.Prelude.{Some, None, Bool, true, if◌then◌else◌, codes, ◌&&◌, ◌||◌}
 use Rattle.std.specs.Str.{bytes_eq}
-use Rattle.toml.specs.Data.{Data, array, table, as_str, as_integer, Items, no_items, item, Members, no_members, member, get_member}
+use Rattle.toml.specs.Data.{Data, array, table, as_str, as_integer, Items, no_items}
+use Rattle.toml.specs.Data.{item, Members, no_members, member, get_member}
 use Rattle.sudo_words.specs.Moment.{date_text}
 use Rattle.roster.specs.Fields.{CeilingFields, Entry, RosterFields}
 use Rattle.roster.specs.declared.days.Days.TheVariants.{Always, Between}
@@ -58,13 +60,15 @@ number_of d = as_integer d >>= λ z. Some (at_least_zero z)
 
 -- ---- days
 
--- of this day and so many later ones the one that the text is the date of, or the day after them where it is none's
+-- of this day and so many later ones the one that the text is the date of, or the day after them
+-- where it is none's
 unfoldable pub day_from : (later day : ℕ) → List ℕ → ℕ
 day_from zero day text = day
-day_from (suc later) day text = if bytes_eq (date_text day) text then day else day_from later (day + 1) text
+day_from (suc later) day text =
+    if bytes_eq (date_text day) text then day else day_from later (day + 1) text
 
--- The day from 1970-01-01 to 2099-12-31 that the text is the date of, `yyyymmdd`. Each other text stands as the day after
--- them, which no entry of a roster has.
+-- The day from 1970-01-01 to 2099-12-31 that the text is the date of, `yyyymmdd`. Each other text
+-- stands as the day after them, which no entry of a roster has.
 unfoldable pub day_spelled : List ℕ → ℕ
 day_spelled text = day_from 47_482 0 text
 
@@ -91,7 +95,8 @@ each_one test (item d ds) = test d && each_one test ds
 -- the keys of a ceiling
 abbrev pub is_ceiling_key : List ℕ → Bool
 is_ceiling_key k =
-    bytes_eq k (codes "ask") || bytes_eq k (codes "approve") || bytes_eq k (codes "needs") || bytes_eq k (codes "hosts")
+    bytes_eq k (codes "ask") || bytes_eq k (codes "approve")
+    || bytes_eq k (codes "needs") || bytes_eq k (codes "hosts")
     || bytes_eq k (codes "runas") || bytes_eq k (codes "commands") || bytes_eq k (codes "longest")
 
 -- a value that is no table has no keys
@@ -105,7 +110,8 @@ have_ceiling_keys _ = true
 
 -- the keys of an entry that is a table
 abbrev pub is_entry_key : List ℕ → Bool
-is_entry_key k = bytes_eq k (codes "duty") || bytes_eq k (codes "from") || bytes_eq k (codes "until")
+is_entry_key k =
+    bytes_eq k (codes "duty") || bytes_eq k (codes "from") || bytes_eq k (codes "until")
 
 abbrev pub has_entry_keys : Data → Bool
 has_entry_keys (table ms) = each_key is_entry_key ms
@@ -123,10 +129,12 @@ people_have_entry_keys _ = true
 -- the keys of a roster
 abbrev pub is_roster_key : List ℕ → Bool
 is_roster_key k =
-    bytes_eq k (codes "relays") || bytes_eq k (codes "hosts") || bytes_eq k (codes "duties") || bytes_eq k (codes "conflicts")
+    bytes_eq k (codes "relays") || bytes_eq k (codes "hosts")
+    || bytes_eq k (codes "duties") || bytes_eq k (codes "conflicts")
     || bytes_eq k (codes "people") || bytes_eq k (codes "ceilings")
 
--- each key of the document is one of a roster, each key of a ceiling one of a ceiling, and each key of an entry one of an entry
+-- each key of the document is one of a roster, each key of a ceiling one of a ceiling, and each key
+-- of an entry one of an entry
 unfoldable pub has_known_keys : Members → Bool
 has_known_keys ms =
     each_key is_roster_key ms && have_ceiling_keys (get_member (codes "ceilings") ms)
@@ -138,7 +146,8 @@ has_known_keys ms =
 abbrev pub member_of : {X : Type 0} → (Data → Option X) → List ℕ → Members → Option X
 member_of f key ms = get_member key ms >>= f
 
--- An entry is a duty's label, and then held always, or a table of a duty and of the days from which and until which it is held.
+-- An entry is a duty's label, and then held always, or a table of a duty and of the days from which
+-- and until which it is held.
 unfoldable pub duty_entry : Data → Option Entry
 duty_entry (table ms) = do
   duty ← member_of as_str (codes "duty") ms
@@ -167,7 +176,15 @@ ceiling_of (table ms) = do
   runas ← member_of texts_of (codes "runas") ms
   commands ← member_of texts_of (codes "commands") ms
   longest ← member_of number_of (codes "longest") ms
-  Some (record { ask = ask; approve = approve; needs = needs; hosts = hosts; runas = runas; commands = commands; longest = longest })
+  Some (record {
+    ask = ask;
+    approve = approve;
+    needs = needs;
+    hosts = hosts;
+    runas = runas;
+    commands = commands;
+    longest = longest;
+  })
 ceiling_of _ = None
 
 -- a table of ceilings
@@ -184,4 +201,11 @@ fields_of ms = do
   conflicts ← member_of pairs_of (codes "conflicts") ms
   people ← member_of people_of (codes "people") ms
   ceilings ← member_of ceilings_of (codes "ceilings") ms
-  Some (record { relays = relays; hosts = hosts; duties = duties; conflicts = conflicts; people = people; ceilings = ceilings })
+  Some (record {
+    relays = relays;
+    hosts = hosts;
+    duties = duties;
+    conflicts = conflicts;
+    people = people;
+    ceilings = ceilings;
+  })

@@ -8,7 +8,9 @@ use Rattle.roster.specs.Fields.{RosterFields, in_texts}
 use Rattle.roster.specs.Document.{has_known_keys, fields_of}
 use Rattle.roster.specs.Rules.{IsCmndText, GoodNames, are_known, has_self_conflict, in_range}
 use Rattle.roster.specs.declared.fault.RosterFault.{RosterFault}
-use Rattle.roster.specs.declared.fault.RosterFault.TheVariants.{NotToml, UnknownKey, WrongType, BadName, UnknownName, SelfConflict, OutOfRange, NoMemory}
+use Rattle.roster.specs.declared.fault.RosterFault.TheVariants.{NotToml, UnknownKey, WrongType}
+use Rattle.roster.specs.declared.fault.RosterFault.TheVariants.{BadName, UnknownName, SelfConflict}
+use Rattle.roster.specs.declared.fault.RosterFault.TheVariants.{OutOfRange, NoMemory}
 
 -- The text is a roster's, and says this.
 pub record IsRosterText (text : List ℕ) (f : RosterFields Cmnd) : Type 0 where
@@ -23,13 +25,17 @@ pub record IsRosterText (text : List ℕ) (f : RosterFields Cmnd) : Type 0 where
 
 -- Each value of the text has its type, and they say this.
 abbrev pub Says : List ℕ → RosterFields (List ℕ) → Type 0
-Says text t = (document : Members) × (parse_document text ≡ Some document) × (fields_of document ≡ Some t)
+Says text t =
+    (document : Members) × (parse_document text ≡ Some document) × (fields_of document ≡ Some t)
 
--- The text has the fault. A fault of what a text says is one of a text whose values have their types.
+-- The text has the fault. A fault of what a text says is one of a text whose values have their
+-- types.
 abbrev pub Has : List ℕ → RosterFault → Type 0
 Has text NotToml = parse_document text ≡ None
-Has text UnknownKey = (document : Members) × (parse_document text ≡ Some document) × (has_known_keys document ≡ false)
-Has text WrongType = (document : Members) × (parse_document text ≡ Some document) × (fields_of document ≡ None)
+Has text UnknownKey =
+    (document : Members) × (parse_document text ≡ Some document) × (has_known_keys document ≡ false)
+Has text WrongType =
+    (document : Members) × (parse_document text ≡ Some document) × (fields_of document ≡ None)
 Has text BadName = (t : RosterFields (List ℕ)) × Says text t × ¬ GoodNames IsCmndText t
 Has text UnknownName = (t : RosterFields (List ℕ)) × Says text t × (are_known t ≡ false)
 Has text SelfConflict = (t : RosterFields (List ℕ)) × Says text t × (has_self_conflict t ≡ true)
@@ -49,7 +55,8 @@ number NoMemory = 8
 
 -- the text has the fault, and none of a lower number
 abbrev pub IsLeastFault : List ℕ → RosterFault → Type 0
-IsLeastFault text fault = Has text fault × ((lower : RosterFault) → number lower < number fault → ¬ Has text lower)
+IsLeastFault text fault =
+    Has text fault × ((lower : RosterFault) → number lower < number fault → ¬ Has text lower)
 
 -- how a fault is printed
 abbrev pub fault_text : RosterFault → List ℕ

@@ -1,11 +1,13 @@
--- What a roster says. Names are seen as their bytes; people and ceilings stand in the byte order of their names.
+-- What a roster says. Names are seen as their bytes; people and ceilings stand in the byte order of
+-- their names.
 use Rattle.std.specs.Prelude.{ℕ, List, map}
 use Rattle.sudo_words.specs.Command.{cmnd_text}
 use Rattle.sudo_words.specs.declared.cmnd.Cmnd.{Cmnd}
 use Rattle.roster.specs.declared.days.Days.{Days}
 
--- A ceiling: who may ask and who approves, how many approvals it takes, and the most that a grant under it gives (NIST SP 800-53 AC-6).
--- `C` is what stands for a command: its text where the roster is still a draft, else the command.
+-- A ceiling: who may ask and who approves, how many approvals it takes, and the most that a grant
+-- under it gives (NIST SP 800-53 AC-6). `C` is what stands for a command: its text where the roster
+-- is still a draft, else the command.
 pub record CeilingFields (C : Type 0) : Type 0 where
   pub ask : List ℕ
   pub approve : List ℕ
@@ -15,11 +17,13 @@ pub record CeilingFields (C : Type 0) : Type 0 where
   pub commands : List C
   pub longest : ℕ
 
--- a duty, and the days on which it is held: always, or from one day to another, both included, in days since 1970-01-01
+-- a duty, and the days on which it is held: always, or from one day to another, both included, in
+-- days since 1970-01-01
 abbrev pub Entry : Type 0
 Entry = List ℕ × Days
 
--- A roster. A person has entries, of which several may be of one duty. A pair of conflicting duties means the same either way round (NIST SP 800-53 AC-5).
+-- A roster. A person has entries, of which several may be of one duty. A pair of conflicting duties
+-- means the same either way round (NIST SP 800-53 AC-5).
 pub record RosterFields (C : Type 0) : Type 0 where
   pub relays : List (List ℕ)
   pub hosts : List (List ℕ)

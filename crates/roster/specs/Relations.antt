@@ -1,5 +1,7 @@
--- Who holds which duty when, which duties conflict, who may approve and who may revoke (NIST SP 800-53 AC-5).
-use Rattle.std.specs.Prelude.{◌≡◌, ℕ, List, [], ◌∷◌, Option, Some, None, if◌then◌else◌, Bool, true, not, ◌&&◌, ◌||◌, is_some, nat_le}
+-- Who holds which duty when, which duties conflict, who may approve and who may revoke (NIST SP
+-- 800-53 AC-5).
+use Rattle.std.specs.Prelude.{◌≡◌, ℕ, List, [], ◌∷◌, Option, Some, None, if◌then◌else◌}
+use Rattle.std.specs.Prelude.{Bool, true, not, ◌&&◌, ◌||◌, is_some, nat_le}
 use Rattle.std.specs.List.{list_all, list_any}
 use Rattle.std.specs.List.Sorted.{IsStrictlySortedBy}
 use Rattle.std.specs.Map.{keys_of}
@@ -59,13 +61,17 @@ is_against f duty day e = hold e.1 day && conflicting f e.0 duty
 abbrev pub holds_against : {C : Type 0} → RosterFields C → (person duty : List ℕ) (at : ℕ) → Bool
 holds_against f person duty at = list_any (is_against f duty (day_of at)) (entries_of f person)
 
--- Separation of duties: who approves at a moment is not who asks, holds the approving duty then, and holds none then that conflicts with it.
-abbrev pub eligible : {C D : Type 0} → RosterFields C → (person asker : List ℕ) → CeilingFields D → (at : ℕ) → Bool
+-- Separation of duties: who approves at a moment is not who asks, holds the approving duty then,
+-- and holds none then that conflicts with it.
+abbrev pub eligible : {C D : Type 0} → RosterFields C
+    → (person asker : List ℕ) → CeilingFields D → (at : ℕ) → Bool
 eligible f person asker c at =
-    not (bytes_eq person asker) && holds f person c.approve at && not (holds_against f person c.approve at)
+    not (bytes_eq person asker)
+    && holds f person c.approve at && not (holds_against f person c.approve at)
 
 -- who asked may revoke, and who holds the approving duty at the moment
-abbrev pub may_revoke : {C D : Type 0} → RosterFields C → (person asker : List ℕ) → CeilingFields D → (at : ℕ) → Bool
+abbrev pub may_revoke : {C D : Type 0} → RosterFields C
+    → (person asker : List ℕ) → CeilingFields D → (at : ℕ) → Bool
 may_revoke f person asker c at = bytes_eq person asker || holds f person c.approve at
 
 -- the ceiling of a label

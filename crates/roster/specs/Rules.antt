@@ -1,4 +1,5 @@
--- What holds of each roster, beyond the types of its values. A list stands for its set, and counts are of the list.
+-- What holds of each roster, beyond the types of its values. A list stands for its set, and counts
+-- are of the list.
 use Rattle.std.specs.Prelude.{◌≡◌, ℕ, All, List, length, Bool, true, ◌&&◌, nat_le}
 use Rattle.std.specs.List.{list_all, list_any}
 use Rattle.std.specs.Str.{bytes_eq}
@@ -24,8 +25,10 @@ is_named_person p = is_name p.0 && list_all is_named_entry p.1
 abbrev pub IsCmndText : List ℕ → Type 0
 IsCmndText text = (c : Cmnd) × IsLawful c × (text ≡ cmnd_text c)
 
--- what stands in a ceiling for a name is a name of its form, and what stands for a command is a command
-pub record IsNamedCeiling {C : Type 0} (IsCommand : C → Type 0) (c : List ℕ × CeilingFields C) : Type 0 where
+-- what stands in a ceiling for a name is a name of its form, and what stands for a command is a
+-- command
+pub record IsNamedCeiling {C : Type 0} (IsCommand : C
+    → Type 0) (c : List ℕ × CeilingFields C) : Type 0 where
   pub label : is_label c.0 ≡ true
   pub ask : is_label c.1.ask ≡ true
   pub approve : is_label c.1.approve ≡ true
@@ -58,8 +61,10 @@ is_known_entry duties e = is_among duties e.0
 abbrev pub is_known_person : List (List ℕ) → List ℕ × List Entry → Bool
 is_known_person duties p = list_all (is_known_entry duties) p.1
 
-abbrev pub is_known_ceiling : {C : Type 0} → List (List ℕ) → List (List ℕ) → List ℕ × CeilingFields C → Bool
-is_known_ceiling duties hosts c = is_among duties c.1.ask && is_among duties c.1.approve && list_all (is_among hosts) c.1.hosts
+abbrev pub is_known_ceiling : {C : Type 0} → List (List ℕ)
+    → List (List ℕ) → List ℕ × CeilingFields C → Bool
+is_known_ceiling duties hosts c =
+    is_among duties c.1.ask && is_among duties c.1.approve && list_all (is_among hosts) c.1.hosts
 
 -- each duty that is named is one of these, and each host of a ceiling one of these hosts
 abbrev pub names_only : {C : Type 0} → (duties hosts : List (List ℕ)) → RosterFields C → Bool
@@ -83,8 +88,8 @@ is_within least most n = nat_le least n && nat_le n most
 -- 1 to 3 approvals; 1 to 256 hosts, targets and commands; a window of 1 second to 30 days
 abbrev pub is_ranged : {C : Type 0} → List ℕ × CeilingFields C → Bool
 is_ranged c =
-    is_within 1 3 c.1.needs && is_within 1 256 (length c.1.hosts) && is_within 1 256 (length c.1.runas)
-    && is_within 1 256 (length c.1.commands) && is_within 1 2_592_000 c.1.longest
+    is_within 1 3 c.1.needs && is_within 1 256 (length c.1.hosts) && is_within 1 256
+    (length c.1.runas) && is_within 1 256 (length c.1.commands) && is_within 1 2_592_000 c.1.longest
 
 -- from a day to one that is not before it, up to 2099-12-31
 abbrev pub are_in_range : Days → Bool
@@ -101,7 +106,8 @@ is_ranged_person p = nat_le (length p.1) 256 && list_all is_ranged_entry p.1
 -- 1 to 64 relays, 1 to 1,024 hosts, up to 256 duties, 4,096 conflicts and 4,096 people
 abbrev pub has_list_counts : {C : Type 0} → RosterFields C → Bool
 has_list_counts f =
-    is_within 1 64 (length f.relays) && is_within 1 1024 (length f.hosts) && nat_le (length f.duties) 256
+    is_within 1 64 (length f.relays)
+    && is_within 1 1024 (length f.hosts) && nat_le (length f.duties) 256
     && nat_le (length f.conflicts) 4096 && nat_le (length f.people) 4096
 
 -- and each person in range

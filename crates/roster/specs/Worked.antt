@@ -6,8 +6,9 @@ use Rattle.roster.specs.Fields.{CeilingFields, RosterFields}
 use Rattle.roster.specs.declared.days.Days.{Days}
 use Rattle.roster.specs.declared.days.Days.TheVariants.{Always, Between}
 
--- Ann operates and approves, bob approves, and carol approves though she audits, which conflicts. Eve approves on 4 and 5 January
--- 1970, which are the days 3 and 4, and fay always, though she audits until the first of them.
+-- Ann operates and approves, bob approves, and carol approves though she audits, which conflicts.
+-- Eve approves on 4 and 5 January 1970, which are the days 3 and 4, and fay always, though she
+-- audits until the first of them.
 abbrev pub office : RosterFields Cmnd
 office = record {
   relays = codes "mail" ∷ [];
@@ -24,7 +25,8 @@ office = record {
   ceilings = [];
 }
 
--- whoever operates may ask for everything on `db` as root for an hour, and one of those who approve has to
+-- whoever operates may ask for everything on `db` as root for an hour, and one of those who approve
+-- has to
 abbrev pub everything : CeilingFields Cmnd
 everything = record {
   ask = codes "operate";
@@ -38,7 +40,8 @@ everything = record {
 
 -- a roster of one relay and one host
 abbrev pub smallest_text : List ℕ
-smallest_text = codes "relays = ['r']\nhosts = ['h']\nduties = []\nconflicts = []\npeople = {}\nceilings = {}"
+smallest_text =
+    codes "relays = ['r']\nhosts = ['h']\nduties = []\nconflicts = []\npeople = {}\nceilings = {}"
 
 abbrev pub smallest : RosterFields Cmnd
 smallest = record {
@@ -53,7 +56,8 @@ smallest = record {
 -- a text that would be a roster's but for the days on which its one person holds a duty
 abbrev pub text_with_days : (from until : List ℕ) → List ℕ
 text_with_days from until =
-    codes "relays=['r']\nhosts=['h']\nduties=['d']\nconflicts=[]\nceilings={}\npeople={a=[{duty='d',from='" ++ from ++ codes "',until='" ++ until ++ codes "'}]}"
+    codes "relays=['r']\nhosts=['h']\nduties=['d']\nconflicts=[]\nceilings={}\npeople={a=[{duty='d',from='"
+    ++ from ++ codes "',until='" ++ until ++ codes "'}]}"
 
 abbrev pub with_days : Days → RosterFields Cmnd
 with_days days = record {
@@ -77,8 +81,9 @@ longer_office = record office {
       ∷ [];
 }
 
--- A whole roster: whoever operates may ask for everything on `db` as root, and one of those who approve has to; the auditing duty
--- conflicts with approving. Ann operates; eve approves, and audits on 4 and 5 January 1970.
+-- A whole roster: whoever operates may ask for everything on `db` as root, and one of those who
+-- approve has to; the auditing duty conflicts with approving. Ann operates; eve approves, and
+-- audits on 4 and 5 January 1970.
 abbrev pub shop_text : List ℕ
 shop_text =
     codes "relays = ['mail']\nhosts = ['db']\nduties = ['approve', 'audit', 'operate']\nconflicts = [['audit', 'approve']]\n"
@@ -101,5 +106,6 @@ shop = record {
 -- a roster of one relay and these hosts and duties, pairs and people
 abbrev pub text_of : (hosts duties conflicts people : List ℕ) → List ℕ
 text_of hosts duties conflicts people =
-    codes "relays=['r']\nhosts=[" ++ hosts ++ codes "]\nduties=[" ++ duties ++ codes "]\nconflicts=[" ++ conflicts
+    codes "relays=['r']\nhosts=[" ++ hosts ++ codes "]\nduties=["
+    ++ duties ++ codes "]\nconflicts=[" ++ conflicts
     ++ codes "]\npeople={" ++ people ++ codes "}\nceilings={}"

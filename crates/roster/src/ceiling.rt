@@ -9,7 +9,8 @@ use crate::commands::{has, place_of_dir, place_of_file};
 use std::marker::Model;
 use sudo_words::{ArgRule, Cmnd, FilePath, HostName, Items, Label, Name};
 
-/// The most that a grant under it gives, who may ask for it, and who approves (NIST SP 800-53 AC-6).
+/// The most that a grant under it gives, who may ask for it, and who approves (NIST SP 800-53
+/// AC-6).
 #[derive(Debug, Drop)]
 pub struct Ceiling {
     pub(crate) ask: Label,
@@ -33,7 +34,15 @@ impl Model for Ceiling {
 
     ghost Value = { CeilingFields Cmnd };
 
-    ghost view = { λ d. record { ask = d.ask; approve = d.approve; needs = d.needs; hosts = d.hosts; runas = d.runas; commands = d.commands; longest = d.longest } };
+    ghost view = { λ d. record {
+      ask = d.ask;
+      approve = d.approve;
+      needs = d.needs;
+      hosts = d.hosts;
+      runas = d.runas;
+      commands = d.commands;
+      longest = d.longest;
+    } };
 
     ghost invariant = { λ d. All IsLawful d.commands × IsInOrder cmnd_order d.commands d.ordered };
 }
@@ -89,7 +98,8 @@ impl Ceiling {
         has(self.ordered.as_slice(), &place_of_dir(path))
     }
 
-    /// Whether the file is one of the commands, with this rule for its arguments. It takes no memory.
+    /// Whether the file is one of the commands, with this rule for its arguments. It takes no
+    /// memory.
     pub fn has_file(&self, file: &FilePath, rule: &ArgRule) -> bool
         ensures { result ≡ list_any (commands.is_file file.now rule.now) self.now.commands }
     {

@@ -10,7 +10,8 @@ use std::alloc::AllocError;
 use std::marker::Model;
 use sudo_words::{Day, Items, Label};
 
-/// The pairs as they are listed, which contracts see, and once more in the order in which they are looked up.
+/// The pairs as they are listed, which contracts see, and once more in the order in which they are
+/// looked up.
 #[derive(Drop)]
 pub(crate) struct Conflicts {
     listed: Items<(Label, Label)>,
@@ -51,9 +52,11 @@ impl Conflicts {
         are_paired(self.ordered.as_slice(), first, second)
     }
 
-    /// Whether one of the entries is of a duty that is paired with this one, on a day that is one of its days.
+    /// Whether one of the entries is of a duty that is paired with this one, on a day that is one
+    /// of its days.
     pub(crate) fn join_one(&self, entries: &[(Label, Days)], duty: &Label, day: Day) -> bool
-        ensures { result ≡ list_any (λ e. relations.hold e.1 day && list_any (relations.joins e.0 duty.now) self.now) entries.now }
+        ensures { result ≡ list_any (λ e. relations.hold e.1 day
+            && list_any (relations.joins e.0 duty.now) self.now) entries.now }
     {
         entries
             .iter()

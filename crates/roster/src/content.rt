@@ -22,5 +22,12 @@ impl Model for Content {
 
     ghost Value = { RosterFields Cmnd };
 
-    ghost view = { λ d. record { relays = d.relays; hosts = d.hosts; duties = d.duties; conflicts = d.conflicts; people = d.people; ceilings = d.ceilings } };
+    ghost view = { λ d. record {
+      relays = d.relays;
+      hosts = d.hosts;
+      duties = d.duties;
+      conflicts = d.conflicts;
+      people = d.people;
+      ceilings = d.ceilings;
+    } };
 }

@@ -22,7 +22,15 @@ impl Model for DraftCeiling {
 
     ghost Value = { CeilingFields (List ℕ) };
 
-    ghost view = { λ d. record { ask = d.ask; approve = d.approve; needs = d.needs; hosts = d.hosts; runas = d.runas; commands = d.commands; longest = d.longest } };
+    ghost view = { λ d. record {
+      ask = d.ask;
+      approve = d.approve;
+      needs = d.needs;
+      hosts = d.hosts;
+      runas = d.runas;
+      commands = d.commands;
+      longest = d.longest;
+    } };
 }
 
 #[derive(Drop)]
@@ -41,5 +49,12 @@ impl Model for Draft {
 
     ghost Value = { RosterFields (List ℕ) };
 
-    ghost view = { λ d. record { relays = d.relays; hosts = d.hosts; duties = d.duties; conflicts = d.conflicts; people = d.people; ceilings = d.ceilings } };
+    ghost view = { λ d. record {
+      relays = d.relays;
+      hosts = d.hosts;
+      duties = d.duties;
+      conflicts = d.conflicts;
+      people = d.people;
+      ceilings = d.ceilings;
+    } };
 }

@@ -5,14 +5,20 @@ ghost use Rattle.std.specs.List.{list_all, list_any};
 ghost use Rattle.std.specs.Str.{bytes_eq};
 ghost use Rattle.toml.specs.Data.{get_member};
 ghost use Rattle.toml.specs.View.{table_view, view};
-ghost use Rattle.roster.specs.Document.{each_key, each_value, has_entry_keys as has_inner, have_entry_keys as have_inner, is_entry_key, people_have_entry_keys as people_have, has_ceiling_keys as has_keys, have_ceiling_keys as have_keys, has_known_keys as known, is_ceiling_key as is_inner_key, is_roster_key as is_key};
+ghost use Rattle.roster.specs.Document.{each_key, each_value, has_entry_keys as has_inner};
+ghost use Rattle.roster.specs.Document.{have_entry_keys as have_inner, is_entry_key};
+ghost use Rattle.roster.specs.Document.{people_have_entry_keys as people_have};
+ghost use Rattle.roster.specs.Document.{has_ceiling_keys as has_keys};
+ghost use Rattle.roster.specs.Document.{have_ceiling_keys as have_keys, has_known_keys as known};
+ghost use Rattle.roster.specs.Document.{is_ceiling_key as is_inner_key, is_roster_key as is_key};
 
 use crate::typed::value_at;
 use toml::{Table, Value};
 
 /// Whether each key of the table is one of these.
 fn has_only(keys: &[&str], table: &Table) -> bool
-    ensures { result ≡ each_key (λ k. list_any (λ w. bytes_eq w.now k) keys.now) (table_view table.now) }
+    ensures { result
+        ≡ each_key (λ k. list_any (λ w. bytes_eq w.now k) keys.now) (table_view table.now) }
 {
     for (key, _value) in table.iter() {
         if !(&*keys).contains(&key.as_str()) {

@@ -1,4 +1,5 @@
-//! The roster: who holds which duty, which duties conflict, and under which ceilings rights are granted.
+//! The roster: who holds which duty, which duties conflict, and under which ceilings rights are
+//! granted.
 #![tactic(auto)]
 
 mod ceiling;

@@ -6,7 +6,8 @@ ghost use Rattle.sudo_words.specs.Command.{IsLawful, cmnd_text};
 ghost use Rattle.roster.specs.private.LookupOrders.{cmnd_order};
 ghost use Rattle.roster.specs.Fields.{entry_in_texts, in_texts};
 ghost use Rattle.roster.specs.private.LookupOrders.{IsInOrder};
-ghost use Rattle.roster.specs.Rules.{GoodNames, IsCmndText, IsNamedCeiling, is_named_entry, is_named_pair, is_named_person};
+ghost use Rattle.roster.specs.Rules.{GoodNames, IsCmndText, IsNamedCeiling};
+ghost use Rattle.roster.specs.Rules.{is_named_entry, is_named_pair, is_named_person};
 ghost use Rattle.roster.specs.private.Stages.{Checks, Meets};
 ghost use Rattle.roster.specs.declared.fault.RosterFault.TheVariants.{BadName};
 
@@ -43,7 +44,8 @@ fn words<F: Form>(alloc: Global, texts: &[Text]) -> Result<Items<Word<F>>, Roste
 }
 
 fn pair(alloc: Global, first: &Text, second: &Text) -> Result<(Label, Label), RosterFault>
-    ensures { Checks BadName (is_named_pair (first.now, second.now)) (first.now, second.now) result }
+    ensures { Checks BadName (is_named_pair (first.now, second.now))
+        (first.now, second.now) result }
 {
     let first = word(alloc, first)?;
     let second = word(alloc, second)?;
@@ -110,7 +112,8 @@ fn people(
 }
 
 fn command(alloc: Global, text: &Text) -> Result<Cmnd, RosterFault>
-    ensures { Meets BadName (IsCmndText text.now) (λ c. IsLawful c × (text.now ≡ cmnd_text c)) result }
+    ensures { Meets BadName (IsCmndText text.now)
+        (λ c. IsLawful c × (text.now ≡ cmnd_text c)) result }
 {
     match read_cmnd(alloc, text.as_str()) {
         Ok(cmnd) => Ok(cmnd),
@@ -121,7 +124,8 @@ fn command(alloc: Global, text: &Text) -> Result<Cmnd, RosterFault>
 
 /// The commands as they are listed, and once more in the order in which they are looked up.
 fn commands(alloc: Global, texts: &[Text]) -> Result<(Items<Cmnd>, Items<Cmnd>), RosterFault>
-    ensures { Meets BadName (All IsCmndText texts.now) (λ cs. All IsLawful cs.0 × (map cmnd_text cs.0 ≡ texts.now) × IsInOrder cmnd_order cs.0 cs.1) result }
+    ensures { Meets BadName (All IsCmndText texts.now) (λ cs. All IsLawful cs.0
+        × (map cmnd_text cs.0 ≡ texts.now) × IsInOrder cmnd_order cs.0 cs.1) result }
 {
     let mut commands = Vec::new(alloc);
     for text in texts {
@@ -134,7 +138,8 @@ fn commands(alloc: Global, texts: &[Text]) -> Result<(Items<Cmnd>, Items<Cmnd>),
 }
 
 fn ceiling(alloc: Global, draft: &(Text, DraftCeiling)) -> Result<(Label, Ceiling), RosterFault>
-    ensures { Meets BadName (IsNamedCeiling IsCmndText draft.now) (λ c. IsNamedCeiling IsLawful c × (entry_in_texts c ≡ draft.now)) result }
+    ensures { Meets BadName (IsNamedCeiling IsCmndText draft.now)
+        (λ c. IsNamedCeiling IsLawful c × (entry_in_texts c ≡ draft.now)) result }
 {
     let label = word(alloc, &draft.0)?;
     let hosts = words(alloc, draft.1.hosts.as_slice())?;
@@ -160,7 +165,8 @@ fn ceilings(
     alloc: Global,
     texts: &[(Text, DraftCeiling)],
 ) -> Result<Items<(Label, Ceiling)>, RosterFault>
-    ensures { Meets BadName (All (IsNamedCeiling IsCmndText) texts.now) (λ cs. All (IsNamedCeiling IsLawful) cs × (map entry_in_texts cs ≡ texts.now)) result }
+    ensures { Meets BadName (All (IsNamedCeiling IsCmndText) texts.now)
+        (λ cs. All (IsNamedCeiling IsLawful) cs × (map entry_in_texts cs ≡ texts.now)) result }
 {
     let mut ceilings = Vec::new(alloc);
     for text in texts {
@@ -170,10 +176,12 @@ fn ceilings(
     Ok(Items::new(ceilings))
 }
 
-/// What the draft says, where each text in a name's place is such a name and each in a command's place a command's.
+/// What the draft says, where each text in a name's place is such a name and each in a command's
+/// place a command's.
 #[tactic(auto, unfolding(crate::specs::Rules::good_names))]
 pub(crate) fn content_of(alloc: Global, draft: &Draft) -> Result<Content, RosterFault>
-    ensures { Meets BadName (GoodNames IsCmndText draft.now) (λ s. GoodNames IsLawful s × (in_texts s ≡ draft.now)) result }
+    ensures { Meets BadName (GoodNames IsCmndText draft.now)
+        (λ s. GoodNames IsLawful s × (in_texts s ≡ draft.now)) result }
 {
     let relays = words(alloc, draft.relays.as_slice())?;
     let hosts = words(alloc, draft.hosts.as_slice())?;

@@ -22,7 +22,8 @@ use toml::Table;
 
 /// The document of TOML that the text is.
 fn document(alloc: Global, text: &str) -> Result<Table, RosterFault>
-    ensures { MatchResult result (λ t. parse_document text.now ≡ Some (table_view t)) (λ e. e ≢ NoMemory → (e ≡ NotToml) × (parse_document text.now ≡ None)) }
+    ensures { MatchResult result (λ t. parse_document text.now ≡ Some (table_view t))
+        (λ e. e ≢ NoMemory → (e ≡ NotToml) × (parse_document text.now ≡ None)) }
 {
     match toml::table_from_str(alloc, text) {
         Ok(table) => Ok(table),
@@ -34,7 +35,8 @@ fn document(alloc: Global, text: &str) -> Result<Table, RosterFault>
     }
 }
 
-/// The least fault of what the draft says, where each of its texts in a name's place is such a name.
+/// The least fault of what the draft says, where each of its texts in a name's place is such a
+/// name.
 #[tactic(auto, using(crate::proofs::Texts::known_of_draft))]
 fn tested(text: &str, draft: &Draft, content: &Content) -> Result<(), RosterFault>
     requires draft { IsDraftOf text.now draft.now }

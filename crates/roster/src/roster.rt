@@ -22,8 +22,8 @@ use sudo_words::{Day, HostName, Items, Label, Moment, Name};
 
 /// Who holds which duty, which duties conflict, and under which ceilings rights are granted.
 ///
-/// It is what a text of TOML says, and keeps that text. Its look-ups take no memory, and are answered of any names: a
-/// person whom it does not list holds no duty.
+/// It is what a text of TOML says, and keeps that text. Its look-ups take no memory, and are
+/// answered of any names: a person whom it does not list holds no duty.
 #[derive(Drop)]
 pub struct Roster {
     text: String,
@@ -55,8 +55,10 @@ impl Roster {
     pub fn read(alloc: Global, text: &str) -> Result<Roster, RosterFault>
         // What is read is what the text says.
         ensures found { IfOk result (λ r. (r.text ≡ text.now) × IsRosterText text.now r.says) }
-        // A roster's text is read as that roster, unless memory runs out: so no other fault comes where there is one.
-        ensures only { (f : RosterFields Cmnd) → IsRosterText text.now f → MatchResult result (λ r. r.says ≡ f) (λ e. e ≡ NoMemory) }
+        // A roster's text is read as that roster, unless memory runs out: so no other fault comes
+        // where there is one.
+        ensures only { (f : RosterFields Cmnd) → IsRosterText text.now f
+            → MatchResult result (λ r. r.says ≡ f) (λ e. e ≡ NoMemory) }
         // Any other fault is one that the text has, and the text has none of a lower number.
         ensures least { IfErr result (λ e. e ≢ NoMemory → IsLeastFault text.now e) }
     {
@@ -76,8 +78,8 @@ impl Roster {
         self.text.as_str()
     }
 
-    /// The people, in the byte order of their names, each with the entries that the text gives them: duties, each with the
-    /// days on which it is held.
+    /// The people, in the byte order of their names, each with the entries that the text gives
+    /// them: duties, each with the days on which it is held.
     pub fn people(&self) -> &[(Name, Items<(Label, Days)>)]
         ensures value { result.now ≡ self.now.says.people }
         ensures rising { relations.AreRising result.now }
@@ -104,7 +106,8 @@ impl Roster {
 
     /// The entries that the text gives the person, none where the roster does not list the person.
     pub fn entries(&self, person: &Name) -> Option<&[(Label, Days)]>
-        ensures { option_map (λ e. e.now) result ≡ relations.entry_of self.now.says.people person.now }
+        ensures { option_map (λ e. e.now) result
+            ≡ relations.entry_of self.now.says.people person.now }
     {
         match entry_of(self.people(), person) {
             Some(entries) => Some(entries.as_slice()),
@@ -136,7 +139,8 @@ impl Roster {
 
     /// The ceiling of the label. One to three people must approve under it.
     pub fn ceiling(&self, label: &Label) -> Option<&Ceiling>
-        ensures value { option_map (λ c. c.now) result ≡ relations.ceiling_at self.now.says label.now }
+        ensures value { option_map (λ c. c.now) result
+            ≡ relations.ceiling_at self.now.says label.now }
         ensures needs { IfSome result (λ c. (1 ≤ c.now.needs) × (c.now.needs ≤ 3)) }
     {
         entry_of(self.content.ceilings.as_slice(), label)
@@ -156,8 +160,9 @@ impl Roster {
         self.content.conflicts.joins(first, second)
     }
 
-    /// Whether the person may approve or refuse at the moment what the asker asked for under the ceiling: the person is
-    /// someone else, holds the approving duty then, and holds none then that conflicts with it (NIST SP 800-53 AC-5).
+    /// Whether the person may approve or refuse at the moment what the asker asked for under the
+    /// ceiling: the person is someone else, holds the approving duty then, and holds none then that
+    /// conflicts with it (NIST SP 800-53 AC-5).
     pub fn eligible(&self, person: &Name, asker: &Name, ceiling: &Ceiling, at: Moment) -> bool
         ensures { result ≡ relations.eligible self.now.says person.now asker.now ceiling.now at }
     {
@@ -170,15 +175,16 @@ impl Roster {
         give(entries, &ceiling.approve, day) && !self.is_one_against(entries, &ceiling.approve, day)
     }
 
-    /// Whether the person may revoke at the moment what the asker asked for under the ceiling: it is the asker, or someone
-    /// who holds the approving duty then.
+    /// Whether the person may revoke at the moment what the asker asked for under the ceiling: it
+    /// is the asker, or someone who holds the approving duty then.
     pub fn may_revoke(&self, person: &Name, asker: &Name, ceiling: &Ceiling, at: Moment) -> bool
         ensures { result ≡ relations.may_revoke self.now.says person.now asker.now ceiling.now at }
     {
         *person == *asker || self.holds(person, &ceiling.approve, at)
     }
 
-    /// Whether one of the entries is of a duty that conflicts with this one, on a day that is one of its days.
+    /// Whether one of the entries is of a duty that conflicts with this one, on a day that is one
+    /// of its days.
     fn is_one_against(&self, entries: &[(Label, Days)], duty: &Label, day: Day) -> bool
         ensures { result ≡ list_any (relations.is_against self.now.says duty.now day) entries.now }
     {

@@ -1,4 +1,5 @@
-//! Tests of a roster, once its texts are names: its duties and hosts, its conflicts, and what it counts.
+//! Tests of a roster, once its texts are names: its duties and hosts, its conflicts, and what it
+//! counts.
 
 ghost use Rattle.std.specs.Prelude.{◌≡◌, ◌&&◌, IfOk, nat_le};
 ghost use Rattle.std.specs.List.{list_all, list_any};
@@ -83,8 +84,8 @@ fn names_only(duties: &Items<Label>, hosts: &Items<HostName>, content: &Content)
         && knows_ceilings(duties, hosts.as_slice(), content.ceilings.as_slice())
 }
 
-/// Whether each duty that is named is one of the duties, and each host of a ceiling one of the hosts; an error where
-/// memory runs out.
+/// Whether each duty that is named is one of the duties, and each host of a ceiling one of the
+/// hosts; an error where memory runs out.
 pub(crate) fn knows_names(content: &Content) -> Result<bool, AllocError>
     ensures { IfOk result (λ known. known ≡ rules.are_known content.now) }
 {

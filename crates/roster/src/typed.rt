@@ -4,7 +4,9 @@ ghost use Rattle.std.specs.Prelude.{◌≡◌, Some, None, IfOk, MatchResult};
 ghost use Rattle.toml.specs.Data.{as_str, get_member, table as data_table};
 ghost use Rattle.toml.specs.View.{view, items_view, table_view};
 ghost use Rattle.roster.specs.Document as document;
-ghost use Rattle.roster.specs.Document.{each_item, each_member, as_pair, texts_of, pair_of, pairs_of, day_in, duty_entry, duty_entries, people_of, number_of, ceiling_of, ceilings_of, member_of, fields_of};
+ghost use Rattle.roster.specs.Document.{each_item, each_member, as_pair, texts_of, pair_of};
+ghost use Rattle.roster.specs.Document.{pairs_of, day_in, duty_entry, duty_entries, people_of};
+ghost use Rattle.roster.specs.Document.{number_of, ceiling_of, ceilings_of, member_of, fields_of};
 ghost use Rattle.roster.specs.Relations.{AreRising, IsOrdered};
 ghost use Rattle.roster.specs.private.Stages.{Reads};
 ghost use Rattle.roster.specs.declared.fault.RosterFault.TheVariants.{WrongType};
@@ -77,7 +79,8 @@ fn each_pair(alloc: Global, values: &[Value]) -> Result<Items<(Text, Text)>, Ros
 }
 
 pub(crate) fn value_at<'t>(table: &'t Table, key: &str) -> Result<&'t Value, RosterFault>
-    ensures { MatchResult result (λ v. get_member key.now (table_view table.now) ≡ Some (view v.now)) (λ e. (e ≡ WrongType) × (get_member key.now (table_view table.now) ≡ None)) }
+    ensures { MatchResult result (λ v. get_member key.now (table_view table.now) ≡ Some
+        (view v.now)) (λ e. (e ≡ WrongType) × (get_member key.now (table_view table.now) ≡ None)) }
 {
     match table.get(key) {
         Some(value) => Ok(value),

@@ -1,5 +1,6 @@
 -- Lists: what they contain, and what is added to them part by part.
-use Rattle.std.proofs.Common.{◌≡◌, ℕ, ◌+◌, ◌<◌, Bool, true, List, [], ◌∷◌, ◌++◌, length, map, take, get_or, refl, sym, ap, ◌∙◌, subst, inl, inr, arith, append_assoc}
+use Rattle.std.proofs.Common.{◌≡◌, ℕ, ◌+◌, ◌<◌, Bool, true, List, [], ◌∷◌, ◌++◌, length, map, take}
+use Rattle.std.proofs.Common.{get_or, refl, sym, ap, ◌∙◌, subst, inl, inr, arith, append_assoc}
 use Rattle.std.specs.Bool.{Decides}
 use Rattle.std.specs.List.{Contains, list_any}
 use Rattle.std.specs.List.Retain.{IsFiltered, DiffersFromLast}
@@ -20,7 +21,8 @@ use Rattle.sorting.specs.Lists.{IsEachOnce, IsExact, AreParts}
 -- ---- what is contained
 
 -- what a test of equality finds is there
-pub any_contains : {X : Type 0} (eq : X → X → Bool) → ((a b : X) → Decides (eq a b) (a ≡ b)) → (xs : List X) (x : X) → list_any (λ y. eq y x) xs ≡ true → Contains xs x
+pub any_contains : {X : Type 0} (eq : X → X → Bool) → ((a b : X) → Decides (eq a b) (a ≡ b))
+    → (xs : List X) (x : X) → list_any (λ y. eq y x) xs ≡ true → Contains xs x
 any_contains eq decides [] x found = absurd (false≢true found)
 any_contains {X} eq decides (y ∷ ys) x found =
     elim (or_cases (eq y x) (list_any (λ z. eq z x) ys) found) [
@@ -28,7 +30,8 @@ any_contains {X} eq decides (y ∷ ys) x found =
       | inr later ↦ Contains-append_right (y ∷ []) ys x (any_contains eq decides ys x later)
     ]
 
-pub contains_any : {X : Type 0} (eq : X → X → Bool) → ((a b : X) → Decides (eq a b) (a ≡ b)) → (xs : List X) (x : X) → Contains xs x → list_any (λ y. eq y x) xs ≡ true
+pub contains_any : {X : Type 0} (eq : X → X → Bool) → ((a b : X) → Decides (eq a b) (a ≡ b))
+    → (xs : List X) (x : X) → Contains xs x → list_any (λ y. eq y x) xs ≡ true
 contains_any eq decides xs x there = list_any_at (λ y. eq y x) xs there.0 x there.1 ((decides (get_or xs there.0 x) x).1 there.2)
 
 -- what is listed once is found exactly where it stands
@@ -48,7 +51,8 @@ contains_head x xs = Contains-append_left (x ∷ []) xs x (Contains-push [] x)
 -- ---- sorted, each once
 
 pub each_once : {X : Type 0} {R : X → X → Ordering} → IsTotalOrder R → {E : X → X → Bool} → ((x y : X) → E x y ≡ eq_by_cmp R x y) → IsEquivalence E → IsExact E
-    → (standing sorted kept : List X) → IsPermutation standing sorted → IsSorted R sorted → IsFiltered (DiffersFromLast E) [] sorted kept → IsEachOnce R standing kept
+    → (standing sorted kept : List X) → IsPermutation standing sorted → IsSorted R sorted
+    → IsFiltered (DiffersFromLast E) [] sorted kept → IsEachOnce R standing kept
 each_once {X} {R} total {E} ties equivalence exact standing sorted kept permuted rising filtered =
     subst (λ (xs : List X). IsEachOnce R standing xs) (sym (dedup_is E sorted kept filtered))
     (record {
@@ -62,7 +66,8 @@ each_once {X} {R} total {E} ties equivalence exact standing sorted kept permuted
 pub take_next : {X : Type 0} (xs : List X) (k : ℕ) (x : X) → k < length xs → x ≡ get_or xs k x → take (k + 1) xs ≡ take k xs ++ x ∷ []
 take_next xs k x below is = take_more xs k x below ∙ ap (λ y. take k xs ++ y ∷ []) (sym is)
 
-pub parts_more : {X Y : Type 0} (IsPart : X → List Y → Type 0) (xs : List X) (x : X) (ys part : List Y) → AreParts IsPart xs ys → IsPart x part → AreParts IsPart (xs ++ x ∷ []) (ys ++ part)
+pub parts_more : {X Y : Type 0} (IsPart : X → List Y → Type 0) (xs : List X) (x : X) (ys part : List Y)
+    → AreParts IsPart xs ys → IsPart x part → AreParts IsPart (xs ++ x ∷ []) (ys ++ part)
 parts_more {X} {Y} IsPart [] x ys part are is = (part, [], ap (λ (zs : List Y). zs ++ part) are ∙ sym (append-nil part), is, refl)
 parts_more {X} {Y} IsPart (y ∷ xs) x ys part are is = (
   are.0,
@@ -77,8 +82,8 @@ pub parts_weaker : {X Y : Type 0} (IsPart IsAlso : X → List Y → Type 0) → 
 parts_weaker IsPart IsAlso also [] ys are = are
 parts_weaker IsPart IsAlso also (x ∷ xs) ys are = (are.0, are.1, are.2, also x are.0 are.3, parts_weaker IsPart IsAlso also xs are.1 are.4)
 
-pub one_parts : {X Y : Type 0} (IsPart : X → List Y → Type 0) → ((x : X) (ys zs : List Y) → IsPart x ys → IsPart x zs → ys ≡ zs) → (xs : List X) (ys zs : List Y)
-    → AreParts IsPart xs ys → AreParts IsPart xs zs → ys ≡ zs
+pub one_parts : {X Y : Type 0} (IsPart : X → List Y → Type 0) → ((x : X) (ys zs : List Y) → IsPart x ys → IsPart x zs → ys ≡ zs)
+    → (xs : List X) (ys zs : List Y) → AreParts IsPart xs ys → AreParts IsPart xs zs → ys ≡ zs
 one_parts IsPart one [] ys zs are also = are ∙ sym also
 one_parts {X} {Y} IsPart one (x ∷ xs) ys zs are also =
     are.2

@@ -30,7 +30,8 @@ module _ {X : Type 0} (R : X → X → Ordering) (total : IsTotalOrder R) where
   below_all : (x : X) (xs : List X) (z : X) → IsStrictlySortedBy R (x ∷ xs) → Contains xs z → R x z ≡ Less
   below_all x xs z sorted there = All-contains (λ y. R x y ≡ Less) xs z (All-from_recursion (λ y. R x y ≡ Less) xs (sorted_head R x xs sorted)) there
 
-  pub one_sorted : (xs ys : List X) → IsStrictlySortedBy R xs → IsStrictlySortedBy R ys → ((z : X) → Contains xs z → Contains ys z) → ((z : X) → Contains ys z → Contains xs z) → xs ≡ ys
+  pub one_sorted : (xs ys : List X) → IsStrictlySortedBy R xs → IsStrictlySortedBy R ys
+      → ((z : X) → Contains xs z → Contains ys z) → ((z : X) → Contains ys z → Contains xs z) → xs ≡ ys
   one_sorted [] [] sx sy there back = refl
   one_sorted [] (y ∷ ys) sx sy there back = absurd (no_element y (back y (contains_head y ys)))
   one_sorted (x ∷ xs) [] sx sy there back = absurd (no_element x (there x (contains_head x xs)))

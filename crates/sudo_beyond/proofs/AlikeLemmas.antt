@@ -51,11 +51,13 @@ all_reverse {X} P (x ∷ xs) all =
     let Q : List X → Type 0 = λ ys. AllByRecursion P ys in
     subst Q (sym (reverse-append (x ∷ []) xs)) (all_append P (reverse xs) (x ∷ []) (all_reverse P xs all.1) (all.0, tt))
 
-pub all_flat : {X Y : Type 0} (P : Y → Type 0) (h : X → List Y) (xs : List X) → AllByRecursion (λ x. AllByRecursion P (h x)) xs → AllByRecursion P (flat_map h xs)
+pub all_flat : {X Y : Type 0} (P : Y → Type 0) (h : X → List Y) (xs : List X)
+    → AllByRecursion (λ x. AllByRecursion P (h x)) xs → AllByRecursion P (flat_map h xs)
 all_flat P h [] all = tt
 all_flat P h (x ∷ xs) all = all_append P (h x) (flat_map h xs) all.0 (all_flat P h xs all.1)
 
-pub all_each : {X Y : Type 0} (P : Y → Type 0) (h : X → List Y) (xs : List X) → AllByRecursion P (flat_map h xs) → AllByRecursion (λ x. AllByRecursion P (h x)) xs
+pub all_each : {X Y : Type 0} (P : Y → Type 0) (h : X → List Y) (xs : List X)
+    → AllByRecursion P (flat_map h xs) → AllByRecursion (λ x. AllByRecursion P (h x)) xs
 all_each P h [] all = tt
 all_each P h (x ∷ xs) all = (all_front P (h x) (flat_map h xs) all, all_each P h xs (all_back P (h x) (flat_map h xs) all))
 
@@ -68,7 +70,8 @@ Saying X = (List ℕ → Option Bool) → X → Option Bool
 abbrev pub Same : {X : Type 0} → Saying X → Saying X → Signed X → Type 0
 Same f g s = (says : List ℕ → Option Bool) → f says s.item ≡ g says s.item
 
-list_alike : {X : Type 0} (f g : X → Option Bool) (list : List (Signed X)) → AllByRecursion (λ s. f s.item ≡ g s.item) list → list_answer f list ≡ list_answer g list
+list_alike : {X : Type 0} (f g : X → Option Bool) (list : List (Signed X))
+    → AllByRecursion (λ s. f s.item ≡ g s.item) list → list_answer f list ≡ list_answer g list
 list_alike f g [] alike = refl
 list_alike f g (s ∷ list) alike =
     ap (λ (o : Option Bool). option_or o (signed_answer s.negated (f s.item))) (list_alike f g list alike.1)
@@ -120,21 +123,23 @@ cmnd_same path other args others (cmnds.Cmnd cmnd) alike says = ap (λ (b : Bool
 pub names_same : (x y : List ℕ) (list : List (Signed (Item (List ℕ)))) → AlikeNames (names_in list) x y → AllByRecursion (Same (by_name x) (by_name y)) list
 names_same x y list alike =
     let P : List ℕ → Type 0 = λ name. bytes_eq name x ≡ bytes_eq name y in
-    all_weaker (λ s. AllByRecursion P (name_in s.item)) (Same (by_name x) (by_name y)) list (λ s. name_same x y s.item) (all_each P (λ s. name_in s.item) list alike)
+    all_weaker (λ s. AllByRecursion P (name_in s.item)) (Same (by_name x) (by_name y)) list
+    (λ s. name_same x y s.item) (all_each P (λ s. name_in s.item) list alike)
 
 pub cmnds_same : (path other : List ℕ) (args others : List (List ℕ)) (list : List (Signed CmndItem)) → AlikeCmnds (cmnds_in list) path args other others
     → AllByRecursion (Same (by_run path args) (by_run other others)) list
 cmnds_same path other args others list alike =
     let P : Cmnd → Type 0 = λ c. matches c path args ≡ matches c other others in
-    all_weaker (λ s. AllByRecursion P (cmnd_in s.item)) (Same (by_run path args) (by_run other others)) list (λ s. cmnd_same path other args others s.item) (all_each P (λ s. cmnd_in s.item) list alike)
+    all_weaker (λ s. AllByRecursion P (cmnd_in s.item)) (Same (by_run path args) (by_run other others)) list
+    (λ s. cmnd_same path other args others s.item) (all_each P (λ s. cmnd_in s.item) list alike)
 
 pub alike_names : (defs : List (Definition (Item (List ℕ)))) (list : List (Signed (Item (List ℕ)))) (x y : List ℕ)
     → AlikeNames (flat_map (λ d. names_in d.list) defs) x y → AlikeNames (names_in list) x y → names_say defs x list ≡ names_say defs y list
 alike_names defs list x y alike each =
     let P : List ℕ → Type 0 = λ name. bytes_eq name x ≡ bytes_eq name y in
     says_alike (by_name x) (by_name y) defs list
-    (all_weaker (λ d. AllByRecursion P (names_in d.list)) (λ d. AllByRecursion (Same (by_name x) (by_name y)) d.list) defs (λ d. names_same x y d.list) (all_each P (λ d. names_in d.list) defs alike))
-    (names_same x y list each)
+    (all_weaker (λ d. AllByRecursion P (names_in d.list)) (λ d. AllByRecursion (Same (by_name x) (by_name y)) d.list) defs
+    (λ d. names_same x y d.list) (all_each P (λ d. names_in d.list) defs alike)) (names_same x y list each)
 
 pub alike_cmnds : (defs : List (Definition CmndItem)) (list : List (Signed CmndItem)) (path other : List ℕ) (args others : List (List ℕ))
     → AlikeCmnds (flat_map (λ d. cmnds_in d.list) defs) path args other others → AlikeCmnds (cmnds_in list) path args other others
@@ -142,8 +147,8 @@ pub alike_cmnds : (defs : List (Definition CmndItem)) (list : List (Signed CmndI
 alike_cmnds defs list path other args others alike each =
     let P : Cmnd → Type 0 = λ c. matches c path args ≡ matches c other others in
     says_alike (by_run path args) (by_run other others) defs list
-    (all_weaker (λ d. AllByRecursion P (cmnds_in d.list)) (λ d. AllByRecursion (Same (by_run path args) (by_run other others)) d.list) defs (λ d. cmnds_same path other args others d.list) (all_each P (λ d. cmnds_in d.list) defs alike))
-    (cmnds_same path other args others list each)
+    (all_weaker (λ d. AllByRecursion P (cmnds_in d.list)) (λ d. AllByRecursion (Same (by_run path args) (by_run other others)) d.list) defs
+    (λ d. cmnds_same path other args others d.list) (all_each P (λ d. cmnds_in d.list) defs alike)) (cmnds_same path other args others list each)
 
 -- ---- policies: each list of the entries, and so each definition
 
@@ -194,13 +199,15 @@ each_name : (x y : List ℕ) (items_of : Entry → List (Signed (Item (List ℕ)
     → AlikeNames (flat_map (λ e. names_in (items_of e)) es) x y → Each (by_name x) (by_name y) items_of es
 each_name x y items_of es alike =
     let P : List ℕ → Type 0 = λ name. bytes_eq name x ≡ bytes_eq name y in
-    all_weaker (λ e. AllByRecursion P (names_in (items_of e))) (λ e. AllByRecursion (Same (by_name x) (by_name y)) (items_of e)) es (λ e. names_same x y (items_of e)) (all_each P (λ e. names_in (items_of e)) es alike)
+    all_weaker (λ e. AllByRecursion P (names_in (items_of e))) (λ e. AllByRecursion (Same (by_name x) (by_name y)) (items_of e)) es
+    (λ e. names_same x y (items_of e)) (all_each P (λ e. names_in (items_of e)) es alike)
 
 each_cmnd : (path other : List ℕ) (args others : List (List ℕ)) (es : List Entry)
     → AlikeCmnds (standing.commands es) path args other others → Each (by_run path args) (by_run other others) cmnds_of es
 each_cmnd path other args others es alike =
     let P : Cmnd → Type 0 = λ c. matches c path args ≡ matches c other others in
-    all_weaker (λ e. AllByRecursion P (cmnds_in (cmnds_of e))) (λ e. AllByRecursion (Same (by_run path args) (by_run other others)) (cmnds_of e)) es (λ e. cmnds_same path other args others (cmnds_of e)) (all_each P (λ e. cmnds_in (cmnds_of e)) es alike)
+    all_weaker (λ e. AllByRecursion P (cmnds_in (cmnds_of e))) (λ e. AllByRecursion (Same (by_run path args) (by_run other others)) (cmnds_of e)) es
+    (λ e. cmnds_same path other args others (cmnds_of e)) (all_each P (λ e. cmnds_in (cmnds_of e)) es alike)
 
 -- ---- rules
 

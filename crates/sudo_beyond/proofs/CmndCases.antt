@@ -1,5 +1,6 @@
 -- A command's case: a path that stands, with its own arguments or others; a file in the same directory; or a file elsewhere.
-use Rattle.std.proofs.Common.{◌≡◌, ℕ, ◌^◌, ◌<◌, ◌≤◌, Bool, true, false, not, leb, eqb, ◌&&◌, if◌then◌else◌, List, [], ◌∷◌, ◌++◌, length, take, drop, refl, sym, ap, ◌∙◌, subst, inl, inr, arith, append_assoc, length-append}
+use Rattle.std.proofs.Common.{◌≡◌, ℕ, ◌^◌, ◌<◌, ◌≤◌, Bool, true, false, not, leb, eqb, ◌&&◌, if◌then◌else◌, List, [], ◌∷◌, ◌++◌}
+use Rattle.std.proofs.Common.{length, take, drop, refl, sym, ap, ◌∙◌, subst, inl, inr, arith, append_assoc, length-append}
 use Rattle.std.specs.Bool.{Decides}
 use Rattle.std.specs.List.{AllByRecursion, list_any, list_all, flat_map, slice_split, onto_first}
 use Rattle.std.specs.Str.{bytes_eq}
@@ -185,18 +186,20 @@ file_in_root w is_w short =
 -- ---- other arguments
 
 listed_other : (rule : ArgRule) (args others : List (List ℕ)) → 0 < length args → 0 < length others
-    → AllByRecursion (λ wanted. pointwise bytes_eq args wanted ≡ false) (listed_args rule) → AllByRecursion (λ wanted. pointwise bytes_eq others wanted ≡ false) (listed_args rule)
-    → allows rule args ≡ allows rule others
+    → AllByRecursion (λ wanted. pointwise bytes_eq args wanted ≡ false) (listed_args rule)
+    → AllByRecursion (λ wanted. pointwise bytes_eq others wanted ≡ false) (listed_args rule) → allows rule args ≡ allows rule others
 listed_other Any args others some more no_a no_o = refl
-listed_other Empty args others some more no_a no_o = ne_eqb (length args) 0 (λ e. absurd (omega arith)) ∙ sym (ne_eqb (length others) 0 (λ e. absurd (omega arith)))
+listed_other Empty args others some more no_a no_o =
+    ne_eqb (length args) 0 (λ e. absurd (omega arith)) ∙ sym (ne_eqb (length others) 0 (λ e. absurd (omega arith)))
 listed_other (Exactly wanted) args others some more no_a no_o = no_a.0 ∙ sym no_o.0
 
 args_other : (path : List ℕ) (args others : List (List ℕ)) → 0 < length args → 0 < length others → (c : Cmnd)
-    → AllByRecursion (λ wanted. pointwise bytes_eq args wanted ≡ false) (args_in path c) → AllByRecursion (λ wanted. pointwise bytes_eq others wanted ≡ false) (args_in path c)
-    → matches c path args ≡ matches c path others
+    → AllByRecursion (λ wanted. pointwise bytes_eq args wanted ≡ false) (args_in path c)
+    → AllByRecursion (λ wanted. pointwise bytes_eq others wanted ≡ false) (args_in path c) → matches c path args ≡ matches c path others
 args_other path args others some more All no_a no_o = refl
 args_other path args others some more (Path file rule) no_a no_o =
-    let P : List (List ℕ) → Bool → Type 0 = λ given b. AllByRecursion (λ wanted. pointwise bytes_eq given wanted ≡ false) (if b then listed_args rule else []) in
+    let P : List (List ℕ) → Bool → Type 0 =
+    λ given b. AllByRecursion (λ wanted. pointwise bytes_eq given wanted ≡ false) (if b then listed_args rule else []) in
     elim (cases_Bool (bytes_eq path file)) [
       | inl is ↦ ap (λ (b : Bool). bytes_eq path file && b) (listed_other rule args others some more (subst (P args) is no_a) (subst (P others) is no_o))
       | inr differs ↦ and_left (bytes_eq path file) (allows rule args) differs ∙ sym (and_left (bytes_eq path file) (allows rule others) differs)
@@ -224,8 +227,8 @@ elsewhere_alike cmnds path q args others no_p no_q dirs_alike =
     let ps = all_each P path_in cmnds (none_each (λ file. bytes_eq file path) (paths cmnds) no_p) in
     let qs = all_each Q path_in cmnds (none_each (λ file. bytes_eq file q) (paths cmnds) no_q) in
     let ds = all_each D dir_in cmnds dirs_alike in
-    all_weaker (λ c. AllByRecursion P (path_in c) × (AllByRecursion Q (path_in c) × AllByRecursion D (dir_in c))) (λ c. matches c path args ≡ matches c q others) cmnds
-    (λ c each. elsewhere path q args others c each.0 each.1.0 each.1.1)
+    all_weaker (λ c. AllByRecursion P (path_in c) × (AllByRecursion Q (path_in c) × AllByRecursion D (dir_in c)))
+    (λ c. matches c path args ≡ matches c q others) cmnds (λ c each. elsewhere path q args others c each.0 each.1.0 each.1.1)
     (all_both (λ c. AllByRecursion P (path_in c)) (λ c. AllByRecursion Q (path_in c) × AllByRecursion D (dir_in c)) cmnds ps
     (all_both (λ c. AllByRecursion Q (path_in c)) (λ c. AllByRecursion D (dir_in c)) cmnds qs ds))
 
@@ -306,7 +309,15 @@ module _ (cmnds : List Cmnd) (short : length cmnds < 2 ^ 64) (legal : AllByRecur
   with_args path (arg ∷ args) is are few stands =
       elim (cases_Bool (has_args (args_with path cmnds) (arg ∷ args))) [
         | inl known ↦
-            record { file = path; given = arg ∷ args; is_case = inl (stands, inr (inl known)); is_file = is; are_args = are; few = few; alike = itself cmnds path (arg ∷ args) }
+            record {
+              file = path;
+              given = arg ∷ args;
+              is_case = inl (stands, inr (inl known));
+              is_file = is;
+              are_args = are;
+              few = few;
+              alike = itself cmnds path (arg ∷ args);
+            }
         | inr unknown ↦
             let found = found_other (λ y x. pointwise bytes_eq x y) args_decides (λ w. w ∷ []) (λ v w same. cc) (args_with path cmnds) (args_short path) in
             let P : List (List ℕ) → Type 0 = λ wanted. pointwise bytes_eq (arg ∷ args) wanted ≡ false in
@@ -319,11 +330,12 @@ module _ (cmnds : List Cmnd) (short : length cmnds < 2 ^ 64) (legal : AllByRecur
               are_args = (ap is_arg found.first.word_is ∙ other_arg found.first.number (omega (arith, found.low, args_short path)), tt);
               few = omega arith;
               alike =
-                  all_weaker (λ c. AllByRecursion P (args_in path c) × AllByRecursion Q (args_in path c)) (λ c. matches c path (arg ∷ args) ≡ matches c path (found.word ∷ [])) cmnds
+                  all_weaker (λ c. AllByRecursion P (args_in path c) × AllByRecursion Q (args_in path c))
+                  (λ c. matches c path (arg ∷ args) ≡ matches c path (found.word ∷ [])) cmnds
                   (λ c both. args_other path (arg ∷ args) (found.word ∷ []) (omega arith) (omega arith) c both.0 both.1)
                   (all_both (λ c. AllByRecursion P (args_in path c)) (λ c. AllByRecursion Q (args_in path c)) cmnds
-                  (all_each P (args_in path) cmnds (none_each (λ wanted. pointwise bytes_eq (arg ∷ args) wanted) (args_with path cmnds) unknown))
-                  (all_each Q (args_in path) cmnds (none_each (λ wanted. pointwise bytes_eq (found.word ∷ []) wanted) (args_with path cmnds) found.first.free)));
+                  (all_each P (args_in path) cmnds (none_each (λ wanted. pointwise bytes_eq (arg ∷ args) wanted) (args_with path cmnds) unknown)) (all_each Q
+                  (args_in path) cmnds (none_each (λ wanted. pointwise bytes_eq (found.word ∷ []) wanted) (args_with path cmnds) found.first.free)));
             }
       ]
 
@@ -353,7 +365,8 @@ module _ (cmnds : List Cmnd) (short : length cmnds < 2 ^ 64) (legal : AllByRecur
       }
 
   -- a path elsewhere
-  in_none : (path : List ℕ) (args : List (List ℕ)) → has (paths cmnds) path ≡ false → list_any (λ dir. is_directly_in dir path) (dirs cmnds) ≡ false → CmndStands cmnds path args
+  in_none : (path : List ℕ) (args : List (List ℕ)) → has (paths cmnds) path ≡ false
+      → list_any (λ dir. is_directly_in dir path) (dirs cmnds) ≡ false → CmndStands cmnds path args
   in_none path args absent outside =
       let found = found_other bytes_eq bytes_eq-Decides (λ w. 47 ∷ w) (λ v w same. cc) (paths cmnds) paths_short in
       let low : found.first.number < 2 ^ 64 = omega (arith, found.low, paths_short) in
@@ -368,12 +381,13 @@ module _ (cmnds : List Cmnd) (short : length cmnds < 2 ^ 64) (legal : AllByRecur
         few = omega arith;
         alike =
             elsewhere_alike cmnds path (47 ∷ found.word) args [] absent found.first.free
-            (all_weaker (λ dir. IsLawfulDir dir × (is_directly_in dir path ≡ false)) (λ dir. is_directly_in dir path ≡ is_directly_in dir (47 ∷ found.word)) (dirs cmnds)
-            (λ dir both. both.1 ∙ sym (in_root dir found.word both.0.0 component))
-            (all_both IsLawfulDir (λ dir. is_directly_in dir path ≡ false) (dirs cmnds) legal (none_each (λ dir. is_directly_in dir path) (dirs cmnds) outside)));
+            (all_weaker (λ dir. IsLawfulDir dir × (is_directly_in dir path ≡ false)) (λ dir. is_directly_in dir path ≡ is_directly_in dir (47 ∷ found.word))
+            (dirs cmnds) (λ dir both. both.1 ∙ sym (in_root dir found.word both.0.0 component)) (all_both IsLawfulDir
+            (λ dir. is_directly_in dir path ≡ false) (dirs cmnds) legal (none_each (λ dir. is_directly_in dir path) (dirs cmnds) outside)));
       }
 
-  pub cmnd_stands : (path : List ℕ) (args : List (List ℕ)) → is_file_path path ≡ true → AllByRecursion (λ arg. is_arg arg ≡ true) args → length args ≤ 64 → CmndStands cmnds path args
+  pub cmnd_stands : (path : List ℕ) (args : List (List ℕ)) → is_file_path path ≡ true
+      → AllByRecursion (λ arg. is_arg arg ≡ true) args → length args ≤ 64 → CmndStands cmnds path args
   cmnd_stands path args is are few =
       elim (cases_Bool (has (paths cmnds) path)) [
         | inl stands ↦ with_args path args is are few stands

@@ -51,13 +51,15 @@ not_both_answers d (inr allow) deny = no_password_is_no_deny (sym allow ∙ deny
 
 -- ---- rules that answer alike, of the cases of one user, host and target
 
-pub gap_of_those : (a b x y : List PlainRule) (i j : Invocation) → AnswerAlike a x i → AnswerAlike b y i → SameNames i j → IsAnsweredGap x y j → IsAnsweredGap a b j
+pub gap_of_those : (a b x y : List PlainRule) (i j : Invocation) → AnswerAlike a x i
+    → AnswerAlike b y i → SameNames i j → IsAnsweredGap x y j → IsAnsweredGap a b j
 gap_of_those a b x y i j by_a by_b same gap = record {
   allowed = subst (λ (d : Decision). IsAllowed d) (sym (by_a j same)) gap.allowed;
   refused = by_b j same ∙ gap.refused;
 }
 
-pub gap_of_all : (a b x y : List PlainRule) (i j : Invocation) → AnswerAlike a x i → AnswerAlike b y i → SameNames i j → IsAnsweredGap a b j → IsAnsweredGap x y j
+pub gap_of_all : (a b x y : List PlainRule) (i j : Invocation) → AnswerAlike a x i
+    → AnswerAlike b y i → SameNames i j → IsAnsweredGap a b j → IsAnsweredGap x y j
 gap_of_all a b x y i j by_a by_b same gap = record {
   allowed = subst (λ (d : Decision). IsAllowed d) (by_a j same) gap.allowed;
   refused = sym (by_b j same) ∙ gap.refused;
@@ -70,4 +72,5 @@ same_names_run i run (t ∷ moments) = (record { user = refl; host = refl; runas
 pub same_names_runs : (i : Invocation) (c : Cases) (runs : List Run) → AllByRecursion (SameNames i) (flat_map (of_run c i.user i.host i.runas) runs)
 same_names_runs i c [] = tt
 same_names_runs i c (run ∷ runs) =
-    all_append (SameNames i) (of_run c i.user i.host i.runas run) (flat_map (of_run c i.user i.host i.runas) runs) (same_names_run i run c.moments) (same_names_runs i c runs)
+    all_append (SameNames i) (of_run c i.user i.host i.runas run)
+    (flat_map (of_run c i.user i.host i.runas) runs) (same_names_run i run c.moments) (same_names_runs i c runs)

@@ -10,7 +10,8 @@ use Rattle.sudo_policy.specs.declared.entry.CmndItem.TheVariants as cmnd_items
 use Rattle.sudo_policy.specs.declared.entry.Entry.{Entry}
 use Rattle.sudo_policy.specs.declared.entry.Entry.TheVariants as entries
 use Rattle.sudo_policy.specs.Policy.{IsPolicy}
-use Rattle.sudo_policy.specs.Printing.{canon, line_text, alias_text, what_text, names_text, cmnds_text, list_text, tail_text, signed_text, item_text, cmnd_item_text}
+use Rattle.sudo_policy.specs.Printing.{canon, line_text, alias_text, what_text, names_text, cmnds_text}
+use Rattle.sudo_policy.specs.Printing.{list_text, tail_text, signed_text, item_text, cmnd_item_text}
 use Rattle.sudo_beyond.specs.Standing.{name_in, names_in, cmnd_in, cmnds_in, users_of, hosts_of, runas_of, cmnds_of, users, hosts, runas, commands}
 use Rattle.sudo_beyond.proofs.OneCase.{IsCounted}
 use Rattle.sudo_beyond.proofs.CmndCases.{short_flat}
@@ -30,8 +31,8 @@ list_long f (x ∷ xs) = omega (arith, length-append (f x) (tail_text f xs), tai
 alias_long : {X : Type 0} (kind name text : List ℕ) (xs : List X) → length xs ≤ length text + 1 → length xs ≤ length (alias_text kind name text ++ 10 ∷ [])
 alias_long kind name text xs long = simp length-append (omega arith)
 
-rule_long : {X : Type 0} (users hosts runas what : List ℕ) (xs : List X)
-    → length xs ≤ length users + length hosts + length runas + 1 → length xs ≤ length (users ++ codes " " ++ hosts ++ codes " = (" ++ runas ++ codes ") " ++ what ++ 10 ∷ [])
+rule_long : {X : Type 0} (users hosts runas what : List ℕ) (xs : List X) → length xs ≤ length users + length hosts + length runas + 1
+    → length xs ≤ length (users ++ codes " " ++ hosts ++ codes " = (" ++ runas ++ codes ") " ++ what ++ 10 ∷ [])
 rule_long users hosts runas what xs long = simp length-append (omega arith)
 
 users_long : (e : Entry) → length (users_of e) ≤ length (line_text e)
@@ -39,21 +40,24 @@ users_long (entries.UserAlias name list) = alias_long (codes "User_Alias") name 
 users_long (entries.RunasAlias name list) = omega arith
 users_long (entries.HostAlias name list) = omega arith
 users_long (entries.CmndAlias name list) = omega arith
-users_long (entries.Rule r) = rule_long (names_text r.users) (names_text r.hosts) (names_text r.runas) (what_text r) r.users (omega (arith, list_long (signed_text item_text) r.users))
+users_long (entries.Rule r) =
+    rule_long (names_text r.users) (names_text r.hosts) (names_text r.runas) (what_text r) r.users (omega (arith, list_long (signed_text item_text) r.users))
 
 hosts_long : (e : Entry) → length (hosts_of e) ≤ length (line_text e)
 hosts_long (entries.UserAlias name list) = omega arith
 hosts_long (entries.RunasAlias name list) = omega arith
 hosts_long (entries.HostAlias name list) = alias_long (codes "Host_Alias") name (names_text list) list (list_long (signed_text item_text) list)
 hosts_long (entries.CmndAlias name list) = omega arith
-hosts_long (entries.Rule r) = rule_long (names_text r.users) (names_text r.hosts) (names_text r.runas) (what_text r) r.hosts (omega (arith, list_long (signed_text item_text) r.hosts))
+hosts_long (entries.Rule r) =
+    rule_long (names_text r.users) (names_text r.hosts) (names_text r.runas) (what_text r) r.hosts (omega (arith, list_long (signed_text item_text) r.hosts))
 
 runas_long : (e : Entry) → length (runas_of e) ≤ length (line_text e)
 runas_long (entries.UserAlias name list) = omega arith
 runas_long (entries.RunasAlias name list) = alias_long (codes "Runas_Alias") name (names_text list) list (list_long (signed_text item_text) list)
 runas_long (entries.HostAlias name list) = omega arith
 runas_long (entries.CmndAlias name list) = omega arith
-runas_long (entries.Rule r) = rule_long (names_text r.users) (names_text r.hosts) (names_text r.runas) (what_text r) r.runas (omega (arith, list_long (signed_text item_text) r.runas))
+runas_long (entries.Rule r) =
+    rule_long (names_text r.users) (names_text r.hosts) (names_text r.runas) (what_text r) r.runas (omega (arith, list_long (signed_text item_text) r.runas))
 
 cmnds_long : (e : Entry) → length (cmnds_of e) ≤ length (line_text e)
 cmnds_long (entries.UserAlias name list) = omega arith
@@ -73,7 +77,8 @@ one_cmnd : (item : CmndItem) → length (cmnd_in item) ≤ 1
 one_cmnd (cmnd_items.Alias name) = omega arith
 one_cmnd (cmnd_items.Cmnd cmnd) = omega arith
 
-pub flat_long : {X Y Z : Type 0} (f : X → List Y) (g : X → List Z) (xs : List X) → ((x : X) → length (f x) ≤ length (g x)) → length (flat_map f xs) ≤ length (flat_map g xs)
+pub flat_long : {X Y Z : Type 0} (f : X → List Y) (g : X → List Z) (xs : List X)
+    → ((x : X) → length (f x) ≤ length (g x)) → length (flat_map f xs) ≤ length (flat_map g xs)
 flat_long f g [] long = omega arith
 flat_long f g (x ∷ xs) long = omega (arith, length-append (f x) (flat_map f xs), length-append (g x) (flat_map g xs), long x, flat_long f g xs long)
 

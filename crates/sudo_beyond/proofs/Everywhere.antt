@@ -37,7 +37,8 @@ stands s a b i is_a is_b counted form scope =
     let user = name_stands is_name other_name s.user (users a ++ users b) i.user counted.users form.user scope.user in
     let host = name_stands is_host_name other_host s.host (hosts a ++ hosts b) i.host counted.hosts form.host scope.host in
     let target = name_stands is_name other_name s.runas (runas a ++ runas b) i.runas counted.runas form.runas scope.runas in
-    let cmnd = cmnd_stands (commands a ++ commands b) counted.commands (lawful_dirs (commands a ++ commands b) (are_lawful a b is_a.each is_b.each)) i.path i.args form.path form.args form.few_args in
+    let cmnd = cmnd_stands (commands a ++ commands b) counted.commands
+    (lawful_dirs (commands a ++ commands b) (are_lawful a b is_a.each is_b.each)) i.path i.args form.path form.args form.few_args in
     let moment = moment_stands (rules_in a ++ rules_in b) i.at form.at in
     let U : List ℕ → Type 0 = λ name. bytes_eq name i.user ≡ bytes_eq name user.name in
     let H : List ℕ → Type 0 = λ name. bytes_eq name i.host ≡ bytes_eq name host.name in
@@ -47,7 +48,15 @@ stands s a b i is_a is_b counted form scope =
     record {
       case = record { user = user.name; host = host.name; runas = target.name; path = cmnd.file; args = cmnd.given; at = moment.moment };
       is_case = record { user = user.is_case; host = host.is_case; runas = target.is_case; cmnd = cmnd.is_case; at = moment.is_case };
-      form = record { user = user.is_form; host = host.is_form; runas = target.is_form; path = cmnd.is_file; args = cmnd.are_args; few_args = cmnd.few; at = moment.is_case.0 };
+      form = record {
+        user = user.is_form;
+        host = host.is_form;
+        runas = target.is_form;
+        path = cmnd.is_file;
+        args = cmnd.are_args;
+        few_args = cmnd.few;
+        at = moment.is_case.0;
+      };
       scope = record { user = user.agrees; host = host.agrees; runas = target.agrees };
       alike_a = record {
         user = all_front U (users a) (users b) user.alike;

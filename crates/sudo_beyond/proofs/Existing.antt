@@ -1,5 +1,6 @@
 -- There are cases of every two policies whose scope fixes the names, and at most so many as what stands in both makes.
-use Rattle.std.proofs.Common.{◌≡◌, ℕ, ◌+◌, ◌*◌, ◌^◌, ◌<◌, ◌≤◌, true, Option, Some, None, List, [], ◌∷◌, ◌++◌, length, map, refl, sym, ap, ◌∙◌, subst, inl, inr, arith, length-append, add-mul, suc-mul, one-mul, le_trans, le_refl}
+use Rattle.std.proofs.Common.{◌≡◌, ℕ, ◌+◌, ◌*◌, ◌^◌, ◌<◌, ◌≤◌, true, Option, Some, None, List, [], ◌∷◌, ◌++◌, length, map, refl}
+use Rattle.std.proofs.Common.{sym, ap, ◌∙◌, subst, inl, inr, arith, length-append, add-mul, suc-mul, one-mul, le_trans, le_refl}
 use Rattle.std.specs.Prelude.{codes}
 use Rattle.std.specs.Option.{is_some}
 use Rattle.std.specs.List.{AllByRecursion, Contains}
@@ -31,7 +32,8 @@ use Rattle.sudo_beyond.specs.declared.run.Run.{Run}
 use Rattle.sudo_beyond.specs.declared.size.Size.{Size}
 use Rattle.sudo_beyond.specs.Standing.{users, hosts, runas, commands}
 use Rattle.sorting.specs.Lists.{text_order, args_order, IsEachOnce, AreParts}
-use Rattle.sudo_beyond.specs.Cases.{AreNameCases, run_of, path_in, paths, dir_in, dirs, listed_args, args_in, args_with, ArePathCases, IsFreshFile, AreCommandCases, turns_of, turns, AreMomentCases, AreCases, product}
+use Rattle.sudo_beyond.specs.Cases.{AreNameCases, run_of, path_in, paths, dir_in, dirs, listed_args, args_in, args_with}
+use Rattle.sudo_beyond.specs.Cases.{ArePathCases, IsFreshFile, AreCommandCases, turns_of, turns, AreMomentCases, AreCases, product}
 use Rattle.sudo_beyond.specs.Answer.{AreFew, most_cases}
 use Rattle.sudo_beyond.specs.private.Gathering.{listing_in, listings}
 use Rattle.sudo_beyond.specs.private.Baselines.{FixesNames, IsReady, IsSize, most_of}
@@ -164,7 +166,8 @@ exact_moments x y tied = eqb-true x y (unsigned_ties x y ∙ ap is_eq tied)
 
 -- ---- parts
 
-parts_of : {X Y : Type 0} (IsPart : X → List Y → Type 0) (most : ℕ) → ((x : X) → HasAtMost (IsPart x) most) → (xs : List X) → HasAtMost (AreParts IsPart xs) (length xs * most)
+parts_of : {X Y : Type 0} (IsPart : X → List Y → Type 0) (most : ℕ) → ((x : X) → HasAtMost (IsPart x) most)
+    → (xs : List X) → HasAtMost (AreParts IsPart xs) (length xs * most)
 parts_of IsPart most each [] = record { list = []; is = refl; few = omega arith }
 parts_of {X} {Y} IsPart most each (x ∷ xs) =
     let part = each x in
@@ -172,7 +175,8 @@ parts_of {X} {Y} IsPart most each (x ∷ xs) =
     record {
       list = part.list ++ rest.list;
       is = (part.list, rest.list, refl, part.is, rest.is);
-      few = subst (λ (n : ℕ). length (part.list ++ rest.list) ≤ n) (sym (suc-mul (length xs) most)) (omega (arith, length-append part.list rest.list, part.few, rest.few));
+      few = subst (λ (n : ℕ). length (part.list ++ rest.list) ≤ n) (sym (suc-mul (length xs) most))
+          (omega (arith, length-append part.list rest.list, part.few, rest.few));
     }
 
 -- ---- commands
@@ -219,7 +223,13 @@ module _ (cmnds : List Cmnd) (counted : length cmnds < 2 ^ 64) where
       record {
         list = run_of path [] ∷ map (run_of path) lists.list ++ run_of path (found.word ∷ []) ∷ [];
         is = record { lists = lists.list; other_arg = found.word; runs_are = refl; lists_are = lists.is; other_is = found.first };
-        few = omega (arith, length-append (map (run_of path) lists.list) (run_of path (found.word ∷ []) ∷ []), length-map lists.list (run_of path), lists.few, lists_few path cmnds);
+        few = omega (
+          arith,
+          length-append (map (run_of path) lists.list) (run_of path (found.word ∷ []) ∷ []),
+          length-map lists.list (run_of path),
+          lists.few,
+          lists_few path cmnds,
+        );
       }
 
   fresh : (dir : List ℕ) → HasAtMost (IsFreshFile (paths cmnds) dir) 1
@@ -266,7 +276,9 @@ module _ (cmnds : List Cmnd) (counted : length cmnds < 2 ^ 64) where
 -- ---- moments
 
 of_moments : (rules : List Rule) → HasAtMost (AreMomentCases rules) (length (turns rules) + 1)
-of_moments rules = let once = once_of nat_cmp nat_cmp_total exact_moments (0 ∷ turns rules) in record { list = once.list; is = once.is; few = omega (arith, once.few) }
+of_moments rules =
+    let once = once_of nat_cmp nat_cmp_total exact_moments (0 ∷ turns rules) in
+    record { list = once.list; is = once.is; few = omega (arith, once.few) }
 
 -- ---- names that are fixed
 
@@ -300,7 +312,8 @@ cases_of s a b is_a is_b fixed =
     record {
       cases = record { users = by_user.list; hosts = by_host.list; targets = by_target.list; runs = by_run.list; moments = by_moment.list };
       are_cases = record { users = by_user.is; hosts = by_host.is; targets = by_target.is; runs = by_run.is; moments = by_moment.is };
-      few = product_few (length by_user.list) (length by_host.list) (length by_target.list) (length by_run.list) (length by_moment.list) _ _ by_user.few by_host.few by_target.few by_run.few by_moment.few;
+      few = product_few (length by_user.list) (length by_host.list) (length by_target.list) (length by_run.list)
+          (length by_moment.list) _ _ by_user.few by_host.few by_target.few by_run.few by_moment.few;
     }
 
 -- so few stand in both that the cases are few
@@ -311,10 +324,23 @@ few_of s a b rules m n is_a size ready fixed few =
     let all_commands : m.commands + n.commands ≡ length (commands a ++ commands b) =
     omega (arith, length-append (commands a) (commands b), size.commands_are, ready.size.commands_are) in
     let all_listings : m.listings + n.listings ≡ length (listings (commands a ++ commands b)) =
-    omega (arith, ap (λ (runs : List Run). length runs) (flat_map-append listing_in (commands a) (commands b)), length-append (listings (commands a)) (listings (commands b)), size.listings_are, ready.size.listings_are) in
+    omega (
+      arith,
+      ap (λ (runs : List Run). length runs) (flat_map-append listing_in (commands a) (commands b)),
+      length-append (listings (commands a)) (listings (commands b)),
+      size.listings_are,
+      ready.size.listings_are,
+    ) in
     let all_turns : m.turns + n.turns ≡ length (turns (rules_in a ++ rules_in b)) =
-    omega (arith, ap (λ (moments : List ℕ). length moments) (flat_map-append turns_of (rules_in a) (rules_in b)), length-append (turns (rules_in a)) (turns (rules_in b)), size.turns_are, ready.size.turns_are) in
-    let low : most_of (length (commands a ++ commands b)) (length (listings (commands a ++ commands b))) (length (turns (rules_in a ++ rules_in b))) ≤ most_cases =
+    omega (
+      arith,
+      ap (λ (moments : List ℕ). length moments) (flat_map-append turns_of (rules_in a) (rules_in b)),
+      length-append (turns (rules_in a)) (turns (rules_in b)),
+      size.turns_are,
+      ready.size.turns_are,
+    ) in
+    let low :
+    most_of (length (commands a ++ commands b)) (length (listings (commands a ++ commands b))) (length (turns (rules_in a ++ rules_in b))) ≤ most_cases =
     subst (λ (t : ℕ). most_of (length (commands a ++ commands b)) (length (listings (commands a ++ commands b))) t ≤ most_cases) all_turns
     (subst (λ (l : ℕ). most_of (length (commands a ++ commands b)) l (m.turns + n.turns) ≤ most_cases) all_listings
     (subst (λ (c : ℕ). most_of c (m.listings + n.listings) (m.turns + n.turns) ≤ most_cases) all_commands few)) in

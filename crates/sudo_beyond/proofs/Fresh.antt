@@ -1,5 +1,6 @@
 -- Words that do not stand in a list: one is found among as many as the list is long, and one more.
-use Rattle.std.proofs.Common.{◌≡◌, ℕ, zero, suc, ◌+◌, ◌^◌, ◌%◌, ◌<◌, ◌≤◌, Bool, true, ◌&&◌, if◌then◌else◌, List, [], ◌∷◌, length, refl, sym, ap, ◌∙◌, inl, inr, ◌⊎◌, arith}
+use Rattle.std.proofs.Common.{◌≡◌, ℕ, zero, suc, ◌+◌, ◌^◌, ◌%◌, ◌<◌, ◌≤◌, Bool, true, ◌&&◌, if◌then◌else◌}
+use Rattle.std.proofs.Common.{List, [], ◌∷◌, length, refl, sym, ap, ◌∙◌, inl, inr, ◌⊎◌, arith}
 use Rattle.std.specs.Prelude.{codes}
 use Rattle.std.specs.Bool.{Decides}
 use Rattle.std.specs.Fmt.{decimal}
@@ -21,7 +22,8 @@ decimal_all test digits k small =
     ∙ and_from (list_all test ds) (test (48 + n % 10) && true) before (and_from (test (48 + n % 10)) true (digits (n % 10) (omega arith)) refl))
     k small
 
-pub other_all : (test : ℕ → Bool) → list_all test (codes "other") ≡ true → ((b : ℕ) → b < 10 → test (48 + b) ≡ true) → (k : ℕ) → k < 2 ^ 64 → list_all test (other k) ≡ true
+pub other_all : (test : ℕ → Bool) → list_all test (codes "other") ≡ true
+    → ((b : ℕ) → b < 10 → test (48 + b) ≡ true) → (k : ℕ) → k < 2 ^ 64 → list_all test (other k) ≡ true
 other_all test letters digits k small =
     list_all-append test (codes "other") (decimal k)
     ∙ and_from (list_all test (codes "other")) (list_all test (decimal k)) letters (decimal_all test digits k small)
@@ -114,7 +116,8 @@ found_other {X} eq decides f apart xs short =
     elim (look (λ w. list_any (λ y. eq y (f w)) xs) (length xs + 1)) [
       | inl all ↦
           let most : length xs + 1 ≤ length xs =
-          pigeons eq decides (λ k. f (other k)) (length xs + 1) (λ i j low high same. other_injective i j (omega arith) (omega arith) (apart (other i) (other j) same)) xs all in
+          pigeons eq decides (λ k. f (other k))
+          (length xs + 1) (λ i j low high same. other_injective i j (omega arith) (omega arith) (apart (other i) (other j) same)) xs all in
           absurd (omega arith)
       | inr found ↦ found
     ]

@@ -1,5 +1,6 @@
 -- The cases that are gone through, level by level.
-use Rattle.std.proofs.Common.{◌≡◌, ℕ, ◌+◌, ◌<◌, suc, Option, Some, None, List, [], ◌∷◌, ◌++◌, length, take, drop, get_or, refl, sym, ap, ◌∙◌, subst, append_assoc}
+use Rattle.std.proofs.Common.{◌≡◌, ℕ, ◌+◌, ◌<◌, suc, Option, Some, None, List, [], ◌∷◌, ◌++◌}
+use Rattle.std.proofs.Common.{length, take, drop, get_or, refl, sym, ap, ◌∙◌, subst, append_assoc}
 use Rattle.std.specs.Prelude.{Result, Ok, Err, IfOk}
 use Rattle.std.specs.List.{AllByRecursion, flat_map, slice_get}
 use Rattle.std.proofs.Math.Seq.{split_at}
@@ -21,7 +22,8 @@ module _ {X : Type 0} (P : Invocation → Type 0) (f : X → List Invocation) (x
       (subst (λ (is : List Invocation). NoGap P is) (sym (flat_map-append f (take k xs) (x ∷ [])))
       (all_append (λ i. P i → ⊥) (flat_map f (take k xs)) (f x ++ []) before (all_append (λ i. P i → ⊥) (f x) [] here tt)))
 
-  pub gap_here : (x : X) (i : Invocation) → k < length xs → x ≡ get_or xs k x → NoGap P (flat_map f (take k xs)) → IsFirst P (f x) i → IsFirst P (flat_map f xs) i
+  pub gap_here : (x : X) (i : Invocation) → k < length xs → x ≡ get_or xs k x
+      → NoGap P (flat_map f (take k xs)) → IsFirst P (f x) i → IsFirst P (flat_map f xs) i
   gap_here x i below is before first =
       let front : List Invocation = flat_map f (take k xs) in
       let behind : List Invocation = flat_map f (drop (suc k) xs) in
@@ -44,8 +46,8 @@ weaker_none : (P Q : Invocation → Type 0) (cases : List Invocation) → ((i : 
 weaker_none P Q [] back none = tt
 weaker_none P Q (i ∷ cases) back none = (λ q. none.0 (back i q), weaker_none P Q cases back none.1)
 
-pub first_of_same : (P Q : Invocation → Type 0) (cases : List Invocation) (found : Option Invocation) → ((i : Invocation) → P i → Q i) → ((i : Invocation) → Q i → P i)
-    → FirstOf P cases found → FirstOf Q cases found
+pub first_of_same : (P Q : Invocation → Type 0) (cases : List Invocation) (found : Option Invocation)
+    → ((i : Invocation) → P i → Q i) → ((i : Invocation) → Q i → P i) → FirstOf P cases found → FirstOf Q cases found
 first_of_same P Q cases None on back none = weaker_none P Q cases back none
 first_of_same P Q cases (Some i) on back first = record {
   before = first.before;
@@ -56,12 +58,13 @@ first_of_same P Q cases (Some i) on back first = record {
 }
 
 -- so it is where they hold alike of each case of which S holds, and S holds of all
-weaker_none_on : (S P Q : Invocation → Type 0) (cases : List Invocation) → ((i : Invocation) → S i → Q i → P i) → AllByRecursion S cases → NoGap P cases → NoGap Q cases
+weaker_none_on : (S P Q : Invocation → Type 0) (cases : List Invocation)
+    → ((i : Invocation) → S i → Q i → P i) → AllByRecursion S cases → NoGap P cases → NoGap Q cases
 weaker_none_on S P Q [] back all none = tt
 weaker_none_on S P Q (i ∷ cases) back all none = (λ q. none.0 (back i all.0 q), weaker_none_on S P Q cases back all.1 none.1)
 
-pub first_of_same_on : (S P Q : Invocation → Type 0) (cases : List Invocation) (found : Option Invocation) → ((i : Invocation) → S i → P i → Q i) → ((i : Invocation) → S i → Q i → P i)
-    → AllByRecursion S cases → FirstOf P cases found → FirstOf Q cases found
+pub first_of_same_on : (S P Q : Invocation → Type 0) (cases : List Invocation) (found : Option Invocation) → ((i : Invocation) → S i → P i → Q i)
+    → ((i : Invocation) → S i → Q i → P i) → AllByRecursion S cases → FirstOf P cases found → FirstOf Q cases found
 first_of_same_on S P Q cases None on back all none = weaker_none_on S P Q cases back all none
 first_of_same_on S P Q cases (Some i) on back all first =
     let parts : AllByRecursion S (first.before ++ i ∷ first.after) = subst (λ (is : List Invocation). AllByRecursion S is) first.list_is all in
@@ -77,7 +80,8 @@ first_of_same_on S P Q cases (Some i) on back all first =
 -- where a list is empty whatever is put in, so are all of them together
 pub gaps_of_none : {X : Type 0} (P : Invocation → Type 0) (f : X → List Invocation) (xs : List X) → ((x : X) → f x ≡ []) → NoGap P (flat_map f xs)
 gaps_of_none P f [] none = tt
-gaps_of_none P f (x ∷ xs) none = all_append (λ i. P i → ⊥) (f x) (flat_map f xs) (subst (λ (is : List Invocation). NoGap P is) (sym (none x)) tt) (gaps_of_none P f xs none)
+gaps_of_none P f (x ∷ xs) none =
+    all_append (λ i. P i → ⊥) (f x) (flat_map f xs) (subst (λ (is : List Invocation). NoGap P is) (sym (none x)) tt) (gaps_of_none P f xs none)
 
 pub none_is_empty : {X : Type 0} (xs : List X) → slice_get xs 0 ≡ None → xs ≡ []
 none_is_empty [] none = refl

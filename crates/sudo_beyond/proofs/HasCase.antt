@@ -38,7 +38,8 @@ module _ (s : Scope) (a b : List Entry) (c : Cases) (is_a : IsPolicy a) (is_b : 
   pub command_has_a_case : (path : List ℕ) (args : List (List ℕ)) → is_file_path path ≡ true → AllByRecursion (λ arg. is_arg arg ≡ true) args → length args ≤ 64
       → (other : List ℕ) × (others : List (List ℕ)) × Contains c.runs (run_of other others) × AlikeCmnds (commands a ++ commands b) path args other others
   command_has_a_case path args is are_args few =
-      let found = cmnd_stands (commands a ++ commands b) (is_counted a b is_a is_b).commands (lawful_dirs (commands a ++ commands b) (are_lawful a b is_a.each is_b.each)) path args is are_args few in
+      let found = cmnd_stands (commands a ++ commands b) (is_counted a b is_a is_b).commands
+      (lawful_dirs (commands a ++ commands b) (are_lawful a b is_a.each is_b.each)) path args is are_args few in
       (found.file, found.given, run_listed (commands a ++ commands b) c.runs found.file found.given are.runs found.is_case, found.alike)
 
   pub moment_has_a_case : (t : ℕ) → IsMoment t → (u : ℕ) × Contains c.moments u × AlikeMoments (rules_in a ++ rules_in b) t u

@@ -24,22 +24,23 @@ no_keyword_host w h = not-true (is_keyword w) (and_parts (is_label w) (not (is_k
 no_sudoedit : (c : Cmnd) → IsLawful c → (front : List ℕ) (rule : ArgRule) → c ≡ Path (front ++ codes "/sudoedit") rule → ⊥
 no_sudoedit c is front rule e = lawful_end front rule (subst IsLawful e is)
 
-pub no_command : (es : List Entry) → AllByRecursion IsEntry es → AllByRecursion (λ c. (front : List ℕ) (rule : ArgRule) → c ≡ Path (front ++ codes "/sudoedit") rule → ⊥) (commands es)
+pub no_command : (es : List Entry) → AllByRecursion IsEntry es
+    → AllByRecursion (λ c. (front : List ℕ) (rule : ArgRule) → c ≡ Path (front ++ codes "/sudoedit") rule → ⊥) (commands es)
 no_command es is =
     all_weaker IsLawful (λ c. (front : List ℕ) (rule : ArgRule) → c ≡ Path (front ++ codes "/sudoedit") rule → ⊥) (commands es) no_sudoedit
     (all_flat IsLawful (λ e. cmnds_in (cmnds_of e)) es (all_weaker IsEntry (λ e. AllByRecursion IsLawful (cmnds_in (cmnds_of e))) es lawful_entry is))
 
 pub no_user : (es : List Entry) → AllByRecursion IsEntry es → AllByRecursion (λ w. is_keyword w ≡ false) (users es)
 no_user es is =
-    all_weaker (λ w. is_name w ≡ true) (λ w. is_keyword w ≡ false) (users es) no_keyword_name
-    (all_flat (λ w. is_name w ≡ true) (λ e. names_in (users_of e)) es (all_weaker IsEntry (λ e. AllByRecursion (λ w. is_name w ≡ true) (names_in (users_of e))) es entry_users is))
+    all_weaker (λ w. is_name w ≡ true) (λ w. is_keyword w ≡ false) (users es) no_keyword_name (all_flat (λ w. is_name w ≡ true) (λ e. names_in (users_of e)) es
+    (all_weaker IsEntry (λ e. AllByRecursion (λ w. is_name w ≡ true) (names_in (users_of e))) es entry_users is))
 
 pub no_host : (es : List Entry) → AllByRecursion IsEntry es → AllByRecursion (λ w. is_keyword w ≡ false) (hosts es)
 no_host es is =
-    all_weaker (λ w. is_host_name w ≡ true) (λ w. is_keyword w ≡ false) (hosts es) no_keyword_host
-    (all_flat (λ w. is_host_name w ≡ true) (λ e. names_in (hosts_of e)) es (all_weaker IsEntry (λ e. AllByRecursion (λ w. is_host_name w ≡ true) (names_in (hosts_of e))) es entry_hosts is))
+    all_weaker (λ w. is_host_name w ≡ true) (λ w. is_keyword w ≡ false) (hosts es) no_keyword_host (all_flat (λ w. is_host_name w ≡ true)
+    (λ e. names_in (hosts_of e)) es (all_weaker IsEntry (λ e. AllByRecursion (λ w. is_host_name w ≡ true) (names_in (hosts_of e))) es entry_hosts is))
 
 pub no_target : (es : List Entry) → AllByRecursion IsEntry es → AllByRecursion (λ w. is_keyword w ≡ false) (runas es)
 no_target es is =
-    all_weaker (λ w. is_name w ≡ true) (λ w. is_keyword w ≡ false) (runas es) no_keyword_name
-    (all_flat (λ w. is_name w ≡ true) (λ e. names_in (runas_of e)) es (all_weaker IsEntry (λ e. AllByRecursion (λ w. is_name w ≡ true) (names_in (runas_of e))) es entry_runas is))
+    all_weaker (λ w. is_name w ≡ true) (λ w. is_keyword w ≡ false) (runas es) no_keyword_name (all_flat (λ w. is_name w ≡ true) (λ e. names_in (runas_of e)) es
+    (all_weaker IsEntry (λ e. AllByRecursion (λ w. is_name w ≡ true) (names_in (runas_of e))) es entry_runas is))

@@ -1,5 +1,6 @@
 -- The lists of arguments that stand with a path lie side by side among all of them, which are in order by their paths.
-use Rattle.std.proofs.Common.{◌≡◌, ℕ, zero, suc, ◌+◌, ◌<◌, ◌≤◌, Bool, true, false, ◌&&◌, if◌then◌else◌, List, [], ◌∷◌, ◌++◌, length, map, take, drop, get_or, eqb, refl, sym, ap, ◌∙◌, subst, inl, inr, arith}
+use Rattle.std.proofs.Common.{◌≡◌, ℕ, zero, suc, ◌+◌, ◌<◌, ◌≤◌, Bool, true, false, ◌&&◌, if◌then◌else◌, List, [], ◌∷◌}
+use Rattle.std.proofs.Common.{◌++◌, length, map, take, drop, get_or, eqb, refl, sym, ap, ◌∙◌, subst, inl, inr, arith}
 use Rattle.std.specs.List.{Contains, flat_map}
 use Rattle.std.specs.List.Sorted.{IsStrictlySortedBy, IsNonDecreasingBy, IsPartitionedBy, IsPartitionPoint}
 use Rattle.std.specs.declared.cmp.Ordering.{Ordering}
@@ -68,9 +69,8 @@ pub listed_once : (cmnds : List Cmnd) (listed : List Run) (path : List ℕ) (lis
     → IsEachOnce args_order (args_at path listed) lists → IsEachOnce args_order (args_with path cmnds) lists
 listed_once cmnds listed path lists table once = record {
   in_order = once.in_order;
-  each = λ args stands.
-      once.each args
-      (flat_other (args_if path) (listings cmnds) listed table.each args (subst (λ (all : List (List (List ℕ))). Contains all args) (sym (of_all path cmnds)) stands));
+  each = λ args stands. once.each args (flat_other (args_if path) (listings cmnds) listed table.each args
+      (subst (λ (all : List (List (List ℕ))). Contains all args) (sym (of_all path cmnds)) stands));
   only = λ args found.
       subst (λ (all : List (List (List ℕ))). Contains all args) (of_all path cmnds)
       (flat_other (args_if path) listed (listings cmnds) table.only args (once.only args found));
@@ -98,7 +98,8 @@ no_args : (path : List ℕ) (runs : List Run) → ((k : ℕ) (d : Run) → k < l
 no_args path [] none = refl
 no_args path (run ∷ runs) none = rw (none zero run (omega arith)) (no_args path runs (λ k d below. none (suc k) d (omega arith)))
 
-all_args : (path : List ℕ) (runs : List Run) → ((k : ℕ) (d : Run) → k < length runs → bytes_eq (get_or runs k d).path path ≡ true) → map (λ run. run.args) runs ≡ args_at path runs
+all_args : (path : List ℕ) (runs : List Run) → ((k : ℕ) (d : Run) → k < length runs → bytes_eq (get_or runs k d).path path ≡ true)
+    → map (λ run. run.args) runs ≡ args_at path runs
 all_args path [] all = refl
 all_args path (run ∷ runs) all =
     rw (all zero run (omega arith)) (ap (λ (lists : List (List (List ℕ))). run.args ∷ lists) (all_args path runs (λ k d below. all (suc k) d (omega arith))))

@@ -1,5 +1,6 @@
 -- A moment's case: the greatest turn at or below it, or 0.
-use Rattle.std.proofs.Common.{◌≡◌, ℕ, ◌+◌, ◌<◌, ◌≤◌, Bool, true, ◌&&◌, leb, eqb, if◌then◌else◌, max, Option, Some, None, List, [], ◌∷◌, refl, sym, ap, subst, ◌∙◌, inl, inr, ◌⊎◌, arith}
+use Rattle.std.proofs.Common.{◌≡◌, ℕ, ◌+◌, ◌<◌, ◌≤◌, Bool, true, ◌&&◌, leb, eqb, if◌then◌else◌, max, Option}
+use Rattle.std.proofs.Common.{Some, None, List, [], ◌∷◌, refl, sym, ap, subst, ◌∙◌, inl, inr, ◌⊎◌, arith}
 use Rattle.std.specs.List.{AllByRecursion, list_any}
 use Rattle.std.specs.Option.{option_to_list}
 use Rattle.std.proofs.lemmas.Bool.{cases_Bool, cases_lt, or_left, or_right, leb-true, leb-false, le-leb, lt-leb, eq-eqb}
@@ -76,7 +77,8 @@ begun_alike : (first : Option ℕ) (t g : ℕ) → g ≤ t → AllByRecursion (�
 begun_alike None t g low keeps = refl
 begun_alike (Some p) t g low keeps = same_leb p t g low keeps.0
 
-lasts_alike : (last : Option ℕ) (t g : ℕ) → IsMoment t → g ≤ t → AllByRecursion (λ p. p ≤ t → p ≤ g) (moment_after last) → is_not_after last t ≡ is_not_after last g
+lasts_alike : (last : Option ℕ) (t g : ℕ) → IsMoment t → g ≤ t
+    → AllByRecursion (λ p. p ≤ t → p ≤ g) (moment_after last) → is_not_after last t ≡ is_not_after last g
 lasts_alike None t g is low keeps = refl
 lasts_alike (Some l) t g is low keeps =
     elim (cases_Bool (leb l 4_102_444_798)) [
@@ -108,6 +110,6 @@ moment_stands rules t is =
       moment = g;
       is_case = (omega (arith, greatest_is.low), greatest_is.stands);
       alike =
-          all_weaker (λ r. AllByRecursion (λ p. p ≤ t → p ≤ g) (turns_of r)) (λ r. takes_part r t ≡ takes_part r g) rules (λ r. rule_alike t g r is greatest_is.low)
-          (all_each (λ p. p ≤ t → p ≤ g) turns_of rules greatest_is.alike);
+          all_weaker (λ r. AllByRecursion (λ p. p ≤ t → p ≤ g) (turns_of r)) (λ r. takes_part r t ≡ takes_part r g) rules
+          (λ r. rule_alike t g r is greatest_is.low) (all_each (λ p. p ≤ t → p ≤ g) turns_of rules greatest_is.alike);
     }

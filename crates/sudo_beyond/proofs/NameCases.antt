@@ -1,12 +1,14 @@
 -- A name's case: itself where it is fixed or stands, else the first other.
-use Rattle.std.proofs.Common.{◌≡◌, ℕ, ◌+◌, ◌^◌, ◌<◌, Bool, true, false, not, leb, ◌&&◌, Option, Some, None, List, [], ◌∷◌, ◌++◌, length, refl, sym, ap, ◌∙◌, inl, inr, arith}
+use Rattle.std.proofs.Common.{◌≡◌, ℕ, ◌+◌, ◌^◌, ◌<◌, Bool, true, false, not, leb, ◌&&◌, Option, Some}
+use Rattle.std.proofs.Common.{None, List, [], ◌∷◌, ◌++◌, length, refl, sym, ap, ◌∙◌, inl, inr, arith}
 use Rattle.std.specs.Prelude.{codes}
 use Rattle.std.specs.List.{AllByRecursion, list_any, list_all}
 use Rattle.std.specs.Str.{bytes_eq}
 use Rattle.std.specs.Fmt.{decimal}
 use Rattle.std.proofs.lemmas.Bool.{cases_Bool, agree_below_at, or_parts, and_from, le-leb}
 use Rattle.std.proofs.lemmas.Slice.Eq.{bytes_eq-Decides}
-use Rattle.sudo_words.specs.Word.{is_name, is_name_shape, is_host_name, is_label, is_keyword, is_name_byte, is_host_byte, is_path_byte, is_arg_byte, is_component, is_arg}
+use Rattle.sudo_words.specs.Word.{is_name, is_name_shape, is_host_name, is_label, is_keyword, is_name_byte}
+use Rattle.sudo_words.specs.Word.{is_host_byte, is_path_byte, is_arg_byte, is_component, is_arg}
 use Rattle.sudo_beyond.specs.Alike.{AlikeNames}
 use Rattle.sudo_beyond.specs.Beyond.{Agrees}
 use Rattle.sudo_beyond.specs.Cases.{other, has}
@@ -53,15 +55,14 @@ other_host k small =
 
 pub other_component : IsFormOfOthers is_component
 other_component k small =
-    and_from (leb 1 (length (other k)) && list_all is_path_byte (other k)) true
-    (and_from (leb 1 (length (other k))) (list_all is_path_byte (other k)) (le-leb 1 (length (other k)) (omega arith)) (other_all is_path_byte refl path_digit k small))
-    refl
+    and_from (leb 1 (length (other k)) && list_all is_path_byte (other k)) true (and_from (leb 1 (length (other k)))
+    (list_all is_path_byte (other k)) (le-leb 1 (length (other k)) (omega arith)) (other_all is_path_byte refl path_digit k small)) refl
 
 pub other_arg : IsFormOfOthers is_arg
 other_arg k small =
     and_from (list_all is_arg_byte (other k) && leb 1 (length (other k))) (leb (length (other k)) 64)
-    (and_from (list_all is_arg_byte (other k)) (leb 1 (length (other k))) (other_all is_arg_byte refl arg_digit k small) (le-leb 1 (length (other k)) (omega arith)))
-    (le-leb (length (other k)) 64 (omega (arith, other_length k small)))
+    (and_from (list_all is_arg_byte (other k)) (leb 1 (length (other k))) (other_all is_arg_byte refl arg_digit k small)
+    (le-leb 1 (length (other k)) (omega arith))) (le-leb (length (other k)) 64 (omega (arith, other_length k small)))
 
 -- ---- names that do not stand
 
@@ -83,8 +84,9 @@ same_name names x = all_true (λ name. bytes_eq name x ≡ bytes_eq name x) name
 -- two names that do not stand are alike
 unlike : (names : List (List ℕ)) (x y : List ℕ) → has names x ≡ false → has names y ≡ false → AlikeNames names x y
 unlike names x y no_x no_y =
-    all_weaker (λ name. (bytes_eq name x ≡ false) × (bytes_eq name y ≡ false)) (λ name. bytes_eq name x ≡ bytes_eq name y) names (λ name both. both.0 ∙ sym both.1)
-    (all_both (λ name. bytes_eq name x ≡ false) (λ name. bytes_eq name y ≡ false) names (none_each (λ name. bytes_eq name x) names no_x) (none_each (λ name. bytes_eq name y) names no_y))
+    all_weaker (λ name. (bytes_eq name x ≡ false) × (bytes_eq name y ≡ false)) (λ name. bytes_eq name x ≡ bytes_eq name y) names
+    (λ name both. both.0 ∙ sym both.1) (all_both (λ name. bytes_eq name x ≡ false) (λ name. bytes_eq name y ≡ false) names
+    (none_each (λ name. bytes_eq name x) names no_x) (none_each (λ name. bytes_eq name y) names no_y))
 
 pub record NameStands (form : List ℕ → Bool) (fixed : Option (List ℕ)) (standing : List (List ℕ)) (x : List ℕ) : Type 0 where
   pub name : List ℕ

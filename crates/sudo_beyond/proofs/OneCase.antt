@@ -30,7 +30,8 @@ IsPathCase cmnds path args = (has (paths cmnds) path ≡ true) × IsArgsCase cmn
 -- a file in a directory that stands, which is no path that stands
 abbrev pub IsDirCase : List Cmnd → List ℕ → List (List ℕ) → Type 0
 IsDirCase cmnds path args =
-    (dir : List ℕ) × (word : List ℕ) × (has (dirs cmnds) dir ≡ true) × (path ≡ dir ++ word) × (args ≡ []) × IsFirstOther (λ w. has (paths cmnds) (dir ++ w)) word
+    (dir : List ℕ) × (word : List ℕ) × (has (dirs cmnds) dir ≡ true) × (path ≡ dir ++ word)
+    × (args ≡ []) × IsFirstOther (λ w. has (paths cmnds) (dir ++ w)) word
 
 -- a file elsewhere
 abbrev pub IsRootCase : List Cmnd → List ℕ → List (List ℕ) → Type 0

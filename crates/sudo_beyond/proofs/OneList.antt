@@ -40,7 +40,8 @@ one_path_cases cmnds path xs ys are also =
 
 one_fresh : (taken : List (List ℕ)) (dir : List ℕ) (xs ys : List Run) → IsFreshFile taken dir xs → IsFreshFile taken dir ys → xs ≡ ys
 one_fresh taken dir xs ys are also =
-    are.runs_are ∙ ap (λ (w : List ℕ). run_of (dir ++ w) [] ∷ []) (one_first (λ w. has taken (dir ++ w)) are.name also.name are.name_is also.name_is) ∙ sym also.runs_are
+    are.runs_are ∙ ap (λ (w : List ℕ). run_of (dir ++ w) [] ∷ []) (one_first (λ w. has taken (dir ++ w)) are.name also.name are.name_is also.name_is)
+    ∙ sym also.runs_are
 
 one_command_cases : (cmnds : List Cmnd) (xs ys : List Run) → AreCommandCases cmnds xs → AreCommandCases cmnds ys → xs ≡ ys
 one_command_cases cmnds xs ys are also =

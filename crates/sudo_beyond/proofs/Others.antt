@@ -17,7 +17,8 @@ one_first taken v w f g =
       | inr (inr higher) ↦ absurd (number_not_lower taken w v g f higher)
     ]
 
-module _ {X : Type 0} (eq : X → X → Bool) (decides : (a b : X) → Decides (eq a b) (a ≡ b)) (f : List ℕ → X) (apart : (v w : List ℕ) → f v ≡ f w → v ≡ w) (xs : List X) where
+module _ {X : Type 0} (eq : X → X → Bool) (decides : (a b : X) → Decides (eq a b) (a ≡ b)) (f : List ℕ
+    → X) (apart : (v w : List ℕ) → f v ≡ f w → v ≡ w) (xs : List X) where
   abbrev is_taken : List ℕ → Bool
   is_taken w = list_any (λ y. eq y (f w)) xs
 

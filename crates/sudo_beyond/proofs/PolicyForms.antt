@@ -67,7 +67,8 @@ both_have P has a b each is_a is_b =
 pub are_users : (a b : List Entry) → AllByRecursion IsEntry a → AllByRecursion IsEntry b → AllByRecursion (λ name. is_name name ≡ true) (users a ++ users b)
 are_users a b = both_have (λ name. is_name name ≡ true) (λ e. names_in (users_of e)) a b entry_users
 
-pub are_hosts : (a b : List Entry) → AllByRecursion IsEntry a → AllByRecursion IsEntry b → AllByRecursion (λ name. is_host_name name ≡ true) (hosts a ++ hosts b)
+pub are_hosts : (a b : List Entry) → AllByRecursion IsEntry a → AllByRecursion IsEntry b
+    → AllByRecursion (λ name. is_host_name name ≡ true) (hosts a ++ hosts b)
 are_hosts a b = both_have (λ name. is_host_name name ≡ true) (λ e. names_in (hosts_of e)) a b entry_hosts
 
 pub are_targets : (a b : List Entry) → AllByRecursion IsEntry a → AllByRecursion IsEntry b → AllByRecursion (λ name. is_name name ≡ true) (runas a ++ runas b)
@@ -109,7 +110,8 @@ file_of (Dir dir) is = tt
 
 pub lawful_paths : (cmnds : List Cmnd) → AllByRecursion IsLawful cmnds → AllByRecursion (λ path. is_file_path path ≡ true) (paths cmnds)
 lawful_paths cmnds is =
-    all_flat (λ path. is_file_path path ≡ true) path_in cmnds (all_weaker IsLawful (λ c. AllByRecursion (λ path. is_file_path path ≡ true) (path_in c)) cmnds file_of is)
+    all_flat (λ path. is_file_path path ≡ true) path_in cmnds
+    (all_weaker IsLawful (λ c. AllByRecursion (λ path. is_file_path path ≡ true) (path_in c)) cmnds file_of is)
 
 -- ---- dates
 
@@ -121,7 +123,8 @@ ends : (last : Option ℕ) → AllByRecursion IsMoment (moment_after last)
 ends None = tt
 ends (Some t) =
     elim (cases_Bool (leb t 4_102_444_798)) [
-      | inl some ↦ subst (λ (b : Bool). AllByRecursion IsMoment (if b then (t + 1) ∷ [] else [])) (sym some) (let low = leb-true t 4_102_444_798 some in (omega arith, tt))
+      | inl some ↦ subst (λ (b : Bool). AllByRecursion IsMoment (if b then (t + 1) ∷ [] else [])) (sym some) (let low = leb-true t 4_102_444_798 some in
+          (omega arith, tt))
       | inr none ↦ subst (λ (b : Bool). AllByRecursion IsMoment (if b then (t + 1) ∷ [] else [])) (sym none) tt
     ]
 
@@ -130,7 +133,8 @@ are_rules (entries.UserAlias name list) is = tt
 are_rules (entries.RunasAlias name list) is = tt
 are_rules (entries.HostAlias name list) is = tt
 are_rules (entries.CmndAlias name list) is = tt
-are_rules (entries.Rule r) is = (all_append IsMoment (option_to_list r.not_before) (moment_after r.not_after) (begins r.not_before is.not_before) (ends r.not_after), tt)
+are_rules (entries.Rule r) is =
+    (all_append IsMoment (option_to_list r.not_before) (moment_after r.not_after) (begins r.not_before is.not_before) (ends r.not_after), tt)
 
 pub are_turns : (a b : List Entry) → AllByRecursion IsEntry a → AllByRecursion IsEntry b → AllByRecursion IsMoment (turns (rules_in a ++ rules_in b))
 are_turns a b is_a is_b =

@@ -43,7 +43,8 @@ pub not_beyond_itself : (s : Scope) (a : List Entry) → SomethingBeyond s a a �
 not_beyond_itself s a beyond = not_both a beyond.0 beyond.1.gap.allowed beyond.1.gap.refused
 
 -- where b allows it, it lies beyond c; where b does not, a's allowing it lies beyond b
-third : (s : Scope) (a b c : List Entry) (i : Invocation) (d : Decision) → LiesBeyond s a c i → Decides b i d → (SomethingBeyond s a b → ⊥) → (SomethingBeyond s b c → ⊥) → ⊥
+third : (s : Scope) (a b c : List Entry) (i : Invocation) (d : Decision) → LiesBeyond s a c i
+    → Decides b i d → (SomethingBeyond s a b → ⊥) → (SomethingBeyond s b c → ⊥) → ⊥
 third s a b c i Deny beyond by not_first not_second =
     not_first (i, record { form = beyond.form; scope = beyond.scope; gap = record { allowed = beyond.gap.allowed; refused = by } })
 third s a b c i Allow beyond by not_first not_second =

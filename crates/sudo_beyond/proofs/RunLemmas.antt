@@ -21,14 +21,16 @@ args_either_way lists args =
     ap (λ (test : List (List ℕ) → Bool). list_any test lists) (fun_ext (λ wanted. (lists_equiv nat_list_eq_equiv).symm wanted args))
 
 -- what is free among the lists, each once, is so among those that stand
-args_alike : (path : List ℕ) (cmnds : List Cmnd) (lists : List (List (List ℕ))) → IsEachOnce args_order (args_with path cmnds) lists → has_args lists ≡ has_args (args_with path cmnds)
+args_alike : (path : List ℕ) (cmnds : List Cmnd) (lists : List (List (List ℕ)))
+    → IsEachOnce args_order (args_with path cmnds) lists → has_args lists ≡ has_args (args_with path cmnds)
 args_alike path cmnds lists once =
     fun_ext (λ args. any_once (λ y x. pointwise bytes_eq x y) args_decides args_order (args_with path cmnds) lists once args)
 
 pub files_alike : (standing listed : List (List ℕ)) → IsEachOnce text_order standing listed → has listed ≡ has standing
 files_alike standing listed once = fun_ext (λ x. any_once bytes_eq bytes_eq-Decides text_order standing listed once x)
 
-fresh_alike : (standing listed : List (List ℕ)) → IsEachOnce text_order standing listed → (dir : List ℕ) (runs : List Run) → IsFreshFile listed dir runs → IsFreshFile standing dir runs
+fresh_alike : (standing listed : List (List ℕ)) → IsEachOnce text_order standing listed
+    → (dir : List ℕ) (runs : List Run) → IsFreshFile listed dir runs → IsFreshFile standing dir runs
 fresh_alike standing listed once dir runs is = record {
   name = is.name;
   runs_are = is.runs_are;
@@ -55,13 +57,17 @@ pub fresh_file : (files : List (List ℕ)) (dir path : List ℕ) (args : List (L
 fresh_file files dir path args old new free none is = (
   run_of path args ∷ [],
   is,
-  record { name = free.0; runs_are = ap (λ (given : List (List ℕ)). run_of path given ∷ []) none ∙ ap (λ (file : List ℕ). run_of file [] ∷ []) free.1; name_is = free.2 },
+  record {
+    name = free.0;
+    runs_are = ap (λ (given : List (List ℕ)). run_of path given ∷ []) none ∙ ap (λ (file : List ℕ). run_of file [] ∷ []) free.1;
+    name_is = free.2;
+  },
 )
 
 pub command_cases : (cmnds : List Cmnd) (files directories : List (List ℕ)) (none one two new : List Run)
     → IsEachOnce text_order (paths cmnds) files → IsEachOnce text_order (dirs cmnds) directories → none ≡ []
-    → Adds (AreParts (ArePathCases cmnds) files) none one → Adds (AreParts (IsFreshFile files) directories) one two → Adds (IsFreshFile files (codes "/")) two new
-    → AreCommandCases cmnds new
+    → Adds (AreParts (ArePathCases cmnds) files) none one → Adds (AreParts (IsFreshFile files) directories) one two
+    → Adds (IsFreshFile files (codes "/")) two new → AreCommandCases cmnds new
 command_cases cmnds files directories none one two new once_files once_directories is_none first second third = record {
   files = files;
   directories = directories;
@@ -69,7 +75,8 @@ command_cases cmnds files directories none one two new once_files once_directori
   of_directories = second.0;
   elsewhere = third.0;
   runs_are =
-      third.1 ∙ ap (λ (xs : List Run). xs ++ third.0) (second.1 ∙ ap (λ (xs : List Run). xs ++ second.0) (first.1 ∙ ap (λ (xs : List Run). xs ++ first.0) is_none));
+      third.1
+      ∙ ap (λ (xs : List Run). xs ++ third.0) (second.1 ∙ ap (λ (xs : List Run). xs ++ second.0) (first.1 ∙ ap (λ (xs : List Run). xs ++ first.0) is_none));
   files_are = once_files;
   directories_are = once_directories;
   of_files_are = first.2;

@@ -8,7 +8,8 @@ use Rattle.sudo_decide.specs.Decision.{Decides}
 use Rattle.sudo_beyond.specs.Beyond.{LiesBeyond, SomethingBeyond}
 use Rattle.sudo_beyond.specs.private.Baselines.{IsAllowedIn}
 
-pub where_allowed : (s : Scope) (a b : List Entry) (found : Option Invocation) → MatchOption found (SomethingBeyond s a b → ⊥) (LiesBeyond s a b) → IfSome found (IsAllowedIn s a)
+pub where_allowed : (s : Scope) (a b : List Entry) (found : Option Invocation)
+    → MatchOption found (SomethingBeyond s a b → ⊥) (LiesBeyond s a b) → IfSome found (IsAllowedIn s a)
 where_allowed s a b None none = tt
 where_allowed s a b (Some i) lies = record { form = lies.form; scope = lies.scope; allowed = lies.gap.allowed }
 

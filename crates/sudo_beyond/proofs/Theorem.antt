@@ -55,15 +55,19 @@ at_a_case s a b c is_a is_b are beyond =
     let run : Run = record { path = i.path; args = i.args } in
     let moment = moment_listed (rules_in a ++ rules_in b) c.moments i.at are.moments case.at in
     let with_run = contains_map (invocation_of i.user i.host i.runas run) c.moments i.at moment in
-    let with_target = contains_flat (of_run c i.user i.host i.runas) c.runs run i (run_listed (commands a ++ commands b) c.runs i.path i.args are.runs case.cmnd) with_run in
-    let with_host = contains_flat (of_target c i.user i.host) c.targets i.runas i (name_listed s.runas (runas a ++ runas b) c.targets i.runas are.targets case.runas) with_target in
-    let with_user = contains_flat (of_host c i.user) c.hosts i.host i (name_listed s.host (hosts a ++ hosts b) c.hosts i.host are.hosts case.host) with_host in (
+    let with_target =
+    contains_flat (of_run c i.user i.host i.runas) c.runs run i (run_listed (commands a ++ commands b) c.runs i.path i.args are.runs case.cmnd) with_run in
+    let with_host = contains_flat (of_target c i.user i.host) c.targets i.runas i
+    (name_listed s.runas (runas a ++ runas b) c.targets i.runas are.targets case.runas) with_target in
+    let with_user =
+    contains_flat (of_host c i.user) c.hosts i.host i (name_listed s.host (hosts a ++ hosts b) c.hosts i.host are.hosts case.host) with_host in (
       i,
       contains_flat (of_user c) c.users i.user i (name_listed s.user (users a ++ users b) c.users i.user are.users case.user) with_user,
       at.2,
     )
 
-pub nothing_beyond : (s : Scope) (a b : List Entry) (c : Cases) → IsPolicy a → IsPolicy b → AreCases s a b c → NoGap (IsGap a b) (invocations c) → SomethingBeyond s a b → ⊥
+pub nothing_beyond : (s : Scope) (a b : List Entry) (c : Cases) → IsPolicy a → IsPolicy b
+    → AreCases s a b c → NoGap (IsGap a b) (invocations c) → SomethingBeyond s a b → ⊥
 nothing_beyond s a b c is_a is_b are none beyond =
     let at = at_a_case s a b c is_a is_b are beyond in
     All-contains (λ i. IsGap a b i → ⊥) (invocations c) at.0 (All-from_recursion (λ i. IsGap a b i → ⊥) (invocations c) none) at.1 at.2.gap
@@ -83,7 +87,8 @@ module _ (s : Scope) (a b : List Entry) (c : Cases) (is_a : IsPolicy a) (is_b : 
   abbrev IsTarget : List ℕ → Type 0
   IsTarget name = (is_name name ≡ true) × Agrees s.runas name
 
-  formed : (user host target : List ℕ) (run : Run) (at : ℕ) → IsUser user → IsHost host → IsTarget target → IsRun run → IsMoment at → InScope (invocation_of user host target run at)
+  formed : (user host target : List ℕ) (run : Run) (at : ℕ) → IsUser user → IsHost host
+      → IsTarget target → IsRun run → IsMoment at → InScope (invocation_of user host target run at)
   formed user host target run at is_user is_host is_target is_run is_at = (
     record { user = is_user.0; host = is_host.0; runas = is_target.0; path = is_run.0; args = is_run.1.0; few_args = is_run.1.1; at = is_at },
     record { user = is_user.1; host = is_host.1; runas = is_target.1 },
@@ -92,9 +97,12 @@ module _ (s : Scope) (a b : List Entry) (c : Cases) (is_a : IsPolicy a) (is_b : 
   pub all_in_scope : AllByRecursion InScope (invocations c)
   all_in_scope =
       let counted = is_counted a b is_a is_b in
-      let are_named = names_formed is_name other_name s.user (users a ++ users b) c.users counted.users are.users is_s.user (are_users a b is_a.each is_b.each) in
-      let are_hosted = names_formed is_host_name other_host s.host (hosts a ++ hosts b) c.hosts counted.hosts are.hosts is_s.host (are_hosts a b is_a.each is_b.each) in
-      let are_aimed = names_formed is_name other_name s.runas (runas a ++ runas b) c.targets counted.runas are.targets is_s.runas (are_targets a b is_a.each is_b.each) in
+      let are_named =
+      names_formed is_name other_name s.user (users a ++ users b) c.users counted.users are.users is_s.user (are_users a b is_a.each is_b.each) in
+      let are_hosted =
+      names_formed is_host_name other_host s.host (hosts a ++ hosts b) c.hosts counted.hosts are.hosts is_s.host (are_hosts a b is_a.each is_b.each) in
+      let are_aimed =
+      names_formed is_name other_name s.runas (runas a ++ runas b) c.targets counted.runas are.targets is_s.runas (are_targets a b is_a.each is_b.each) in
       let are_run = runs_formed (commands a ++ commands b) counted.commands (are_lawful a b is_a.each is_b.each) c.runs are.runs in
       let are_timed = moments_formed (rules_in a ++ rules_in b) c.moments are.moments (are_turns a b is_a.each is_b.each) in
       all_flat InScope (of_user c) c.users
@@ -113,7 +121,8 @@ module _ (s : Scope) (a b : List Entry) (c : Cases) (is_a : IsPolicy a) (is_b : 
   pub lies_beyond : (i : Invocation) → IsFirst (IsGap a b) (invocations c) i → LiesBeyond s a b i
   lies_beyond i first =
       let there : Contains (invocations c) i =
-      subst (λ (is : List Invocation). Contains is i) (sym first.list_is) (Contains-append_right first.before (i ∷ first.after) i (Contains-append_left (i ∷ []) first.after i (Contains-push [] i))) in
+      subst (λ (is : List Invocation). Contains is i) (sym first.list_is)
+      (Contains-append_right first.before (i ∷ first.after) i (Contains-append_left (i ∷ []) first.after i (Contains-push [] i))) in
       let in_scope = All-contains InScope (invocations c) i (All-from_recursion InScope (invocations c) all_in_scope) there in
       record { form = in_scope.0; scope = in_scope.1; gap = first.here }
 

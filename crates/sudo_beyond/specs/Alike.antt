@@ -17,7 +17,8 @@ AlikeNames names x y = AllByRecursion (λ name. bytes_eq name x ≡ bytes_eq nam
 
 -- each of these commands matches both or neither
 abbrev pub AlikeCmnds : List Cmnd → List ℕ → List (List ℕ) → List ℕ → List (List ℕ) → Type 0
-AlikeCmnds cmnds path args other others = AllByRecursion (λ c. matches c path args ≡ matches c other others) cmnds
+AlikeCmnds cmnds path args other others =
+    AllByRecursion (λ c. matches c path args ≡ matches c other others) cmnds
 
 -- each of these rules takes part at both or at neither
 abbrev pub AlikeMoments : List Rule → ℕ → ℕ → Type 0

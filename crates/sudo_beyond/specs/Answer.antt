@@ -1,4 +1,5 @@
--- What is answered of two policies: the first case that lies beyond, or none; or that the cases are too many.
+-- What is answered of two policies: the first case that lies beyond, or none; or that the cases are
+-- too many.
 use Rattle.std.specs.Prelude.{◌≡◌, ℕ, ◌<◌, ◌≤◌, List, ◌∷◌, ◌++◌, Option, Some, None}
 use Rattle.std.specs.List.{AllByRecursion}
 use Rattle.sudo_policy.specs.declared.entry.Entry.{Entry}

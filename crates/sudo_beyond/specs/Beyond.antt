@@ -1,4 +1,5 @@
--- What one policy allows beyond another: invocations that the first allows and the second refuses (NIST SP 800-53, AC-6(7)).
+-- What one policy allows beyond another: invocations that the first allows and the second refuses
+-- (NIST SP 800-53, AC-6(7)).
 use Rattle.std.specs.Prelude.{◌≡◌, ℕ, ◌≤◌, true, List, length, Option, Some, None, IfSome, ◌⊎◌}
 use Rattle.std.specs.List.{AllByRecursion}
 use Rattle.sudo_words.specs.Word.{is_name, is_host_name, is_file_path, is_arg}

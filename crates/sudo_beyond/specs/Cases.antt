@@ -1,5 +1,7 @@
--- The cases that stand for all invocations: a list of users, one of hosts, of targets, of paths with arguments, and of moments.
-use Rattle.std.specs.Prelude.{◌≡◌, ℕ, ◌+◌, ◌*◌, ◌<◌, Bool, true, false, nat_le, if◌then◌else◌, List, [], ◌∷◌, ◌++◌, length, map, Option, Some, None, codes}
+-- The cases that stand for all invocations: a list of users, one of hosts, of targets, of paths
+-- with arguments, and of moments.
+use Rattle.std.specs.Prelude.{◌≡◌, ℕ, ◌+◌, ◌*◌, ◌<◌, Bool, true, false, nat_le, if◌then◌else◌}
+use Rattle.std.specs.Prelude.{List, [], ◌∷◌, ◌++◌, length, map, Option, Some, None, codes}
 use Rattle.std.specs.List.{flat_map, list_any}
 use Rattle.std.specs.Option.{option_to_list}
 use Rattle.std.specs.Ordering.{nat_cmp}
@@ -32,7 +34,8 @@ pub record IsFirstOther (taken : List ℕ → Bool) (word : List ℕ) : Type 0 w
   pub free : taken word ≡ false
   pub first : (k : ℕ) → k < number → taken (other k) ≡ true
 
--- ---- names: those that stand, and one that does not. A list tells two names apart only where one of them stands in it, so
+-- ---- names: those that stand, and one that does not. A list tells two names apart only where one
+-- of them stands in it, so
 -- one name that stands nowhere is as good as any.
 
 abbrev pub has : List (List ℕ) → List ℕ → Bool
@@ -89,23 +92,26 @@ args_with path cmnds = flat_map (args_in path) cmnds
 abbrev pub has_args : List (List (List ℕ)) → List (List ℕ) → Bool
 has_args lists args = list_any (λ wanted. pointwise bytes_eq args wanted) lists
 
--- A path that stands: without arguments, with each list that stands with it, and with one argument that does not stand alone
--- with it. A rule for its arguments tells `""`, its own list and the rest apart, and nothing else.
+-- A path that stands: without arguments, with each list that stands with it, and with one argument
+-- that does not stand alone with it. A rule for its arguments tells `""`, its own list and the rest
+-- apart, and nothing else.
 pub record ArePathCases (cmnds : List Cmnd) (path : List ℕ) (runs : List Run) : Type 0 where
   pub lists : List (List (List ℕ))
   pub other_arg : List ℕ
-  pub runs_are : runs ≡ run_of path [] ∷ map (run_of path) lists ++ run_of path (other_arg ∷ []) ∷ []
+  pub runs_are :
+      runs ≡ run_of path [] ∷ map (run_of path) lists ++ run_of path (other_arg ∷ []) ∷ []
   pub lists_are : IsEachOnce args_order (args_with path cmnds) lists
   pub other_is : IsFirstOther (λ word. has_args (args_with path cmnds) (word ∷ [])) other_arg
 
--- A file in this directory that is none of the paths, without arguments: commands tell such files of one directory apart by
--- nothing.
+-- A file in this directory that is none of the paths, without arguments: commands tell such files
+-- of one directory apart by nothing.
 pub record IsFreshFile (taken : List (List ℕ)) (dir : List ℕ) (runs : List Run) : Type 0 where
   pub name : List ℕ
   pub runs_are : runs ≡ run_of (dir ++ name) [] ∷ []
   pub name_is : IsFirstOther (λ word. has taken (dir ++ word)) name
 
--- for each path, for each directory, and for what is in neither: a file of the root, where no policy has a directory
+-- for each path, for each directory, and for what is in neither: a file of the root, where no
+-- policy has a directory
 pub record AreCommandCases (cmnds : List Cmnd) (runs : List Run) : Type 0 where
   pub files : List (List ℕ)
   pub directories : List (List ℕ)
@@ -119,7 +125,8 @@ pub record AreCommandCases (cmnds : List Cmnd) (runs : List Run) : Type 0 where
   pub of_directories_are : AreParts (IsFreshFile (paths cmnds)) directories of_directories
   pub elsewhere_is : IsFreshFile (paths cmnds) (codes "/") elsewhere
 
--- ---- moments: 0, each NOTBEFORE, and the moment after each NOTAFTER. Between two of them no rule begins or ceases to take part.
+-- ---- moments: 0, each NOTBEFORE, and the moment after each NOTAFTER. Between two of them no rule
+-- begins or ceases to take part.
 
 -- 20991231235958Z: after it there is one moment more, and after that there is none
 abbrev pub last_but_one : ℕ
@@ -138,7 +145,8 @@ turns rules = flat_map turns_of rules
 abbrev pub AreMomentCases : List Rule → List ℕ → Type 0
 AreMomentCases rules cases = IsEachOnce nat_cmp (0 ∷ turns rules) cases
 
--- ---- the five lists of two policies, of what stands in both. An alias counts also where no rule uses it.
+-- ---- the five lists of two policies, of what stands in both. An alias counts also where no rule
+-- uses it.
 
 pub record AreCases (s : Scope) (a b : List Entry) (c : Cases) : Type 0 where
   pub users : AreNameCases s.user (users a ++ users b) c.users
@@ -151,9 +159,17 @@ pub record AreCases (s : Scope) (a b : List Entry) (c : Cases) : Type 0 where
 abbrev pub product : Cases → ℕ
 product c = length c.users * length c.hosts * length c.targets * length c.runs * length c.moments
 
--- all of them, in the order in which they are tried: users outermost, then hosts, targets, paths with arguments, and moments
+-- all of them, in the order in which they are tried: users outermost, then hosts, targets, paths
+-- with arguments, and moments
 abbrev pub invocation_of : List ℕ → List ℕ → List ℕ → Run → ℕ → Invocation
-invocation_of user host runas run at = record { user = user; host = host; runas = runas; path = run.path; args = run.args; at = at }
+invocation_of user host runas run at = record {
+  user = user;
+  host = host;
+  runas = runas;
+  path = run.path;
+  args = run.args;
+  at = at;
+}
 
 abbrev pub of_run : Cases → List ℕ → List ℕ → List ℕ → Run → List Invocation
 of_run c user host runas run = map (invocation_of user host runas run) c.moments

@@ -27,7 +27,8 @@ all_commands_for users = entries.Rule (record {
 
 -- `ALL, !bob db1 = ALL`
 abbrev pub all_but_bob : List Entry
-all_but_bob = all_commands_for (record { negated = false; item = items.All } ∷ record { negated = true; item = items.Name (codes "bob") } ∷ [])
+all_but_bob = all_commands_for (record { negated = false; item = items.All }
+    ∷ record { negated = true; item = items.Name (codes "bob") } ∷ [])
 
 -- `ann db1 = ALL`
 abbrev pub ann_alone : List Entry
@@ -39,4 +40,11 @@ anything = record { user = None; host = None; runas = None }
 
 -- this user runs `/other0` without arguments as root on `db1`, at the first moment of all
 abbrev pub runs_other : List ℕ → Invocation
-runs_other user = record { user = user; host = codes "db1"; runas = codes "root"; path = codes "/other0"; args = []; at = 0 }
+runs_other user = record {
+  user = user;
+  host = codes "db1";
+  runas = codes "root";
+  path = codes "/other0";
+  args = [];
+  at = 0;
+}

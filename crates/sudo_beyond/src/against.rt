@@ -22,7 +22,8 @@ fn fixes_names(scope: &Scope) -> bool
     scope.user.is_some() && scope.host.is_some() && scope.runas.is_some()
 }
 
-/// Whether the scope fixes the names, and what stands in both policies makes so few cases that all are tried.
+/// Whether the scope fixes the names, and what stands in both policies makes so few cases that all
+/// are tried.
 fn are_surely_few(
     alloc: Global,
     scope: &Scope,
@@ -38,7 +39,8 @@ fn are_surely_few(
     }
 }
 
-/// An invocation in the scope that the policy allows, if there is one and the cases are not too many to find it.
+/// An invocation in the scope that the policy allows, if there is one and the cases are not too
+/// many to find it.
 fn allowed(alloc: Global, scope: &Scope, a: &Policy) -> Result<Option<Invocation>, NoMemory>
     ensures { IfOk result (λ found. IfSome found (IsAllowedIn scope.now a.now)) }
 {
@@ -62,7 +64,8 @@ fn is_shown(alloc: Global, scope: &Scope, a: &Policy, b: &Baseline<'_>) -> Resul
 
 /// Whether that is seen without the baseline's cases, which are surely few.
 fn is_seen(alloc: Global, scope: &Scope, a: &Policy, b: &Baseline<'_>) -> Result<bool, NoMemory>
-    ensures { IfOk result (λ seen. seen ≡ true → AreFew scope.now a.now b.now × SomethingBeyond scope.now a.now b.now) }
+    ensures { IfOk result (λ seen. seen ≡ true
+        → AreFew scope.now a.now b.now × SomethingBeyond scope.now a.now b.now) }
 {
     if are_surely_few(alloc, scope, a, b)? {
         is_shown(alloc, scope, a, b)
@@ -73,7 +76,8 @@ fn is_seen(alloc: Global, scope: &Scope, a: &Policy, b: &Baseline<'_>) -> Result
 
 /// Whether one of the cases is a gap.
 fn is_found(alloc: Global, scope: &Scope, a: &Policy, b: &Policy) -> Result<bool, BeyondFault>
-    ensures told { IfOk result (λ yes. AreFew scope.now a.now b.now × Tells yes (SomethingBeyond scope.now a.now b.now)) }
+    ensures told { IfOk result
+        (λ yes. AreFew scope.now a.now b.now × Tells yes (SomethingBeyond scope.now a.now b.now)) }
     ensures many { IfErr result (λ e. e ≡ fault.TooManyCases → AreTooMany scope.now a.now b.now) }
 {
     match beyond(alloc, scope, a, b) {
@@ -83,18 +87,20 @@ fn is_found(alloc: Global, scope: &Scope, a: &Policy, b: &Policy) -> Result<bool
     }
 }
 
-/// Whether there is any invocation in the scope that the policy allows and the baseline refuses, of whatever user, host, target, path,
-/// arguments and moment (NIST SP 800-53, AC-6(7)). `B1 TooManyCases` is answered where `beyond` answers it.
+/// Whether there is any invocation in the scope that the policy allows and the baseline refuses, of
+/// whatever user, host, target, path, arguments and moment (NIST SP 800-53, AC-6(7)). `B1
+/// TooManyCases` is answered where `beyond` answers it.
 ///
-/// Mostly the baseline refuses the first invocation that the policy allows. Then no case of the baseline is gathered, where these are
-/// surely few.
+/// Mostly the baseline refuses the first invocation that the policy allows. Then no case of the
+/// baseline is gathered, where these are surely few.
 pub fn is_anything_beyond(
     alloc: Global,
     scope: &Scope,
     a: &Policy,
     b: &Baseline<'_>,
 ) -> Result<bool, BeyondFault>
-    ensures told { IfOk result (λ yes. AreFew scope.now a.now b.now × Tells yes (SomethingBeyond scope.now a.now b.now)) }
+    ensures told { IfOk result
+        (λ yes. AreFew scope.now a.now b.now × Tells yes (SomethingBeyond scope.now a.now b.now)) }
     ensures many { IfErr result (λ e. e ≡ fault.TooManyCases → AreTooMany scope.now a.now b.now) }
 {
     if is_seen(alloc, scope, a, b)? {

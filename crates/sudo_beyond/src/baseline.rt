@@ -15,7 +15,8 @@ use sudo_decide::{Decision, Invocation};
 use sudo_policy::Policy;
 use sudo_words::NoMemory;
 
-/// A policy that others are compared with, one after the other. Contracts see it as the list of the policy's entries.
+/// A policy that others are compared with, one after the other. Contracts see it as the list of the
+/// policy's entries.
 #[derive(Drop)]
 pub struct Baseline<'p> {
     policy: &'p Policy,
@@ -66,9 +67,11 @@ impl<'p> Baseline<'p> {
         }
     }
 
-    /// Whether what stands in both makes, of one user, host and target, so few cases that all are tried.
+    /// Whether what stands in both makes, of one user, host and target, so few cases that all are
+    /// tried.
     pub(crate) fn is_small_beside(&self, alloc: Global, a: &Policy) -> Result<bool, NoMemory>
-        ensures { IfOk result (λ small. small ≡ true → (s : Scope) → FixesNames s → AreFew s a.now self.now) }
+        ensures { IfOk result
+            (λ small. small ≡ true → (s : Scope) → FixesNames s → AreFew s a.now self.now) }
     {
         let own = Size::of(alloc, a)?;
         Ok(own.makes_few_with(&self.size))

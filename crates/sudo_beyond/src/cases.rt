@@ -40,7 +40,8 @@ fn user_cases(
     b: &Policy,
 ) -> Result<Items<Name>, NoMemory>
     ensures form { OnOk result (IfSome fixed.now (λ name. is_name name ≡ true)) }
-    ensures cases { IfOk result (specs.AreNameCases fixed.now (standing.users a.now ++ standing.users b.now)) }
+    ensures cases { IfOk result
+        (specs.AreNameCases fixed.now (standing.users a.now ++ standing.users b.now)) }
 {
     let mut standing = Vec::new(alloc);
     push_users(&mut standing, a)?;
@@ -55,7 +56,8 @@ fn host_cases(
     b: &Policy,
 ) -> Result<Items<HostName>, NoMemory>
     ensures form { OnOk result (IfSome fixed.now (λ name. is_host_name name ≡ true)) }
-    ensures cases { IfOk result (specs.AreNameCases fixed.now (standing.hosts a.now ++ standing.hosts b.now)) }
+    ensures cases { IfOk result
+        (specs.AreNameCases fixed.now (standing.hosts a.now ++ standing.hosts b.now)) }
 {
     let mut standing = Vec::new(alloc);
     push_hosts(&mut standing, a)?;
@@ -70,7 +72,8 @@ fn target_cases(
     b: &Policy,
 ) -> Result<Items<Name>, NoMemory>
     ensures form { OnOk result (IfSome fixed.now (λ name. is_name name ≡ true)) }
-    ensures cases { IfOk result (specs.AreNameCases fixed.now (standing.runas a.now ++ standing.runas b.now)) }
+    ensures cases { IfOk result
+        (specs.AreNameCases fixed.now (standing.runas a.now ++ standing.runas b.now)) }
 {
     let mut standing = Vec::new(alloc);
     push_targets(&mut standing, a)?;
@@ -80,7 +83,8 @@ fn target_cases(
 
 fn command_cases(alloc: Global, a: &Policy, b: &Policy) -> Result<Items<Run>, NoMemory>
     ensures policies { OnOk result (IsPolicy a.now × IsPolicy b.now) }
-    ensures cases { IfOk result (specs.AreCommandCases (standing.commands a.now ++ standing.commands b.now)) }
+    ensures cases { IfOk result
+        (specs.AreCommandCases (standing.commands a.now ++ standing.commands b.now)) }
 {
     let mut cmnds = Vec::new(alloc);
     push_commands(&mut cmnds, a)?;

@@ -1,4 +1,5 @@
-//! What one policy allows beyond another: an exact answer, over finitely many cases that stand for all invocations.
+//! What one policy allows beyond another: an exact answer, over finitely many cases that stand for
+//! all invocations.
 #![tactic(auto)]
 
 mod against;

@@ -21,7 +21,8 @@ pub fn other<F: Form>(alloc: Global, number: usize) -> Result<Word<F>, NoMemory>
     }
 }
 
-/// The first other word that does not stand: one of as many as stand, and one more. Those that stand are in order.
+/// The first other word that does not stand: one of as many as stand, and one more. Those that
+/// stand are in order.
 pub fn first_other<F: Form>(alloc: Global, standing: &[Word<F>]) -> Result<Word<F>, NoMemory>
     requires form { IsFormOfOthers F.has }
     requires sorted { IsStrictlySortedBy text_order standing.now }

@@ -6,7 +6,8 @@ use sudo_words::{Arg, FilePath};
 
 /// The arguments of a command, in order.
 ///
-/// Two lists of them are compared as lists of texts: the first that differs decides, and else the length.
+/// Two lists of them are compared as lists of texts: the first that differs decides, and else the
+/// length.
 #[derive(Clone, Drop)]
 pub struct Args {
     items: Vec<Arg>,
@@ -69,14 +70,16 @@ impl PartialOrd for Args {
     ghost use Rattle.std.specs.Prelude.{Some};
     ghost use Rattle.std.specs.Str.{bytes_eq};
     ghost use Rattle.std.specs.Cmp.{IsPartialOrder};
-    ghost use Rattle.std.specs.Cmp.Lexicographic.{pointwise, slice_cmp, lists_po, lists_agrees, texts_po};
+    ghost use Rattle.std.specs.Cmp.Lexicographic.{pointwise, slice_cmp, lists_po};
+    ghost use Rattle.std.specs.Cmp.Lexicographic.{lists_agrees, texts_po};
     ghost use Rattle.std.specs.Ordering.{nat_cmp};
     ghost use Rattle.std.proofs.Common.{refl, subst};
 
     ghost partial_cmp = { λ x y. Some (slice_cmp (slice_cmp nat_cmp) x y) };
 
     ghost laws = { subst (IsPartialOrder (pointwise bytes_eq))
-        (λ i x y. lists_agrees {R = slice_cmp nat_cmp} {C = λ v w. Some (slice_cmp nat_cmp v w)} (λ v w. refl) x y i) (lists_po texts_po) };
+        (λ i x y. lists_agrees {R = slice_cmp nat_cmp}
+        {C = λ v w. Some (slice_cmp nat_cmp v w)} (λ v w. refl) x y i) (lists_po texts_po) };
 
     fn partial_cmp(&self, other: &Args) -> Option<Ordering> {
         Some(self.cmp(other))
@@ -85,7 +88,8 @@ impl PartialOrd for Args {
 
 impl Ord for Args {
     ghost use Rattle.std.proofs.Common.{refl};
-    ghost use Rattle.std.specs.Cmp.Lexicographic.{slice_cmp, lists_total, lists_ties, nat_list_cmp_total, texts_ties};
+    ghost use Rattle.std.specs.Cmp.Lexicographic.{slice_cmp, lists_total, lists_ties};
+    ghost use Rattle.std.specs.Cmp.Lexicographic.{nat_list_cmp_total, texts_ties};
     ghost use Rattle.std.specs.Ordering.{nat_cmp};
 
     ghost cmp = { slice_cmp (slice_cmp nat_cmp) };
@@ -101,7 +105,8 @@ impl Ord for Args {
     }
 }
 
-/// A path that is run with arguments. Runs are in order by their paths, and those of one path by their arguments.
+/// A path that is run with arguments. Runs are in order by their paths, and those of one path by
+/// their arguments.
 #[derive(PartialEq, Eq, PartialOrd, Ord, Drop)]
 pub struct Run {
     /// The path.

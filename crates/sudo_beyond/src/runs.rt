@@ -6,8 +6,12 @@ ghost use Rattle.std.specs.List.Sorted.{IsStrictlySortedBy};
 ghost use Rattle.sudo_words.specs.Word.{is_file_path};
 ghost use Rattle.sudo_words.specs.declared.cmnd.Cmnd.{Cmnd as AnyCmnd};
 ghost use Rattle.sorting.specs.Lists.{text_order, args_order, IsEachOnce, AreParts};
-ghost use Rattle.sudo_beyond.specs.Cases.{other as word_of, run_of, dirs as dirs_of, ArePathCases, IsFreshFile, AreCommandCases};
-ghost use Rattle.sudo_beyond.specs.private.Gathering.{IsLawfulDir, IsFreeFile, IsFreeArgs, Adds, run_order, listing_in, listings as listings_of, args_at, AreListings};
+ghost use Rattle.sudo_beyond.specs.Cases.{other as word_of, run_of, dirs as dirs_of};
+ghost use Rattle.sudo_beyond.specs.Cases.{ArePathCases, IsFreshFile, AreCommandCases};
+ghost use Rattle.sudo_beyond.specs.private.Gathering.{IsLawfulDir, IsFreeFile, IsFreeArgs};
+ghost use Rattle.sudo_beyond.specs.private.Gathering.{Adds, run_order, listing_in};
+ghost use Rattle.sudo_beyond.specs.private.Gathering.{listings as listings_of, args_at};
+ghost use Rattle.sudo_beyond.specs.private.Gathering.{AreListings};
 
 use crate::commands::{dirs, paths};
 use crate::other::other;
@@ -151,7 +155,8 @@ fn push_each(runs: &mut Vec<Run>, path: &FilePath, lists: Vec<Args>) -> Result<(
     Ok(())
 }
 
-/// Adds the path without arguments, with each list that stands with it, and with one other argument.
+/// Adds the path without arguments, with each list that stands with it, and with one other
+/// argument.
 fn push_path(
     alloc: Global,
     runs: &mut Vec<Run>,
@@ -176,8 +181,8 @@ fn push_paths(
     listed: &[Run],
 ) -> Result<(), NoMemory>
     requires { IsStrictlySortedBy run_order listed.now }
-    ensures { (cmnds : List AnyCmnd) → AreListings cmnds listed.now
-        → OnOk result (Adds (AreParts (ArePathCases cmnds) files.now) runs.old.items runs.new.items) }
+    ensures { (cmnds : List AnyCmnd) → AreListings cmnds listed.now → OnOk result
+        (Adds (AreParts (ArePathCases cmnds) files.now) runs.old.items runs.new.items) }
 {
     for file in files {
         push_path(alloc, runs, file, listed)?;
@@ -221,7 +226,8 @@ fn push_directories(
 ) -> Result<(), NoMemory>
     requires lawful { All IsLawfulDir directories.now }
     requires sorted { IsStrictlySortedBy text_order files.now }
-    ensures { OnOk result (Adds (AreParts (IsFreshFile files.now) directories.now) runs.old.items runs.new.items) }
+    ensures { OnOk result
+        (Adds (AreParts (IsFreshFile files.now) directories.now) runs.old.items runs.new.items) }
 {
     for dir in directories {
         push_directory(alloc, runs, dir, files)?;
@@ -229,7 +235,8 @@ fn push_directories(
     Ok(())
 }
 
-/// The cases of these commands: for each path in byte order, for each directory in byte order, and a file of the root.
+/// The cases of these commands: for each path in byte order, for each directory in byte order, and
+/// a file of the root.
 pub fn run_cases(alloc: Global, cmnds: &[Cmnd]) -> Result<Items<Run>, NoMemory>
     requires { All IsLawfulDir (dirs_of cmnds.now) }
     ensures { IfOk result (λ runs. AreCommandCases cmnds.now runs) }

@@ -70,7 +70,8 @@ fn set_run(i: &mut Invocation, run: &Run) -> Result<(), NoMemory>
     Ok(())
 }
 
-/// Tries each moment of a path with its arguments. At the first case that is a gap it stops, and the invocation is that case.
+/// Tries each moment of a path with its arguments. At the first case that is a gap it stops, and
+/// the invocation is that case.
 fn try_run(
     a: &[PlainRule],
     b: &[PlainRule],
@@ -81,8 +82,8 @@ fn try_run(
     ensures user { i.new.user ≡ i.old.user }
     ensures host { i.new.host ≡ i.old.host }
     ensures runas { i.new.runas ≡ i.old.runas }
-    ensures found { IfOk result (λ found. FirstOf (IsAnsweredGap a.now b.now)
-        (specs.of_run cases.now i.old.user i.old.host i.old.runas run.now) (if found then Some i.new else None)) }
+    ensures found { IfOk result (λ found. FirstOf (IsAnsweredGap a.now b.now) (specs.of_run
+        cases.now i.old.user i.old.host i.old.runas run.now) (if found then Some i.new else None)) }
 {
     set_run(i, run)?;
     for at in cases.moments.as_slice() {
@@ -94,14 +95,16 @@ fn try_run(
     Ok(false)
 }
 
-/// Tries each path with its arguments. One invocation serves all cases of a user, a host and a target.
+/// Tries each path with its arguments. One invocation serves all cases of a user, a host and a
+/// target.
 fn try_runs(
     a: &[PlainRule],
     b: &[PlainRule],
     cases: &Cases,
     first: Invocation,
 ) -> Result<Option<Invocation>, NoMemory>
-    ensures { IfOk result (FirstOf (IsAnsweredGap a.now b.now) (specs.of_target cases.now first.user first.host first.runas)) }
+    ensures { IfOk result (FirstOf (IsAnsweredGap a.now b.now)
+        (specs.of_target cases.now first.user first.host first.runas)) }
 {
     let mut i = first;
     for run in cases.runs.as_slice() {
@@ -121,7 +124,8 @@ fn of_target(
     host: &HostName,
     runas: &Name,
 ) -> Result<Option<Invocation>, NoMemory>
-    ensures { IfOk result (FirstOf (IsAnsweredGap a.now b.now) (specs.of_target cases.now user.now host.now runas.now)) }
+    ensures { IfOk result (FirstOf (IsAnsweredGap a.now b.now)
+        (specs.of_target cases.now user.now host.now runas.now)) }
 {
     let Some(first) = cases.runs.as_slice().first() else {
         return Ok(None);
@@ -142,7 +146,8 @@ fn of_host(
     user: &Name,
     host: &HostName,
 ) -> Result<Option<Invocation>, NoMemory>
-    ensures { IfOk result (FirstOf (IsAnsweredGap a.now b.now) (specs.of_host cases.now user.now host.now)) }
+    ensures { IfOk result
+        (FirstOf (IsAnsweredGap a.now b.now) (specs.of_host cases.now user.now host.now)) }
 {
     for runas in cases.targets.as_slice() {
         match of_target(a, b, cases, user, host, runas)? {
@@ -186,8 +191,8 @@ fn first_of_compiled(
     Ok(None)
 }
 
-/// The first of the cases that the first policy allows and the second refuses, or `None` where there is none. Both are
-/// compiled once.
+/// The first of the cases that the first policy allows and the second refuses, or `None` where
+/// there is none. Both are compiled once.
 pub fn first_gap(
     alloc: Global,
     a: &Policy,

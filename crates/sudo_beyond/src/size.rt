@@ -42,9 +42,11 @@ impl Size {
         })
     }
 
-    /// The most cases that are made of both, of one user, host and target, where a machine can count them.
+    /// The most cases that are made of both, of one user, host and target, where a machine can
+    /// count them.
     fn most_cases(&self, other: &Size) -> Option<usize>
-        ensures { IfSome result (λ most. most ≡ most_of (self.now.commands + other.now.commands) (self.now.listings + other.now.listings) (self.now.turns + other.now.turns)) }
+        ensures { IfSome result (λ most. most ≡ most_of (self.now.commands + other.now.commands)
+            (self.now.listings + other.now.listings) (self.now.turns + other.now.turns)) }
     {
         let commands = self.commands.checked_add(other.commands)?;
         let listings = self.listings.checked_add(other.listings)?;
@@ -57,7 +59,9 @@ impl Size {
 
     /// Whether of both are made, of one user, host and target, so few cases that all are tried.
     pub fn makes_few_with(&self, other: &Size) -> bool
-        ensures { result ≡ true → most_of (self.now.commands + other.now.commands) (self.now.listings + other.now.listings) (self.now.turns + other.now.turns) ≤ most_cases }
+        ensures { result ≡ true
+            → most_of (self.now.commands + other.now.commands) (self.now.listings
+            + other.now.listings) (self.now.turns + other.now.turns) ≤ most_cases }
     {
         match self.most_cases(other) {
             Some(most) => most <= MOST_CASES,

@@ -2,7 +2,8 @@
 
 ghost use Rattle.std.specs.Prelude.{◌≡◌, ◌++◌, OnOk};
 ghost use Rattle.sudo_policy.specs.Policy.{IsPolicy};
-ghost use Rattle.sudo_beyond.specs.Standing.{names_in, users, users_of, hosts, hosts_of, runas, runas_of};
+ghost use Rattle.sudo_beyond.specs.Standing.{names_in, users, users_of, hosts};
+ghost use Rattle.sudo_beyond.specs.Standing.{hosts_of, runas, runas_of};
 
 use sudo_policy::{Entry, Item, Policy, Signed};
 use sudo_words::{Form, HostName, Name, NoMemory, Word};

@@ -19,7 +19,8 @@ use Rattle.sudo_compiled.specs.Compiled.{SameNames, is_about, plains_say, cmnds_
 use Rattle.sudo_compiled.specs.private.Writing.{IsWritten}
 
 -- one more rule answers, unless it is silent
-pub last_spoken-push : (rules : List PlainRule) (r : PlainRule) (i : Invocation) → last_spoken (rules ++ r ∷ []) i ≡ option_or (spoken i r) (last_spoken rules i)
+pub last_spoken-push : (rules : List PlainRule) (r : PlainRule) (i : Invocation)
+    → last_spoken (rules ++ r ∷ []) i ≡ option_or (spoken i r) (last_spoken rules i)
 last_spoken-push rules r i = ap last_given (map_push (spoken i) rules r) ∙ last_given-append (map (spoken i) rules) (spoken i r ∷ [])
 
 pub answer_speaks : (rules : List PlainRule) (r : PlainRule) (i : Invocation) (d : Decision) → spoken i r ≡ Some d → answer (rules ++ r ∷ []) i ≡ d
@@ -81,8 +82,8 @@ or_signed_silence true a = refl
 or_signed_silence false a = refl
 
 -- the last item answers for the list, unless it is silent
-pub list_says_yes : {X : Type 0} (item_says : X → Option Bool) (list front : List (Signed X)) (x : Signed X) → list ≡ front ++ x ∷ [] → item_says x.item ≡ Some true
-    → signed_answer x.negated (Some true) ≡ list_answer item_says list
+pub list_says_yes : {X : Type 0} (item_says : X → Option Bool) (list front : List (Signed X)) (x : Signed X)
+    → list ≡ front ++ x ∷ [] → item_says x.item ≡ Some true → signed_answer x.negated (Some true) ≡ list_answer item_says list
 list_says_yes item_says list front x is says =
     sym (ap (list_answer item_says) is
     ∙ list_answer-push item_says front x
@@ -99,7 +100,8 @@ list_passes item_says list front x is silent =
 
 pub about_alike : (a b c d e f : Option Bool) → a ≡ d → b ≡ e → c ≡ f → (is_yes a && is_yes b && is_yes c) ≡ (is_yes d && is_yes e && is_yes f)
 about_alike a b c d e f p q r =
-    ap (λ (x : Option Bool). is_yes x && is_yes b && is_yes c) p ∙ ap (λ (x : Option Bool). is_yes d && is_yes x && is_yes c) q ∙ ap (λ (x : Option Bool). is_yes d && is_yes e && is_yes x) r
+    ap (λ (x : Option Bool). is_yes x && is_yes b && is_yes c) p ∙ ap (λ (x : Option Bool). is_yes d && is_yes x && is_yes c) q
+    ∙ ap (λ (x : Option Bool). is_yes d && is_yes e && is_yes x) r
 
 -- ---- a rule that is not about the user, the host and the target is silent
 

@@ -1,5 +1,6 @@
 -- Lists as they are written out, sign by sign.
-use Rattle.std.proofs.Common.{◌≡◌, ℕ, ◌+◌, ◌<◌, Bool, true, false, not, cond, if◌then◌else◌, Option, Some, None, List, [], ◌∷◌, ◌++◌, length, take, get_or, map, refl, sym, ap, ◌∙◌}
+use Rattle.std.proofs.Common.{◌≡◌, ℕ, ◌+◌, ◌<◌, Bool, true, false, not, cond, if◌then◌else◌, Option, Some}
+use Rattle.std.proofs.Common.{None, List, [], ◌∷◌, ◌++◌, length, take, get_or, map, refl, sym, ap, ◌∙◌}
 use Rattle.std.specs.Prelude.{Result, Ok, Err, OnOk, IfOk}
 use Rattle.std.specs.Map.{update}
 use Rattle.std.specs.Option.{option_or, option_map}
@@ -43,16 +44,17 @@ signed_silence true = refl
 signed_silence false = refl
 
 module _ {X : Type 0} (plain : Invocation → X → Option Bool) where
-  pub adds_nothing : (old : List (Signed X)) (negated : Bool) (says : Invocation → Option Bool) → ((i : Invocation) → says i ≡ None) → Adds plain old old (λ i. signed_answer negated (says i))
+  pub adds_nothing : (old : List (Signed X)) (negated : Bool) (says : Invocation → Option Bool)
+      → ((i : Invocation) → says i ≡ None) → Adds plain old old (λ i. signed_answer negated (says i))
   adds_nothing old negated says silent = λ i.
       sym (ap (λ (a : Option Bool). option_or a (list_answer (plain i) old)) (ap (signed_answer negated) (silent i) ∙ signed_silence negated))
 
   pub adds_as : (old new : List (Signed X)) (f g : Invocation → Option Bool) → ((i : Invocation) → f i ≡ g i) → Adds plain old new f → Adds plain old new g
   adds_as old new f g same adds = λ i. adds i ∙ ap (λ (a : Option Bool). option_or a (list_answer (plain i) old)) (same i)
 
-  pub adds_more : {Y : Type 0} (says : Invocation → Y → Option Bool) (list : List (Signed Y)) (negated : Bool) (k : ℕ) (x : Signed Y) (old mid new : List (Signed X))
-      → k < length list → x ≡ get_or list k x
-      → Adds plain old mid (λ i. signed_answer negated (list_answer (says i) (take k list)))
+  pub adds_more :
+      {Y : Type 0} (says : Invocation → Y → Option Bool) (list : List (Signed Y)) (negated : Bool) (k : ℕ) (x : Signed Y) (old mid new : List (Signed X))
+      → k < length list → x ≡ get_or list k x → Adds plain old mid (λ i. signed_answer negated (list_answer (says i) (take k list)))
       → Adds plain mid new (λ i. signed_answer (if negated then not x.negated else x.negated) (says i x.item))
       → Adds plain old new (λ i. signed_answer negated (list_answer (says i) (take (k + 1) list)))
   adds_more says list negated k x old mid new within is before here = λ i.
@@ -68,7 +70,8 @@ module _ {X : Type 0} (plain : Invocation → X → Option Bool) where
       ∙ sym (or_assoc own front rest)
       ∙ sym (ap (λ (a : Option Bool). option_or a rest) more)
 
-  pub adds_one : (old new : List (Signed X)) (negated : Bool) (own : X) (says : Invocation → Option Bool) → new ≡ old ++ (record { negated = negated; item = own }) ∷ []
+  pub adds_one : (old new : List (Signed X)) (negated : Bool) (own : X) (says : Invocation → Option Bool)
+      → new ≡ old ++ (record { negated = negated; item = own }) ∷ []
       → ((i : Invocation) → plain i own ≡ says i) → Adds plain old new (λ i. signed_answer negated (says i))
   adds_one old new negated own says is same = λ i.
       ap (list_answer (plain i)) is
@@ -81,7 +84,8 @@ on_ok (Err e) f p = p
 
 -- ---- what an alias stands for, turned over
 
-pub turned_list : {X : Type 0} (says : X → Option Bool) (negated : Bool) (xs : List (Signed X)) → list_answer says (map (turned negated) xs) ≡ signed_answer negated (list_answer says xs)
+pub turned_list : {X : Type 0} (says : X → Option Bool) (negated : Bool) (xs : List (Signed X))
+    → list_answer says (map (turned negated) xs) ≡ signed_answer negated (list_answer says xs)
 turned_list says negated [] = sym (signed_silence negated)
 turned_list says negated (x ∷ xs) =
     let own : Option Bool = signed_answer (if negated then not x.negated else x.negated) (says x.item) in
@@ -101,12 +105,13 @@ if_same true x y u v e f = e
 if_same false x y u v e f = f
 
 -- what is kept says of a list what the definitions say of it
-pub stands_list : {X Y : Type 0} (plain : Invocation → X → Option Bool) (says : Invocation → (List ℕ → Option Bool) → Y → Option Bool) (defs : List (Definition Y)) (known : Known X)
-    (list : List (Signed Y)) (i : Invocation) → Stands plain says defs known → list_answer (says i (known_says (plain i) known)) list ≡ list_says_by (says i) defs list
+pub stands_list : {X Y : Type 0} (plain : Invocation → X → Option Bool) (says : Invocation → (List ℕ → Option Bool)
+    → Y → Option Bool) (defs : List (Definition Y)) (known : Known X) (list : List (Signed Y)) (i : Invocation)
+    → Stands plain says defs known → list_answer (says i (known_says (plain i) known)) list ≡ list_says_by (says i) defs list
 stands_list plain says defs known list i stands = ap (λ (f : List ℕ → Option Bool). list_answer (says i f) list) (fun_ext (λ name. stands i name))
 
-pub stands_more : {X Y : Type 0} (plain : Invocation → X → Option Bool) (says : Invocation → (List ℕ → Option Bool) → Y → Option Bool) (defs : List (Definition Y)) (old new : Known X)
-    (name : List ℕ) (list : List (Signed Y)) (written : List (Signed X))
+pub stands_more : {X Y : Type 0} (plain : Invocation → X → Option Bool) (says : Invocation → (List ℕ → Option Bool) → Y
+    → Option Bool) (defs : List (Definition Y)) (old new : Known X) (name : List ℕ) (list : List (Signed Y)) (written : List (Signed X))
     → ((i : Invocation) → list_answer (plain i) written ≡ list_answer (says i (known_says (plain i) old)) list)
     → ((n : List ℕ) → list_at new n ≡ update bytes_eq (list_at old) name (Some written) n)
     → Stands plain says defs old → Stands plain says (record { name = name; list = list } ∷ defs) new

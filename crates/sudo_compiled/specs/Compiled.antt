@@ -1,5 +1,7 @@
--- What a compiled policy answers: the last rule that speaks decides, as of any policy, and there is no alias to follow (sudoers(5), "SUDOERS FILE FORMAT").
-use Rattle.std.specs.Prelude.{◌≡◌, ℕ, Bool, true, ◌&&◌, List, map, Option, Some, None, if◌then◌else◌, unwrap_or}
+-- What a compiled policy answers: the last rule that speaks decides, as of any policy, and there is
+-- no alias to follow (sudoers(5), "SUDOERS FILE FORMAT").
+use Rattle.std.specs.Prelude.{◌≡◌, ℕ, Bool, true, ◌&&◌, List, map, Option}
+use Rattle.std.specs.Prelude.{Some, None, if◌then◌else◌, unwrap_or}
 use Rattle.std.specs.Option.{option_map}
 use Rattle.std.specs.Str.{bytes_eq}
 use Rattle.sudo_words.specs.declared.cmnd.Cmnd.{Cmnd}
@@ -35,7 +37,8 @@ abbrev pub takes_part : PlainRule → ℕ → Bool
 takes_part r at = is_not_before r.not_before at && is_not_after r.not_after at
 
 abbrev pub is_about : PlainRule → Invocation → Bool
-is_about r i = is_yes (plains_say i.user r.users) && is_yes (plains_say i.host r.hosts) && is_yes (plains_say i.runas r.runas)
+is_about r i = is_yes (plains_say i.user r.users)
+    && is_yes (plains_say i.host r.hosts) && is_yes (plains_say i.runas r.runas)
 
 abbrev pub says : PlainRule → Invocation → Option Bool
 says r i = if takes_part r i.at && is_about r i then cmnds_say i.path i.args r.cmnds else None

@@ -36,7 +36,8 @@ impl Aliases {
 
     /// Adds the alias that an entry defines, if it defines one, written out by those above it.
     fn enter(&mut self, alloc: Global, entry: &Entry) -> Result<(), NoMemory>
-        ensures { OnOk result ((above : List PolicyEntry) → AreKnown above self.old → AreKnown (entry.now ∷ above) self.new) }
+        ensures { OnOk result ((above : List PolicyEntry)
+            → AreKnown above self.old → AreKnown (entry.now ∷ above) self.new) }
     {
         match entry {
             Entry::UserAlias(name, list) => {

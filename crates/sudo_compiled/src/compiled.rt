@@ -20,7 +20,8 @@ use sudo_decide::{Decision, Invocation};
 use sudo_policy::{Entry, Policy, Rule};
 use sudo_words::NoMemory;
 
-/// A policy whose aliases are written out, with copies of its own of all names and commands. Contracts see it as its rules.
+/// A policy whose aliases are written out, with copies of its own of all names and commands.
+/// Contracts see it as its rules.
 #[derive(Drop)]
 pub struct Compiled {
     rules: Vec<PlainRule>,
@@ -37,7 +38,8 @@ impl Model for Compiled {
 
 /// The rule with its aliases written out.
 fn written_rule(alloc: Global, known: &Aliases, rule: &Rule) -> Result<PlainRule, NoMemory>
-    ensures { IfOk result (λ w. (defined : List PolicyEntry) → AreKnown defined known.now → IsWritten defined rule.now w) }
+    ensures { IfOk result (λ w. (defined : List PolicyEntry)
+        → AreKnown defined known.now → IsWritten defined rule.now w) }
 {
     let users = written_out::<Users>(alloc, &known.users, rule.users.as_slice())?;
     let hosts = written_out::<Hosts>(alloc, &known.hosts, rule.hosts.as_slice())?;
@@ -54,14 +56,16 @@ fn written_rule(alloc: Global, known: &Aliases, rule: &Rule) -> Result<PlainRule
     })
 }
 
-/// Adds an entry's rule, if it is one: what the entries decided, and then this one, the rules then answer.
+/// Adds an entry's rule, if it is one: what the entries decided, and then this one, the rules then
+/// answer.
 fn push_rule(
     alloc: Global,
     rules: &mut Vec<PlainRule>,
     known: &Aliases,
     entry: &Entry,
 ) -> Result<(), NoMemory>
-    ensures { OnOk result ((defined es : List PolicyEntry) (i : Asked) → AreKnown defined known.now → DecidesBy defined es i (answer rules.old.items i)
+    ensures { OnOk result ((defined es : List PolicyEntry) (i : Asked)
+        → AreKnown defined known.now → DecidesBy defined es i (answer rules.old.items i)
         → DecidesBy defined (es ++ entry.now ∷ []) i (answer rules.new.items i)) }
 {
     if let Entry::Rule(rule) = entry {
@@ -72,8 +76,9 @@ fn push_rule(
 
 /// The policy compiled: whatever is asked, it answers what the policy decides.
 ///
-/// Every alias is written out, once, in the order of the entries: in its place stand the items of its list in order, each turned over
-/// where the alias is negated. So it has at most 131,072 names and commands, the most that a policy weighs.
+/// Every alias is written out, once, in the order of the entries: in its place stand the items of
+/// its list in order, each turned over where the alias is negated. So it has at most 131,072 names
+/// and commands, the most that a policy weighs.
 pub fn compile(alloc: Global, p: &Policy) -> Result<Compiled, NoMemory>
     ensures { IfOk result (λ c. (i : Asked) → Decides p.now i (answer c i)) }
 {
@@ -92,7 +97,8 @@ fn take_rule(
     known: &Aliases,
     entry: Entry,
 ) -> Result<(), NoMemory>
-    ensures { OnOk result ((defined es : List PolicyEntry) (i : Asked) → AreKnown defined known.now → DecidesBy defined es i (answer rules.old.items i)
+    ensures { OnOk result ((defined es : List PolicyEntry) (i : Asked)
+        → AreKnown defined known.now → DecidesBy defined es i (answer rules.old.items i)
         → DecidesBy defined (es ++ entry ∷ []) i (answer rules.new.items i)) }
 {
     push_rule(alloc, rules, known, &entry)
@@ -109,7 +115,8 @@ fn give_back(rest: &mut Vec<Entry>)
 
 /// The rules of the entries, each of which is given back once its rule is made.
 fn rules_of(alloc: Global, known: &Aliases, entries: Vec<Entry>) -> Result<Vec<PlainRule>, NoMemory>
-    ensures { IfOk result (λ rules. (defined : List PolicyEntry) (i : Asked) → AreKnown defined known.now → DecidesBy defined entries.items i (answer rules.items i)) }
+    ensures { IfOk result (λ rules. (defined : List PolicyEntry) (i : Asked)
+        → AreKnown defined known.now → DecidesBy defined entries.items i (answer rules.items i)) }
 {
     let mut rules = Vec::with_capacity(alloc, entries.len())?;
     let mut rest = entries;
@@ -122,7 +129,8 @@ fn rules_of(alloc: Global, known: &Aliases, entries: Vec<Entry>) -> Result<Vec<P
     Ok(rules)
 }
 
-/// The policy compiled, as `compile` compiles it. It is given back on the way, which takes less memory at once.
+/// The policy compiled, as `compile` compiles it. It is given back on the way, which takes less
+/// memory at once.
 pub fn compile_owned(alloc: Global, p: Policy) -> Result<Compiled, NoMemory>
     ensures { IfOk result (λ c. (i : Asked) → Decides p i (answer c i)) }
 {
@@ -139,7 +147,8 @@ impl Compiled {
         &self.rules
     }
 
-    /// What the compiled policy answers, as `decide_among` finds it in its rules. It takes no memory.
+    /// What the compiled policy answers, as `decide_among` finds it in its rules. It takes no
+    /// memory.
     pub fn decide(&self, i: &Invocation) -> Decision
         ensures { result ≡ answer self.now i.now }
     {

@@ -24,8 +24,8 @@ enum Kept<P> {
     Alias(bool, Rc<Vec<Signed<P>>>),
 }
 
-/// A list, which contracts see as the list of its items. One item alone stands in place and takes no memory, and what an alias
-/// stands for is shared by all its uses.
+/// A list, which contracts see as the list of its items. One item alone stands in place and takes
+/// no memory, and what an alias stands for is shared by all its uses.
 #[derive(Drop)]
 pub struct Few<P> {
     kept: Kept<P>,

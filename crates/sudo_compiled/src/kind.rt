@@ -39,7 +39,8 @@ pub(crate) trait Kind {
         alloc: Global,
         item: &'a Self::Item,
     ) -> Result<Written<'a, Self::Plain>, NoMemory>
-        ensures { IfOk result (λ w. (i : Invocation) (alias_says : List ℕ → Option Bool) → written_says (plain i) alias_says w ≡ says i alias_says item.now) };
+        ensures { IfOk result (λ w. (i : Invocation) (alias_says : List ℕ → Option Bool)
+            → written_says (plain i) alias_says w ≡ says i alias_says item.now) };
 
     /// A copy of one that is no alias.
     fn copied(alloc: Global, own: &Self::Plain) -> Result<Self::Plain, NoMemory>
@@ -57,7 +58,8 @@ fn written_item<'a, F: Form>(
     alloc: Global,
     item: &'a Item<Word<F>>,
 ) -> Result<Written<'a, Plain>, NoMemory>
-    ensures { IfOk result (λ w. (asked : List ℕ) (alias_says : List ℕ → Option Bool) → written_says (plain_answer asked) alias_says w ≡ item_answer alias_says asked item.now) }
+    ensures { IfOk result (λ w. (asked : List ℕ) (alias_says : List ℕ → Option Bool)
+        → written_says (plain_answer asked) alias_says w ≡ item_answer alias_says asked item.now) }
 {
     match item {
         Item::All => Ok(Written::Own(Plain::All)),

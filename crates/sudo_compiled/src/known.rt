@@ -42,7 +42,8 @@ impl<P: Drop> Known<P> {
         name: &AliasName,
         list: Vec<Signed<P>>,
     ) -> Result<(), NoMemory>
-        ensures { OnOk result ((n : List ℕ) → list_at self.new n ≡ update bytes_eq (list_at self.old) name.now (Some list.items) n) }
+        ensures { OnOk result ((n : List ℕ) → list_at self.new n
+            ≡ update bytes_eq (list_at self.old) name.now (Some list.items) n) }
     {
         let list = Rc::new(alloc, list)?;
         self.lists

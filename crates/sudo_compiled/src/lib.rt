@@ -1,4 +1,5 @@
-//! Policies compiled: every alias written out, so that what is asked meets names and commands alone.
+//! Policies compiled: every alias written out, so that what is asked meets names and commands
+//! alone.
 #![tactic(auto)]
 
 mod aliases;

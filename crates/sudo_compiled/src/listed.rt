@@ -1,4 +1,5 @@
-//! What lists without aliases say. Each is gone through from its last item, and the first answer is the list's.
+//! What lists without aliases say. Each is gone through from its last item, and the first answer is
+//! the list's.
 
 ghost use Rattle.std.specs.Prelude.{◌≡◌, Some, None, true, if◌then◌else◌};
 ghost use Rattle.sudo_decide.specs.Decision as answers;

@@ -28,7 +28,8 @@ impl Plain {
     }
 }
 
-/// A rule whose aliases are written out: in the place of each stand the items of its list, turned round where it is negated.
+/// A rule whose aliases are written out: in the place of each stand the items of its list, turned
+/// round where it is negated.
 #[derive(Drop)]
 pub struct PlainRule {
     /// The users whom it is about.

@@ -39,8 +39,8 @@ pub(crate) fn is_about(rule: &PlainRule, i: &Invocation) -> bool
             .unwrap_or(false)
 }
 
-/// What the rule says: nothing outside its dates, or where it is not about the invocation; else what its commands say. These are asked before
-/// names are, since most rules have other commands.
+/// What the rule says: nothing outside its dates, or where it is not about the invocation; else
+/// what its commands say. These are asked before names are, since most rules have other commands.
 fn says(rule: &PlainRule, i: &Invocation) -> Option<bool>
     ensures { result ≡ compiled.says rule.now i.now }
 {

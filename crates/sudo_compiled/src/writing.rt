@@ -1,5 +1,5 @@
-//! Lists with each alias written out: an alias item becomes its list's items in order, each with its sign turned over where the
-//! alias item is negated.
+//! Lists with each alias written out: an alias item becomes its list's items in order, each with
+//! its sign turned over where the alias item is negated.
 
 ghost use Rattle.std.specs.Prelude.{◌≡◌, ◌++◌, ◌∷◌, [], if◌then◌else◌, not, List, IfOk, OnOk};
 ghost use Rattle.sudo_policy.specs.declared.tree.Definition.{Definition};
@@ -22,7 +22,8 @@ fn turned(negated: bool, under_negation: bool) -> bool
 }
 
 fn push_signed<P: Drop>(out: &mut Vec<Signed<P>>, negated: bool, item: P) -> Result<(), NoMemory>
-    ensures { OnOk result (out.new.items ≡ out.old.items ++ (record { negated = negated; item = item }) ∷ []) }
+    ensures { OnOk result
+        (out.new.items ≡ out.old.items ++ (record { negated = negated; item = item }) ∷ []) }
 {
     out.push(Signed { negated, item })?;
     Ok(())
@@ -35,7 +36,8 @@ fn push_copies<K: Kind>(
     negated: bool,
     out: &mut Vec<Signed<K::Plain>>,
 ) -> Result<(), NoMemory>
-    ensures { OnOk result (Adds K.plain out.old.items out.new.items (λ i. signed_answer negated (list_answer (K.plain i) list.now))) }
+    ensures { OnOk result (Adds K.plain out.old.items out.new.items
+        (λ i. signed_answer negated (list_answer (K.plain i) list.now))) }
 {
     for x in list {
         let own = K::copied(alloc, &x.item)?;
@@ -44,7 +46,8 @@ fn push_copies<K: Kind>(
     Ok(())
 }
 
-/// Adds what an alias stands for, turned over under a negation. One that is not known stands for nothing.
+/// Adds what an alias stands for, turned over under a negation. One that is not known stands for
+/// nothing.
 fn push_alias<K: Kind>(
     alloc: Global,
     known: &Known<K::Plain>,
@@ -52,7 +55,8 @@ fn push_alias<K: Kind>(
     negated: bool,
     out: &mut Vec<Signed<K::Plain>>,
 ) -> Result<(), NoMemory>
-    ensures { OnOk result (Adds K.plain out.old.items out.new.items (λ i. signed_answer negated (known_says (K.plain i) known.now name.now))) }
+    ensures { OnOk result (Adds K.plain out.old.items out.new.items
+        (λ i. signed_answer negated (known_says (K.plain i) known.now name.now))) }
 {
     match known.get(name) {
         Some(list) => push_copies::<K>(alloc, list.as_ref().as_slice(), negated, out),
@@ -68,7 +72,8 @@ fn push_item<K: Kind>(
     negated: bool,
     out: &mut Vec<Signed<K::Plain>>,
 ) -> Result<(), NoMemory>
-    ensures { OnOk result (Adds K.plain out.old.items out.new.items (λ i. signed_answer negated (K.says i (known_says (K.plain i) known.now) item.now))) }
+    ensures { OnOk result (Adds K.plain out.old.items out.new.items
+        (λ i. signed_answer negated (K.says i (known_says (K.plain i) known.now) item.now))) }
 {
     match K::written(alloc, item)? {
         Written::Own(own) => push_signed(out, negated, own),
@@ -82,7 +87,8 @@ fn written_items<K: Kind>(
     known: &Known<K::Plain>,
     list: &[Signed<K::Item>],
 ) -> Result<Vec<Signed<K::Plain>>, NoMemory>
-    ensures { IfOk result (λ w. (i : Invocation) → list_answer (K.plain i) w.items ≡ list_answer (K.says i (known_says (K.plain i) known.now)) list.now) }
+    ensures { IfOk result (λ w. (i : Invocation) → list_answer (K.plain i) w.items
+        ≡ list_answer (K.says i (known_says (K.plain i) known.now)) list.now) }
 {
     let mut out = Vec::with_capacity(alloc, list.len())?;
     for x in list {
@@ -98,7 +104,8 @@ fn shared<K: Kind>(
     name: &AliasName,
     negated: bool,
 ) -> Result<Few<K::Plain>, NoMemory>
-    ensures { IfOk result (λ w. (i : Invocation) → list_answer (K.plain i) w ≡ signed_answer negated (known_says (K.plain i) known.now name.now)) }
+    ensures { IfOk result (λ w. (i : Invocation) → list_answer (K.plain i) w
+        ≡ signed_answer negated (known_says (K.plain i) known.now name.now)) }
 {
     match known.get(name) {
         Some(list) => Ok(Few::alias(negated, list.clone()?)),
@@ -112,7 +119,8 @@ fn written_alone<K: Kind>(
     known: &Known<K::Plain>,
     only: &Signed<K::Item>,
 ) -> Result<Few<K::Plain>, NoMemory>
-    ensures { IfOk result (λ w. (i : Invocation) → list_answer (K.plain i) w ≡ signed_answer only.now.negated (K.says i (known_says (K.plain i) known.now) only.now.item)) }
+    ensures { IfOk result (λ w. (i : Invocation) → list_answer (K.plain i) w ≡ signed_answer
+        only.now.negated (K.says i (known_says (K.plain i) known.now) only.now.item)) }
 {
     match K::written(alloc, &only.item)? {
         Written::Own(item) => Ok(Few::one(Signed {
@@ -129,7 +137,8 @@ pub(crate) fn written_out<K: Kind>(
     known: &Known<K::Plain>,
     list: &[Signed<K::Item>],
 ) -> Result<Few<K::Plain>, NoMemory>
-    ensures { IfOk result (λ w. (i : Invocation) → list_answer (K.plain i) w ≡ list_answer (K.says i (known_says (K.plain i) known.now)) list.now) }
+    ensures { IfOk result (λ w. (i : Invocation) → list_answer (K.plain i) w
+        ≡ list_answer (K.says i (known_says (K.plain i) known.now)) list.now) }
 {
     match list {
         [only] => written_alone::<K>(alloc, known, only),

@@ -1,5 +1,6 @@
 -- The definition of an alias is found by its place: in a policy no other of its kind has its name.
-use Rattle.std.proofs.Common.{◌≡◌, ℕ, suc, ◌+◌, ◌-◌, ◌<◌, ◌≤◌, Bool, true, false, ◌||◌, if◌then◌else◌, List, [], ◌∷◌, ◌++◌, Option, None, length, take, drop, reverse, refl, sym, ap, ◌∙◌, subst, append_assoc, arith}
+use Rattle.std.proofs.Common.{◌≡◌, ℕ, suc, ◌+◌, ◌-◌, ◌<◌, ◌≤◌, Bool, true, false, ◌||◌, if◌then◌else◌, List, [], ◌∷◌, ◌++◌}
+use Rattle.std.proofs.Common.{Option, None, length, take, drop, reverse, refl, sym, ap, ◌∙◌, subst, append_assoc, arith}
 use Rattle.std.specs.List.{AllByRecursion, flat_map}
 use Rattle.std.specs.Str.{bytes_eq}
 use Rattle.std.proofs.lemmas.Bool.{or_parts, or_from}
@@ -46,7 +47,8 @@ pub by_definition_none : {X V : Type 0} (f : (List ℕ → V) → List (Signed X
 by_definition_none f u defs name none =
     ap (λ (ds : _). by_definition f u ds name) (sym (append-nil defs)) ∙ by_definition_passes f u defs [] name none
 
-pub by_definition_finds : {X V : Type 0} (f : (List ℕ → V) → List (Signed X) → V) (u : V) (later : List (Definition X)) (d : Definition X) (above : List (Definition X))
+pub by_definition_finds :
+    {X V : Type 0} (f : (List ℕ → V) → List (Signed X) → V) (u : V) (later : List (Definition X)) (d : Definition X) (above : List (Definition X))
     → is_defined later d.name ≡ false → by_definition f u (later ++ d ∷ above) d.name ≡ f (by_definition f u above) d.list
 by_definition_finds f u later d above none =
     by_definition_passes f u later (d ∷ above) d.name none
@@ -204,7 +206,8 @@ defined_below {X} f u def es place below name list new defined within =
     (ap (λ (fs : List Entry). is_defined (flat_map def fs) name) front ∙ none_in_front def below at.before name once.above))
 
 -- nor is one that is defined nowhere
-pub defined_nowhere : {X V : Type 0} (f : (List ℕ → V) → List (Signed X) → V) (u : V) (def : Entry → List (Definition X)) (es : List Entry) (below : ℕ) (name : List ℕ)
+pub defined_nowhere :
+    {X V : Type 0} (f : (List ℕ → V) → List (Signed X) → V) (u : V) (def : Entry → List (Definition X)) (es : List Entry) (below : ℕ) (name : List ℕ)
     → is_defined (flat_map def es) name ≡ false → by_definition f u (flat_map def (reverse (take below es))) name ≡ u
 defined_nowhere f u def es below name none =
     by_definition_none f u (flat_map def (reverse (take below es))) name (none_reversed def (take below es) name (none_in_front def below es name none))
@@ -225,7 +228,8 @@ pub alias_below_is_silent : {X : Type 0} (item_says : (List ℕ → Option Bool)
 alias_below_is_silent item_says def es place below name list new at within =
     defined_below (λ says items. list_answer (item_says says) items) None def es place below name list new at within
 
-pub unknown_alias_is_silent : {X : Type 0} (item_says : (List ℕ → Option Bool) → X → Option Bool) (def : Entry → List (Definition X)) (es : List Entry) (below : ℕ) (name : List ℕ)
+pub unknown_alias_is_silent :
+    {X : Type 0} (item_says : (List ℕ → Option Bool) → X → Option Bool) (def : Entry → List (Definition X)) (es : List Entry) (below : ℕ) (name : List ℕ)
     → is_defined (flat_map def es) name ≡ false → aliases_say item_says (flat_map def (reverse (take below es))) name ≡ None
 unknown_alias_is_silent item_says def es below name none =
     defined_nowhere (λ says items. list_answer (item_says says) items) None def es below name none

@@ -12,12 +12,14 @@ use Rattle.sudo_decide.proofs.Reaching.{SameDefinitions, decides_same, rule_betw
 
 -- ---- one more entry, at the end
 
-pub decides_silent_last : (defined es : List Entry) (e : Entry) (i : Invocation) (d : Decision) → entry_says defined e i ≡ None → DecidesBy defined es i d → DecidesBy defined (es ++ e ∷ []) i d
+pub decides_silent_last : (defined es : List Entry) (e : Entry) (i : Invocation) (d : Decision)
+    → entry_says defined e i ≡ None → DecidesBy defined es i d → DecidesBy defined (es ++ e ∷ []) i d
 decides_silent_last defined es e i d quiet by =
     let P : List Entry → Type 0 = λ x. DecidesBy defined x i d in
     speakers.silent_rule defined es [] e i d quiet (subst P (sym (append-nil es)) by)
 
-pub decides_rule_last : (defined es : List Entry) (r : Rule) (i : Invocation) (answer : Bool) → says defined r i ≡ Some answer → DecidesBy defined (es ++ entries.Rule r ∷ []) i (outcome r answer)
+pub decides_rule_last : (defined es : List Entry) (r : Rule) (i : Invocation) (answer : Bool)
+    → says defined r i ≡ Some answer → DecidesBy defined (es ++ entries.Rule r ∷ []) i (outcome r answer)
 decides_rule_last defined es r i answer speaks = inl (record {
   before = es;
   rule = r;

@@ -7,7 +7,8 @@ use Rattle.sudo_decide.specs.declared.decision.Decision.{Decision}
 use Rattle.sudo_decide.specs.declared.invocation.Invocation.{Invocation}
 use Rattle.sudo_decide.specs.Decision.{says, entry_says, AllSilent, DecidesByRule, DecidesBySilence}
 
-silent_at : (defined : List Entry) (i : Invocation) (before after : List Entry) (e : Entry) → AllSilent defined (before ++ e ∷ after) i → entry_says defined e i ≡ None
+silent_at : (defined : List Entry) (i : Invocation) (before after : List Entry) (e : Entry)
+    → AllSilent defined (before ++ e ∷ after) i → entry_says defined e i ≡ None
 silent_at defined i [] after e quiet = quiet.0
 silent_at defined i (f ∷ before) after e quiet = silent_at defined i before after e quiet.1
 
@@ -40,7 +41,8 @@ one_place defined i (e ∷ b) a (f ∷ c) d r s x y same p q quiet still =
 pub one_rule : (defined es : List Entry) (i : Invocation) (c d : Decision) (x : DecidesByRule defined es i c) (y : DecidesByRule defined es i d)
     → (x.before ≡ y.before) × (x.rule ≡ y.rule) × (x.after ≡ y.after)
 one_rule defined es i c d x y =
-    one_place defined i x.before x.after y.before y.after x.rule y.rule x.answer y.answer (sym x.entries_are ∙ y.entries_are) x.speaks y.speaks x.silent y.silent
+    one_place defined i x.before x.after y.before y.after x.rule y.rule x.answer y.answer
+    (sym x.entries_are ∙ y.entries_are) x.speaks y.speaks x.silent y.silent
 
 pub no_silence : (defined es : List Entry) (i : Invocation) (c d : Decision) → DecidesByRule defined es i c → DecidesBySilence defined es i d → ⊥
 no_silence defined es i c d x y = not_silent defined i es x.before x.after x.rule x.answer x.entries_are y.silent x.speaks

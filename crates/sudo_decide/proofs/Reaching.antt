@@ -85,13 +85,15 @@ spoken_alike p q r s alike =
     ap (λ (tag : Bool). option_map (outcome_from tag) (says p.defined r p.asked)) alike.nopasswd in
     by_tag ∙ ap (option_map (outcome s)) (says_alike p q r s alike)
 
-rules_spoken_alike : (p q : Question) (rs ss : List Rule) → AllAnswerAlike p q rs ss → last_rule_spoken p.defined p.asked rs ≡ last_rule_spoken q.defined q.asked ss
+rules_spoken_alike : (p q : Question) (rs ss : List Rule) → AllAnswerAlike p q rs ss
+    → last_rule_spoken p.defined p.asked rs ≡ last_rule_spoken q.defined q.asked ss
 unfolding last_rule_spoken
 rules_spoken_alike p q [] [] alike = refl
 rules_spoken_alike p q [] (s ∷ ss) alike = absurd alike
 rules_spoken_alike p q (r ∷ rs) [] alike = absurd alike
 rules_spoken_alike p q (r ∷ rs) (s ∷ ss) alike =
-    let first : option_or (last_rule_spoken p.defined p.asked rs) (spoken p.defined p.asked (entries.Rule r)) ≡ option_or (last_rule_spoken p.defined p.asked rs) (spoken q.defined q.asked (entries.Rule s)) =
+    let first : option_or (last_rule_spoken p.defined p.asked rs) (spoken p.defined p.asked (entries.Rule r))
+    ≡ option_or (last_rule_spoken p.defined p.asked rs) (spoken q.defined q.asked (entries.Rule s)) =
     ap (option_or (last_rule_spoken p.defined p.asked rs)) (spoken_alike p q r s alike.0) in
     first
     ∙ ap (λ (o : Option Decision). option_or o (spoken q.defined q.asked (entries.Rule s))) (rules_spoken_alike p q rs ss alike.1)
@@ -118,7 +120,8 @@ pub record SameDefinitions (p q : List Entry) : Type 0 where
 cmnd_says_by : List (Definition CmndItem) → Rule → Invocation → Option Bool
 cmnd_says_by defs r i = signed_answer r.cmnd.negated (cmnd_answer (cmnd_alias_says defs i.path i.args) i.path i.args r.cmnd.item)
 
-same_answers : (p q : List Entry) (i : Invocation) (r : Rule) → SameDefinitions p q → AnswersAlike (record { defined = p; asked = i }) (record { defined = q; asked = i }) r r
+same_answers : (p q : List Entry) (i : Invocation) (r : Rule) → SameDefinitions p q
+    → AnswersAlike (record { defined = p; asked = i }) (record { defined = q; asked = i }) r r
 unfolding cmnd_says_by
 same_answers p q i r same = record {
   users = ap (λ (ds : _). names_say ds i.user r.users) same.users;
@@ -129,7 +132,8 @@ same_answers p q i r same = record {
   nopasswd = refl;
 }
 
-all_same_answers : (p q : List Entry) (i : Invocation) (rs : List Rule) → SameDefinitions p q → AllAnswerAlike (record { defined = p; asked = i }) (record { defined = q; asked = i }) rs rs
+all_same_answers : (p q : List Entry) (i : Invocation) (rs : List Rule) → SameDefinitions p q
+    → AllAnswerAlike (record { defined = p; asked = i }) (record { defined = q; asked = i }) rs rs
 all_same_answers p q i [] same = tt
 all_same_answers p q i (r ∷ rs) same = (same_answers p q i r same, all_same_answers p q i rs same)
 

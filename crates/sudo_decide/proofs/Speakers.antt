@@ -54,11 +54,13 @@ silent_from_spoken defined i (entries.HostAlias name list) h = refl
 silent_from_spoken defined i (entries.CmndAlias name list) h = refl
 silent_from_spoken defined i (entries.Rule rule) h = option_map-is_None (outcome rule) (says defined rule i) h
 
-spoken-rule : (defined : List Entry) (i : Invocation) (r : Rule) (answer : Bool) → says defined r i ≡ Some answer → spoken defined i (entries.Rule r) ≡ Some (outcome r answer)
+spoken-rule : (defined : List Entry) (i : Invocation) (r : Rule) (answer : Bool)
+    → says defined r i ≡ Some answer → spoken defined i (entries.Rule r) ≡ Some (outcome r answer)
 spoken-rule defined i r answer h = ap (option_map (outcome r)) h
 
 -- only rules speak
-rule_from_spoken : (defined : List Entry) (i : Invocation) (e : Entry) (d : Decision) (after : List Entry) → AllSilent defined after i → spoken defined i e ≡ Some d → DecidesByRule defined (e ∷ after) i d
+rule_from_spoken : (defined : List Entry) (i : Invocation) (e : Entry) (d : Decision) (after : List Entry)
+    → AllSilent defined after i → spoken defined i e ≡ Some d → DecidesByRule defined (e ∷ after) i d
 rule_from_spoken defined i (entries.UserAlias name list) d after quiet h = absurd (cc)
 rule_from_spoken defined i (entries.RunasAlias name list) d after quiet h = absurd (cc)
 rule_from_spoken defined i (entries.HostAlias name list) d after quiet h = absurd (cc)
@@ -85,13 +87,16 @@ pub last_spoken-nil : (defined : List Entry) (i : Invocation) → last_spoken de
 unfolding last_spoken
 last_spoken-nil defined i = refl
 
-pub last_spoken-cons : (defined : List Entry) (i : Invocation) (e : Entry) (es : List Entry) → last_spoken defined i (e ∷ es) ≡ option_or (last_spoken defined i es) (spoken defined i e)
+pub last_spoken-cons : (defined : List Entry) (i : Invocation) (e : Entry) (es : List Entry)
+    → last_spoken defined i (e ∷ es) ≡ option_or (last_spoken defined i es) (spoken defined i e)
 unfolding last_spoken
 last_spoken-cons defined i e es = refl
 
-last_spoken-append : (defined : List Entry) (i : Invocation) (xs ys : List Entry) → last_spoken defined i (xs ++ ys) ≡ option_or (last_spoken defined i ys) (last_spoken defined i xs)
+last_spoken-append : (defined : List Entry) (i : Invocation) (xs ys : List Entry)
+    → last_spoken defined i (xs ++ ys) ≡ option_or (last_spoken defined i ys) (last_spoken defined i xs)
 unfolding last_spoken
-last_spoken-append defined i xs ys = ap last_given (map-append (spoken defined i) xs ys) ∙ last_given-append (map (spoken defined i) xs) (map (spoken defined i) ys)
+last_spoken-append defined i xs ys =
+    ap last_given (map-append (spoken defined i) xs ys) ∙ last_given-append (map (spoken defined i) xs) (map (spoken defined i) ys)
 
 last_spoken-silent : (defined : List Entry) (i : Invocation) (es : List Entry) → AllSilent defined es i → last_spoken defined i es ≡ None
 unfolding last_spoken
@@ -107,7 +112,8 @@ silent_from_last defined i (e ∷ es) h =
     (silent_from_spoken defined i e both.1, silent_from_last defined i es both.0)
 
 -- a rule behind one more entry
-one_before : (defined : List Entry) (i : Invocation) (e : Entry) (es : List Entry) (d : Decision) → DecidesByRule defined es i d → DecidesByRule defined (e ∷ es) i d
+one_before : (defined : List Entry) (i : Invocation) (e : Entry) (es : List Entry) (d : Decision)
+    → DecidesByRule defined es i d → DecidesByRule defined (e ∷ es) i d
 one_before defined i e es d by = record {
   before = e ∷ by.before;
   rule = by.rule;
@@ -119,8 +125,8 @@ one_before defined i e es d by = record {
   decision = by.decision;
 }
 
-rule_by_cases : (defined : List Entry) (i : Invocation) (e : Entry) (es : List Entry) (d : Decision) (o : Option Decision)
-    → last_spoken defined i es ≡ o → (last_spoken defined i es ≡ Some d → DecidesByRule defined es i d) → option_or o (spoken defined i e) ≡ Some d → DecidesByRule defined (e ∷ es) i d
+rule_by_cases : (defined : List Entry) (i : Invocation) (e : Entry) (es : List Entry) (d : Decision) (o : Option Decision) → last_spoken defined i es ≡ o
+    → (last_spoken defined i es ≡ Some d → DecidesByRule defined es i d) → option_or o (spoken defined i e) ≡ Some d → DecidesByRule defined (e ∷ es) i d
 rule_by_cases defined i e es d None was later h = rule_from_spoken defined i e d es (silent_from_last defined i es was) h
 rule_by_cases defined i e es d (Some c) was later h = one_before defined i e es d (later (was ∙ h))
 
@@ -176,22 +182,26 @@ decides_alike p q es fs i j d same by =
     subst P decided (Decides-decision_of q fs j)
 
 -- a silent entry changes nothing of what comes behind it
-last_spoken-silent_cons : (defined after : List Entry) (e : Entry) (i : Invocation) → entry_says defined e i ≡ None → last_spoken defined i (e ∷ after) ≡ last_spoken defined i after
+last_spoken-silent_cons : (defined after : List Entry) (e : Entry) (i : Invocation)
+    → entry_says defined e i ≡ None → last_spoken defined i (e ∷ after) ≡ last_spoken defined i after
 last_spoken-silent_cons defined after e i quiet =
     last_spoken-cons defined i e after
     ∙ ap (option_or (last_spoken defined i after)) (spoken-silent defined i e quiet)
     ∙ option_or-None (last_spoken defined i after)
 
-last_spoken-silent_between : (defined before after : List Entry) (e : Entry) (i : Invocation) → entry_says defined e i ≡ None → last_spoken defined i (before ++ after) ≡ last_spoken defined i (before ++ e ∷ after)
+last_spoken-silent_between : (defined before after : List Entry) (e : Entry) (i : Invocation)
+    → entry_says defined e i ≡ None → last_spoken defined i (before ++ after) ≡ last_spoken defined i (before ++ e ∷ after)
 last_spoken-silent_between defined before after e i quiet =
     last_spoken-append defined i before after
     ∙ ap (λ (o : Option Decision). option_or o (last_spoken defined i before)) (sym (last_spoken-silent_cons defined after e i quiet))
     ∙ sym (last_spoken-append defined i before (e ∷ after))
 
-pub silent_rule : (defined before after : List Entry) (e : Entry) (i : Invocation) (d : Decision) → entry_says defined e i ≡ None → DecidesBy defined (before ++ after) i d → DecidesBy defined (before ++ e ∷ after) i d
+pub silent_rule : (defined before after : List Entry) (e : Entry) (i : Invocation) (d : Decision)
+    → entry_says defined e i ≡ None → DecidesBy defined (before ++ after) i d → DecidesBy defined (before ++ e ∷ after) i d
 silent_rule defined before after e i d quiet by =
     decides_alike defined defined (before ++ after) (before ++ e ∷ after) i i d (last_spoken-silent_between defined before after e i quiet) by
 
-pub silent_rule_back : (defined before after : List Entry) (e : Entry) (i : Invocation) (d : Decision) → entry_says defined e i ≡ None → DecidesBy defined (before ++ e ∷ after) i d → DecidesBy defined (before ++ after) i d
+pub silent_rule_back : (defined before after : List Entry) (e : Entry) (i : Invocation) (d : Decision)
+    → entry_says defined e i ≡ None → DecidesBy defined (before ++ e ∷ after) i d → DecidesBy defined (before ++ after) i d
 silent_rule_back defined before after e i d quiet by =
     decides_alike defined defined (before ++ e ∷ after) (before ++ after) i i d (sym (last_spoken-silent_between defined before after e i quiet)) by

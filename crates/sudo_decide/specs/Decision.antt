@@ -1,5 +1,7 @@
--- What a policy decides of an invocation (sudoers(5), "SUDOERS FILE FORMAT": where several entries match, the last match is used).
-use Rattle.std.specs.Prelude.{◌≡◌, ℕ, Bool, true, false, not, ◌&&◌, nat_le, List, [], ◌∷◌, ◌++◌, map, reverse, Option, Some, None, if◌then◌else◌, ◌⊎◌, codes}
+-- What a policy decides of an invocation (sudoers(5), "SUDOERS FILE FORMAT": where several entries
+-- match, the last match is used).
+use Rattle.std.specs.Prelude.{◌≡◌, ℕ, Bool, true, false, not, ◌&&◌, nat_le, List, [], ◌∷◌, ◌++◌}
+use Rattle.std.specs.Prelude.{map, reverse, Option, Some, None, if◌then◌else◌, ◌⊎◌, codes}
 use Rattle.std.specs.List.{AllByRecursion}
 use Rattle.std.specs.Option.{option_map, option_or}
 use Rattle.std.specs.Str.{bytes_eq}
@@ -48,14 +50,19 @@ item_answer alias_says asked (items.Alias name) = alias_says name
 -- a command says yes where it matches the path with these arguments
 abbrev pub cmnd_answer : (List ℕ → Option Bool) → List ℕ → List (List ℕ) → CmndItem → Option Bool
 cmnd_answer alias_says path args (cmnds.Alias name) = alias_says name
-cmnd_answer alias_says path args (cmnds.Cmnd cmnd) = if matches cmnd path args then Some true else None
+cmnd_answer alias_says path args (cmnds.Cmnd cmnd) =
+    if matches cmnd path args then Some true else None
 
--- an alias says what its list says, by definitions listed from the last to the first; one that is not defined is silent
+-- an alias says what its list says, by definitions listed from the last to the first; one that is
+-- not defined is silent
 abbrev pub name_alias_says : List (Definition (Item (List ℕ))) → List ℕ → List ℕ → Option Bool
-name_alias_says defs asked = by_definition (λ says list. list_answer (item_answer says asked) list) None defs
+name_alias_says defs asked =
+    by_definition (λ says list. list_answer (item_answer says asked) list) None defs
 
-abbrev pub cmnd_alias_says : List (Definition CmndItem) → List ℕ → List (List ℕ) → List ℕ → Option Bool
-cmnd_alias_says defs path args = by_definition (λ says list. list_answer (cmnd_answer says path args) list) None defs
+abbrev pub cmnd_alias_says : List (Definition CmndItem)
+    → List ℕ → List (List ℕ) → List ℕ → Option Bool
+cmnd_alias_says defs path args =
+    by_definition (λ says list. list_answer (cmnd_answer says path args) list) None defs
 
 -- what a list of users, hosts or targets says of the name asked for
 abbrev pub names_say : List (Definition (Item (List ℕ))) → List ℕ → Names → Option Bool
@@ -75,7 +82,8 @@ is_not_after (Some last) at = nat_le at last
 abbrev pub takes_part : Rule → ℕ → Bool
 takes_part r at = is_not_before r.not_before at && is_not_after r.not_after at
 
--- its users, its hosts and its targets each say yes, by the definitions among the entries, which are listed from the last to the first
+-- its users, its hosts and its targets each say yes, by the definitions among the entries, which
+-- are listed from the last to the first
 abbrev pub is_about : List Entry → Rule → Invocation → Bool
 is_about defined r i =
     is_yes (names_say (user_defs defined) i.user r.users)
@@ -85,9 +93,11 @@ is_about defined r i =
 -- what its command says
 abbrev pub cmnd_says : List Entry → Rule → Invocation → Option Bool
 cmnd_says defined r i =
-    signed_answer r.cmnd.negated (cmnd_answer (cmnd_alias_says (cmnd_defs defined) i.path i.args) i.path i.args r.cmnd.item)
+    signed_answer r.cmnd.negated
+    (cmnd_answer (cmnd_alias_says (cmnd_defs defined) i.path i.args) i.path i.args r.cmnd.item)
 
--- a rule that takes part and is about the invocation says what its command says; any other is silent
+-- a rule that takes part and is about the invocation says what its command says; any other is
+-- silent
 abbrev pub says : List Entry → Rule → Invocation → Option Bool
 says defined r i = if takes_part r i.at && is_about defined r i then cmnd_says defined r i else None
 
@@ -106,7 +116,8 @@ abbrev pub AllSilent : List Entry → List Entry → Invocation → Type 0
 AllSilent defined es i = AllByRecursion (λ e. entry_says defined e i ≡ None) es
 
 -- a rule speaks, each entry after it is silent, and the decision is the rule's
-pub record DecidesByRule (defined : List Entry) (es : List Entry) (i : Invocation) (d : Decision) : Type 0 where
+pub record DecidesByRule (defined : List Entry) (es : List Entry)
+    (i : Invocation) (d : Decision) : Type 0 where
   pub before : List Entry
   pub rule : Rule
   pub after : List Entry
@@ -117,7 +128,8 @@ pub record DecidesByRule (defined : List Entry) (es : List Entry) (i : Invocatio
   pub decision : d ≡ outcome rule answer
 
 -- nothing speaks, and the decision is to deny
-pub record DecidesBySilence (defined : List Entry) (es : List Entry) (i : Invocation) (d : Decision) : Type 0 where
+pub record DecidesBySilence (defined : List Entry)
+    (es : List Entry) (i : Invocation) (d : Decision) : Type 0 where
   pub silent : AllSilent defined es i
   pub decision : d ≡ Deny
 

@@ -23,9 +23,12 @@ pub record Question : Type 0 where
 
 -- two rules answer two questions alike, list by list
 pub record AnswersAlike (p q : Question) (r s : Rule) : Type 0 where
-  pub users : names_say (user_defs p.defined) p.asked.user r.users ≡ names_say (user_defs q.defined) q.asked.user s.users
-  pub hosts : names_say (host_defs p.defined) p.asked.host r.hosts ≡ names_say (host_defs q.defined) q.asked.host s.hosts
-  pub runas : names_say (runas_defs p.defined) p.asked.runas r.runas ≡ names_say (runas_defs q.defined) q.asked.runas s.runas
+  pub users : names_say (user_defs p.defined) p.asked.user r.users
+      ≡ names_say (user_defs q.defined) q.asked.user s.users
+  pub hosts : names_say (host_defs p.defined) p.asked.host r.hosts
+      ≡ names_say (host_defs q.defined) q.asked.host s.hosts
+  pub runas : names_say (runas_defs p.defined) p.asked.runas r.runas
+      ≡ names_say (runas_defs q.defined) q.asked.runas s.runas
   pub cmnd : cmnd_says p.defined r p.asked ≡ cmnd_says q.defined s q.asked
   pub dates : takes_part r p.asked.at ≡ takes_part s q.asked.at
   pub nopasswd : r.nopasswd ≡ s.nopasswd

@@ -16,7 +16,8 @@ use Rattle.sudo_decide.specs.Decision.{signed_answer, cmnd_answer, cmnd_alias_sa
 
 -- `ALL, !bob`
 abbrev pub all_but_bob : Names
-all_but_bob = record { negated = false; item = items.All } ∷ record { negated = true; item = items.Name (codes "bob") } ∷ []
+all_but_bob = record { negated = false; item = items.All }
+    ∷ record { negated = true; item = items.Name (codes "bob") } ∷ []
 
 -- `!bob`
 abbrev pub only_not_bob : Names
@@ -26,7 +27,8 @@ only_not_bob = record { negated = true; item = items.Name (codes "bob") } ∷ []
 abbrev pub everyone : Names
 everyone = record { negated = false; item = items.All } ∷ []
 
--- `ALL, !bob ALL = (ALL) /bin/ls` from moment 100 to moment 200, perhaps with `NOPASSWD:`, perhaps with `!` before the command
+-- `ALL, !bob ALL = (ALL) /bin/ls` from moment 100 to moment 200, perhaps with `NOPASSWD:`, perhaps
+-- with `!` before the command
 abbrev pub rule_for : Bool → Bool → Rule
 rule_for nopasswd negated = record {
   users = all_but_bob;
@@ -62,9 +64,10 @@ others_alias = entries.UserAlias (codes "X") all_but_bob ∷ []
 -- `User_Alias A = ann, bob : B = A, !bob`
 abbrev pub nested_aliases : List Entry
 nested_aliases =
-    entries.UserAlias (codes "A") (record { negated = false; item = items.Name (codes "ann") } ∷ record { negated = false; item = items.Name (codes "bob") } ∷ [])
-    ∷ entries.UserAlias (codes "B") (record { negated = false; item = items.Alias (codes "A") } ∷ record { negated = true; item = items.Name (codes "bob") } ∷ [])
-    ∷ []
+    entries.UserAlias (codes "A") (record { negated = false; item = items.Name (codes "ann") }
+    ∷ record { negated = false; item = items.Name (codes "bob") } ∷ [])
+    ∷ entries.UserAlias (codes "B") (record { negated = false; item = items.Alias (codes "A") }
+    ∷ record { negated = true; item = items.Name (codes "bob") } ∷ []) ∷ []
 
 -- a command of this path, with any arguments
 abbrev pub path_only : Bool → List ℕ → Signed CmndItem
@@ -72,8 +75,11 @@ path_only negated path = record { negated = negated; item = cmnds.Cmnd (commands
 
 -- `Cmnd_Alias C = /bin/ls, !/bin/su`
 abbrev pub ls_alias : List Entry
-ls_alias = entries.CmndAlias (codes "C") (path_only false (codes "/bin/ls") ∷ path_only true (codes "/bin/su") ∷ []) ∷ []
+ls_alias = entries.CmndAlias (codes "C")
+    (path_only false (codes "/bin/ls") ∷ path_only true (codes "/bin/su") ∷ []) ∷ []
 
 -- `!C`, asked of this path without arguments
 abbrev pub not_ls_alias : List ℕ → Option Bool
-not_ls_alias path = signed_answer true (cmnd_answer (cmnd_alias_says (cmnd_defs (reverse ls_alias)) path []) path [] (cmnds.Alias (codes "C")))
+not_ls_alias path =
+    signed_answer true (cmnd_answer (cmnd_alias_says (cmnd_defs (reverse ls_alias)) path []) path
+    [] (cmnds.Alias (codes "C")))

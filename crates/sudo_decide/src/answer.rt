@@ -25,12 +25,13 @@ pub(crate) fn signed_answer(negated: bool, answer: Option<bool>) -> Option<bool>
     if negated { answer.map(|b| !b) } else { answer }
 }
 
-/// An alias answers what its list answers by the definitions above its own. One that is not defined below the place is
-/// silent.
+/// An alias answers what its list answers by the definitions above its own. One that is not defined
+/// below the place is silent.
 #[cycle(answers)]
 fn alias_answer<K: Kind>(p: &Policy, below: usize, name: &AliasName, i: &Invocation) -> Option<bool>
     requires { IsPolicy p.now }
-    ensures { result ≡ aliases_say (K.says i.now) (flat_map K.def (reverse (take below p.now))) name.now }
+    ensures { result
+        ≡ aliases_say (K.says i.now) (flat_map K.def (reverse (take below p.now))) name.now }
 {
     let (place, list) = K::definition(p, name)?;
     if place < below {
@@ -44,7 +45,8 @@ fn alias_answer<K: Kind>(p: &Policy, below: usize, name: &AliasName, i: &Invocat
 #[cycle(answers)]
 fn item_answer<K: Kind>(p: &Policy, below: usize, item: &K::Item, i: &Invocation) -> Option<bool>
     requires { IsPolicy p.now }
-    ensures { result ≡ item_says_by (K.says i.now) (flat_map K.def (reverse (take below p.now))) item.now }
+    ensures { result
+        ≡ item_says_by (K.says i.now) (flat_map K.def (reverse (take below p.now))) item.now }
 {
     match K::meaning(item, i) {
         Meaning::Answer(answer) => answer,
@@ -61,7 +63,8 @@ fn list_answer<K: Kind>(
     i: &Invocation,
 ) -> Option<bool>
     requires { IsPolicy p.now }
-    ensures { result ≡ list_says_by (K.says i.now) (flat_map K.def (reverse (take below p.now))) list.now }
+    ensures { result
+        ≡ list_says_by (K.says i.now) (flat_map K.def (reverse (take below p.now))) list.now }
 {
     let mut answer = None;
     for x in list {

@@ -2,13 +2,15 @@
 
 ghost use Rattle.std.specs.Prelude.{◌≡◌, Bool, List, [], ℕ, Option, MatchOption, false};
 ghost use Rattle.std.specs.List.{flat_map};
-ghost use Rattle.sudo_policy.specs.Alias.{DefinedAt, is_defined, user_def, runas_def, host_def, cmnd_def};
+ghost use Rattle.sudo_policy.specs.Alias.{DefinedAt, is_defined, user_def};
+ghost use Rattle.sudo_policy.specs.Alias.{runas_def, host_def, cmnd_def};
 ghost use Rattle.sudo_policy.specs.Policy.{IsPolicy};
 ghost use Rattle.sudo_policy.specs.declared.entry.Entry.{Entry};
 ghost use Rattle.sudo_policy.specs.declared.tree.Definition.{Definition};
 ghost use Rattle.sudo_decide.specs.declared.invocation.Invocation.{Invocation as Asked};
 ghost use Rattle.sudo_decide.specs.Decision.{item_answer, cmnd_answer};
-ghost use Rattle.sudo_decide.specs.Kinds.{meant, AreNew, user_aliases_new, runas_aliases_new, host_aliases_new, cmnd_aliases_new};
+ghost use Rattle.sudo_decide.specs.Kinds.{meant, AreNew, user_aliases_new, runas_aliases_new};
+ghost use Rattle.sudo_decide.specs.Kinds.{host_aliases_new, cmnd_aliases_new};
 
 use crate::invocation::Invocation;
 use sudo_policy::{CmndItem, Item, Policy, Signed};
@@ -35,11 +37,13 @@ pub(crate) trait Kind {
 
     /// The place where the alias is defined, and its list.
     fn definition<'a>(p: &'a Policy, name: &AliasName) -> Option<(usize, &'a [Signed<Self::Item>])>
-        ensures { MatchOption result (is_defined (flat_map def p.now) name.now ≡ false) (λ x. DefinedAt def p.now x.0 name.now x.1.now) };
+        ensures { MatchOption result (is_defined (flat_map def p.now) name.now
+            ≡ false) (λ x. DefinedAt def p.now x.0 name.now x.1.now) };
 
     /// What the item means where this is asked.
     fn meaning<'a>(item: &'a Self::Item, i: &Invocation) -> Meaning<'a>
-        ensures { (alias_says : List ℕ → Option Bool) → meant alias_says result ≡ says i.now alias_says item.now };
+        ensures { (alias_says : List ℕ → Option Bool)
+            → meant alias_says result ≡ says i.now alias_says item.now };
 
     /// A policy defines each alias of the kind once.
     ghost once: { (es : List Entry) → IsPolicy es → AreNew def [] es };
@@ -47,7 +51,8 @@ pub(crate) trait Kind {
 
 /// `ALL` says yes, a name where it is the one asked for, and an alias what its list says.
 fn name_meaning<'a, F: Form>(item: &'a Item<Word<F>>, asked: &Word<F>) -> Meaning<'a>
-    ensures { (alias_says : List ℕ → Option Bool) → meant alias_says result ≡ item_answer alias_says asked.now item.now }
+    ensures { (alias_says : List ℕ → Option Bool)
+        → meant alias_says result ≡ item_answer alias_says asked.now item.now }
 {
     match item {
         Item::All => Meaning::Answer(Some(true)),

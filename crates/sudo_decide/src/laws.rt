@@ -1,12 +1,14 @@
 //! The laws, each the contract of a function that does nothing. Those of decisions stand here.
 
-ghost use Rattle.std.specs.Prelude.{◌≡◌, ℕ, ◌<◌, Bool, true, false, Option, List, [], ◌∷◌, ◌++◌, reverse, codes};
+ghost use Rattle.std.specs.Prelude.{◌≡◌, ℕ, ◌<◌, Bool, true, false, Option};
+ghost use Rattle.std.specs.Prelude.{List, [], ◌∷◌, ◌++◌, reverse, codes};
 ghost use Rattle.sudo_policy.specs.declared.entry.Rule.{Rule};
 ghost use Rattle.sudo_policy.specs.declared.entry.Entry.{Entry};
 ghost use Rattle.sudo_policy.specs.declared.entry.Entry.TheVariants as entries;
 ghost use Rattle.sudo_decide.specs.declared.decision.Decision.{Decision};
 ghost use Rattle.sudo_decide.specs.declared.invocation.Invocation.{Invocation};
-ghost use Rattle.sudo_decide.specs.Decision.{signed_answer, names_say, takes_part, says, outcome, Decides};
+ghost use Rattle.sudo_decide.specs.Decision.{signed_answer, names_say};
+ghost use Rattle.sudo_decide.specs.Decision.{takes_part, says, outcome, Decides};
 ghost use Rattle.sudo_decide.specs.Reach.{of_policy, rules_in, AllAnswerAlike};
 ghost use Rattle.sudo_decide.specs.Worked.{all_but_bob, only_not_bob, rule_for, asks};
 
@@ -46,7 +48,8 @@ pub fn outside_dates()
         r.not_after ≡ Some last → last < i.at → says defined r i ≡ None }
 {}
 
-/// A rule whose dates do not hold may be added anywhere, or taken away: nothing is decided otherwise.
+/// A rule whose dates do not hold may be added anywhere, or taken away: nothing is decided
+/// otherwise.
 pub fn rule_outside_dates()
     ensures added { (before after : List Entry) (r : Rule) (i : Invocation) (d : Decision) →
         takes_part r i.at ≡ false →
@@ -58,7 +61,8 @@ pub fn rule_outside_dates()
 
 /// Two negations are none, and what is silent stays so under negation.
 pub fn double_negation()
-    ensures twice { (answer : Option Bool) → signed_answer true (signed_answer true answer) ≡ answer }
+    ensures twice { (answer : Option Bool)
+        → signed_answer true (signed_answer true answer) ≡ answer }
     ensures silence { (negated : Bool) → signed_answer negated None ≡ None }
 {}
 
@@ -69,9 +73,9 @@ pub fn last_speaks()
         Decides (es ++ entries.Rule r ∷ []) i (outcome r answer) }
 {}
 
-/// A decision depends on what the lists and the command of each rule answer, and on its tag and whether it takes part,
-/// and on nothing else: of two policies and two invocations for which these are alike, rule by rule, one thing is
-/// decided.
+/// A decision depends on what the lists and the command of each rule answer, and on its tag and
+/// whether it takes part, and on nothing else: of two policies and two invocations for which these
+/// are alike, rule by rule, one thing is decided.
 pub fn answers_decide()
     ensures { (es fs : List Entry) (i j : Invocation) (d : Decision) →
         AllAnswerAlike (of_policy es i) (of_policy fs j) (rules_in es) (rules_in fs) →
@@ -85,7 +89,8 @@ pub fn worked_lists()
     ensures silent { names_say [] (codes "alice") only_not_bob ≡ None }
 {}
 
-/// Worked dates: a rule from moment 100 to moment 200 speaks at both, and is silent a second before and after.
+/// Worked dates: a rule from moment 100 to moment 200 speaks at both, and is silent a second before
+/// and after.
 pub fn worked_dates()
     ensures before { says [] (rule_for false false) (asks 99) ≡ None }
     ensures first { says [] (rule_for false false) (asks 100) ≡ Some true }
@@ -93,13 +98,14 @@ pub fn worked_dates()
     ensures after { says [] (rule_for false false) (asks 201) ≡ None }
 {}
 
-/// Worked policies: a later no beats a yes, a later yes beats a no, and a rule outside its dates is skipped.
+/// Worked policies: a later no beats a yes, a later yes beats a no, and a rule outside its dates is
+/// skipped.
 pub fn worked_decisions()
-    ensures denied { Decides (entries.Rule (rule_for false false) ∷ entries.Rule (rule_for false true) ∷ [])
-        (asks 150) Decision.Deny }
-    ensures allowed { Decides (entries.Rule (rule_for false true) ∷ entries.Rule (rule_for false false) ∷ [])
-        (asks 150) Decision.Allow }
-    ensures no_password { Decides (entries.Rule (rule_for false true) ∷ entries.Rule (rule_for true false) ∷ [])
-        (asks 150) Decision.AllowNoPassword }
+    ensures denied { Decides (entries.Rule (rule_for false false)
+        ∷ entries.Rule (rule_for false true) ∷ []) (asks 150) Decision.Deny }
+    ensures allowed { Decides (entries.Rule (rule_for false true)
+        ∷ entries.Rule (rule_for false false) ∷ []) (asks 150) Decision.Allow }
+    ensures no_password { Decides (entries.Rule (rule_for false true)
+        ∷ entries.Rule (rule_for true false) ∷ []) (asks 150) Decision.AllowNoPassword }
     ensures late { Decides (entries.Rule (rule_for false false) ∷ []) (asks 201) Decision.Deny }
 {}

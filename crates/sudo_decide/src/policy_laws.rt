@@ -9,7 +9,8 @@ ghost use Rattle.sudo_decide.specs.declared.invocation.Invocation.{Invocation};
 ghost use Rattle.sudo_decide.specs.Answered.{EachAnswersItsList, EachCmndAnswersItsList};
 ghost use Rattle.sudo_decide.specs.Decision.{DecidesByRule, DecidesBySilence};
 
-/// At most one rule of a policy is the one that decides, at one place; and where one does, it is not silence that denies.
+/// At most one rule of a policy is the one that decides, at one place; and where one does, it is
+/// not silence that denies.
 pub fn one_rule_decides()
     ensures rule { (es : List Entry) (i : Invocation) (c d : Decision)
         (x : DecidesByRule (reverse es) es i c) (y : DecidesByRule (reverse es) es i d) →
@@ -18,7 +19,8 @@ pub fn one_rule_decides()
         DecidesByRule (reverse es) es i c → DecidesBySilence (reverse es) es i d → ⊥ }
 {}
 
-/// Each alias of a policy answers what its list answers, both by the policy's own definitions (sudoers(5), "Aliases").
+/// Each alias of a policy answers what its list answers, both by the policy's own definitions
+/// (sudoers(5), "Aliases").
 pub fn aliases_answer_their_lists()
     ensures users { (es : List Entry) → IsPolicy es → EachAnswersItsList user_def es }
     ensures runas { (es : List Entry) → IsPolicy es → EachAnswersItsList runas_def es }

@@ -41,7 +41,8 @@ fn cmnd_says(p: &Policy, rule: &Rule, i: &Invocation) -> Option<bool>
     signed_answer(rule.cmnd.negated, item_says::<Cmnds>(p, &rule.cmnd.item, i))
 }
 
-/// What the rule says: nothing outside its dates, or where it is not about the invocation; else what its command says.
+/// What the rule says: nothing outside its dates, or where it is not about the invocation; else
+/// what its command says.
 pub(crate) fn says(p: &Policy, rule: &Rule, i: &Invocation) -> Option<bool>
     ensures { result ≡ rules.says (reverse p.now) rule.now i.now }
 {

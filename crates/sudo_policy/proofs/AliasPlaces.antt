@@ -1,5 +1,6 @@
 -- An alias of a policy is what its list is, by all of the policy's definitions.
-use Rattle.std.proofs.Common.{◌≡◌, ℕ, ◌+◌, max, Bool, true, false, ◌||◌, if◌then◌else◌, List, [], ◌∷◌, ◌++◌, reverse, Option, Some, None, refl, sym, ap, subst, ◌∙◌, append_assoc}
+use Rattle.std.proofs.Common.{◌≡◌, ℕ, ◌+◌, max, Bool, true, false, ◌||◌, if◌then◌else◌, List, [], ◌∷◌}
+use Rattle.std.proofs.Common.{◌++◌, reverse, Option, Some, None, refl, sym, ap, subst, ◌∙◌, append_assoc}
 use Rattle.std.specs.Prelude.{IfSome}
 use Rattle.std.specs.List.{flat_map}
 use Rattle.std.specs.Str.{bytes_eq}
@@ -13,7 +14,8 @@ use Rattle.sudo_policy.specs.declared.entry.Signed.{Signed}
 use Rattle.sudo_policy.specs.declared.entry.Entry.{Entry}
 use Rattle.sudo_policy.specs.declared.entry.Entry.TheVariants as entries
 use Rattle.sudo_policy.specs.declared.tree.Definition.{Definition}
-use Rattle.sudo_policy.specs.Alias.{DefinedAt, by_definition, is_defined, item_alias, cmnd_alias, KnowsList, user_def, runas_def, host_def, cmnd_def, item_weight, list_weight, item_depth, list_depth, depth_of}
+use Rattle.sudo_policy.specs.Alias.{DefinedAt, by_definition, is_defined, item_alias, cmnd_alias, KnowsList, user_def}
+use Rattle.sudo_policy.specs.Alias.{runas_def, host_def, cmnd_def, item_weight, list_weight, item_depth, list_depth, depth_of}
 use Rattle.sudo_policy.specs.Policy.{IsPlaced, ArePlaced, IsPolicy}
 use Rattle.sudo_policy.specs.Aliased.{EachWeighsItsList}
 use Rattle.sudo_policy.proofs.DefinedPlaces.{split_at}
@@ -32,7 +34,8 @@ is_defined-append : {X : Type 0} (ds es : List (Definition X)) (name : List ℕ)
 is_defined-append ds es name = list_any-append (λ d. bytes_eq d.name name) ds es
 
 -- a name that is defined is not a new one
-differs : {X : Type 0} (defs : List (Definition X)) (new name : List ℕ) (b : Bool) → bytes_eq new name ≡ b → is_defined defs new ≡ false → is_defined defs name ≡ true → b ≡ false
+differs : {X : Type 0} (defs : List (Definition X)) (new name : List ℕ) (b : Bool)
+    → bytes_eq new name ≡ b → is_defined defs new ≡ false → is_defined defs name ≡ true → b ≡ false
 differs defs new name false is fresh known = refl
 differs defs new name true is fresh known =
     let same : new ≡ name = (bytes_eq-Decides new name).0 is in
@@ -74,17 +77,16 @@ fresh_tail : {X : Type 0} (alias_of : X → Option (List ℕ)) (front back : Lis
 fresh_tail alias_of [] back fresh = fresh
 fresh_tail alias_of (d ∷ front) back fresh = fresh_tail alias_of front back fresh.2
 
-of_its_list : {X V : Type 0} (alias_of : X → Option (List ℕ)) (f : (List ℕ → V) → List (Signed X) → V) (u : V) (front : List (Definition X)) (d : Definition X) (back : List (Definition X))
-    → DependsOnAliases alias_of f → AreFresh alias_of (front ++ d ∷ back)
+of_its_list : {X V : Type 0} (alias_of : X → Option (List ℕ)) (f : (List ℕ → V) → List (Signed X) → V) (u : V) (front : List (Definition X))
+    (d : Definition X) (back : List (Definition X)) → DependsOnAliases alias_of f → AreFresh alias_of (front ++ d ∷ back)
     → by_definition f u (front ++ d ∷ back) d.name ≡ f (by_definition f u (front ++ d ∷ back)) d.list
 of_its_list {X} {V} alias_of f u front d back depends fresh =
     let self : bytes_eq d.name d.name ≡ true = (bytes_eq-Decides d.name d.name).1 refl in
     let here : is_defined (d ∷ back) d.name ≡ true = ap (λ (b : Bool). b || is_defined back d.name) self in
     let tail = fresh_tail alias_of front (d ∷ back) fresh in
     let same : (n : List ℕ) → is_defined back n ≡ true → by_definition f u back n ≡ by_definition f u (front ++ d ∷ back) n = λ n known.
-    sym
-    (passes f u front (d ∷ back) n (front_new alias_of front (d ∷ back) n fresh (or_second (bytes_eq d.name n) (is_defined back n) known))
-    ∙ if_false (bytes_eq d.name n) (f (by_definition f u back) d.list) (by_definition f u back n) (differs back d.name n (bytes_eq d.name n) refl tail.0 known)) in
+    sym (passes f u front (d ∷ back) n (front_new alias_of front (d ∷ back) n fresh (or_second (bytes_eq d.name n) (is_defined back n) known)) ∙ if_false
+    (bytes_eq d.name n) (f (by_definition f u back) d.list) (by_definition f u back n) (differs back d.name n (bytes_eq d.name n) refl tail.0 known)) in
     passes f u front (d ∷ back) d.name (front_new alias_of front (d ∷ back) d.name fresh here)
     ∙ if_true (bytes_eq d.name d.name) (f (by_definition f u back) d.list) (by_definition f u back d.name) self
     ∙ depends (by_definition f u back) (by_definition f u (front ++ d ∷ back)) back d.list same tail.1
@@ -133,8 +135,8 @@ fresh_below alias_of def above (e ∷ es) step placed fresh =
 
 -- ---- aliases by their places
 
-pub by_all : {X V : Type 0} (alias_of : X → Option (List ℕ)) (def : Entry → List (Definition X)) (f : (List ℕ → V) → List (Signed X) → V) (u : V) (es : List Entry)
-    (place : ℕ) (name : List ℕ) (list : List (Signed X))
+pub by_all : {X V : Type 0} (alias_of : X → Option (List ℕ)) (def : Entry → List (Definition X)) (f : (List ℕ → V)
+    → List (Signed X) → V) (u : V) (es : List Entry) (place : ℕ) (name : List ℕ) (list : List (Signed X))
     → DependsOnAliases alias_of f → Step alias_of def → ArePlaced [] es → DefinedAt def es place name list
     → by_definition f u (flat_map def (reverse es)) name ≡ f (by_definition f u (flat_map def (reverse es))) list
 by_all {X} {V} alias_of def f u es place name list depends step placed defined =
@@ -157,11 +159,13 @@ by_all {X} {V} alias_of def f u es place name list depends step placed defined =
 
 -- ---- weights and depths
 
-item_weight_same : (v w : List ℕ → ℕ) (P : List ℕ → Type 0) (o : Option (List ℕ)) → ((n : List ℕ) → P n → v n ≡ w n) → IfSome o P → item_weight v o ≡ item_weight w o
+item_weight_same : (v w : List ℕ → ℕ) (P : List ℕ → Type 0) (o : Option (List ℕ))
+    → ((n : List ℕ) → P n → v n ≡ w n) → IfSome o P → item_weight v o ≡ item_weight w o
 item_weight_same v w P None same known = refl
 item_weight_same v w P (Some n) same known = same n known
 
-item_depth_same : (v w : List ℕ → ℕ) (P : List ℕ → Type 0) (o : Option (List ℕ)) → ((n : List ℕ) → P n → v n ≡ w n) → IfSome o P → item_depth v o ≡ item_depth w o
+item_depth_same : (v w : List ℕ → ℕ) (P : List ℕ → Type 0) (o : Option (List ℕ))
+    → ((n : List ℕ) → P n → v n ≡ w n) → IfSome o P → item_depth v o ≡ item_depth w o
 item_depth_same v w P None same known = refl
 item_depth_same v w P (Some n) same known = same n known
 
@@ -183,7 +187,8 @@ depths_same alias_of v w defs (s ∷ list) same knows =
 depth_depends : {X : Type 0} (alias_of : X → Option (List ℕ)) → DependsOnAliases alias_of (depth_of alias_of)
 depth_depends alias_of v w defs list same knows = ap (λ (n : ℕ). 1 + n) (depths_same alias_of v w defs list same knows)
 
-weighs : {X : Type 0} (alias_of : X → Option (List ℕ)) (def : Entry → List (Definition X)) → Step alias_of def → (es : List Entry) → IsPolicy es → EachWeighsItsList alias_of def es
+weighs : {X : Type 0} (alias_of : X → Option (List ℕ)) (def : Entry → List (Definition X))
+    → Step alias_of def → (es : List Entry) → IsPolicy es → EachWeighsItsList alias_of def es
 weighs alias_of def step es policy place name list at = record {
   weight = by_all alias_of def (list_weight alias_of) 0 es place name list (weight_depends alias_of) step policy.placed at;
   depth = by_all alias_of def (depth_of alias_of) 0 es place name list (depth_depends alias_of) step policy.placed at;

@@ -23,9 +23,11 @@ use Rattle.sudo_policy.specs.Spelling.{SpellsEntries, SpellsLines, Spells}
 use Rattle.sudo_policy.proofs.LineTexts.{backslash_last}
 use Rattle.sudo_policy.proofs.SpecTexts.{BeginsWord}
 use Rattle.sudo_policy.proofs.PrintedWords.{IsWord, alias_word, literal}
-use Rattle.sudo_policy.proofs.PrintedLists.{stop, lex_word, lex_mark, list_toks, lex_list, list_spelled, item_toks, cmnd_toks, lex_cmnd, cmnd_spelled, IsPrinted, IsSpelled}
+use Rattle.sudo_policy.proofs.PrintedLists.{stop, lex_word, lex_mark, list_toks, lex_list, list_spelled}
+use Rattle.sudo_policy.proofs.PrintedLists.{item_toks, cmnd_toks, lex_cmnd, cmnd_spelled, IsPrinted, IsSpelled}
 use Rattle.sudo_policy.proofs.PrintedLines.{all_append, each_of, lexed_bytes, lexed_end, text_in_lines, no_feed_in_lines, no_hash_in_lines}
-use Rattle.sudo_policy.proofs.PrintedRules.{lex_users, lex_hosts, users_spelled, hosts_spelled, line_toks, rule_lexes, rule_spelled, rule_begins, rule_entries, part_of}
+use Rattle.sudo_policy.proofs.PrintedRules.{lex_users, lex_hosts, users_spelled, hosts_spelled, line_toks}
+use Rattle.sudo_policy.proofs.PrintedRules.{rule_lexes, rule_spelled, rule_begins, rule_entries, part_of}
 
 -- ---- definitions of aliases
 
@@ -42,23 +44,31 @@ alias_toks kind name list = word false 0 kind ∷ word true 0 name ∷ mark true
 alias_front : (kind name list : List ℕ) → kind ++ codes " " ++ name ++ codes " = " ++ list ≡ kind ++ (space ∷ (name ++ (space ∷ equals ∷ space ∷ list)))
 alias_front kind name list = simp append_assoc
 
-lex_alias : (kind name list : List ℕ) (ts : List Tok) → IsWord kind → is_alias_name name ≡ true → Lexes (space ∷ (list ++ [])) ts → Lexes (alias_text kind name list) (alias_toks kind name ts)
+lex_alias : (kind name list : List ℕ) (ts : List Tok) → IsWord kind → is_alias_name name ≡ true
+    → Lexes (space ∷ (list ++ [])) ts → Lexes (alias_text kind name list) (alias_toks kind name ts)
 unfolding alias_toks
 lex_alias kind name list ts is named h =
     let listed = subst (λ (x : List ℕ). Lexes (space ∷ x) ts) (append-nil list) h in
     let marked = lex_mark true equals (space ∷ list) ts refl listed in
-    let names = lex_word true 0 name (space ∷ equals ∷ space ∷ list) (mark true equals ∷ ts) (alias_word name named) (stop space (equals ∷ space ∷ list) refl refl) marked in
+    let names = lex_word true 0 name (space ∷ equals ∷ space ∷ list) (mark true equals ∷ ts) (alias_word name named)
+    (stop space (equals ∷ space ∷ list) refl refl) marked in
     subst (λ (x : List ℕ). Lexes x (alias_toks kind name ts)) (sym (alias_front kind name list))
-    (lex_word false 0 kind (space ∷ (name ++ (space ∷ equals ∷ space ∷ list))) (word true 0 name ∷ mark true equals ∷ ts) is (stop space (name ++ (space ∷ equals ∷ space ∷ list)) refl refl) names)
+    (lex_word false 0 kind (space ∷ (name ++ (space ∷ equals ∷ space ∷ list))) (word true 0 name ∷ mark true equals ∷ ts) is
+    (stop space (name ++ (space ∷ equals ∷ space ∷ list)) refl refl) names)
 
 def_of : {X : Type 0} → List ℕ → List (Signed X) → Definition X
 def_of name list = record { name = name; list = list }
 
-alias_spelled : {X : Type 0} (kind name : List ℕ) (list : List (Signed X)) (Is : List Tok → Signed X → List Tok → Type 0) (ts : List Tok) → is_alias_name name ≡ true → Listed comma Is ts list []
-    → SpellsAliases kind Is (alias_toks kind name ts) (def_of name list ∷ [])
+alias_spelled : {X : Type 0} (kind name : List ℕ) (list : List (Signed X)) (Is : List Tok → Signed X → List Tok → Type 0) (ts : List Tok)
+    → is_alias_name name ≡ true → Listed comma Is ts list [] → SpellsAliases kind Is (alias_toks kind name ts) (def_of name list ∷ [])
 unfolding alias_toks def_of
-alias_spelled kind name list Is ts named h =
-    (false, word true 0 name ∷ mark true equals ∷ ts, refl, refl, ([], record { name_spaced = true; spaced = true; next = ts; toks = refl; name = named; list = h }, refl))
+alias_spelled kind name list Is ts named h = (
+  false,
+  word true 0 name ∷ mark true equals ∷ ts,
+  refl,
+  refl,
+  ([], record { name_spaced = true; spaced = true; next = ts; toks = refl; name = named; list = h }, refl),
+)
 
 -- ---- entries
 
@@ -78,28 +88,44 @@ entry_read (entries.UserAlias name list) h =
     let ts = list_toks item_toks true list ++ [] in
     record {
       toks = alias_toks (codes "User_Alias") name ts;
-      lexes = lex_alias (codes "User_Alias") name (names_text list) ts (literal (codes "User_Alias") (omega arith) refl) h.0 (lex_users true list [] [] h.1 refl tt);
-      spells = (lines.Users (def_of name list ∷ []), alias_spelled (codes "User_Alias") name list (SpellsItem is_name) ts h.0 (users_spelled true list [] h.1), refl);
+      lexes = lex_alias (codes "User_Alias") name (names_text list) ts
+          (literal (codes "User_Alias") (omega arith) refl) h.0 (lex_users true list [] [] h.1 refl tt);
+      spells = (
+        lines.Users (def_of name list ∷ []),
+        alias_spelled (codes "User_Alias") name list (SpellsItem is_name) ts h.0 (users_spelled true list [] h.1),
+        refl,
+      );
     }
 entry_read (entries.RunasAlias name list) h =
     let ts = list_toks item_toks true list ++ [] in
     record {
       toks = alias_toks (codes "Runas_Alias") name ts;
-      lexes = lex_alias (codes "Runas_Alias") name (names_text list) ts (literal (codes "Runas_Alias") (omega arith) refl) h.0 (lex_users true list [] [] h.1 refl tt);
-      spells = (lines.Runas (def_of name list ∷ []), alias_spelled (codes "Runas_Alias") name list (SpellsItem is_name) ts h.0 (users_spelled true list [] h.1), refl);
+      lexes = lex_alias (codes "Runas_Alias") name (names_text list) ts
+          (literal (codes "Runas_Alias") (omega arith) refl) h.0 (lex_users true list [] [] h.1 refl tt);
+      spells = (
+        lines.Runas (def_of name list ∷ []),
+        alias_spelled (codes "Runas_Alias") name list (SpellsItem is_name) ts h.0 (users_spelled true list [] h.1),
+        refl,
+      );
     }
 entry_read (entries.HostAlias name list) h =
     let ts = list_toks item_toks true list ++ [] in
     record {
       toks = alias_toks (codes "Host_Alias") name ts;
-      lexes = lex_alias (codes "Host_Alias") name (names_text list) ts (literal (codes "Host_Alias") (omega arith) refl) h.0 (lex_hosts true list [] [] h.1 refl tt);
-      spells = (lines.Hosts (def_of name list ∷ []), alias_spelled (codes "Host_Alias") name list (SpellsItem is_host_name) ts h.0 (hosts_spelled true list [] h.1), refl);
+      lexes = lex_alias (codes "Host_Alias") name (names_text list) ts
+          (literal (codes "Host_Alias") (omega arith) refl) h.0 (lex_hosts true list [] [] h.1 refl tt);
+      spells = (
+        lines.Hosts (def_of name list ∷ []),
+        alias_spelled (codes "Host_Alias") name list (SpellsItem is_host_name) ts h.0 (hosts_spelled true list [] h.1),
+        refl,
+      );
     }
 entry_read (entries.CmndAlias name list) h =
     let ts = list_toks cmnd_toks true list ++ [] in
     record {
       toks = alias_toks (codes "Cmnd_Alias") name ts;
-      lexes = lex_alias (codes "Cmnd_Alias") name (cmnds_text list) ts (literal (codes "Cmnd_Alias") (omega arith) refl) h.0 (lex_cmnds true list [] [] h.1 refl tt);
+      lexes = lex_alias (codes "Cmnd_Alias") name (cmnds_text list) ts
+          (literal (codes "Cmnd_Alias") (omega arith) refl) h.0 (lex_cmnds true list [] [] h.1 refl tt);
       spells = (lines.Cmnds (def_of name list ∷ []), alias_spelled (codes "Cmnd_Alias") name list SpellsCmnd ts h.0 (cmnds_spelled true list [] h.1), refl);
     }
 entry_read (entries.Rule r) h = record {
@@ -113,8 +139,8 @@ entry_read (entries.Rule r) h = record {
 -- a newline ends the first line
 feed_split : (line rest : List ℕ) (ts : List Tok) → Lexes line ts → lines_of ((line ++ newline ∷ []) ++ rest) ≡ line ∷ lines_of rest
 feed_split line rest ts h =
-    ap lines_of (append_assoc line (newline ∷ []) rest)
-    ∙ slice_split_at (λ (b : ℕ). eqb b newline) line newline rest (All-from_recursion (λ (b : ℕ). eqb b newline ≡ false) line (lexed_bytes (λ (b : ℕ). eqb b newline ≡ false) no_feed_in_lines line ts h)) refl
+    ap lines_of (append_assoc line (newline ∷ []) rest) ∙ slice_split_at (λ (b : ℕ). eqb b newline) line newline rest
+    (All-from_recursion (λ (b : ℕ). eqb b newline ≡ false) line (lexed_bytes (λ (b : ℕ). eqb b newline ≡ false) no_feed_in_lines line ts h)) refl
 
 own_body : (line : List ℕ) (ts : List Tok) → Lexes line ts → IsBody line line
 own_body line ts h =
@@ -145,7 +171,8 @@ canon_bytes [] h = tt
 canon_bytes (e ∷ es) h =
     let is = entry_read e h.0 in
     let P : ℕ → Type 0 = λ b. is_text_byte b ≡ true in
-    all_append P (entry_text e ++ newline ∷ []) (canon es) (all_append P (entry_text e) (newline ∷ []) (lexed_bytes P text_in_lines (entry_text e) is.toks is.lexes) (refl, tt)) (canon_bytes es h.1)
+    all_append P (entry_text e ++ newline ∷ []) (canon es)
+    (all_append P (entry_text e) (newline ∷ []) (lexed_bytes P text_in_lines (entry_text e) is.toks is.lexes) (refl, tt)) (canon_bytes es h.1)
 
 pub canon_spells : (es : List Entry) → IsPolicy es → Spells (canon es) es
 canon_spells es p = record {

@@ -25,7 +25,8 @@ IsEntered es e s w = IsPlaced (reverse es) e × AreAliasKinds (es ++ e ∷ []) s
 -- ---- UserAlias
 
 user_made : (es : List Entry) (s : AliasKinds) (new : Aliases) (place : ℕ) (name : List ℕ) (list : List (Signed (Item (List ℕ))))
-    → AreAliasKinds es s → place ≡ length es → Defines item_alias s.users new name place list → IsEntered es (entries.UserAlias name list) (record { users = new; runas = s.runas; hosts = s.hosts; cmnds = s.cmnds }) 0
+    → AreAliasKinds es s → place ≡ length es → Defines item_alias s.users new name place list
+    → IsEntered es (entries.UserAlias name list) (record { users = new; runas = s.runas; hosts = s.hosts; cmnds = s.cmnds }) 0
 user_made es s new place name list is at d =
     let e : Entry = entries.UserAlias name list in (
       new_is item_alias (user_defs (reverse es)) s.users name list is.users.table d.definable,
@@ -54,7 +55,8 @@ user_definable es s name list given e is e_is same placed =
 -- ---- RunasAlias
 
 runas_made : (es : List Entry) (s : AliasKinds) (new : Aliases) (place : ℕ) (name : List ℕ) (list : List (Signed (Item (List ℕ))))
-    → AreAliasKinds es s → place ≡ length es → Defines item_alias s.runas new name place list → IsEntered es (entries.RunasAlias name list) (record { users = s.users; runas = new; hosts = s.hosts; cmnds = s.cmnds }) 0
+    → AreAliasKinds es s → place ≡ length es → Defines item_alias s.runas new name place list
+    → IsEntered es (entries.RunasAlias name list) (record { users = s.users; runas = new; hosts = s.hosts; cmnds = s.cmnds }) 0
 runas_made es s new place name list is at d =
     let e : Entry = entries.RunasAlias name list in (
       new_is item_alias (runas_defs (reverse es)) s.runas name list is.runas.table d.definable,
@@ -83,7 +85,8 @@ runas_definable es s name list given e is e_is same placed =
 -- ---- HostAlias
 
 host_made : (es : List Entry) (s : AliasKinds) (new : Aliases) (place : ℕ) (name : List ℕ) (list : List (Signed (Item (List ℕ))))
-    → AreAliasKinds es s → place ≡ length es → Defines item_alias s.hosts new name place list → IsEntered es (entries.HostAlias name list) (record { users = s.users; runas = s.runas; hosts = new; cmnds = s.cmnds }) 0
+    → AreAliasKinds es s → place ≡ length es → Defines item_alias s.hosts new name place list
+    → IsEntered es (entries.HostAlias name list) (record { users = s.users; runas = s.runas; hosts = new; cmnds = s.cmnds }) 0
 host_made es s new place name list is at d =
     let e : Entry = entries.HostAlias name list in (
       new_is item_alias (host_defs (reverse es)) s.hosts name list is.hosts.table d.definable,
@@ -112,7 +115,8 @@ host_definable es s name list given e is e_is same placed =
 -- ---- CmndAlias
 
 cmnd_made : (es : List Entry) (s : AliasKinds) (new : Aliases) (place : ℕ) (name : List ℕ) (list : List (Signed CmndItem))
-    → AreAliasKinds es s → place ≡ length es → Defines cmnd_alias s.cmnds new name place list → IsEntered es (entries.CmndAlias name list) (record { users = s.users; runas = s.runas; hosts = s.hosts; cmnds = new }) 0
+    → AreAliasKinds es s → place ≡ length es → Defines cmnd_alias s.cmnds new name place list
+    → IsEntered es (entries.CmndAlias name list) (record { users = s.users; runas = s.runas; hosts = s.hosts; cmnds = new }) 0
 cmnd_made es s new place name list is at d =
     let e : Entry = entries.CmndAlias name list in (
       new_is cmnd_alias (cmnd_defs (reverse es)) s.cmnds name list is.cmnds.table d.definable,
@@ -140,7 +144,8 @@ cmnd_definable es s name list given e is e_is same placed =
 
 -- ---- rules
 
-rule_made : (es : List Entry) (s : AliasKinds) (r : Rule) (w : ℕ) → AreAliasKinds es s → RuleIsKnown s r → w ≡ stopped (rule_weight_in s r) → IsEntered es (entries.Rule r) s w
+rule_made : (es : List Entry) (s : AliasKinds) (r : Rule) (w : ℕ) → AreAliasKinds es s
+    → RuleIsKnown s r → w ≡ stopped (rule_weight_in s r) → IsEntered es (entries.Rule r) s w
 rule_made es s r w is known weighs =
     let e : Entry = entries.Rule r in (
       rule_known es s r is known,
@@ -162,8 +167,8 @@ rule_ok : (es : List Entry) (s : AliasKinds) (r : Rule) (o : Option ℕ) → Are
 rule_ok es s r None is h = tt
 rule_ok es s r (Some w) is h = rule_made es s r w is h.0 h.1
 
-pub rule_entered : (es : List Entry) (s : AliasKinds) (r : Rule) (e : Entry) (o : Option ℕ) (result : Result ℕ LineFault) → AreAliasKinds es s → e ≡ entries.Rule r → IsWeighed s r o
-    → result ≡ ok_or o fault.UnknownAlias → IfOk result (λ w. IsEntered es e s w)
+pub rule_entered : (es : List Entry) (s : AliasKinds) (r : Rule) (e : Entry) (o : Option ℕ) (result : Result ℕ LineFault)
+    → AreAliasKinds es s → e ≡ entries.Rule r → IsWeighed s r o → result ≡ ok_or o fault.UnknownAlias → IfOk result (λ w. IsEntered es e s w)
 rule_entered es s r e o result is e_is h given =
     subst (λ (x : Entry). IfOk result (λ w. IsEntered es x s w)) (sym e_is)
     (subst (λ (q : Result ℕ LineFault). IfOk q (λ w. IsEntered es (entries.Rule r) s w)) (sym given) (rule_ok es s r o is h))
@@ -173,7 +178,7 @@ rule_err : (es : List Entry) (s : AliasKinds) (r : Rule) (o : Option ℕ) → Ar
 rule_err es s r None is h placed = absurd (h (known_rule es s r is placed))
 rule_err es s r (Some w) is h placed = tt
 
-pub rule_refused : (es : List Entry) (s : AliasKinds) (r : Rule) (e : Entry) (o : Option ℕ) (result : Result ℕ LineFault) → AreAliasKinds es s → e ≡ entries.Rule r → IsWeighed s r o
-    → result ≡ ok_or o fault.UnknownAlias → IsPlaced (reverse es) e → IfErr result (λ e. e ≡ fault.NoMemory)
+pub rule_refused : (es : List Entry) (s : AliasKinds) (r : Rule) (e : Entry) (o : Option ℕ) (result : Result ℕ LineFault) → AreAliasKinds es s
+    → e ≡ entries.Rule r → IsWeighed s r o → result ≡ ok_or o fault.UnknownAlias → IsPlaced (reverse es) e → IfErr result (λ e. e ≡ fault.NoMemory)
 rule_refused es s r e o result is e_is h given placed =
     subst (λ (q : Result ℕ LineFault). IfErr q (λ f. f ≡ fault.NoMemory)) (sym given) (rule_err es s r o is h (subst (IsPlaced (reverse es)) e_is placed))

@@ -1,5 +1,6 @@
 -- A policy with one more entry.
-use Rattle.std.proofs.Common.{◌≡◌, ℕ, ◌+◌, ◌-◌, ◌<◌, ◌≤◌, Bool, true, false, ◌||◌, List, [], ◌∷◌, ◌++◌, length, get_or, map, reverse, Option, Some, None, refl, sym, ap, subst, ◌∙◌, arith}
+use Rattle.std.proofs.Common.{◌≡◌, ℕ, ◌+◌, ◌-◌, ◌<◌, ◌≤◌, Bool, true, false, ◌||◌, List, [], ◌∷◌, ◌++◌, length}
+use Rattle.std.proofs.Common.{get_or, map, reverse, Option, Some, None, refl, sym, ap, subst, ◌∙◌, arith}
 use Rattle.std.specs.Prelude.{IfSome, unwrap_or}
 use Rattle.std.specs.List.{flat_map, list_any, slice_get}
 use Rattle.std.specs.Option.{is_some, option_map}
@@ -21,8 +22,8 @@ use Rattle.sudo_policy.proofs.Measuring.{each_push}
 use Rattle.sudo_policy.proofs.PolicyFronts.{placed_push, weight_push, canon_push}
 use Rattle.sudo_policy.proofs.Entering.{IsEntered}
 
-pub whole_push : (es : List Entry) (e : Entry) (old new : AliasKinds) (w more t len : ℕ) → IsWhole es old w t → IsEntry e → IsEntered es e new more → len ≡ length (line_text e)
-    → length es < 16_384 → more ≤ 131_072 - w → len ≤ 16_777_216 - t → IsWhole (es ++ e ∷ []) new (w + more) (t + len)
+pub whole_push : (es : List Entry) (e : Entry) (old new : AliasKinds) (w more t len : ℕ) → IsWhole es old w t → IsEntry e → IsEntered es e new more
+    → len ≡ length (line_text e) → length es < 16_384 → more ≤ 131_072 - w → len ≤ 16_777_216 - t → IsWhole (es ++ e ∷ []) new (w + more) (t + len)
 whole_push es e old new w more t len whole is entered line few light short =
     let sum = weight_push es e in
     let text = canon_push es e in
@@ -42,10 +43,13 @@ whole_push es e old new w more t len whole is entered line few light short =
     }
 
 -- the limits hold where the whole is a policy
-pub limits_hold : (es : List Entry) (e : Entry) (old new : AliasKinds) (w more t len : ℕ) → IsWhole es old w t → IsEntered es e new more → len ≡ length (line_text e)
-    → IsPolicy (es ++ e ∷ []) → (length es < 16_384) × (more ≤ 131_072 - w) × (len ≤ 16_777_216 - t)
-limits_hold es e old new w more t len whole entered line p =
-    (omega (arith, p.count, length-append es (e ∷ [])), omega (arith, p.light, weight_push es e, whole.weight_is, entered.2), omega (arith, p.short, canon_push es e, whole.text_is, line))
+pub limits_hold : (es : List Entry) (e : Entry) (old new : AliasKinds) (w more t len : ℕ) → IsWhole es old w t → IsEntered es e new more
+    → len ≡ length (line_text e) → IsPolicy (es ++ e ∷ []) → (length es < 16_384) × (more ≤ 131_072 - w) × (len ≤ 16_777_216 - t)
+limits_hold es e old new w more t len whole entered line p = (
+  omega (arith, p.count, length-append es (e ∷ [])),
+  omega (arith, p.light, weight_push es e, whole.weight_is, entered.2),
+  omega (arith, p.short, canon_push es e, whole.text_is, line),
+)
 
 -- ---- what the table lacks is not defined
 
@@ -63,7 +67,8 @@ any_append : {X : Type 0} (test : X → Bool) (xs ys : List X) → list_any test
 any_append test [] ys = refl
 any_append test (x ∷ xs) ys = ap (λ (b : Bool). test x || b) (any_append test xs ys) ∙ or_assoc (test x) (list_any test xs) (list_any test ys)
 
-defined_reversed : {X : Type 0} (def : Entry → List (Definition X)) (name : List ℕ) (es : List Entry) → is_defined (flat_map def (reverse es)) name ≡ is_defined (flat_map def es) name
+defined_reversed : {X : Type 0} (def : Entry → List (Definition X)) (name : List ℕ) (es : List Entry)
+    → is_defined (flat_map def (reverse es)) name ≡ is_defined (flat_map def es) name
 defined_reversed def name [] = refl
 defined_reversed {X} def name (e ∷ es) =
     let named = λ (ds : List (Definition X)). is_defined ds name in
@@ -85,9 +90,9 @@ lacks alias_of def es m name k none =
 
 -- ---- what stands at the place that the table keeps is the definition
 
-pub defined_there : {X : Type 0} (alias_of : X → Option (List ℕ)) (def : Entry → List (Definition X)) (es : List Entry) (m : Aliases) (name : List ℕ) (a : Alias) (entry : Entry) (named : List ℕ)
-    (list : List (Signed X)) → IsKind def alias_of es m → alias_at m name ≡ Some a → a.place < length es → entry ≡ get_or es a.place entry
-    → def entry ≡ record { name = named; list = list } ∷ [] → DefinedAt def es a.place name list
+pub defined_there : {X : Type 0} (alias_of : X → Option (List ℕ)) (def : Entry → List (Definition X)) (es : List Entry) (m : Aliases) (name : List ℕ)
+    (a : Alias) (entry : Entry) (named : List ℕ) (list : List (Signed X)) → IsKind def alias_of es m → alias_at m name ≡ Some a → a.place < length es
+    → entry ≡ get_or es a.place entry → def entry ≡ record { name = named; list = list } ∷ [] → DefinedAt def es a.place name list
 defined_there {X} alias_of def es m name a entry named list k known within is def_is =
     let Placed : Option Alias → Type 0 = λ o. IfSome o (λ x. (l : List (Signed X)) × DefinedAt def es x.place name l) in
     let at : (l : List (Signed X)) × DefinedAt def es a.place name l = subst Placed known (k.places name) in

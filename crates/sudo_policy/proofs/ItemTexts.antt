@@ -1,11 +1,13 @@
 -- Items and commands are read in one way: names, aliases, `ALL` and paths differ by their first bytes.
-use Rattle.std.proofs.Common.{◌≡◌, ℕ, suc, ◌-◌, ◌≤◌, ◌⊎◌, Bool, true, false, eqb, leb, not, ◌&&◌, ◌||◌, List, [], ◌∷◌, ◌++◌, length, take, refl, sym, ap, ◌∙◌, inl, inr, arith}
+use Rattle.std.proofs.Common.{◌≡◌, ℕ, suc, ◌-◌, ◌≤◌, ◌⊎◌, Bool, true, false, eqb, leb, not, ◌&&◌, ◌||◌}
+use Rattle.std.proofs.Common.{List, [], ◌∷◌, ◌++◌, length, take, refl, sym, ap, ◌∙◌, inl, inr, arith}
 use Rattle.std.specs.Prelude.{codes}
 use Rattle.std.specs.List.{AllByRecursion, list_all}
 use Rattle.std.proofs.lemmas.Bool.{and_parts, false≢true}
 use Rattle.std.proofs.lemmas.Bool.Decides.{nat_tests}
 use Rattle.sudo_words.specs.Bytes.{comma, colon, quote}
-use Rattle.sudo_words.specs.Word.{is_lower, is_upper, is_name, is_name_byte, is_host_name, is_host_byte, is_alias_name, is_alias_shape, is_alias_byte, is_reserved, are_components, is_absolute, is_arg}
+use Rattle.sudo_words.specs.Word.{is_lower, is_upper, is_name, is_name_byte, is_host_name, is_host_byte, is_alias_name}
+use Rattle.sudo_words.specs.Word.{is_alias_shape, is_alias_byte, is_reserved, are_components, is_absolute, is_arg}
 use Rattle.sudo_words.specs.Command.{IsHead, IsArgRule, arg_text, head_text, rule_of}
 use Rattle.sudo_words.specs.declared.cmnd.Cmnd.{Cmnd}
 use Rattle.sudo_words.specs.declared.cmnd.Cmnd.TheVariants as commands
@@ -140,8 +142,8 @@ word_no_end [] next a n w h e = absurd cc
 word_no_end (word b m v ∷ ts) next a n w h e = absurd h
 word_no_end (mark b m ∷ ts) next a n w h e = absurd cc
 
-arg_toks_one : (xs ys : List (List ℕ)) → AllByRecursion (λ arg. is_arg arg ≡ true) xs → AllByRecursion (λ arg. is_arg arg ≡ true) ys → (r s : List Tok) → EndsCmnd r → EndsCmnd s
-    → rule_toks (Exactly xs) ++ r ≡ rule_toks (Exactly ys) ++ s → (xs ≡ ys) × (r ≡ s)
+arg_toks_one : (xs ys : List (List ℕ)) → AllByRecursion (λ arg. is_arg arg ≡ true) xs → AllByRecursion (λ arg. is_arg arg ≡ true) ys
+    → (r s : List Tok) → EndsCmnd r → EndsCmnd s → rule_toks (Exactly xs) ++ r ≡ rule_toks (Exactly ys) ++ s → (xs ≡ ys) × (r ≡ s)
 arg_toks_one [] [] x y r s n k e = (refl, e)
 arg_toks_one [] (b ∷ ys) x y r s n k e = absurd (word_no_end r (rule_toks (Exactly ys) ++ s) true 0 (arg_text b) n e)
 arg_toks_one (a ∷ xs) [] x y r s n k e = absurd (word_no_end s (rule_toks (Exactly xs) ++ r) true 0 (arg_text a) k (sym e))
@@ -160,7 +162,8 @@ no_quote_args : (args : List (List ℕ)) (r s : List Tok) → 1 ≤ length args 
 no_quote_args [] r s h e = omega (arith, h)
 no_quote_args (a ∷ args) r s h e = absurd cc
 
-rule_toks_one : (p q : ArgRule) → IsArgRule p → IsArgRule q → (r s : List Tok) → EndsCmnd r → EndsCmnd s → rule_toks p ++ r ≡ rule_toks q ++ s → (p ≡ q) × (r ≡ s)
+rule_toks_one : (p q : ArgRule) → IsArgRule p → IsArgRule q → (r s : List Tok)
+    → EndsCmnd r → EndsCmnd s → rule_toks p ++ r ≡ rule_toks q ++ s → (p ≡ q) × (r ≡ s)
 rule_toks_one Any Any x y r s n k e = (refl, e)
 rule_toks_one Any Empty x y r s n k e = absurd (quote_no_end r (mark false quote ∷ s) n e)
 rule_toks_one Any (Exactly args) x y r s n k e = absurd (no_end_args args r s y.1 n e)
@@ -174,7 +177,8 @@ rule_toks_one (Exactly xs) (Exactly ys) x y r s n k e =
     (ap (λ (args : List (List ℕ)). Exactly args) both.0, both.1)
 
 -- a head and what stands behind it are one command's
-cmnd_item_one : (c d : CmndItem) → IsCmndItem c → IsCmndItem d → (r s : List Tok) → EndsCmnd r → EndsCmnd s → head_of c ≡ head_of d → args_of c ++ r ≡ args_of d ++ s → (c ≡ d) × (r ≡ s)
+cmnd_item_one : (c d : CmndItem) → IsCmndItem c → IsCmndItem d → (r s : List Tok) → EndsCmnd r
+    → EndsCmnd s → head_of c ≡ head_of d → args_of c ++ r ≡ args_of d ++ s → (c ≡ d) × (r ≡ s)
 cmnd_item_one (cmnds.Alias v) (cmnds.Alias w) x y r s n k e f = (ap (λ (u : List ℕ). cmnds.Alias u) e, f)
 cmnd_item_one (cmnds.Alias v) (cmnds.Cmnd d) x y r s n k e f = absurd (alias_no_head v d x y.head e)
 cmnd_item_one (cmnds.Cmnd c) (cmnds.Alias w) x y r s n k e f = absurd (alias_no_head w c y x.head (sym e))

@@ -30,8 +30,11 @@ list_longer f xs d first rest h first_is rest_is =
 pub alias_line_longer : (kind name list : List ℕ) (rest : ℕ) → rest ≡ stopped (length list)
     → stopped (stopped ((length kind + 5) + length name) + rest) ≡ stopped (length (alias_text kind name list ++ codes "\n"))
 alias_line_longer kind name list rest rest_is =
-    let line : length (alias_text kind name list ++ codes "\n") ≡ length (alias_text kind name list) + 1 = length-append (alias_text kind name list) (codes "\n") in
-    let text : length (alias_text kind name list) ≡ length (kind ++ codes " " ++ name ++ codes " = ") + length list = length-append (kind ++ codes " " ++ name ++ codes " = ") list in
-    let head : length (kind ++ codes " " ++ name ++ codes " = ") ≡ length (kind ++ codes " " ++ name) + 3 = length-append (kind ++ codes " " ++ name) (codes " = ") in
+    let line : length (alias_text kind name list ++ codes "\n") ≡ length (alias_text kind name list) + 1 =
+    length-append (alias_text kind name list) (codes "\n") in
+    let text : length (alias_text kind name list) ≡ length (kind ++ codes " " ++ name ++ codes " = ") + length list =
+    length-append (kind ++ codes " " ++ name ++ codes " = ") list in
+    let head : length (kind ++ codes " " ++ name ++ codes " = ") ≡ length (kind ++ codes " " ++ name) + 3 =
+    length-append (kind ++ codes " " ++ name) (codes " = ") in
     let named : length (kind ++ codes " " ++ name) ≡ length (kind ++ codes " ") + length name = length-append (kind ++ codes " ") name in
     omega (arith, line, text, head, named, length-append kind (codes " "), rest_is)

@@ -1,12 +1,14 @@
 -- The first token of a line is found in one way.
-use Rattle.std.proofs.Common.{eqb, ◌≡◌, ℕ, zero, suc, ◌<◌, Bool, true, false, List, [], ◌∷◌, ◌++◌, length, refl, sym, ap, subst, ◌∙◌, inl, inr, append_assoc, arith}
+use Rattle.std.proofs.Common.{eqb, ◌≡◌, ℕ, zero, suc, ◌<◌, Bool, true, false, List, [], ◌∷◌, ◌++◌}
+use Rattle.std.proofs.Common.{length, refl, sym, ap, subst, ◌∙◌, inl, inr, append_assoc, arith}
 use Rattle.std.proofs.lemmas.Bool.{false≢true}
 use Rattle.std.proofs.lemmas.Bool.Decides.{nat_tests}
 use Rattle.std.proofs.lemmas.List.{append-nil, length-append}
 use Rattle.sudo_words.specs.Bytes.{backslash}
 use Rattle.sudo_policy.specs.Span.{Each}
 use Rattle.sudo_policy.specs.private.Cuts.{is_bang, Stops, IsCut, IsFirst}
-use Rattle.sudo_policy.specs.Lex.{is_blank, is_mark, is_word_byte, is_word_text, goes_on, bangs, is_some_blank, is_spaced, Tok, word, mark, text_of, IsTok, Lexes}
+use Rattle.sudo_policy.specs.Lex.{is_blank, is_mark, is_word_byte, is_word_text, goes_on, bangs}
+use Rattle.sudo_policy.specs.Lex.{is_some_blank, is_spaced, Tok, word, mark, text_of, IsTok, Lexes}
 use Rattle.sudo_policy.proofs.Spans.{one_cut}
 use Rattle.sudo_policy.proofs.WordTexts.{begins, one_word}
 
@@ -58,10 +60,12 @@ stops_bangs [] rest some h = absurd (omega arith)
 stops_bangs (x ∷ w) rest some h = no_bang x w h
 
 -- `!` and a word stand in two texts in one way
-one_bangs : (n m : ℕ) (v w r s : List ℕ) → 0 < length v → is_word_text v ≡ true → 0 < length w → is_word_text w ≡ true → (bangs n ++ v) ++ r ≡ (bangs m ++ w) ++ s → (n ≡ m) × (v ++ r ≡ w ++ s)
+one_bangs : (n m : ℕ) (v w r s : List ℕ) → 0 < length v → is_word_text v ≡ true → 0 < length w
+    → is_word_text w ≡ true → (bangs n ++ v) ++ r ≡ (bangs m ++ w) ++ s → (n ≡ m) × (v ++ r ≡ w ++ s)
 one_bangs n m v w r s some_v text_v some_w text_w e =
     let same = sym (append_assoc (bangs n) v r) ∙ e ∙ append_assoc (bangs m) w s in
-    let cut = one_cut is_bang (bangs n) (v ++ r) (bangs m) (w ++ s) (each_bang n) (stops_bangs v r some_v text_v) (each_bang m) (stops_bangs w s some_w text_w) same in
+    let cut = one_cut is_bang (bangs n) (v ++ r) (bangs m) (w ++ s) (each_bang n)
+    (stops_bangs v r some_v text_v) (each_bang m) (stops_bangs w s some_w text_w) same in
     (sym (length_bangs n) ∙ ap length cut.0 ∙ length_bangs m, cut.1)
 
 -- ---- what follows the blanks
@@ -90,7 +94,8 @@ word_some zero (x ∷ w) rest some e = absurd cc
 word_some (suc n) w rest some e = absurd cc
 
 -- a reading of bytes that go on with s behind the blanks: its token stands at the front of s, and blanks before it where it says so
-pub after : (bytes blanks s : List ℕ) → IsCut is_blank bytes blanks s → (t : Tok) (ts : List Tok) (h : Lexes bytes (t ∷ ts)) → (s ≡ text_of t ++ h.1) × (is_spaced t ≡ is_some_blank blanks)
+pub after : (bytes blanks s : List ℕ) → IsCut is_blank bytes blanks s
+    → (t : Tok) (ts : List Tok) (h : Lexes bytes (t ∷ ts)) → (s ≡ text_of t ++ h.1) × (is_spaced t ≡ is_some_blank blanks)
 after bytes blanks s c t ts h =
     let p = one_cut is_blank blanks s h.0 (text_of t ++ h.1) c.each c.stops h.2 (starts t h.1 h.4) (sym c.whole ∙ h.5) in
     (p.1, h.3 ∙ ap is_some_blank (sym p.0))
@@ -100,7 +105,8 @@ only_blanks bytes blanks s c each =
     (one_cut is_blank blanks s bytes [] c.each c.stops each tt (sym c.whole ∙ sym (append-nil bytes))).1
 
 -- one more token in front
-adds : (bytes blanks s : List ℕ) → IsCut is_blank bytes blanks s → (t : Tok) (rest : List ℕ) → is_spaced t ≡ is_some_blank blanks → IsTok t rest → s ≡ text_of t ++ rest → (ts : List Tok) → Lexes rest ts → Lexes bytes (t ∷ ts)
+adds : (bytes blanks s : List ℕ) → IsCut is_blank bytes blanks s → (t : Tok) (rest : List ℕ) → is_spaced t ≡ is_some_blank blanks
+    → IsTok t rest → s ≡ text_of t ++ rest → (ts : List Tok) → Lexes rest ts → Lexes bytes (t ∷ ts)
 adds bytes blanks s c t rest gap is e ts h = (blanks, rest, c.each, gap, is, c.whole ∙ ap (λ (r : List ℕ). blanks ++ r) e, h)
 
 -- ---- the end
@@ -114,7 +120,8 @@ end_only bytes blanks s c e (mark a m ∷ ts) h = let t = (after bytes blanks s 
 
 -- ---- marks
 
-mark_only : (bytes blanks s : List ℕ) → IsCut is_blank bytes blanks s → (gap : Bool) (m : ℕ) (rest : List ℕ) → gap ≡ is_some_blank blanks → is_mark m ≡ true → s ≡ m ∷ rest → (ts : List Tok) → Lexes bytes ts → (more : List Tok) × (ts ≡ mark gap m ∷ more) × Lexes rest more
+mark_only : (bytes blanks s : List ℕ) → IsCut is_blank bytes blanks s → (gap : Bool) (m : ℕ) (rest : List ℕ) → gap ≡ is_some_blank blanks
+    → is_mark m ≡ true → s ≡ m ∷ rest → (ts : List Tok) → Lexes bytes ts → (more : List Tok) × (ts ≡ mark gap m ∷ more) × Lexes rest more
 mark_only bytes blanks s c gap m rest g is e [] h = let t = only_blanks bytes blanks s c h in absurd cc
 mark_only bytes blanks s c gap m rest g is e (word a n w ∷ ts) h =
     let t = (after bytes blanks s c (word a n w) ts h).0 in
@@ -128,7 +135,8 @@ mark_only bytes blanks s c gap m rest g is e (mark a k ∷ ts) h =
     (ts, ap (λ (x : Bool). mark x k ∷ ts) gaps ∙ ap (λ (x : ℕ). mark gap x ∷ ts) same, subst (λ (r : List ℕ). Lexes r ts) left h.6)
 
 -- a mark behind the blanks
-pub lex_mark : (bytes blanks s : List ℕ) → IsCut is_blank bytes blanks s → (gap : Bool) (m : ℕ) (rest : List ℕ) → gap ≡ is_some_blank blanks → is_mark m ≡ true → s ≡ m ∷ rest → IsFirst bytes (mark gap m) rest
+pub lex_mark : (bytes blanks s : List ℕ) → IsCut is_blank bytes blanks s → (gap : Bool) (m : ℕ) (rest : List ℕ)
+    → gap ≡ is_some_blank blanks → is_mark m ≡ true → s ≡ m ∷ rest → IsFirst bytes (mark gap m) rest
 lex_mark bytes blanks s c gap m rest g is e = record {
   adds = adds bytes blanks s c (mark gap m) rest g is e;
   only = mark_only bytes blanks s c gap m rest g is e;
@@ -142,7 +150,8 @@ pub record IsWordAt (s : List ℕ) (n : ℕ) (w rest : List ℕ) : Type 0 where
   pub whole : s ≡ (bangs n ++ w) ++ rest
   pub is : (0 < length w) × (is_word_text w ≡ true) × (goes_on rest ≡ false)
 
-word_only : (bytes blanks s : List ℕ) → IsCut is_blank bytes blanks s → (gap : Bool) (n : ℕ) (w rest : List ℕ) → gap ≡ is_some_blank blanks → IsWordAt s n w rest → (ts : List Tok) → Lexes bytes ts → (more : List Tok) × (ts ≡ word gap n w ∷ more) × Lexes rest more
+word_only : (bytes blanks s : List ℕ) → IsCut is_blank bytes blanks s → (gap : Bool) (n : ℕ) (w rest : List ℕ) → gap ≡ is_some_blank blanks
+    → IsWordAt s n w rest → (ts : List Tok) → Lexes bytes ts → (more : List Tok) × (ts ≡ word gap n w ∷ more) × Lexes rest more
 word_only bytes blanks s c gap n w rest g d [] h = absurd (word_some n w rest d.is.0 (sym d.whole ∙ only_blanks bytes blanks s c h))
 word_only bytes blanks s c gap n w rest g d (mark a k ∷ ts) h =
     let t = (after bytes blanks s c (mark a k) ts h).0 in
@@ -151,10 +160,14 @@ word_only bytes blanks s c gap n w rest g d (word a m v ∷ ts) h =
     let t = after bytes blanks s c (word a m v) ts h in
     let front = one_bangs m n v w h.1 rest h.4.0 h.4.1 d.is.0 d.is.1 (sym t.0 ∙ d.whole) in
     let one = one_word v h.1 w rest h.4.1 h.4.2 d.is.1 d.is.2 front.1 in
-    let gaps : a ≡ gap = t.1 ∙ sym g in
-    (ts, ap (λ (x : Bool). word x m v ∷ ts) gaps ∙ ap (λ (x : ℕ). word gap x v ∷ ts) front.0 ∙ ap (λ (u : List ℕ). word gap n u ∷ ts) one.0, subst (λ (r : List ℕ). Lexes r ts) one.1 h.6)
+    let gaps : a ≡ gap = t.1 ∙ sym g in (
+      ts,
+      ap (λ (x : Bool). word x m v ∷ ts) gaps ∙ ap (λ (x : ℕ). word gap x v ∷ ts) front.0 ∙ ap (λ (u : List ℕ). word gap n u ∷ ts) one.0,
+      subst (λ (r : List ℕ). Lexes r ts) one.1 h.6,
+    )
 
-pub lex_word_at : (bytes blanks s : List ℕ) → IsCut is_blank bytes blanks s → (gap : Bool) (n : ℕ) (w rest : List ℕ) → gap ≡ is_some_blank blanks → IsWordAt s n w rest → IsFirst bytes (word gap n w) rest
+pub lex_word_at : (bytes blanks s : List ℕ) → IsCut is_blank bytes blanks s → (gap : Bool) (n : ℕ) (w rest : List ℕ)
+    → gap ≡ is_some_blank blanks → IsWordAt s n w rest → IsFirst bytes (word gap n w) rest
 lex_word_at bytes blanks s c gap n w rest g d = record {
   adds = adds bytes blanks s c (word gap n w) rest g d.is d.whole;
   only = word_only bytes blanks s c gap n w rest g d;
@@ -165,7 +178,8 @@ lex_word_at bytes blanks s c gap n w rest g d = record {
 
 first_of_reading : (bytes : List ℕ) (t : Tok) (ts : List Tok) (h : Lexes bytes (t ∷ ts)) → IsFirst bytes t h.1
 first_of_reading bytes (word a n w) ts h =
-    lex_word_at bytes h.0 ((bangs n ++ w) ++ h.1) (record { whole = h.5; each = h.2; stops = starts (word a n w) h.1 h.4 }) a n w h.1 h.3 (record { whole = refl; is = h.4 })
+    lex_word_at bytes h.0 ((bangs n ++ w) ++ h.1) (record { whole = h.5; each = h.2; stops = starts (word a n w) h.1 h.4 }) a n w h.1 h.3
+    (record { whole = refl; is = h.4 })
 first_of_reading bytes (mark a m) ts h =
     lex_mark bytes h.0 (m ∷ h.1) (record { whole = h.5; each = h.2; stops = starts (mark a m) h.1 h.4 }) a m h.1 h.3 h.4 refl
 

@@ -1,5 +1,6 @@
 -- The lines of a text are taken apart and joined in one way.
-use Rattle.std.proofs.Common.{◌≡◌, ℕ, ◌-◌, ◌<◌, ◌==◌, Bool, true, false, List, [], ◌∷◌, ◌++◌, length, get_or, take, Bor, Option, Some, None, refl, sym, ap, subst, ◌∙◌, inl, inr, arith}
+use Rattle.std.proofs.Common.{◌≡◌, ℕ, ◌-◌, ◌<◌, ◌==◌, Bool, true, false, List, [], ◌∷◌, ◌++◌, length, get_or}
+use Rattle.std.proofs.Common.{take, Bor, Option, Some, None, refl, sym, ap, subst, ◌∙◌, inl, inr, arith}
 use Rattle.std.specs.Prelude.{MatchOption, ◌≢◌}
 use Rattle.std.proofs.lemmas.Bool.{cases_Bool, false≢true, false_from_ne_true, eqb-true, not-false}
 use Rattle.std.proofs.lemmas.Bool.Decides.{Decides-eqb}
@@ -28,7 +29,8 @@ pub last_split : (p : ℕ → Bool) (line : List ℕ) → last_passes p line ≡
 last_split p [] h = absurd (false≢true h)
 last_split p (b ∷ bs) h =
     let back : length (b ∷ bs) - 1 ≡ length bs = omega arith in
-    let whole : b ∷ bs ≡ take (length bs) (b ∷ bs) ++ get_or (b ∷ bs) (length bs) 0 ∷ [] = sym (take-length (b ∷ bs)) ∙ take-suc (b ∷ bs) (length bs) 0 (omega arith) in
+    let whole : b ∷ bs ≡ take (length bs) (b ∷ bs) ++ get_or (b ∷ bs) (length bs) 0 ∷ [] =
+    sym (take-length (b ∷ bs)) ∙ take-suc (b ∷ bs) (length bs) 0 (omega arith) in
     (take (length bs) (b ∷ bs), get_or (b ∷ bs) (length bs) 0, whole, ap (λ (i : ℕ). p (get_or (b ∷ bs) i 0)) (sym back) ∙ h)
 
 abbrev pub is_backslash : ℕ → Bool
@@ -43,7 +45,8 @@ backslash_last text =
           let t = last_split is_backslash text holds in
           ends.1 t.0 (t.2 ∙ ap (λ (x : ℕ). t.0 ++ x ∷ []) (eqb-true t.1 92 t.3)) ∙ sym holds
       | inr fails ↦
-          false_from_ne_true (ends_in_backslash text) (λ e. false≢true (sym fails ∙ ap (last_passes is_backslash) (ends.0 e) ∙ last_passes_last is_backslash (take (length text - 1) text) 92)) ∙ sym fails
+          false_from_ne_true (ends_in_backslash text)
+          (λ e. false≢true (sym fails ∙ ap (last_passes is_backslash) (ends.0 e) ∙ last_passes_last is_backslash (take (length text - 1) text) 92)) ∙ sym fails
     ]
 
 -- where one last byte is taken off, one front is left
@@ -51,8 +54,11 @@ pub one_front : (xs ys : List ℕ) (x : ℕ) → xs ++ x ∷ [] ≡ ys ++ x ∷ 
 one_front xs ys x e = append_cancel_right xs ys (x ∷ []) e
 
 -- what is taken off from the end, where it is a backslash
-pub backslash_off : (line : List ℕ) (r : Option (Bor (List ℕ))) → MatchOption r ((front : List ℕ) → line ≢ front ++ backslash ∷ []) (λ x. line ≡ x.now ++ backslash ∷ []) → MatchOption r (ends_in_backslash line ≡ false) (λ front. line ≡ front.now ++ backslash ∷ [])
-backslash_off line None h = backslash_last line ∙ false_from_ne_true (last_passes is_backslash line) (λ e. let t = last_split is_backslash line e in h t.0 (t.2 ∙ ap (λ (x : ℕ). t.0 ++ x ∷ []) (eqb-true t.1 backslash t.3)))
+pub backslash_off : (line : List ℕ) (r : Option (Bor (List ℕ)))
+    → MatchOption r ((front : List ℕ) → line ≢ front ++ backslash ∷ []) (λ x. line ≡ x.now ++ backslash ∷ [])
+    → MatchOption r (ends_in_backslash line ≡ false) (λ front. line ≡ front.now ++ backslash ∷ [])
+backslash_off line None h = backslash_last line ∙ false_from_ne_true (last_passes is_backslash line) (λ e. let t = last_split is_backslash line e in
+    h t.0 (t.2 ∙ ap (λ (x : ℕ). t.0 ++ x ∷ []) (eqb-true t.1 backslash t.3)))
 backslash_off line (Some x) h = h
 
 -- ---- a line without its comment
@@ -142,7 +148,8 @@ hash_no_front line body rest c some front k =
     omega (arith, some, ap length t.1)
 
 -- what the first `#` behind a body needs
-pub hash_bad : (line body rest : List ℕ) → IsCut is_no_hash line body rest → (x : ℕ) (note : List ℕ) → rest ≡ x ∷ note → ((is_before_comment body ≡ true) → (is_comment note ≡ true) → ⊥) → (other : List ℕ) → IsBody line other → ⊥
+pub hash_bad : (line body rest : List ℕ) → IsCut is_no_hash line body rest → (x : ℕ) (note : List ℕ) → rest ≡ x ∷ note
+    → ((is_before_comment body ≡ true) → (is_comment note ≡ true) → ⊥) → (other : List ℕ) → IsBody line other → ⊥
 hash_bad line body rest c x note e bad other h = let t = subst (IsNote body) e (body_cut line body rest c other h).1 in bad t.0 t.1
 
 -- a line that ends in a backslash, behind a byte that it may not go on behind
@@ -160,7 +167,8 @@ joined_one (line ∷ lines) a b (inl (body, more, is, e, rest)) (inl (body_b, mo
     let others = joined_one lines more more_b rest rest_b in
     cc
 joined_one (line ∷ lines) a b (inl (body, more, is, e, rest)) (inr (front, body_b, more_b, is_b, e_b, rest_b)) = absurd (body_or_front line body front is is_b)
-joined_one (line ∷ lines) a b (inr (front, body, more, is, e, rest)) (inl (body_b, more_b, is_b, e_b, rest_b)) = absurd (body_or_front line body_b front is_b is)
+joined_one (line ∷ lines) a b (inr (front, body, more, is, e, rest)) (inl (body_b, more_b, is_b, e_b, rest_b)) =
+    absurd (body_or_front line body_b front is_b is)
 joined_one (line ∷ lines) a b (inr (front, body, more, is, e, rest)) (inr (front_b, body_b, more_b, is_b, e_b, rest_b)) =
     let one = front_one line front front_b is is_b in
     let others = joined_one lines (body ∷ more) (body_b ∷ more_b) rest rest_b in

@@ -1,5 +1,6 @@
 -- The measures of lists: item by item, and by what a table has of each alias.
-use Rattle.std.proofs.Common.{◌≡◌, ℕ, ◌+◌, ◌<◌, max, Bool, true, List, [], ◌∷◌, ◌++◌, length, get_or, take, Option, Some, None, refl, sym, ap, subst, ◌∙◌, arith}
+use Rattle.std.proofs.Common.{◌≡◌, ℕ, ◌+◌, ◌<◌, max, Bool, true, List, [], ◌∷◌, ◌++◌, length}
+use Rattle.std.proofs.Common.{get_or, take, Option, Some, None, refl, sym, ap, subst, ◌∙◌, arith}
 use Rattle.std.specs.Prelude.{IfSome}
 use Rattle.std.specs.List.{AllByRecursion}
 use Rattle.std.proofs.lemmas.List.{take_more}
@@ -32,7 +33,8 @@ pub measured_push : {X : Type 0} (alias_of : X → Option (List ℕ)) (m : Alias
 measured_push {X} alias_of m xs x a here b of_xs of_x weight depth =
     let heavy = λ (s : Signed X). item_weight (weight_in m) (alias_of s.item) in
     let P : Signed X → Type 0 = λ s. IfSome (alias_of s.item) (λ name. has m name ≡ true) in
-    let sum : list_weight alias_of (weight_in m) (xs ++ x ∷ []) ≡ list_weight alias_of (weight_in m) xs + item_weight (weight_in m) (alias_of x.item) = sum_by_push heavy xs x in
+    let sum : list_weight alias_of (weight_in m) (xs ++ x ∷ []) ≡ list_weight alias_of (weight_in m) xs + item_weight (weight_in m) (alias_of x.item) =
+    sum_by_push heavy xs x in
     record {
       knows = each_push P xs x of_xs.knows of_x.knows;
       weight =
@@ -45,9 +47,8 @@ measured_push {X} alias_of m xs x a here b of_xs of_x weight depth =
 
 -- the item at a place, behind those before it
 pub measured_more : {X : Type 0} (alias_of : X → Option (List ℕ)) (m : Aliases) (xs : List (Signed X)) (i : ℕ) (x : Signed X) (a here b : Measure)
-    → i < length xs → x ≡ get_or xs i x
-    → IsMeasured alias_of m (take i xs) a → IsItemMeasured m (alias_of x.item) here → b.weight ≡ stopped (a.weight + here.weight) → b.depth ≡ max a.depth here.depth
-    → IsMeasured alias_of m (take (i + 1) xs) b
+    → i < length xs → x ≡ get_or xs i x → IsMeasured alias_of m (take i xs) a → IsItemMeasured m (alias_of x.item) here
+    → b.weight ≡ stopped (a.weight + here.weight) → b.depth ≡ max a.depth here.depth → IsMeasured alias_of m (take (i + 1) xs) b
 measured_more {X} alias_of m xs i x a here b below at of_xs of_x weight depth =
     let more : take (i + 1) xs ≡ take i xs ++ x ∷ [] = take_more xs i x below ∙ ap (λ (s : Signed X). take i xs ++ s ∷ []) (sym at) in
     let P : List (Signed X) → Type 0 = λ ys. IsMeasured alias_of m ys b in
@@ -67,17 +68,20 @@ known_same alias_of p q (s ∷ list) same h = (item_known p q (alias_of s.item) 
 stopped_plus : (a b c d : ℕ) → stopped a ≡ stopped b → stopped c ≡ stopped d → stopped (a + c) ≡ stopped (b + d)
 stopped_plus a b c d e f = omega arith
 
-item_stopped : (kept weigh : List ℕ → ℕ) (o : Option (List ℕ)) → ((n : List ℕ) → kept n ≡ stopped (weigh n)) → stopped (item_weight kept o) ≡ stopped (item_weight weigh o)
+item_stopped : (kept weigh : List ℕ → ℕ) (o : Option (List ℕ)) → ((n : List ℕ) → kept n ≡ stopped (weigh n))
+    → stopped (item_weight kept o) ≡ stopped (item_weight weigh o)
 item_stopped kept weigh None same = refl
 item_stopped kept weigh (Some n) same = let one = same n in omega arith
 
 -- a list's weight by weights that stop, once it stops, is its weight once that stops
-pub list_stopped : {X : Type 0} (alias_of : X → Option (List ℕ)) (kept weigh : List ℕ → ℕ) (list : List (Signed X)) → ((n : List ℕ) → kept n ≡ stopped (weigh n))
-    → stopped (list_weight alias_of kept list) ≡ stopped (list_weight alias_of weigh list)
+pub list_stopped : {X : Type 0} (alias_of : X → Option (List ℕ)) (kept weigh : List ℕ → ℕ) (list : List (Signed X))
+    → ((n : List ℕ) → kept n ≡ stopped (weigh n)) → stopped (list_weight alias_of kept list) ≡ stopped (list_weight alias_of weigh list)
 list_stopped alias_of kept weigh [] same = refl
 list_stopped {X} alias_of kept weigh (s ∷ list) same =
-    let of_kept : list_weight alias_of kept (s ∷ list) ≡ item_weight kept (alias_of s.item) + list_weight alias_of kept list = sum_by-cons (λ (x : Signed X). item_weight kept (alias_of x.item)) s list in
-    let of_all : list_weight alias_of weigh (s ∷ list) ≡ item_weight weigh (alias_of s.item) + list_weight alias_of weigh list = sum_by-cons (λ (x : Signed X). item_weight weigh (alias_of x.item)) s list in
+    let of_kept : list_weight alias_of kept (s ∷ list) ≡ item_weight kept (alias_of s.item) + list_weight alias_of kept list =
+    sum_by-cons (λ (x : Signed X). item_weight kept (alias_of x.item)) s list in
+    let of_all : list_weight alias_of weigh (s ∷ list) ≡ item_weight weigh (alias_of s.item) + list_weight alias_of weigh list =
+    sum_by-cons (λ (x : Signed X). item_weight weigh (alias_of x.item)) s list in
     ap stopped of_kept
     ∙ stopped_plus (item_weight kept (alias_of s.item)) (item_weight weigh (alias_of s.item)) (list_weight alias_of kept list) (list_weight alias_of weigh list)
     (item_stopped kept weigh (alias_of s.item) same) (list_stopped alias_of kept weigh list same)

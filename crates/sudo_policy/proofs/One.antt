@@ -57,7 +57,8 @@ part_of hosts specs = record { hosts = hosts; specs = specs }
 part_one : IsOne SpellsPart EndsPart
 unfolding part_of
 part_one ts p q r s g h n k =
-    let hosts = items_one is_host_name host_form (NotMark comma) (not_own_mark comma) ts p.hosts q.hosts (mark g.spaced equals ∷ g.next) (mark h.spaced equals ∷ h.next) g.hosts h.hosts (λ e. omega arith) (λ e. omega arith) in
+    let hosts = items_one is_host_name host_form (NotMark comma) (not_own_mark comma) ts p.hosts q.hosts
+    (mark g.spaced equals ∷ g.next) (mark h.spaced equals ∷ h.next) g.hosts h.hosts (λ e. omega arith) (λ e. omega arith) in
     let behind = hosts.1 in
     let next : g.next ≡ h.next = cc in
     let specs = specs_one h.next p.specs q.specs r s (subst (λ (x : List Tok). Listed comma SpellsCmndSpec x p.specs r) next g.specs) h.specs n k in
@@ -78,14 +79,16 @@ def_one {X} Is one ts d e r s g h n k =
     (same, list.1)
 
 -- a list with `:` between, to the end of the line
-whole_one : {X : Type 0} (Is : List Tok → X → List Tok → Type 0) → IsOne Is EndsPart → (ts : List Tok) (xs ys : List X) → Listed colon Is ts xs [] → Listed colon Is ts ys [] → xs ≡ ys
+whole_one : {X : Type 0} (Is : List Tok → X → List Tok → Type 0) → IsOne Is EndsPart
+    → (ts : List Tok) (xs ys : List X) → Listed colon Is ts xs [] → Listed colon Is ts ys [] → xs ≡ ys
 whole_one Is one ts xs ys g h =
-    (listed_one colon Is EndsPart (λ (r : List Tok). r ≡ []) (λ a next. refl) (λ r e. subst EndsPart (sym e) tt) (λ a next e. absurd cc) one ts xs ys [] [] g h refl refl).0
+    (listed_one colon Is EndsPart (λ (r : List Tok). r ≡ []) (λ a next. refl)
+    (λ r e. subst EndsPart (sym e) tt) (λ a next e. absurd cc) one ts xs ys [] [] g h refl refl).0
 
 -- ---- lines
 
-aliases_one : {X : Type 0} (kind : List ℕ) (Is : List Tok → Signed X → List Tok → Type 0) → IsOne (Listed comma Is) EndsPart → (ts : List Tok) (ds es : List (Definition X))
-    → SpellsAliases kind Is ts ds → SpellsAliases kind Is ts es → ds ≡ es
+aliases_one : {X : Type 0} (kind : List ℕ) (Is : List Tok → Signed X → List Tok → Type 0) → IsOne (Listed comma Is) EndsPart
+    → (ts : List Tok) (ds es : List (Definition X)) → SpellsAliases kind Is ts ds → SpellsAliases kind Is ts es → ds ≡ es
 aliases_one {X} kind Is one ts ds es g h =
     let both = sym g.2 ∙ h.2 in
     let next : g.1 ≡ h.1 = cc in
@@ -108,16 +111,18 @@ parts_word : (ts : List Tok) (parts : List Part) (r : List Tok) → Listed colon
 parts_word ts [] r g = absurd g
 parts_word ts (p ∷ parts) r g = items_word is_host_name ts p.hosts (mark (g.1).spaced equals ∷ (g.1).next) (g.1).hosts
 
-user_spec_one : (ts : List Tok) (us vs : List (Signed (Item (List ℕ)))) (ps qs : List Part) → SpellsUserSpec ts us ps → SpellsUserSpec ts vs qs → lines.UserSpec us ps ≡ lines.UserSpec vs qs
+user_spec_one : (ts : List Tok) (us vs : List (Signed (Item (List ℕ)))) (ps qs : List Part)
+    → SpellsUserSpec ts us ps → SpellsUserSpec ts vs qs → lines.UserSpec us ps ≡ lines.UserSpec vs qs
 user_spec_one ts us vs ps qs g h =
-    let users = items_one is_name user_form (NotMark comma) (not_own_mark comma) ts us vs g.0 h.0 g.1 h.1 (word_no_mark comma g.0 (parts_word g.0 ps [] g.3)) (word_no_mark comma h.0 (parts_word h.0 qs [] h.3)) in
+    let users = items_one is_name user_form (NotMark comma) (not_own_mark comma) ts us vs g.0 h.0 g.1 h.1
+    (word_no_mark comma g.0 (parts_word g.0 ps [] g.3)) (word_no_mark comma h.0 (parts_word h.0 qs [] h.3)) in
     let parts = whole_one SpellsPart part_one h.0 ps qs (subst (λ (x : List Tok). Listed colon SpellsPart x ps []) users.1 g.3) h.3 in
     ap (λ (x : List (Signed (Item (List ℕ)))). lines.UserSpec x ps) users.0 ∙ ap (λ (x : List Part). lines.UserSpec vs x) parts
 
 -- ---- the word that a line begins with tells its kind
 
-kinds_same : {X Y : Type 0} (k l : List ℕ) (Is : List Tok → Signed X → List Tok → Type 0) (Js : List Tok → Signed Y → List Tok → Type 0) (ts : List Tok) (ds : List (Definition X)) (es : List (Definition Y))
-    → SpellsAliases k Is ts ds → SpellsAliases l Js ts es → k ≡ l
+kinds_same : {X Y : Type 0} (k l : List ℕ) (Is : List Tok → Signed X → List Tok → Type 0) (Js : List Tok → Signed Y → List Tok
+    → Type 0) (ts : List Tok) (ds : List (Definition X)) (es : List (Definition Y)) → SpellsAliases k Is ts ds → SpellsAliases l Js ts es → k ≡ l
 kinds_same k l Is Js ts ds es g h = let both = sym g.2 ∙ h.2 in cc
 
 kinds_differ : (k l : List ℕ) → bytes_eq k l ≡ false → k ≡ l → ⊥
@@ -134,7 +139,8 @@ kind_no_item kind k items.All h e = k.all e
 kind_no_item kind k (items.Name n) h e = false≢true (sym k.name ∙ ap is_name (sym e) ∙ h)
 kind_no_item kind k (items.Alias n) h e = false≢true (sym k.alias ∙ ap is_alias_name (sym e) ∙ h)
 
-kind_no_user_spec : {X : Type 0} (kind : List ℕ) → IsKind kind → (Is : List Tok → Signed X → List Tok → Type 0) (ts : List Tok) (ds : List (Definition X)) (us : List (Signed (Item (List ℕ)))) (ps : List Part)
+kind_no_user_spec : {X : Type 0} (kind : List ℕ) → IsKind kind
+    → (Is : List Tok → Signed X → List Tok → Type 0) (ts : List Tok) (ds : List (Definition X)) (us : List (Signed (Item (List ℕ)))) (ps : List Part)
     → SpellsAliases kind Is ts ds → SpellsUserSpec ts us ps → ⊥
 kind_no_user_spec kind k Is ts ds [] ps g h = absurd h.1
 kind_no_user_spec kind k Is ts ds (u ∷ us) ps g h =
@@ -157,25 +163,41 @@ cmnd_kind = record { all = λ e. absurd cc; name = refl; alias = refl }
 
 -- tokens spell one tree
 pub tree_one : (ts : List Tok) (a b : Line) → SpellsTree ts a → SpellsTree ts b → a ≡ b
-tree_one ts (lines.Users ds) (lines.Users es) g h = ap (λ (xs : List (Definition (Item (List ℕ)))). lines.Users xs) (aliases_one (codes "User_Alias") (SpellsItem is_name) users_items_one ts ds es g h)
-tree_one ts (lines.Users ds) (lines.Runas es) g h = absurd (kinds_differ (codes "User_Alias") (codes "Runas_Alias") refl (kinds_same (codes "User_Alias") (codes "Runas_Alias") (SpellsItem is_name) (SpellsItem is_name) ts ds es g h))
-tree_one ts (lines.Users ds) (lines.Hosts es) g h = absurd (kinds_differ (codes "User_Alias") (codes "Host_Alias") refl (kinds_same (codes "User_Alias") (codes "Host_Alias") (SpellsItem is_name) (SpellsItem is_host_name) ts ds es g h))
-tree_one ts (lines.Users ds) (lines.Cmnds es) g h = absurd (kinds_differ (codes "User_Alias") (codes "Cmnd_Alias") refl (kinds_same (codes "User_Alias") (codes "Cmnd_Alias") (SpellsItem is_name) SpellsCmnd ts ds es g h))
+tree_one ts (lines.Users ds) (lines.Users es) g h =
+    ap (λ (xs : List (Definition (Item (List ℕ)))). lines.Users xs) (aliases_one (codes "User_Alias") (SpellsItem is_name) users_items_one ts ds es g h)
+tree_one ts (lines.Users ds) (lines.Runas es) g h = absurd (kinds_differ (codes "User_Alias") (codes "Runas_Alias") refl
+    (kinds_same (codes "User_Alias") (codes "Runas_Alias") (SpellsItem is_name) (SpellsItem is_name) ts ds es g h))
+tree_one ts (lines.Users ds) (lines.Hosts es) g h = absurd (kinds_differ (codes "User_Alias") (codes "Host_Alias") refl
+    (kinds_same (codes "User_Alias") (codes "Host_Alias") (SpellsItem is_name) (SpellsItem is_host_name) ts ds es g h))
+tree_one ts (lines.Users ds) (lines.Cmnds es) g h = absurd (kinds_differ (codes "User_Alias") (codes "Cmnd_Alias") refl
+    (kinds_same (codes "User_Alias") (codes "Cmnd_Alias") (SpellsItem is_name) SpellsCmnd ts ds es g h))
 tree_one ts (lines.Users ds) (lines.UserSpec us ps) g h = absurd (kind_no_user_spec (codes "User_Alias") user_kind (SpellsItem is_name) ts ds us ps g h)
-tree_one ts (lines.Runas ds) (lines.Users es) g h = absurd (kinds_differ (codes "Runas_Alias") (codes "User_Alias") refl (kinds_same (codes "Runas_Alias") (codes "User_Alias") (SpellsItem is_name) (SpellsItem is_name) ts ds es g h))
-tree_one ts (lines.Runas ds) (lines.Runas es) g h = ap (λ (xs : List (Definition (Item (List ℕ)))). lines.Runas xs) (aliases_one (codes "Runas_Alias") (SpellsItem is_name) users_items_one ts ds es g h)
-tree_one ts (lines.Runas ds) (lines.Hosts es) g h = absurd (kinds_differ (codes "Runas_Alias") (codes "Host_Alias") refl (kinds_same (codes "Runas_Alias") (codes "Host_Alias") (SpellsItem is_name) (SpellsItem is_host_name) ts ds es g h))
-tree_one ts (lines.Runas ds) (lines.Cmnds es) g h = absurd (kinds_differ (codes "Runas_Alias") (codes "Cmnd_Alias") refl (kinds_same (codes "Runas_Alias") (codes "Cmnd_Alias") (SpellsItem is_name) SpellsCmnd ts ds es g h))
+tree_one ts (lines.Runas ds) (lines.Users es) g h = absurd (kinds_differ (codes "Runas_Alias") (codes "User_Alias") refl
+    (kinds_same (codes "Runas_Alias") (codes "User_Alias") (SpellsItem is_name) (SpellsItem is_name) ts ds es g h))
+tree_one ts (lines.Runas ds) (lines.Runas es) g h =
+    ap (λ (xs : List (Definition (Item (List ℕ)))). lines.Runas xs) (aliases_one (codes "Runas_Alias") (SpellsItem is_name) users_items_one ts ds es g h)
+tree_one ts (lines.Runas ds) (lines.Hosts es) g h = absurd (kinds_differ (codes "Runas_Alias") (codes "Host_Alias") refl
+    (kinds_same (codes "Runas_Alias") (codes "Host_Alias") (SpellsItem is_name) (SpellsItem is_host_name) ts ds es g h))
+tree_one ts (lines.Runas ds) (lines.Cmnds es) g h = absurd (kinds_differ (codes "Runas_Alias") (codes "Cmnd_Alias") refl
+    (kinds_same (codes "Runas_Alias") (codes "Cmnd_Alias") (SpellsItem is_name) SpellsCmnd ts ds es g h))
 tree_one ts (lines.Runas ds) (lines.UserSpec us ps) g h = absurd (kind_no_user_spec (codes "Runas_Alias") runas_kind (SpellsItem is_name) ts ds us ps g h)
-tree_one ts (lines.Hosts ds) (lines.Users es) g h = absurd (kinds_differ (codes "Host_Alias") (codes "User_Alias") refl (kinds_same (codes "Host_Alias") (codes "User_Alias") (SpellsItem is_host_name) (SpellsItem is_name) ts ds es g h))
-tree_one ts (lines.Hosts ds) (lines.Runas es) g h = absurd (kinds_differ (codes "Host_Alias") (codes "Runas_Alias") refl (kinds_same (codes "Host_Alias") (codes "Runas_Alias") (SpellsItem is_host_name) (SpellsItem is_name) ts ds es g h))
-tree_one ts (lines.Hosts ds) (lines.Hosts es) g h = ap (λ (xs : List (Definition (Item (List ℕ)))). lines.Hosts xs) (aliases_one (codes "Host_Alias") (SpellsItem is_host_name) hosts_items_one ts ds es g h)
-tree_one ts (lines.Hosts ds) (lines.Cmnds es) g h = absurd (kinds_differ (codes "Host_Alias") (codes "Cmnd_Alias") refl (kinds_same (codes "Host_Alias") (codes "Cmnd_Alias") (SpellsItem is_host_name) SpellsCmnd ts ds es g h))
+tree_one ts (lines.Hosts ds) (lines.Users es) g h = absurd (kinds_differ (codes "Host_Alias") (codes "User_Alias") refl
+    (kinds_same (codes "Host_Alias") (codes "User_Alias") (SpellsItem is_host_name) (SpellsItem is_name) ts ds es g h))
+tree_one ts (lines.Hosts ds) (lines.Runas es) g h = absurd (kinds_differ (codes "Host_Alias") (codes "Runas_Alias") refl
+    (kinds_same (codes "Host_Alias") (codes "Runas_Alias") (SpellsItem is_host_name) (SpellsItem is_name) ts ds es g h))
+tree_one ts (lines.Hosts ds) (lines.Hosts es) g h =
+    ap (λ (xs : List (Definition (Item (List ℕ)))). lines.Hosts xs) (aliases_one (codes "Host_Alias") (SpellsItem is_host_name) hosts_items_one ts ds es g h)
+tree_one ts (lines.Hosts ds) (lines.Cmnds es) g h = absurd (kinds_differ (codes "Host_Alias") (codes "Cmnd_Alias") refl
+    (kinds_same (codes "Host_Alias") (codes "Cmnd_Alias") (SpellsItem is_host_name) SpellsCmnd ts ds es g h))
 tree_one ts (lines.Hosts ds) (lines.UserSpec us ps) g h = absurd (kind_no_user_spec (codes "Host_Alias") host_kind (SpellsItem is_host_name) ts ds us ps g h)
-tree_one ts (lines.Cmnds ds) (lines.Users es) g h = absurd (kinds_differ (codes "Cmnd_Alias") (codes "User_Alias") refl (kinds_same (codes "Cmnd_Alias") (codes "User_Alias") SpellsCmnd (SpellsItem is_name) ts ds es g h))
-tree_one ts (lines.Cmnds ds) (lines.Runas es) g h = absurd (kinds_differ (codes "Cmnd_Alias") (codes "Runas_Alias") refl (kinds_same (codes "Cmnd_Alias") (codes "Runas_Alias") SpellsCmnd (SpellsItem is_name) ts ds es g h))
-tree_one ts (lines.Cmnds ds) (lines.Hosts es) g h = absurd (kinds_differ (codes "Cmnd_Alias") (codes "Host_Alias") refl (kinds_same (codes "Cmnd_Alias") (codes "Host_Alias") SpellsCmnd (SpellsItem is_host_name) ts ds es g h))
-tree_one ts (lines.Cmnds ds) (lines.Cmnds es) g h = ap (λ (xs : List (Definition CmndItem)). lines.Cmnds xs) (aliases_one (codes "Cmnd_Alias") SpellsCmnd cmnds_items_one ts ds es g h)
+tree_one ts (lines.Cmnds ds) (lines.Users es) g h = absurd (kinds_differ (codes "Cmnd_Alias") (codes "User_Alias") refl
+    (kinds_same (codes "Cmnd_Alias") (codes "User_Alias") SpellsCmnd (SpellsItem is_name) ts ds es g h))
+tree_one ts (lines.Cmnds ds) (lines.Runas es) g h = absurd (kinds_differ (codes "Cmnd_Alias") (codes "Runas_Alias") refl
+    (kinds_same (codes "Cmnd_Alias") (codes "Runas_Alias") SpellsCmnd (SpellsItem is_name) ts ds es g h))
+tree_one ts (lines.Cmnds ds) (lines.Hosts es) g h = absurd (kinds_differ (codes "Cmnd_Alias") (codes "Host_Alias") refl
+    (kinds_same (codes "Cmnd_Alias") (codes "Host_Alias") SpellsCmnd (SpellsItem is_host_name) ts ds es g h))
+tree_one ts (lines.Cmnds ds) (lines.Cmnds es) g h =
+    ap (λ (xs : List (Definition CmndItem)). lines.Cmnds xs) (aliases_one (codes "Cmnd_Alias") SpellsCmnd cmnds_items_one ts ds es g h)
 tree_one ts (lines.Cmnds ds) (lines.UserSpec us ps) g h = absurd (kind_no_user_spec (codes "Cmnd_Alias") cmnd_kind SpellsCmnd ts ds us ps g h)
 tree_one ts (lines.UserSpec us ps) (lines.Users es) g h = absurd (kind_no_user_spec (codes "User_Alias") user_kind (SpellsItem is_name) ts es us ps h g)
 tree_one ts (lines.UserSpec us ps) (lines.Runas es) g h = absurd (kind_no_user_spec (codes "Runas_Alias") runas_kind (SpellsItem is_name) ts es us ps h g)

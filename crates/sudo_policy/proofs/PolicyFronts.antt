@@ -1,5 +1,6 @@
 -- Entries behind entries: a front of a policy is a policy.
-use Rattle.std.proofs.Common.{◌≡◌, ℕ, ◌+◌, ◌<◌, List, [], ◌∷◌, ◌++◌, length, get_or, take, drop, reverse, map, sym, ap, subst, ◌∙◌, append_assoc, add_assoc, zero-add, arith}
+use Rattle.std.proofs.Common.{◌≡◌, ℕ, ◌+◌, ◌<◌, List, [], ◌∷◌, ◌++◌, length, get_or, take, drop, reverse}
+use Rattle.std.proofs.Common.{map, sym, ap, subst, ◌∙◌, append_assoc, add_assoc, zero-add, arith}
 use Rattle.std.specs.List.{AllByRecursion}
 use Rattle.std.proofs.lemmas.List.{append-nil, length-append, reverse-append, take-append-drop, take_more}
 use Rattle.std.proofs.lemmas.List.Concat.{flat_map-append}
@@ -99,7 +100,8 @@ placed_push es e h k =
 
 pub weight_push : (es : List Entry) (e : Entry) → weight (es ++ e ∷ []) ≡ weight es + entry_weight (reverse es) e
 weight_push es e =
-    let one : weight_below (onto [] es) (e ∷ []) ≡ entry_weight (reverse es) e = ap (λ (xs : List Entry). weight_below xs (e ∷ [])) (onto-nil es) ∙ omega arith in
+    let one : weight_below (onto [] es) (e ∷ []) ≡ entry_weight (reverse es) e =
+    ap (λ (xs : List Entry). weight_below xs (e ∷ [])) (onto-nil es) ∙ omega arith in
     weight_both [] es (e ∷ []) ∙ ap (λ (n : ℕ). weight es + n) one
 
 pub canon_push : (es : List Entry) (e : Entry) → length (canon (es ++ e ∷ [])) ≡ length (canon es) + length (line_text e)
@@ -112,7 +114,8 @@ canon_push es e =
 pub knows_above : (above : List Entry) (rule r : Rule) → KnowsRule (entries.Rule rule ∷ above) r → KnowsRule above r
 knows_above above rule r h = record { users = h.users; hosts = h.hosts; runas = h.runas; cmnd = h.cmnd }
 
-each_above : (above : List Entry) (rule : Rule) (rules : List Rule) → AllByRecursion (KnowsRule (entries.Rule rule ∷ above)) rules → AllByRecursion (KnowsRule above) rules
+each_above : (above : List Entry) (rule : Rule) (rules : List Rule)
+    → AllByRecursion (KnowsRule (entries.Rule rule ∷ above)) rules → AllByRecursion (KnowsRule above) rules
 each_above above rule [] h = tt
 each_above above rule (r ∷ rules) h = (knows_above above rule r h.0, each_above above rule rules h.1)
 

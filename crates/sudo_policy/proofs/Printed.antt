@@ -5,14 +5,16 @@ use Rattle.std.specs.List.{AllByRecursion}
 use Rattle.std.proofs.lemmas.List.{append-nil, take_rest}
 use Rattle.sudo_policy.specs.Printing.{alias_text, tail_text}
 
-pub tail_suc : {X : Type 0} (f : X → List ℕ) (xs : List X) (i : ℕ) (d : X) → i < length xs → tail_text f (take (suc i) xs) ≡ (tail_text f (take i xs) ++ codes ", ") ++ f (get_or xs i d)
+pub tail_suc : {X : Type 0} (f : X → List ℕ) (xs : List X) (i : ℕ) (d : X) → i < length xs
+    → tail_text f (take (suc i) xs) ≡ (tail_text f (take i xs) ++ codes ", ") ++ f (get_or xs i d)
 tail_suc f [] i d h = absurd (omega arith)
 tail_suc f (x ∷ xs) zero d h = simp append-nil
 tail_suc f (x ∷ xs) (suc i) d h =
     ap (λ (t : List ℕ). (codes ", " ++ f x) ++ t) (tail_suc f xs i d (omega arith)) ∙ simp append_assoc
 
 -- the items behind the first
-pub tail_more : {X : Type 0} (f : X → List ℕ) (xs : List X) (i : ℕ) (d : X) (old : List ℕ) → i < length xs → ((old ++ tail_text f (take i xs)) ++ codes ", ") ++ f (get_or xs i d) ≡ old ++ tail_text f (take (i + 1) xs)
+pub tail_more : {X : Type 0} (f : X → List ℕ) (xs : List X) (i : ℕ) (d : X) (old : List ℕ) → i < length xs
+    → ((old ++ tail_text f (take i xs)) ++ codes ", ") ++ f (get_or xs i d) ≡ old ++ tail_text f (take (i + 1) xs)
 tail_more f xs i d old h =
     let one : i + 1 ≡ suc i = omega arith in
     rw (one, tail_suc f xs i d h) (simp append_assoc)

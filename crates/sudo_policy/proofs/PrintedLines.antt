@@ -1,5 +1,6 @@
 -- The bytes of a line that is read as tokens: blanks, `!`, marks and those of words. It does not end in a backslash.
-use Rattle.std.proofs.Common.{◌≡◌, ℕ, zero, suc, ◌-◌, Bool, true, false, cond, eqb, ◌&&◌, List, [], ◌∷◌, ◌++◌, length, get_or, refl, sym, ap, subst, ◌∙◌, inl, inr, append-nil, arith}
+use Rattle.std.proofs.Common.{◌≡◌, ℕ, zero, suc, ◌-◌, Bool, true, false, cond, eqb, ◌&&◌, List, [], ◌∷◌}
+use Rattle.std.proofs.Common.{◌++◌, length, get_or, refl, sym, ap, subst, ◌∙◌, inl, inr, append-nil, arith}
 use Rattle.std.specs.List.{AllByRecursion}
 use Rattle.std.proofs.lemmas.Bool.{and_parts, cases_Bool, eqb-true}
 use Rattle.std.proofs.lemmas.Bool.Decides.{nat_tests}
@@ -43,10 +44,12 @@ word_all P in_line (b ∷ []) h = (in_line.words b h, tt)
 word_all P in_line (b ∷ c ∷ rest) h =
     elim (cases_Bool (eqb b named.backslash)) [
       | inl e ↦
-          let both = and_parts (is_escaped c) (is_word_text rest) (sym (ap (λ (v : Bool). cond v (is_escaped c && is_word_text rest) (is_word_byte b && is_word_text (c ∷ rest))) e) ∙ h) in
+          let both = and_parts (is_escaped c) (is_word_text rest)
+          (sym (ap (λ (v : Bool). cond v (is_escaped c && is_word_text rest) (is_word_byte b && is_word_text (c ∷ rest))) e) ∙ h) in
           (subst P (sym (eqb-true b named.backslash e)) in_line.backslash, (in_line.escaped c both.0, word_all P in_line rest both.1))
       | inr e ↦
-          let both = and_parts (is_word_byte b) (is_word_text (c ∷ rest)) (sym (ap (λ (v : Bool). cond v (is_escaped c && is_word_text rest) (is_word_byte b && is_word_text (c ∷ rest))) e) ∙ h) in
+          let both = and_parts (is_word_byte b) (is_word_text (c ∷ rest))
+          (sym (ap (λ (v : Bool). cond v (is_escaped c && is_word_text rest) (is_word_byte b && is_word_text (c ∷ rest))) e) ∙ h) in
           (in_line.words b both.0, word_all P in_line (c ∷ rest) both.1)
     ]
 
@@ -57,7 +60,8 @@ lexed_bytes P in_line line (word a n w ∷ ts) h =
     (all_append P h.0 ((bangs n ++ w) ++ h.1) (all_each P is_blank in_line.blank h.0 h.2)
     (all_append P (bangs n ++ w) h.1 (all_append P (bangs n) w (bangs_all P in_line.bang n) (word_all P in_line w h.4.1)) (lexed_bytes P in_line h.1 ts h.6)))
 lexed_bytes P in_line line (mark a m ∷ ts) h =
-    subst (AllByRecursion P) (sym h.5) (all_append P h.0 (m ∷ h.1) (all_each P is_blank in_line.blank h.0 h.2) (in_line.marks m h.4, lexed_bytes P in_line h.1 ts h.6))
+    subst (AllByRecursion P) (sym h.5)
+    (all_append P h.0 (m ∷ h.1) (all_each P is_blank in_line.blank h.0 h.2) (in_line.marks m h.4, lexed_bytes P in_line h.1 ts h.6))
 
 -- ---- they are bytes of a text, and neither a newline nor a `#`
 
@@ -150,10 +154,12 @@ word_end (b ∷ []) h = word_no_backslash b h
 word_end (b ∷ c ∷ rest) h =
     elim (cases_Bool (eqb b named.backslash)) [
       | inl e ↦
-          let both = and_parts (is_escaped c) (is_word_text rest) (sym (ap (λ (v : Bool). cond v (is_escaped c && is_word_text rest) (is_word_byte b && is_word_text (c ∷ rest))) e) ∙ h) in
+          let both = and_parts (is_escaped c) (is_word_text rest)
+          (sym (ap (λ (v : Bool). cond v (is_escaped c && is_word_text rest) (is_word_byte b && is_word_text (c ∷ rest))) e) ∙ h) in
           ends_later is_backslash b c rest ∙ ends_append is_backslash (c ∷ []) rest (escaped_no_backslash c both.0) (word_end rest both.1)
       | inr e ↦
-          let both = and_parts (is_word_byte b) (is_word_text (c ∷ rest)) (sym (ap (λ (v : Bool). cond v (is_escaped c && is_word_text rest) (is_word_byte b && is_word_text (c ∷ rest))) e) ∙ h) in
+          let both = and_parts (is_word_byte b) (is_word_text (c ∷ rest))
+          (sym (ap (λ (v : Bool). cond v (is_escaped c && is_word_text rest) (is_word_byte b && is_word_text (c ∷ rest))) e) ∙ h) in
           ends_later is_backslash b c rest ∙ word_end (c ∷ rest) both.1
     ]
 

@@ -1,5 +1,6 @@
 -- What is printed is read as its tokens, which spell it: items, commands, and lists of them.
-use Rattle.std.proofs.Common.{◌≡◌, ℕ, ◌≤◌, Bool, true, false, cond, eqb, ◌&&◌, ◌||◌, List, [], ◌∷◌, ◌++◌, length, refl, sym, ap, subst, ◌∙◌, append_assoc, append-nil, arith}
+use Rattle.std.proofs.Common.{◌≡◌, ℕ, ◌≤◌, Bool, true, false, cond, eqb, ◌&&◌, ◌||◌, List, [], ◌∷◌}
+use Rattle.std.proofs.Common.{◌++◌, length, refl, sym, ap, subst, ◌∙◌, append_assoc, append-nil, arith}
 use Rattle.std.specs.List.{AllByRecursion, flat_map}
 use Rattle.sudo_words.specs.Bytes.{space, comma, quote, bang, backslash}
 use Rattle.sudo_words.specs.Word.{is_arg}
@@ -28,7 +29,8 @@ pub stop : (b : ℕ) (rest : List ℕ) → is_word_byte b ≡ false → eqb b ba
 stop b [] h k = h
 stop b (c ∷ rest) h k = ap (λ (v : Bool). v || (eqb b backslash && is_escaped c)) h ∙ ap (λ (v : Bool). v && is_escaped c) k
 
-pub lex_word : (a : Bool) (n : ℕ) (w rest : List ℕ) (ts : List Tok) → IsWord w → goes_on rest ≡ false → Lexes rest ts → Lexes (gap a ++ ((bangs n ++ w) ++ rest)) (word a n w ∷ ts)
+pub lex_word : (a : Bool) (n : ℕ) (w rest : List ℕ) (ts : List Tok) → IsWord w → goes_on rest ≡ false
+    → Lexes rest ts → Lexes (gap a ++ ((bangs n ++ w) ++ rest)) (word a n w ∷ ts)
 lex_word true n w rest ts is stops h = (space ∷ [], rest, (refl, tt), refl, (is.some, is.text, stops), refl, h)
 lex_word false n w rest ts is stops h = ([], rest, tt, refl, (is.some, is.text, stops), refl, h)
 
@@ -44,7 +46,8 @@ lex_same a b ts us e f h = subst (Lexes b) f (subst (λ (x : List ℕ). Lexes x 
 
 -- what f prints, behind a blank or not, is read as the tokens that g gives
 abbrev pub IsPrinted : {X : Type 0} → (X → Type 0) → (X → List ℕ) → (Bool → X → List Tok) → Type 0
-IsPrinted {X} P f g = (a : Bool) (x : X) (rest : List ℕ) (ts : List Tok) → P x → goes_on rest ≡ false → Lexes rest ts → Lexes (gap a ++ (f x ++ rest)) (g a x ++ ts)
+IsPrinted {X} P f g =
+    (a : Bool) (x : X) (rest : List ℕ) (ts : List Tok) → P x → goes_on rest ≡ false → Lexes rest ts → Lexes (gap a ++ (f x ++ rest)) (g a x ++ ts)
 
 -- these tokens spell it
 abbrev pub IsSpelled : {X : Type 0} → (X → Type 0) → (List Tok → X → List Tok → Type 0) → (Bool → X → List Tok) → Type 0
@@ -64,25 +67,27 @@ tail_stops : {X : Type 0} (f : X → List ℕ) (xs : List X) (rest : List ℕ) �
 tail_stops f [] rest h = h
 tail_stops f (x ∷ xs) rest h = stop comma (space ∷ ((f x ++ tail_text f xs) ++ rest)) refl refl
 
-lex_tail : {X : Type 0} (P : X → Type 0) (f : X → List ℕ) (g : Bool → X → List Tok) → IsPrinted P f g → (xs : List X) (rest : List ℕ) (ts : List Tok) → AllByRecursion P xs → goes_on rest ≡ false → Lexes rest ts
-    → Lexes (tail_text f xs ++ rest) (tail_toks g xs ++ ts)
+lex_tail : {X : Type 0} (P : X → Type 0) (f : X → List ℕ) (g : Bool → X → List Tok) → IsPrinted P f g → (xs : List X) (rest : List ℕ) (ts : List Tok)
+    → AllByRecursion P xs → goes_on rest ≡ false → Lexes rest ts → Lexes (tail_text f xs ++ rest) (tail_toks g xs ++ ts)
 lex_tail P f g printed [] rest ts all stops h = h
 lex_tail P f g printed (x ∷ xs) rest ts all stops h =
     let more = lex_tail P f g printed xs rest ts all.1 stops h in
     let item = printed true x (tail_text f xs ++ rest) (tail_toks g xs ++ ts) all.0 (tail_stops f xs rest stops) more in
-    lex_mark false comma (space ∷ ((f x ++ tail_text f xs) ++ rest)) ((g true x ++ tail_toks g xs) ++ ts) refl
-    (lex_same (space ∷ (f x ++ (tail_text f xs ++ rest))) (space ∷ ((f x ++ tail_text f xs) ++ rest)) (g true x ++ (tail_toks g xs ++ ts)) ((g true x ++ tail_toks g xs) ++ ts)
+    lex_mark false comma (space ∷ ((f x ++ tail_text f xs) ++ rest)) ((g true x ++ tail_toks g xs) ++ ts) refl (lex_same (space
+    ∷ (f x ++ (tail_text f xs ++ rest))) (space ∷ ((f x ++ tail_text f xs) ++ rest)) (g true x ++ (tail_toks g xs ++ ts)) ((g true x ++ tail_toks g xs) ++ ts)
     (ap (λ (t : List ℕ). space ∷ t) (sym (append_assoc (f x) (tail_text f xs) rest))) (sym (append_assoc (g true x) (tail_toks g xs) ts)) item)
 
-pub lex_list : {X : Type 0} (P : X → Type 0) (f : X → List ℕ) (g : Bool → X → List Tok) → IsPrinted P f g → IsPrinted (λ xs. (1 ≤ length xs) × AllByRecursion P xs) (list_text f) (list_toks g)
+pub lex_list : {X : Type 0} (P : X → Type 0) (f : X → List ℕ) (g : Bool → X → List Tok) → IsPrinted P f g
+    → IsPrinted (λ xs. (1 ≤ length xs) × AllByRecursion P xs) (list_text f) (list_toks g)
 lex_list P f g printed a [] rest ts all stops h = absurd (omega (arith, all.0))
 lex_list P f g printed a (x ∷ xs) rest ts all stops h =
     let more = lex_tail P f g printed xs rest ts all.1.1 stops h in
     let item = printed a x (tail_text f xs ++ rest) (tail_toks g xs ++ ts) all.1.0 (tail_stops f xs rest stops) more in
-    lex_same (gap a ++ (f x ++ (tail_text f xs ++ rest))) (gap a ++ ((f x ++ tail_text f xs) ++ rest)) (g a x ++ (tail_toks g xs ++ ts)) ((g a x ++ tail_toks g xs) ++ ts)
-    (ap (λ (t : List ℕ). gap a ++ t) (sym (append_assoc (f x) (tail_text f xs) rest))) (sym (append_assoc (g a x) (tail_toks g xs) ts)) item
+    lex_same (gap a ++ (f x ++ (tail_text f xs ++ rest))) (gap a ++ ((f x ++ tail_text f xs) ++ rest)) (g a x ++ (tail_toks g xs ++ ts)) ((g a x ++ tail_toks g
+    xs) ++ ts) (ap (λ (t : List ℕ). gap a ++ t) (sym (append_assoc (f x) (tail_text f xs) rest))) (sym (append_assoc (g a x) (tail_toks g xs) ts)) item
 
-tail_spelled : {X : Type 0} (P : X → Type 0) (Is : List Tok → X → List Tok → Type 0) (g : Bool → X → List Tok) → IsSpelled P Is g → (xs : List X) (rest : List Tok) → AllByRecursion P xs → More comma Is (tail_toks g xs ++ rest) xs rest
+tail_spelled : {X : Type 0} (P : X → Type 0) (Is : List Tok → X → List Tok → Type 0) (g : Bool → X → List Tok)
+    → IsSpelled P Is g → (xs : List X) (rest : List Tok) → AllByRecursion P xs → More comma Is (tail_toks g xs ++ rest) xs rest
 tail_spelled P Is g spelled [] rest all = refl
 tail_spelled P Is g spelled (x ∷ xs) rest all = (
   false,
@@ -93,10 +98,15 @@ tail_spelled P Is g spelled (x ∷ xs) rest all = (
   tail_spelled P Is g spelled xs rest all.1,
 )
 
-pub list_spelled : {X : Type 0} (P : X → Type 0) (Is : List Tok → X → List Tok → Type 0) (g : Bool → X → List Tok) → IsSpelled P Is g → IsSpelled (λ xs. (1 ≤ length xs) × AllByRecursion P xs) (Listed comma Is) (list_toks g)
+pub list_spelled : {X : Type 0} (P : X → Type 0) (Is : List Tok → X → List Tok → Type 0) (g : Bool → X → List Tok)
+    → IsSpelled P Is g → IsSpelled (λ xs. (1 ≤ length xs) × AllByRecursion P xs) (Listed comma Is) (list_toks g)
 list_spelled P Is g spelled a [] rest all = absurd (omega (arith, all.0))
-list_spelled P Is g spelled a (x ∷ xs) rest all =
-    (tail_toks g xs ++ rest, subst (λ (ts : List Tok). Is ts x (tail_toks g xs ++ rest)) (sym (append_assoc (g a x) (tail_toks g xs) rest)) (spelled a x (tail_toks g xs ++ rest) all.1.0), tail_spelled P Is g spelled xs rest all.1.1)
+list_spelled P Is g spelled a (x ∷ xs) rest all = (
+  tail_toks g xs ++ rest,
+  subst (λ (ts : List Tok). Is ts x (tail_toks g xs ++ rest)) (sym (append_assoc (g a x) (tail_toks g xs) rest))
+      (spelled a x (tail_toks g xs ++ rest) all.1.0),
+  tail_spelled P Is g spelled xs rest all.1.1,
+)
 
 -- ---- items
 
@@ -118,8 +128,8 @@ item_toks a s = word a (sign s.negated) (item_text s.item) ∷ []
 
 pub lex_item : (form : List ℕ → Bool) → ((w : List ℕ) → form w ≡ true → IsWord w) → IsPrinted (λ s. IsItem form s.item) (signed_text item_text) item_toks
 lex_item form named a s rest ts is stops h =
-    lex_same (gap a ++ ((bangs (sign s.negated) ++ item_text s.item) ++ rest)) (gap a ++ (signed_text item_text s ++ rest)) (item_toks a s ++ ts) (item_toks a s ++ ts)
-    (ap (λ (t : List ℕ). gap a ++ (t ++ rest)) (sym (signed_is s.negated (item_text s.item)))) refl
+    lex_same (gap a ++ ((bangs (sign s.negated) ++ item_text s.item) ++ rest)) (gap a ++ (signed_text item_text s ++ rest)) (item_toks a s
+    ++ ts) (item_toks a s ++ ts) (ap (λ (t : List ℕ). gap a ++ (t ++ rest)) (sym (signed_is s.negated (item_text s.item)))) refl
     (lex_word a (sign s.negated) (item_text s.item) rest ts (item_word form named s.item is) stops h)
 
 pub item_spelled : (form : List ℕ → Bool) → IsSpelled (λ s. IsItem form s.item) (SpellsItem form) item_toks
@@ -164,14 +174,16 @@ behind_stops : (c : CmndItem) (rest : List ℕ) → goes_on rest ≡ false → g
 behind_stops (cmnds.Alias w) rest h = h
 behind_stops (cmnds.Cmnd c) rest h = rule_stops (rule_of c) rest h
 
-lex_behind : (c : CmndItem) (rest : List ℕ) (ts : List Tok) → IsCmndItem c → goes_on rest ≡ false → Lexes rest ts → Lexes (behind_head c ++ rest) (args_of c ++ ts)
+lex_behind : (c : CmndItem) (rest : List ℕ) (ts : List Tok) → IsCmndItem c
+    → goes_on rest ≡ false → Lexes rest ts → Lexes (behind_head c ++ rest) (args_of c ++ ts)
 lex_behind (cmnds.Alias w) rest ts is stops h = h
 lex_behind (cmnds.Cmnd c) rest ts is stops h = lex_rule (rule_of c) rest ts is.args stops h
 
 abbrev pub cmnd_toks : Bool → Signed CmndItem → List Tok
 cmnd_toks a s = word a (sign s.negated) (head_of s.item) ∷ args_of s.item
 
-cmnd_front : (b : Bool) (c : CmndItem) (rest : List ℕ) → (bangs (sign b) ++ head_of c) ++ (behind_head c ++ rest) ≡ cond b (bang ∷ cmnd_item_text c) (cmnd_item_text c) ++ rest
+cmnd_front : (b : Bool) (c : CmndItem) (rest : List ℕ)
+    → (bangs (sign b) ++ head_of c) ++ (behind_head c ++ rest) ≡ cond b (bang ∷ cmnd_item_text c) (cmnd_item_text c) ++ rest
 cmnd_front b c rest =
     append_assoc (bangs (sign b)) (head_of c) (behind_head c ++ rest)
     ∙ ap (λ (t : List ℕ). bangs (sign b) ++ t) (sym (append_assoc (head_of c) (behind_head c) rest) ∙ ap (λ (t : List ℕ). t ++ rest) (sym (head_and_behind c)))
@@ -181,8 +193,8 @@ pub lex_cmnd : IsPrinted (λ s. IsCmndItem s.item) (signed_text cmnd_item_text) 
 lex_cmnd a s rest ts is stops h =
     let us = cmnd_toks a s ++ ts in
     lex_same (gap a ++ ((bangs (sign s.negated) ++ head_of s.item) ++ (behind_head s.item ++ rest))) (gap a ++ (signed_text cmnd_item_text s ++ rest)) us us
-    (ap (λ (t : List ℕ). gap a ++ t) (cmnd_front s.negated s.item rest)) refl
-    (lex_word a (sign s.negated) (head_of s.item) (behind_head s.item ++ rest) (args_of s.item ++ ts) (cmnd_head_word s.item is) (behind_stops s.item rest stops) (lex_behind s.item rest ts is stops h))
+    (ap (λ (t : List ℕ). gap a ++ t) (cmnd_front s.negated s.item rest)) refl (lex_word a (sign s.negated) (head_of s.item)
+    (behind_head s.item ++ rest) (args_of s.item ++ ts) (cmnd_head_word s.item is) (behind_stops s.item rest stops) (lex_behind s.item rest ts is stops h))
 
 pub cmnd_spelled : IsSpelled (λ s. IsCmndItem s.item) SpellsCmnd cmnd_toks
 cmnd_spelled a s rest is = record { spaced = a; bangs = sign s.negated; toks = refl; item = is; sign = odd_sign s.negated }

@@ -1,5 +1,6 @@
 -- The line of a rule is read as tokens that spell the rule.
-use Rattle.std.proofs.Common.{◌≡◌, ℕ, ◌≤◌, Bool, true, false, List, [], ◌∷◌, ◌++◌, length, Option, Some, None, refl, sym, ap, subst, ◌∙◌, inl, inr, append_assoc, append-nil, arith}
+use Rattle.std.proofs.Common.{◌≡◌, ℕ, ◌≤◌, Bool, true, false, List, [], ◌∷◌, ◌++◌, length, Option, Some}
+use Rattle.std.proofs.Common.{None, refl, sym, ap, subst, ◌∙◌, inl, inr, append_assoc, append-nil, arith}
 use Rattle.std.specs.Prelude.{codes, IfSome, unwrap_or}
 use Rattle.std.specs.Option.{option_or}
 use Rattle.sudo_words.specs.Bytes.{space, equals, colon, opening, closing}
@@ -17,11 +18,13 @@ use Rattle.sudo_policy.specs.declared.tree.Line.TheVariants as lines
 use Rattle.sudo_policy.specs.Lex.{Tok, word, mark, Lexes}
 use Rattle.sudo_policy.specs.Printing.{item_text, cmnd_item_text, signed_text, names_text, date_text, tag_text, rule_text}
 use Rattle.sudo_policy.specs.Policy.{IsItem, IsList, IsRule}
-use Rattle.sudo_policy.specs.Grammar.{Date, Bounds, Users, Hosts, begins_spaced, SpellsItem, SpellsDates, SpellsTags, SpellsCmndSpec, SpellsPart, SpellsTree, last_tag}
+use Rattle.sudo_policy.specs.Grammar.{Date, Bounds, Users, Hosts, begins_spaced, SpellsItem, SpellsDates}
+use Rattle.sudo_policy.specs.Grammar.{SpellsTags, SpellsCmndSpec, SpellsPart, SpellsTree, last_tag}
 use Rattle.sudo_policy.specs.Inheritance.{entries_of}
 use Rattle.sudo_policy.proofs.SpecTexts.{BeginsWord}
 use Rattle.sudo_policy.proofs.PrintedWords.{IsWord, name_word, host_word, literal, stamp_word}
-use Rattle.sudo_policy.proofs.PrintedLists.{stop, lex_word, lex_mark, list_toks, lex_list, list_spelled, item_toks, lex_item, item_spelled, cmnd_toks, lex_cmnd, cmnd_spelled, IsPrinted, IsSpelled}
+use Rattle.sudo_policy.proofs.PrintedLists.{stop, lex_word, lex_mark, list_toks, lex_list, list_spelled, item_toks}
+use Rattle.sudo_policy.proofs.PrintedLists.{lex_item, item_spelled, cmnd_toks, lex_cmnd, cmnd_spelled, IsPrinted, IsSpelled}
 
 -- ---- lists of users and of hosts
 
@@ -61,17 +64,18 @@ date_front option time rest = simp append_assoc
 lex_date : (option time rest : List ℕ) (ts : List Tok) → IsWord option → IsWord time → Lexes (space ∷ rest) ts
     → Lexes (space ∷ ((option ++ codes "=" ++ time ++ codes " ") ++ rest)) (word true 0 option ∷ mark false equals ∷ word false 0 time ∷ ts)
 lex_date option time rest ts name is h =
-    subst (λ (x : List ℕ). Lexes (space ∷ x) (word true 0 option ∷ mark false equals ∷ word false 0 time ∷ ts)) (sym (date_front option time rest))
-    (lex_word true 0 option (equals ∷ (time ++ (space ∷ rest))) (mark false equals ∷ word false 0 time ∷ ts) name (stop equals (time ++ (space ∷ rest)) refl refl)
+    subst (λ (x : List ℕ). Lexes (space ∷ x) (word true 0 option ∷ mark false equals ∷ word false 0 time ∷ ts)) (sym (date_front option time rest)) (lex_word
+    true 0 option (equals ∷ (time ++ (space ∷ rest))) (mark false equals ∷ word false 0 time ∷ ts) name (stop equals (time ++ (space ∷ rest)) refl refl)
     (lex_mark false equals (time ++ (space ∷ rest)) (word false 0 time ∷ ts) refl (lex_word false 0 time (space ∷ rest) ts is (stop space rest refl refl) h)))
 
-lex_option : (option : List ℕ) (o : Option ℕ) (rest : List ℕ) (ts : List Tok) → IsWord option → IfSome o IsMoment → Lexes (space ∷ rest) ts → Lexes (space ∷ (date_text option o ++ rest)) (date_toks option o ++ ts)
+lex_option : (option : List ℕ) (o : Option ℕ) (rest : List ℕ) (ts : List Tok) → IsWord option → IfSome o IsMoment
+    → Lexes (space ∷ rest) ts → Lexes (space ∷ (date_text option o ++ rest)) (date_toks option o ++ ts)
 unfolding date_toks
 lex_option option None rest ts name is h = h
 lex_option option (Some t) rest ts name is h = lex_date option (stamp t) rest ts name (stamp_word t is) h
 
-option_spelled : (option : List ℕ) (o : Option ℕ) (ts : List Tok) (dates : List Date) (rest : List Tok) → IfSome o IsMoment → begins_spaced ts ≡ true → SpellsDates ts dates rest
-    → SpellsDates (date_toks option o ++ ts) (given option o ++ dates) rest
+option_spelled : (option : List ℕ) (o : Option ℕ) (ts : List Tok) (dates : List Date) (rest : List Tok) → IfSome o IsMoment
+    → begins_spaced ts ≡ true → SpellsDates ts dates rest → SpellsDates (date_toks option o ++ ts) (given option o ++ dates) rest
 unfolding date_toks given
 option_spelled option None ts dates rest is spaced h = h
 option_spelled option (Some t) ts dates rest is spaced h = (true, stamp t, ts, stamp_spells (stamp t) t (stamp_is t is), refl, spaced, h)
@@ -95,8 +99,8 @@ dates_spelled : (before after : Option ℕ) (rest : List Tok) → IfSome before 
     → SpellsDates (date_toks (codes "NOTBEFORE") before ++ (date_toks (codes "NOTAFTER") after ++ rest)) (dates_of before after) rest
 unfolding dates_of
 dates_spelled before after rest b a spaced =
-    option_spelled (codes "NOTBEFORE") before (date_toks (codes "NOTAFTER") after ++ rest) (given (codes "NOTAFTER") after ++ []) rest b (option_spaced (codes "NOTAFTER") after rest spaced)
-    (option_spelled (codes "NOTAFTER") after rest [] rest a spaced refl)
+    option_spelled (codes "NOTBEFORE") before (date_toks (codes "NOTAFTER") after ++ rest) (given (codes "NOTAFTER") after ++ []) rest b
+    (option_spaced (codes "NOTAFTER") after rest spaced) (option_spelled (codes "NOTAFTER") after rest [] rest a spaced refl)
 
 -- ---- tags
 
@@ -111,7 +115,8 @@ tags_of false = []
 lex_tag : (t : Bool) (rest : List ℕ) (ts : List Tok) → Lexes (space ∷ rest) ts → Lexes (space ∷ (tag_text t ++ rest)) (tag_toks t ++ ts)
 unfolding tag_toks
 lex_tag true rest ts h =
-    lex_word true 0 (codes "NOPASSWD") (colon ∷ space ∷ rest) (mark false colon ∷ ts) (literal (codes "NOPASSWD") (omega arith) refl) (stop colon (space ∷ rest) refl refl) (lex_mark false colon (space ∷ rest) ts refl h)
+    lex_word true 0 (codes "NOPASSWD") (colon ∷ space ∷ rest) (mark false colon ∷ ts) (literal (codes "NOPASSWD") (omega arith) refl)
+    (stop colon (space ∷ rest) refl refl) (lex_mark false colon (space ∷ rest) ts refl h)
 lex_tag false rest ts h = h
 
 tag_spelled : (t : Bool) (rest : List Tok) → SpellsTags (tag_toks t ++ rest) (tags_of t) rest
@@ -135,34 +140,40 @@ tag_given false = refl
 what_toks : Rule → List Tok
 what_toks r = date_toks (codes "NOTBEFORE") r.not_before ++ (date_toks (codes "NOTAFTER") r.not_after ++ (tag_toks r.nopasswd ++ (cmnd_toks true r.cmnd ++ [])))
 
-lex_what : (r : Rule) → IsRule r
-    → Lexes (space ∷ (date_text (codes "NOTBEFORE") r.not_before ++ (date_text (codes "NOTAFTER") r.not_after ++ (tag_text r.nopasswd ++ (signed_text cmnd_item_text r.cmnd ++ []))))) (what_toks r)
+lex_what : (r : Rule) → IsRule r → Lexes (space ∷ (date_text (codes "NOTBEFORE") r.not_before
+    ++ (date_text (codes "NOTAFTER") r.not_after ++ (tag_text r.nopasswd ++ (signed_text cmnd_item_text r.cmnd ++ []))))) (what_toks r)
 unfolding what_toks
 lex_what r is =
     let cmnd_text = signed_text cmnd_item_text r.cmnd ++ [] in
     let cmnd = lex_cmnd true r.cmnd [] [] is.cmnd refl tt in
     let tagged = lex_tag r.nopasswd cmnd_text (cmnd_toks true r.cmnd ++ []) cmnd in
-    let dated = lex_option (codes "NOTAFTER") r.not_after (tag_text r.nopasswd ++ cmnd_text) (tag_toks r.nopasswd ++ (cmnd_toks true r.cmnd ++ [])) (literal (codes "NOTAFTER") (omega arith) refl) is.not_after tagged in
-    lex_option (codes "NOTBEFORE") r.not_before (date_text (codes "NOTAFTER") r.not_after ++ (tag_text r.nopasswd ++ cmnd_text)) (date_toks (codes "NOTAFTER") r.not_after ++ (tag_toks r.nopasswd ++ (cmnd_toks true r.cmnd ++ [])))
-    (literal (codes "NOTBEFORE") (omega arith) refl) is.not_before dated
+    let dated = lex_option (codes "NOTAFTER") r.not_after (tag_text r.nopasswd ++ cmnd_text) (tag_toks r.nopasswd
+    ++ (cmnd_toks true r.cmnd ++ [])) (literal (codes "NOTAFTER") (omega arith) refl) is.not_after tagged in
+    lex_option (codes "NOTBEFORE") r.not_before (date_text (codes "NOTAFTER") r.not_after ++ (tag_text r.nopasswd ++ cmnd_text)) (date_toks (codes "NOTAFTER")
+    r.not_after ++ (tag_toks r.nopasswd ++ (cmnd_toks true r.cmnd ++ []))) (literal (codes "NOTBEFORE") (omega arith) refl) is.not_before dated
 
 behind_users : Rule → List Tok
-behind_users r = list_toks item_toks true r.hosts ++ (mark true equals ∷ mark true opening ∷ (list_toks item_toks false r.runas ++ (mark false closing ∷ what_toks r)))
+behind_users r =
+    list_toks item_toks true r.hosts ++ (mark true equals ∷ mark true opening ∷ (list_toks item_toks false r.runas ++ (mark false closing ∷ what_toks r)))
 
 pub line_toks : Rule → List Tok
 line_toks r = list_toks item_toks false r.users ++ behind_users r
 
-who_lexes : (r : Rule) (what : List ℕ) → IsRule r → Lexes (space ∷ what) (what_toks r)
-    → Lexes (names_text r.users ++ (space ∷ (names_text r.hosts ++ (space ∷ equals ∷ space ∷ opening ∷ (names_text r.runas ++ (closing ∷ space ∷ what)))))) (line_toks r)
+who_lexes : (r : Rule) (what : List ℕ) → IsRule r → Lexes (space ∷ what) (what_toks r) → Lexes (names_text r.users
+    ++ (space ∷ (names_text r.hosts ++ (space ∷ equals ∷ space ∷ opening ∷ (names_text r.runas ++ (closing ∷ space ∷ what)))))) (line_toks r)
 unfolding line_toks behind_users
 who_lexes r what is h =
     let closed = lex_mark false closing (space ∷ what) (what_toks r) refl h in
     let inner = lex_users false r.runas (closing ∷ space ∷ what) (mark false closing ∷ what_toks r) is.runas (stop closing (space ∷ what) refl refl) closed in
-    let opened = lex_mark true opening (names_text r.runas ++ (closing ∷ space ∷ what)) (list_toks item_toks false r.runas ++ (mark false closing ∷ what_toks r)) refl inner in
-    let marked = lex_mark true equals (space ∷ opening ∷ (names_text r.runas ++ (closing ∷ space ∷ what))) (mark true opening ∷ (list_toks item_toks false r.runas ++ (mark false closing ∷ what_toks r))) refl opened in
-    let hosts = lex_hosts true r.hosts (space ∷ equals ∷ space ∷ opening ∷ (names_text r.runas ++ (closing ∷ space ∷ what))) (mark true equals ∷ mark true opening ∷ (list_toks item_toks false r.runas ++ (mark false closing ∷ what_toks r))) is.hosts
+    let opened = lex_mark true opening
+    (names_text r.runas ++ (closing ∷ space ∷ what)) (list_toks item_toks false r.runas ++ (mark false closing ∷ what_toks r)) refl inner in
+    let marked = lex_mark true equals (space ∷ opening ∷ (names_text r.runas ++ (closing ∷ space ∷ what)))
+    (mark true opening ∷ (list_toks item_toks false r.runas ++ (mark false closing ∷ what_toks r))) refl opened in
+    let hosts = lex_hosts true r.hosts (space ∷ equals ∷ space ∷ opening ∷ (names_text r.runas ++ (closing ∷ space ∷ what)))
+    (mark true equals ∷ mark true opening ∷ (list_toks item_toks false r.runas ++ (mark false closing ∷ what_toks r))) is.hosts
     (stop space (equals ∷ space ∷ opening ∷ (names_text r.runas ++ (closing ∷ space ∷ what))) refl refl) marked in
-    lex_users false r.users (space ∷ (names_text r.hosts ++ (space ∷ equals ∷ space ∷ opening ∷ (names_text r.runas ++ (closing ∷ space ∷ what))))) (behind_users r) is.users
+    lex_users false r.users
+    (space ∷ (names_text r.hosts ++ (space ∷ equals ∷ space ∷ opening ∷ (names_text r.runas ++ (closing ∷ space ∷ what))))) (behind_users r) is.users
     (stop space (names_text r.hosts ++ (space ∷ equals ∷ space ∷ opening ∷ (names_text r.runas ++ (closing ∷ space ∷ what)))) refl refl) hosts
 
 rule_front : (users hosts runas before after tag cmnd : List ℕ)
@@ -172,9 +183,10 @@ rule_front users hosts runas before after tag cmnd = simp (append_assoc, append-
 
 pub rule_lexes : (r : Rule) → IsRule r → Lexes (rule_text r) (line_toks r)
 rule_lexes r is =
-    subst (λ (x : List ℕ). Lexes x (line_toks r))
-    (sym (rule_front (names_text r.users) (names_text r.hosts) (names_text r.runas) (date_text (codes "NOTBEFORE") r.not_before) (date_text (codes "NOTAFTER") r.not_after) (tag_text r.nopasswd) (signed_text cmnd_item_text r.cmnd)))
-    (who_lexes r (date_text (codes "NOTBEFORE") r.not_before ++ (date_text (codes "NOTAFTER") r.not_after ++ (tag_text r.nopasswd ++ (signed_text cmnd_item_text r.cmnd ++ [])))) is (lex_what r is))
+    subst (λ (x : List ℕ). Lexes x (line_toks r)) (sym (rule_front (names_text r.users) (names_text r.hosts) (names_text r.runas)
+    (date_text (codes "NOTBEFORE") r.not_before) (date_text (codes "NOTAFTER") r.not_after) (tag_text r.nopasswd) (signed_text cmnd_item_text r.cmnd)))
+    (who_lexes r (date_text (codes "NOTBEFORE") r.not_before
+    ++ (date_text (codes "NOTAFTER") r.not_after ++ (tag_text r.nopasswd ++ (signed_text cmnd_item_text r.cmnd ++ [])))) is (lex_what r is))
 
 -- ---- the tree
 
@@ -184,7 +196,8 @@ spec_of r = record { runas = Some r.runas; not_before = r.not_before; not_after 
 pub part_of : Rule → Part
 part_of r = record { hosts = r.hosts; specs = spec_of r ∷ [] }
 
-spec_spelled : (r : Rule) → IsRule r → SpellsCmndSpec (mark true opening ∷ (list_toks item_toks false r.runas ++ (mark false closing ∷ what_toks r))) (spec_of r) []
+spec_spelled : (r : Rule) → IsRule r
+    → SpellsCmndSpec (mark true opening ∷ (list_toks item_toks false r.runas ++ (mark false closing ∷ what_toks r))) (spec_of r) []
 unfolding what_toks spec_of
 spec_spelled r is =
     let cmnd = cmnd_toks true r.cmnd ++ [] in
@@ -194,7 +207,15 @@ spec_spelled r is =
       after_dates = tag_toks r.nopasswd ++ cmnd;
       tags = tags_of r.nopasswd;
       after_tags = cmnd;
-      runas = (true, false, list_toks item_toks false r.runas ++ (mark false closing ∷ what_toks r), mark false closing ∷ what_toks r, refl, users_spelled false r.runas (mark false closing ∷ what_toks r) is.runas, refl);
+      runas = (
+        true,
+        false,
+        list_toks item_toks false r.runas ++ (mark false closing ∷ what_toks r),
+        mark false closing ∷ what_toks r,
+        refl,
+        users_spelled false r.runas (mark false closing ∷ what_toks r) is.runas,
+        refl,
+      );
       dated = dates_spelled r.not_before r.not_after (tag_toks r.nopasswd ++ cmnd) is.not_before is.not_after (tag_spaced r.nopasswd cmnd refl);
       bounds = dates_bounds r.not_before r.not_after;
       tagged = tag_spelled r.nopasswd cmnd;
@@ -220,7 +241,8 @@ rule_begins r is = items_word false r.users (behind_users r) is.users.0
 
 -- ---- its one entry is the rule
 
-rule_of_parts : List (Signed (Item (List ℕ))) → List (Signed (Item (List ℕ))) → List (Signed (Item (List ℕ))) → Option ℕ → Option ℕ → Bool → Signed CmndItem → Rule
+rule_of_parts : List (Signed (Item (List ℕ))) → List (Signed (Item (List ℕ)))
+    → List (Signed (Item (List ℕ))) → Option ℕ → Option ℕ → Bool → Signed CmndItem → Rule
 rule_of_parts users hosts runas not_before not_after nopasswd cmnd =
     record { users = users; hosts = hosts; runas = runas; not_before = not_before; not_after = not_after; nopasswd = nopasswd; cmnd = cmnd }
 
@@ -232,8 +254,9 @@ pub rule_entries : (r : Rule) → entries.Rule r ∷ [] ≡ entries_of (lines.Us
 unfolding part_of spec_of rule_of_parts
 rule_entries r =
     let same : rule_of_parts r.users r.hosts r.runas r.not_before r.not_after r.nopasswd r.cmnd
-    ≡ rule_of_parts r.users r.hosts r.runas (option_or r.not_before None) (option_or r.not_after None) (unwrap_or (last_tag (tags_of r.nopasswd)) false) r.cmnd =
+    ≡ rule_of_parts r.users r.hosts r.runas (option_or r.not_before None)
+    (option_or r.not_after None) (unwrap_or (last_tag (tags_of r.nopasswd)) false) r.cmnd =
     ap (λ (x : Option ℕ). rule_of_parts r.users r.hosts r.runas x r.not_after r.nopasswd r.cmnd) (or_none r.not_before)
-    ∙ ap (λ (x : Option ℕ). rule_of_parts r.users r.hosts r.runas (option_or r.not_before None) x r.nopasswd r.cmnd) (or_none r.not_after)
-    ∙ ap (λ (x : Bool). rule_of_parts r.users r.hosts r.runas (option_or r.not_before None) (option_or r.not_after None) x r.cmnd) (sym (tag_given r.nopasswd)) in
+    ∙ ap (λ (x : Option ℕ). rule_of_parts r.users r.hosts r.runas (option_or r.not_before None) x r.nopasswd r.cmnd) (or_none r.not_after) ∙ ap
+    (λ (x : Bool). rule_of_parts r.users r.hosts r.runas (option_or r.not_before None) (option_or r.not_after None) x r.cmnd) (sym (tag_given r.nopasswd)) in
     ap (λ (x : Rule). entries.Rule x ∷ []) same

@@ -5,7 +5,8 @@ use Rattle.std.specs.List.{AllByRecursion, list_all}
 use Rattle.std.proofs.lemmas.Bool.{and_parts, and_from, cases_Bool}
 use Rattle.std.proofs.lemmas.Bool.Decides.{nat_tests}
 use Rattle.sudo_words.specs.Bytes.{backslash}
-use Rattle.sudo_words.specs.Word.{is_lower, is_upper, is_name, is_name_byte, is_host_name, is_host_byte, is_alias_name, is_alias_shape, is_alias_byte, is_reserved, is_path_byte, is_file_path, is_dir_path, is_arg, is_arg_byte}
+use Rattle.sudo_words.specs.Word.{is_lower, is_upper, is_name, is_name_byte, is_host_name, is_host_byte, is_alias_name, is_alias_shape}
+use Rattle.sudo_words.specs.Word.{is_alias_byte, is_reserved, is_path_byte, is_file_path, is_dir_path, is_arg, is_arg_byte}
 use Rattle.sudo_words.specs.Moment.{IsMoment, is_stamp_byte, stamp}
 use Rattle.sudo_words.specs.Command.{IsHead, is_escaped, escaped_byte, arg_text, head_text}
 use Rattle.sudo_words.specs.declared.cmnd.Cmnd.{Cmnd}

@@ -17,7 +17,8 @@ use Rattle.sudo_policy.specs.declared.entry.CmndItem.TheVariants as cmnds
 use Rattle.sudo_policy.specs.declared.tree.CmndSpec.{CmndSpec}
 use Rattle.sudo_policy.specs.Lex.{Tok, word, mark}
 use Rattle.sudo_policy.specs.Policy.{IsCmndItem}
-use Rattle.sudo_policy.specs.Grammar.{Date, GivesBound, Bounds, Listed, Users, SpellsItem, SpellsCmnd, SpellsRunas, SpellsDates, SpellsTags, SpellsCmndSpec, rule_toks, head_of, args_of, tag_word, last_tag}
+use Rattle.sudo_policy.specs.Grammar.{Date, GivesBound, Bounds, Listed, Users, SpellsItem, SpellsCmnd, SpellsRunas}
+use Rattle.sudo_policy.specs.Grammar.{SpellsDates, SpellsTags, SpellsCmndSpec, rule_toks, head_of, args_of, tag_word, last_tag}
 use Rattle.sudo_policy.proofs.ListTexts.{IsOne, listed_one}
 use Rattle.sudo_policy.proofs.ItemTexts.{IsForm, user_form, spelled_item_one, EndsCmnd, spelled_cmnd_one}
 
@@ -49,8 +50,10 @@ NotTag ts = (a t : Bool) (next : List Tok) → ts ≡ word a 0 (tag_word t) ∷ 
 
 -- ---- lists of items
 
-pub items_one : (form : List ℕ → Bool) → IsForm form → (G : List Tok → Type 0) → ((a : Bool) (next : List Tok) → G (mark a comma ∷ next) → ⊥) → IsOne (Listed comma (SpellsItem form)) G
-items_one form f G ended = listed_one comma (SpellsItem form) (λ (ts : List Tok). Unit {0}) G (λ a next. tt) (λ r n. tt) ended (spelled_item_one form f (λ (ts : List Tok). Unit {0}))
+pub items_one : (form : List ℕ → Bool) → IsForm form → (G : List Tok → Type 0)
+    → ((a : Bool) (next : List Tok) → G (mark a comma ∷ next) → ⊥) → IsOne (Listed comma (SpellsItem form)) G
+items_one form f G ended =
+    listed_one comma (SpellsItem form) (λ (ts : List Tok). Unit {0}) G (λ a next. tt) (λ r n. tt) ended (spelled_item_one form f (λ (ts : List Tok). Unit {0}))
 
 -- ---- targets
 
@@ -62,8 +65,10 @@ runas_one ts (Some xs) (Some ys) r s g h n k =
     let opened = sym g.4 ∙ h.4 in
     let next : g.2 ≡ h.2 = cc in
     let ended : (a : Bool) (more : List Tok) → NotMark comma (mark a comma ∷ more) → ⊥ = λ a more no. no refl in
-    let closes : (a : Bool) (mid more : List Tok) → mid ≡ mark a closing ∷ more → NotMark comma mid = λ a mid more e. subst (NotMark comma) (sym e) (λ bad. omega arith) in
-    let users = items_one is_name user_form (NotMark comma) ended h.2 xs ys g.3 h.3 (subst (λ (t : List Tok). Users t xs g.3) next g.5) h.5 (closes g.1 g.3 r g.6) (closes h.1 h.3 s h.6) in
+    let closes : (a : Bool) (mid more : List Tok) → mid ≡ mark a closing ∷ more → NotMark comma mid =
+    λ a mid more e. subst (NotMark comma) (sym e) (λ bad. omega arith) in
+    let users = items_one is_name user_form (NotMark comma) ended h.2 xs ys g.3 h.3
+    (subst (λ (t : List Tok). Users t xs g.3) next g.5) h.5 (closes g.1 g.3 r g.6) (closes h.1 h.3 s h.6) in
     let closed = sym g.6 ∙ users.1 ∙ h.6 in
     (ap (λ (zs : List (Signed (Item (List ℕ)))). Some zs) users.0, cc)
 
@@ -205,7 +210,8 @@ same_spec : (s t : CmndSpec) → s.runas ≡ t.runas → s.not_before ≡ t.not_
 unfolding spec_of
 same_spec s t a b c d e =
     let same : spec_of s.runas s.not_before s.not_after s.nopasswd s.cmnd ≡ spec_of t.runas t.not_before t.not_after t.nopasswd t.cmnd =
-    ap (λ x. spec_of x s.not_before s.not_after s.nopasswd s.cmnd) a ∙ ap (λ x. spec_of t.runas x s.not_after s.nopasswd s.cmnd) b ∙ ap (λ x. spec_of t.runas t.not_before x s.nopasswd s.cmnd) c
+    ap (λ x. spec_of x s.not_before s.not_after s.nopasswd s.cmnd) a
+    ∙ ap (λ x. spec_of t.runas x s.not_after s.nopasswd s.cmnd) b ∙ ap (λ x. spec_of t.runas t.not_before x s.nopasswd s.cmnd) c
     ∙ ap (λ x. spec_of t.runas t.not_before t.not_after x s.cmnd) d ∙ ap (λ x. spec_of t.runas t.not_before t.not_after t.nopasswd x) e in
     same
 
@@ -215,11 +221,16 @@ spec_one ts s t r q g h n k =
     let word_h = cmnd_word h.after_tags t.cmnd q h.cmnd in
     let tags_g = tags_word g.after_dates g.tags g.after_tags g.tagged word_g in
     let tags_h = tags_word h.after_dates h.tags h.after_tags h.tagged word_h in
-    let runas = runas_one ts s.runas t.runas g.after_runas h.after_runas g.runas h.runas (dates_word g.after_runas g.dates g.after_dates g.dated tags_g) (dates_word h.after_runas h.dates h.after_dates h.dated tags_h) in
-    let dates = dates_one h.after_runas g.dates h.dates g.after_dates h.after_dates (subst (λ (x : List Tok). SpellsDates x g.dates g.after_dates) runas.1 g.dated) h.dated
-    (tags_no_date g.after_dates g.tags g.after_tags g.tagged (cmnd_no_date g.after_tags s.cmnd r g.cmnd n)) (tags_no_date h.after_dates h.tags h.after_tags h.tagged (cmnd_no_date h.after_tags t.cmnd q h.cmnd k)) in
-    let tags = tags_one h.after_dates g.tags h.tags g.after_tags h.after_tags (subst (λ (x : List Tok). SpellsTags x g.tags g.after_tags) dates.1 g.tagged) h.tagged
+    let runas = runas_one ts s.runas t.runas g.after_runas h.after_runas g.runas h.runas
+    (dates_word g.after_runas g.dates g.after_dates g.dated tags_g) (dates_word h.after_runas h.dates h.after_dates h.dated tags_h) in
+    let dates = dates_one h.after_runas g.dates h.dates g.after_dates h.after_dates
+    (subst (λ (x : List Tok). SpellsDates x g.dates g.after_dates) runas.1 g.dated) h.dated
+    (tags_no_date g.after_dates g.tags g.after_tags g.tagged (cmnd_no_date g.after_tags s.cmnd r g.cmnd n))
+    (tags_no_date h.after_dates h.tags h.after_tags h.tagged (cmnd_no_date h.after_tags t.cmnd q h.cmnd k)) in
+    let tags =
+    tags_one h.after_dates g.tags h.tags g.after_tags h.after_tags (subst (λ (x : List Tok). SpellsTags x g.tags g.after_tags) dates.1 g.tagged) h.tagged
     (cmnd_no_tag g.after_tags s.cmnd r g.cmnd) (cmnd_no_tag h.after_tags t.cmnd q h.cmnd) in
     let cmnd = spelled_cmnd_one h.after_tags s.cmnd t.cmnd r q (subst (λ (x : List Tok). SpellsCmnd x s.cmnd r) tags.1 g.cmnd) h.cmnd n k in
-    let bounds = bounds_one None None h.dates s.not_before s.not_after t.not_before t.not_after (subst (λ (x : List Date). Bounds None None x s.not_before s.not_after) dates.0 g.bounds) h.bounds in
+    let bounds = bounds_one None None h.dates s.not_before s.not_after t.not_before t.not_after
+    (subst (λ (x : List Date). Bounds None None x s.not_before s.not_after) dates.0 g.bounds) h.bounds in
     (same_spec s t runas.0 bounds.0 bounds.1 (g.passwd ∙ ap last_tag tags.0 ∙ sym h.passwd) cmnd.0, cmnd.1)

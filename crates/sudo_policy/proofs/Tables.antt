@@ -1,5 +1,6 @@
 -- What is kept of aliases, as entries are added.
-use Rattle.std.proofs.Common.{◌≡◌, ℕ, ◌+◌, ◌≤◌, Bool, true, false, cond, ◌||◌, List, [], ◌∷◌, ◌++◌, length, reverse, Option, Some, None, refl, sym, ap, subst, ◌∙◌, inl, inr, arith}
+use Rattle.std.proofs.Common.{◌≡◌, ℕ, ◌+◌, ◌≤◌, Bool, true, false, cond, ◌||◌, List, [], ◌∷◌, ◌++◌, length}
+use Rattle.std.proofs.Common.{reverse, Option, Some, None, refl, sym, ap, subst, ◌∙◌, inl, inr, arith}
 use Rattle.std.specs.Prelude.{IfSome}
 use Rattle.std.specs.List.{flat_map}
 use Rattle.std.specs.Option.{is_some, option_map_or}
@@ -15,7 +16,8 @@ use Rattle.sudo_policy.specs.declared.tree.Definition.{Definition}
 use Rattle.sudo_policy.specs.declared.aliases.Alias.{Alias}
 use Rattle.sudo_policy.specs.declared.aliases.Aliases.{Aliases}
 use Rattle.sudo_policy.specs.declared.alias_kinds.AliasKinds.{AliasKinds}
-use Rattle.sudo_policy.specs.Alias.{DefinedAt, is_defined, item_alias, cmnd_alias, list_weight, depth_of, alias_weight, alias_depth, user_defs, runas_defs, host_defs, cmnd_defs}
+use Rattle.sudo_policy.specs.Alias.{DefinedAt, is_defined, item_alias, cmnd_alias, list_weight, depth_of}
+use Rattle.sudo_policy.specs.Alias.{alias_weight, alias_depth, user_defs, runas_defs, host_defs, cmnd_defs}
 use Rattle.sudo_policy.specs.private.Measures.{alias_at, has, weight_in, depth_in, stopped, IsDefinable, Defines}
 use Rattle.sudo_policy.specs.private.AliasKinds.{IsTable, ArePlaces, IsKind, AreAliasKinds, RuleIsKnown, rule_weight_in}
 use Rattle.sudo_policy.specs.Policy.{IsNew, KnowsRule, rule_weight}
@@ -40,7 +42,8 @@ same_cond : (b : Bool) (x y u v : ℕ) → x ≡ u → y ≡ v → cond b x y �
 same_cond true x y u v e f = e
 same_cond false x y u v e f = f
 
-pub table_push : {X : Type 0} (alias_of : X → Option (List ℕ)) (defs : List (Definition X)) (old new : Aliases) (name : List ℕ) (place : ℕ) (list : List (Signed X))
+pub table_push :
+    {X : Type 0} (alias_of : X → Option (List ℕ)) (defs : List (Definition X)) (old new : Aliases) (name : List ℕ) (place : ℕ) (list : List (Signed X))
     → IsTable alias_of defs old → Defines alias_of old new name place list → IsTable alias_of (record { name = name; list = list } ∷ defs) new
 table_push {X} alias_of defs old new name place list t d =
     let heavy : Alias → ℕ = λ a. a.measure.weight in
@@ -53,12 +56,12 @@ table_push {X} alias_of defs old new name place list t d =
     record {
       has_those = λ n.
           ap is_some (d.updates n) ∙ some_cond (bytes_eq name n) alias (alias_at old n) ∙ ap (λ (b : Bool). bytes_eq name n || b) (t.has_those n);
-      weighs = λ n.
-          ap (λ (o : Option Alias). option_map_or heavy o 0) (d.updates n) ∙ read_cond heavy (bytes_eq name n) alias (alias_at old n)
-          ∙ stopped_cond (bytes_eq name n) alias.measure.weight (weight_in old n) (list_weight alias_of (alias_weight alias_of defs) list) (alias_weight alias_of defs n) weighs (t.weighs n);
-      deep = λ n.
-          ap (λ (o : Option Alias). option_map_or deep o 0) (d.updates n) ∙ read_cond deep (bytes_eq name n) alias (alias_at old n)
-          ∙ same_cond (bytes_eq name n) alias.measure.depth (depth_in old n) (depth_of alias_of (alias_depth alias_of defs) list) (alias_depth alias_of defs n) depth (t.deep n);
+      weighs = λ n. ap (λ (o : Option Alias). option_map_or heavy o 0) (d.updates n) ∙ read_cond heavy (bytes_eq name n) alias (alias_at old n)
+          ∙ stopped_cond (bytes_eq name n) alias.measure.weight (weight_in old n)
+          (list_weight alias_of (alias_weight alias_of defs) list) (alias_weight alias_of defs n) weighs (t.weighs n);
+      deep = λ n. ap (λ (o : Option Alias). option_map_or deep o 0) (d.updates n) ∙ read_cond deep (bytes_eq name n) alias (alias_at old n)
+          ∙ same_cond (bytes_eq name n) alias.measure.depth (depth_in old n)
+          (depth_of alias_of (alias_depth alias_of defs) list) (alias_depth alias_of defs n) depth (t.deep n);
     }
 
 -- what may be defined by what is kept may be defined by the definitions, and the other way round
@@ -80,7 +83,8 @@ definable_is alias_of defs m name list t d = record {
 
 -- ---- one more entry
 
-defs_push : {X : Type 0} (def : Entry → List (Definition X)) (es : List Entry) (e : Entry) → flat_map def (reverse (es ++ e ∷ [])) ≡ def e ++ flat_map def (reverse es)
+defs_push : {X : Type 0} (def : Entry → List (Definition X)) (es : List Entry) (e : Entry)
+    → flat_map def (reverse (es ++ e ∷ [])) ≡ def e ++ flat_map def (reverse es)
 defs_push def es e =
     let last : reverse (es ++ e ∷ []) ≡ e ∷ reverse es = reverse-append es (e ∷ []) in
     ap (flat_map def) last ∙ flat_map-cons def e (reverse es)
@@ -93,8 +97,9 @@ place_kept : {X : Type 0} (def : Entry → List (Definition X)) (es : List Entry
 place_kept def es e n None h = tt
 place_kept def es e n (Some a) h = (h.0, defined_before def es e a.place n h.0 h.1)
 
-places_push : {X : Type 0} (alias_of : X → Option (List ℕ)) (def : Entry → List (Definition X)) (es : List Entry) (e : Entry) (old new : Aliases) (name : List ℕ) (list : List (Signed X))
-    → def e ≡ record { name = name; list = list } ∷ [] → ArePlaces def es old → Defines alias_of old new name (length es) list → ArePlaces def (es ++ e ∷ []) new
+places_push : {X : Type 0} (alias_of : X → Option (List ℕ)) (def : Entry → List (Definition X)) (es : List Entry)
+    (e : Entry) (old new : Aliases) (name : List ℕ) (list : List (Signed X)) → def e ≡ record { name = name; list = list } ∷ []
+    → ArePlaces def es old → Defines alias_of old new name (length es) list → ArePlaces def (es ++ e ∷ []) new
 places_push {X} alias_of def es e old new name list is ps d n =
     let P : Option Alias → Type 0 = λ o. IfSome o (IsPlace def (es ++ e ∷ []) n) in
     let Q : Bool → Type 0 = λ b. P (cond b (Some d.alias) (alias_at old n)) in
@@ -109,8 +114,9 @@ places_push {X} alias_of def es e old new name list is ps d n =
     ] in
     subst P (sym (d.updates n)) here
 
-pub kind_push : {X : Type 0} (alias_of : X → Option (List ℕ)) (def : Entry → List (Definition X)) (es : List Entry) (e : Entry) (old new : Aliases) (name : List ℕ) (list : List (Signed X))
-    → def e ≡ record { name = name; list = list } ∷ [] → IsKind def alias_of es old → Defines alias_of old new name (length es) list → IsKind def alias_of (es ++ e ∷ []) new
+pub kind_push : {X : Type 0} (alias_of : X → Option (List ℕ)) (def : Entry → List (Definition X)) (es : List Entry)
+    (e : Entry) (old new : Aliases) (name : List ℕ) (list : List (Signed X)) → def e ≡ record { name = name; list = list } ∷ []
+    → IsKind def alias_of es old → Defines alias_of old new name (length es) list → IsKind def alias_of (es ++ e ∷ []) new
 kind_push {X} alias_of def es e old new name list is k d =
     let P : List (Definition X) → Type 0 = λ ds. IsTable alias_of ds new in
     record {
@@ -158,9 +164,8 @@ rule_stopped es s r is =
     let runas = alias_weight item_alias (runas_defs (reverse es)) in
     let cmnds = alias_weight cmnd_alias (cmnd_defs (reverse es)) in
     four_stopped (list_weight item_alias (weight_in s.users) r.users) (list_weight item_alias (weight_in s.hosts) r.hosts)
-    (list_weight item_alias (weight_in s.runas) r.runas) (list_weight cmnd_alias (weight_in s.cmnds) (r.cmnd ∷ []))
-    (list_weight item_alias users r.users) (list_weight item_alias hosts r.hosts) (list_weight item_alias runas r.runas) (list_weight cmnd_alias cmnds (r.cmnd ∷ []))
-    (list_stopped item_alias (weight_in s.users) users r.users is.users.table.weighs)
-    (list_stopped item_alias (weight_in s.hosts) hosts r.hosts is.hosts.table.weighs)
+    (list_weight item_alias (weight_in s.runas) r.runas) (list_weight cmnd_alias (weight_in s.cmnds) (r.cmnd ∷ [])) (list_weight item_alias users r.users)
+    (list_weight item_alias hosts r.hosts) (list_weight item_alias runas r.runas) (list_weight cmnd_alias cmnds (r.cmnd ∷ [])) (list_stopped item_alias
+    (weight_in s.users) users r.users is.users.table.weighs) (list_stopped item_alias (weight_in s.hosts) hosts r.hosts is.hosts.table.weighs)
     (list_stopped item_alias (weight_in s.runas) runas r.runas is.runas.table.weighs)
     (list_stopped cmnd_alias (weight_in s.cmnds) cmnds (r.cmnd ∷ []) is.cmnds.table.weighs)

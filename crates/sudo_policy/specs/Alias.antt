@@ -1,5 +1,7 @@
--- Aliases: what an alias is by its definition, and the weight and depth of a list (sudoers(5), "Aliases"). Definitions are listed from the nearest to the farthest above.
-use Rattle.std.specs.Prelude.{◌≡◌, ℕ, ◌+◌, max, Bool, true, List, [], ◌∷◌, sum_by, Option, Some, None, IfSome, if◌then◌else◌}
+-- Aliases: what an alias is by its definition, and the weight and depth of a list (sudoers(5),
+-- "Aliases"). Definitions are listed from the nearest to the farthest above.
+use Rattle.std.specs.Prelude.{◌≡◌, ℕ, ◌+◌, max, Bool, true, List, [], ◌∷◌}
+use Rattle.std.specs.Prelude.{sum_by, Option, Some, None, IfSome, if◌then◌else◌}
 use Rattle.std.specs.List.{AllByRecursion, flat_map, list_any, slice_get}
 use Rattle.std.specs.Option.{option_map}
 use Rattle.std.specs.Str.{bytes_eq}
@@ -48,14 +50,19 @@ abbrev pub is_defined : {X : Type 0} → List (Definition X) → Text → Bool
 is_defined defs name = list_any (λ d. bytes_eq d.name name) defs
 
 -- the entry at a place, counted from 0, defines the alias by this list
-abbrev pub DefinedAt : {X : Type 0} → (Entry → List (Definition X)) → List Entry → ℕ → Text → List (Signed X) → Type 0
-DefinedAt def es place name list = option_map def (slice_get es place) ≡ Some (record { name = name; list = list } ∷ [])
+abbrev pub DefinedAt : {X : Type 0} → (Entry → List (Definition X))
+    → List Entry → ℕ → Text → List (Signed X) → Type 0
+DefinedAt def es place name list =
+    option_map def (slice_get es place) ≡ Some (record { name = name; list = list } ∷ [])
 
--- What holds of an alias is what holds of its list, where the aliases in the list are taken by the definitions above it.
-abbrev pub by_definition : {X V : Type 0} → ((Text → V) → List (Signed X) → V) → V → List (Definition X) → Text → V
+-- What holds of an alias is what holds of its list, where the aliases in the list are taken by the
+-- definitions above it.
+abbrev pub by_definition : {X V : Type 0}
+    → ((Text → V) → List (Signed X) → V) → V → List (Definition X) → Text → V
 by_definition of_list unknown [] name = unknown
 by_definition of_list unknown (d ∷ above) name =
-    if bytes_eq d.name name then of_list (by_definition of_list unknown above) d.list else by_definition of_list unknown above name
+    if bytes_eq d.name name then of_list
+    (by_definition of_list unknown above) d.list else by_definition of_list unknown above name
 
 -- the alias that an item is, if it is one
 abbrev pub item_alias : Item Text → Option Text
@@ -68,8 +75,10 @@ cmnd_alias (cmnds.Alias name) = Some name
 cmnd_alias (cmnds.Cmnd cmnd) = None
 
 -- each alias of a list is defined above
-abbrev pub KnowsList : {X : Type 0} → (X → Option Text) → List (Definition X) → List (Signed X) → Type 0
-KnowsList alias_of defs list = AllByRecursion (λ s. IfSome (alias_of s.item) (λ name. is_defined defs name ≡ true)) list
+abbrev pub KnowsList : {X : Type 0} → (X → Option Text)
+    → List (Definition X) → List (Signed X) → Type 0
+KnowsList alias_of defs list =
+    AllByRecursion (λ s. IfSome (alias_of s.item) (λ name. is_defined defs name ≡ true)) list
 
 -- ---- weight: a name, `ALL` or a command weighs 1, and an alias the sum of its list
 
@@ -83,7 +92,8 @@ list_weight alias_of weigh list = sum_by (λ s. item_weight weigh (alias_of s.it
 abbrev pub alias_weight : {X : Type 0} → (X → Option Text) → List (Definition X) → Text → ℕ
 alias_weight alias_of defs = by_definition (list_weight alias_of) 0 defs
 
--- ---- depth: an alias's is 1 more than the greatest of the aliases in its list, and 1 where it has none
+-- ---- depth: an alias's is 1 more than the greatest of the aliases in its list, and 1 where it has
+-- none
 
 abbrev pub item_depth : (Text → ℕ) → Option Text → ℕ
 item_depth deep None = 0
@@ -91,7 +101,8 @@ item_depth deep (Some name) = deep name
 
 abbrev pub list_depth : {X : Type 0} → (X → Option Text) → (Text → ℕ) → List (Signed X) → ℕ
 list_depth alias_of deep [] = 0
-list_depth alias_of deep (s ∷ list) = max (item_depth deep (alias_of s.item)) (list_depth alias_of deep list)
+list_depth alias_of deep (s ∷ list) =
+    max (item_depth deep (alias_of s.item)) (list_depth alias_of deep list)
 
 abbrev pub depth_of : {X : Type 0} → (X → Option Text) → (Text → ℕ) → List (Signed X) → ℕ
 depth_of alias_of deep list = 1 + list_depth alias_of deep list

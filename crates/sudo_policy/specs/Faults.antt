@@ -1,7 +1,10 @@
 -- How faults are shown.
 use Rattle.std.specs.Prelude.{◌++◌, codes, decimal}
 use Rattle.sudo_policy.specs.declared.fault.FaultKind.{FaultKind}
-use Rattle.sudo_policy.specs.declared.fault.FaultKind.TheVariants.{TooLong, BadByte, BadWord, Unexpected, UnknownAlias, AliasTwice, Reserved, BadMoment, LeftOut, TooLarge, NoMemory}
+use Rattle.sudo_policy.specs.declared.fault.FaultKind.TheVariants.{TooLong, BadByte, BadWord}
+use Rattle.sudo_policy.specs.declared.fault.FaultKind.TheVariants.{Unexpected, UnknownAlias}
+use Rattle.sudo_policy.specs.declared.fault.FaultKind.TheVariants.{AliasTwice, Reserved, BadMoment}
+use Rattle.sudo_policy.specs.declared.fault.FaultKind.TheVariants.{LeftOut, TooLarge, NoMemory}
 use Rattle.sudo_policy.specs.declared.fault.ReadFault.{ReadFault}
 use Rattle.sudo_policy.specs.Text.{Text}
 

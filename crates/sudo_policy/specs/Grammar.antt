@@ -1,6 +1,9 @@
--- The grammar of a line (sudoers(5), "SUDOERS FILE FORMAT"): definitions of aliases, or a user specification. Each relation is of tokens, what stands at their front, and the tokens that follow it.
--- A token's Bool says whether blanks stand before it: a variable where they may, true where they must, false where they may not.
-use Rattle.std.specs.Prelude.{◌≡◌, ℕ, ◌%◌, ◌==◌, Bool, true, false, ◌⊎◌, List, [], ◌∷◌, ◌++◌, map, Option, Some, None, if◌then◌else◌, codes}
+-- The grammar of a line (sudoers(5), "SUDOERS FILE FORMAT"): definitions of aliases, or a user
+-- specification. Each relation is of tokens, what stands at their front, and the tokens that follow
+-- it. A token's Bool says whether blanks stand before it: a variable where they may, true where
+-- they must, false where they may not.
+use Rattle.std.specs.Prelude.{◌≡◌, ℕ, ◌%◌, ◌==◌, Bool, true, false, ◌⊎◌, List, [], ◌∷◌}
+use Rattle.std.specs.Prelude.{◌++◌, map, Option, Some, None, if◌then◌else◌, codes}
 use Rattle.std.specs.Option.{option_or}
 use Rattle.sudo_words.specs.Bytes.{equals, comma, colon, opening, closing, quote}
 use Rattle.sudo_words.specs.Word.{is_name, is_host_name, is_alias_name}
@@ -29,12 +32,15 @@ begins_spaced (t ∷ ts) = is_spaced t
 
 -- ---- lists: one or more, with a mark between, and blanks round it or not
 
-abbrev pub More : {X : Type 0} → ℕ → (List Tok → X → List Tok → Type 0) → List Tok → List X → List Tok → Type 0
+abbrev pub More : {X : Type 0} → ℕ → (List Tok → X → List Tok → Type 0)
+    → List Tok → List X → List Tok → Type 0
 More m Is ts [] rest = ts ≡ rest
 More m Is ts (x ∷ xs) rest =
-    (a : Bool) × (next mid : List Tok) × (ts ≡ mark a m ∷ next) × Is next x mid × More m Is mid xs rest
+    (a : Bool) × (next mid : List Tok) × (ts ≡ mark a m ∷ next)
+    × Is next x mid × More m Is mid xs rest
 
-abbrev pub Listed : {X : Type 0} → ℕ → (List Tok → X → List Tok → Type 0) → List Tok → List X → List Tok → Type 0
+abbrev pub Listed : {X : Type 0} → ℕ → (List Tok → X → List Tok → Type 0)
+    → List Tok → List X → List Tok → Type 0
 Listed m Is ts [] rest = ⊥
 Listed m Is ts (x ∷ xs) rest = (mid : List Tok) × Is ts x mid × More m Is mid xs rest
 
@@ -44,7 +50,8 @@ abbrev pub is_odd : ℕ → Bool
 is_odd n = n % 2 == 1
 
 -- `ALL`, a name of the form, or an alias
-pub record SpellsItem (form : List ℕ → Bool) (ts : List Tok) (s : Signed (Item (List ℕ))) (rest : List Tok) : Type 0 where
+pub record SpellsItem (form : List ℕ
+    → Bool) (ts : List Tok) (s : Signed (Item (List ℕ))) (rest : List Tok) : Type 0 where
   pub spaced : Bool
   pub bangs : ℕ
   pub toks : ts ≡ word spaced bangs (item_text s.item) ∷ rest
@@ -88,7 +95,8 @@ Cmnds = Listed comma SpellsCmnd
 abbrev pub SpellsRunas : List Tok → Option Names → List Tok → Type 0
 SpellsRunas ts None rest = ts ≡ rest
 SpellsRunas ts (Some runas) rest =
-    (a b : Bool) × (next mid : List Tok) × (ts ≡ mark a opening ∷ next) × Users next runas mid × (mid ≡ mark b closing ∷ rest)
+    (a b : Bool) × (next mid : List Tok) × (ts ≡ mark a opening ∷ next)
+    × Users next runas mid × (mid ≡ mark b closing ∷ rest)
 
 -- an option: its word, and its moment
 pub record Date : Type 0 where
@@ -100,19 +108,24 @@ abbrev pub SpellsDates : List Tok → List Date → List Tok → Type 0
 SpellsDates ts [] rest = ts ≡ rest
 SpellsDates ts (date ∷ dates) rest =
     (a : Bool) × (time : List ℕ) × (next : List Tok) × moments.Spells time date.moment
-    × (ts ≡ word a 0 date.word ∷ mark false equals ∷ word false 0 time ∷ next) × (begins_spaced next ≡ true) × SpellsDates next dates rest
+    × (ts ≡ word a 0 date.word ∷ mark false equals ∷ word false 0 time ∷ next)
+    × (begins_spaced next ≡ true) × SpellsDates next dates rest
 
 -- An option gives a bound that was not given before; the other stays.
-abbrev pub GivesBound : (before after : Option ℕ) → Date → (new_before new_after : Option ℕ) → Type 0
+abbrev pub GivesBound : (before after : Option ℕ)
+    → Date → (new_before new_after : Option ℕ) → Type 0
 GivesBound before after date new_before new_after =
-    ((date.word ≡ codes "NOTBEFORE") × (before ≡ None) × (new_before ≡ Some date.moment) × (new_after ≡ after))
-    ⊎ ((date.word ≡ codes "NOTAFTER") × (after ≡ None) × (new_after ≡ Some date.moment) × (new_before ≡ before))
+    ((date.word ≡ codes "NOTBEFORE") × (before ≡ None) × (new_before ≡ Some date.moment)
+    × (new_after ≡ after)) ⊎ ((date.word ≡ codes "NOTAFTER") × (after ≡ None)
+    × (new_after ≡ Some date.moment) × (new_before ≡ before))
 
 -- What the options say of the bounds, in order, after options that gave these so far.
-abbrev pub Bounds : (before after : Option ℕ) → List Date → (not_before not_after : Option ℕ) → Type 0
+abbrev pub Bounds : (before after : Option ℕ) → List Date
+    → (not_before not_after : Option ℕ) → Type 0
 Bounds before after [] not_before not_after = (not_before ≡ before) × (not_after ≡ after)
 Bounds before after (date ∷ dates) not_before not_after =
-    (new_before new_after : Option ℕ) × GivesBound before after date new_before new_after × Bounds new_before new_after dates not_before not_after
+    (new_before new_after : Option ℕ) × GivesBound before after date new_before new_after
+    × Bounds new_before new_after dates not_before not_after
 
 -- the tags, with `:` after each; the last one holds
 abbrev pub tag_word : Bool → List ℕ
@@ -121,7 +134,8 @@ tag_word nopasswd = if nopasswd then codes "NOPASSWD" else codes "PASSWD"
 abbrev pub SpellsTags : List Tok → List Bool → List Tok → Type 0
 SpellsTags ts [] rest = ts ≡ rest
 SpellsTags ts (tag ∷ tags) rest =
-    (a b : Bool) × (next : List Tok) × (ts ≡ word a 0 (tag_word tag) ∷ mark b colon ∷ next) × SpellsTags next tags rest
+    (a b : Bool) × (next : List Tok)
+    × (ts ≡ word a 0 (tag_word tag) ∷ mark b colon ∷ next) × SpellsTags next tags rest
 
 abbrev pub last_tag : List Bool → Option Bool
 last_tag [] = None
@@ -151,7 +165,8 @@ pub record SpellsPart (ts : List Tok) (p : Part) (rest : List Tok) : Type 0 wher
   pub specs : CmndSpecs next p.specs rest
 
 -- a name, `=` and a list
-pub record SpellsDef {X : Type 0} (Is : List Tok → Signed X → List Tok → Type 0) (ts : List Tok) (d : Definition X) (rest : List Tok) : Type 0 where
+pub record SpellsDef {X : Type 0} (Is : List Tok → Signed X → List Tok
+    → Type 0) (ts : List Tok) (d : Definition X) (rest : List Tok) : Type 0 where
   pub name_spaced : Bool
   pub spaced : Bool
   pub next : List Tok
@@ -160,18 +175,22 @@ pub record SpellsDef {X : Type 0} (Is : List Tok → Signed X → List Tok → T
   pub list : Listed comma Is next d.list rest
 
 -- the word of a kind, and after blanks definitions with `:` between
-abbrev pub SpellsAliases : {X : Type 0} → List ℕ → (List Tok → Signed X → List Tok → Type 0) → List Tok → List (Definition X) → Type 0
+abbrev pub SpellsAliases : {X : Type 0} → List ℕ
+    → (List Tok → Signed X → List Tok → Type 0) → List Tok → List (Definition X) → Type 0
 SpellsAliases kind Is ts defs =
-    (a : Bool) × (next : List Tok) × (ts ≡ word a 0 kind ∷ next) × (begins_spaced next ≡ true) × Listed colon (SpellsDef Is) next defs []
+    (a : Bool) × (next : List Tok) × (ts ≡ word a 0 kind ∷ next)
+    × (begins_spaced next ≡ true) × Listed colon (SpellsDef Is) next defs []
 
 -- users, and after blanks parts with `:` between
 abbrev pub SpellsUserSpec : List Tok → Names → List Part → Type 0
 SpellsUserSpec ts users parts =
-    (next : List Tok) × Users ts users next × (begins_spaced next ≡ true) × Listed colon SpellsPart next parts []
+    (next : List Tok) × Users ts users next
+    × (begins_spaced next ≡ true) × Listed colon SpellsPart next parts []
 
 abbrev pub SpellsTree : List Tok → Line → Type 0
 SpellsTree ts (lines.Users defs) = SpellsAliases (codes "User_Alias") (SpellsItem is_name) ts defs
 SpellsTree ts (lines.Runas defs) = SpellsAliases (codes "Runas_Alias") (SpellsItem is_name) ts defs
-SpellsTree ts (lines.Hosts defs) = SpellsAliases (codes "Host_Alias") (SpellsItem is_host_name) ts defs
+SpellsTree ts (lines.Hosts defs) =
+    SpellsAliases (codes "Host_Alias") (SpellsItem is_host_name) ts defs
 SpellsTree ts (lines.Cmnds defs) = SpellsAliases (codes "Cmnd_Alias") SpellsCmnd ts defs
 SpellsTree ts (lines.UserSpec users parts) = SpellsUserSpec ts users parts

@@ -1,4 +1,6 @@
--- The entries that a line stands for: one for each definition, and one rule for each command. What a command of a list leaves out is taken from those before it in the same list (sudoers(5), "Cmnd_Spec_List").
+-- The entries that a line stands for: one for each definition, and one rule for each command. What
+-- a command of a list leaves out is taken from those before it in the same list (sudoers(5),
+-- "Cmnd_Spec_List").
 use Rattle.std.specs.Prelude.{false, List, [], ◌∷◌, map, None, unwrap_or, codes}
 use Rattle.std.specs.List.{flat_map}
 use Rattle.std.specs.Option.{option_or}
@@ -47,7 +49,8 @@ rule_with users hosts held cmnd = record {
 abbrev pub rules_of : Names → Names → Settings → List CmndSpec → List Entry
 rules_of users hosts before [] = []
 rules_of users hosts before (s ∷ specs) =
-    entries.Rule (rule_with users hosts (with_spec before s) s.cmnd) ∷ rules_of users hosts (with_spec before s) specs
+    entries.Rule (rule_with users hosts (with_spec before s) s.cmnd)
+    ∷ rules_of users hosts (with_spec before s) specs
 
 -- each part begins afresh
 abbrev pub part_rules : Names → Part → List Entry

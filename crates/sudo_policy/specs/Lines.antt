@@ -1,5 +1,7 @@
--- The lines of a text: comments are taken out, and continued lines are joined (sudoers(5), "Other special characters and reserved words").
-use Rattle.std.specs.Prelude.{◌≡◌, ℕ, ◌-◌, ◌==◌, nat_eq, Bool, true, false, not, ◌&&◌, ◌||◌, ◌⊎◌, slice_index, List, [], ◌∷◌, ◌++◌, length, codes}
+-- The lines of a text: comments are taken out, and continued lines are joined (sudoers(5), "Other
+-- special characters and reserved words").
+use Rattle.std.specs.Prelude.{◌≡◌, ℕ, ◌-◌, ◌==◌, nat_eq, Bool, true, false, not, ◌&&◌}
+use Rattle.std.specs.Prelude.{◌||◌, ◌⊎◌, slice_index, List, [], ◌∷◌, ◌++◌, length, codes}
 use Rattle.std.specs.List.{slice_split, starts_with, ends_with}
 use Rattle.sudo_words.specs.Bytes.{space, newline, equals, comma, colon, backslash, hash}
 use Rattle.sudo_words.specs.Word.{is_digit}
@@ -28,7 +30,8 @@ begins_with_digit [] = false
 begins_with_digit (b ∷ bs) = is_digit b
 
 abbrev pub is_comment : Text → Bool
-is_comment text = not (begins_with_digit text) && not (starts_with nat_eq text (codes "include")) && not (ends_in_backslash text)
+is_comment text = not (begins_with_digit text)
+    && not (starts_with nat_eq text (codes "include")) && not (ends_in_backslash text)
 
 -- a comment begins a line, or stands after a blank
 abbrev pub is_before_comment : Text → Bool
@@ -61,13 +64,16 @@ pub record IsContinued (line front : Text) : Type 0 where
 
 -- what is read of a line that does not go on: all of a plain line, or what stands before a comment
 abbrev pub IsBody : Text → Text → Type 0
-IsBody line body = (IsPlain line × (body ≡ line)) ⊎ ((comment : Text) × HasComment line body comment)
+IsBody line body =
+    (IsPlain line × (body ≡ line)) ⊎ ((comment : Text) × HasComment line body comment)
 
 -- The lines are these when joined. The last does not go on.
 abbrev pub Joined : List Text → List Text → Type 0
 Joined [] joined = joined ≡ []
 Joined (line ∷ lines) joined =
     -- the first is complete, and the rest is joined for itself
-    ((body : Text) × (more : List Text) × IsBody line body × (joined ≡ body ∷ more) × Joined lines more)
+    ((body : Text) × (more : List Text) × IsBody line body
+    × (joined ≡ body ∷ more) × Joined lines more)
     -- or the first goes on, and what comes of the rest follows after one blank
-    ⊎ ((front body : Text) × (more : List Text) × IsContinued line front × (joined ≡ (front ++ space ∷ body) ∷ more) × Joined lines (body ∷ more))
+    ⊎ ((front body : Text) × (more : List Text) × IsContinued line front
+    × (joined ≡ (front ++ space ∷ body) ∷ more) × Joined lines (body ∷ more))

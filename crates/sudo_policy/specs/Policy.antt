@@ -1,5 +1,7 @@
--- Which lists of entries are policies: the forms of the grammar, each alias above its use, and the limits.
-use Rattle.std.specs.Prelude.{◌≡◌, ℕ, ◌+◌, ◌≤◌, Bool, true, false, List, [], ◌∷◌, length, Option, IfSome}
+-- Which lists of entries are policies: the forms of the grammar, each alias above its use, and the
+-- limits.
+use Rattle.std.specs.Prelude.{◌≡◌, ℕ, ◌+◌, ◌≤◌, Bool, true, false}
+use Rattle.std.specs.Prelude.{List, [], ◌∷◌, length, Option, IfSome}
 use Rattle.std.specs.List.{AllByRecursion}
 use Rattle.sudo_words.specs.Word.{is_name, is_host_name, is_alias_name}
 use Rattle.sudo_words.specs.Moment.{IsMoment}
@@ -15,7 +17,9 @@ use Rattle.sudo_policy.specs.declared.entry.Entry.TheVariants as entries
 use Rattle.sudo_policy.specs.declared.tree.Definition.{Definition}
 use Rattle.sudo_policy.specs.Limits.{most_text_bytes, most_entries, most_weight, most_depth}
 use Rattle.sudo_policy.specs.Text.{Text}
-use Rattle.sudo_policy.specs.Alias.{user_defs, runas_defs, host_defs, cmnd_defs, is_defined, item_alias, cmnd_alias, KnowsList, list_weight, alias_weight, depth_of, alias_depth}
+use Rattle.sudo_policy.specs.Alias.{user_defs, runas_defs, host_defs, cmnd_defs}
+use Rattle.sudo_policy.specs.Alias.{is_defined, item_alias, cmnd_alias, KnowsList}
+use Rattle.sudo_policy.specs.Alias.{list_weight, alias_weight, depth_of, alias_depth}
 use Rattle.sudo_policy.specs.Printing.{canon}
 
 abbrev pub IsItem : (Text → Bool) → Item Text → Type 0
@@ -42,14 +46,17 @@ pub record IsRule (r : Rule) : Type 0 where
 abbrev pub IsEntry : Entry → Type 0
 IsEntry (entries.UserAlias name list) = (is_alias_name name ≡ true) × IsList (IsItem is_name) list
 IsEntry (entries.RunasAlias name list) = (is_alias_name name ≡ true) × IsList (IsItem is_name) list
-IsEntry (entries.HostAlias name list) = (is_alias_name name ≡ true) × IsList (IsItem is_host_name) list
+IsEntry (entries.HostAlias name list) =
+    (is_alias_name name ≡ true) × IsList (IsItem is_host_name) list
 IsEntry (entries.CmndAlias name list) = (is_alias_name name ≡ true) × IsList IsCmndItem list
 IsEntry (entries.Rule rule) = IsRule rule
 
 -- ---- places: below the entries above, which are listed from the nearest to the farthest
 
--- An alias is new in its kind, what its list uses is defined above, and its depth is within the limit.
-pub record IsNew {X : Type 0} (alias_of : X → Option Text) (defs : List (Definition X)) (name : Text) (list : List (Signed X)) : Type 0 where
+-- An alias is new in its kind, what its list uses is defined above, and its depth is within the
+-- limit.
+pub record IsNew {X : Type 0} (alias_of : X → Option Text)
+    (defs : List (Definition X)) (name : Text) (list : List (Signed X)) : Type 0 where
   pub new : is_defined defs name ≡ false
   pub knows : KnowsList alias_of defs list
   pub shallow : depth_of alias_of (alias_depth alias_of defs) list ≤ most_depth

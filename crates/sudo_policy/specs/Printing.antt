@@ -1,5 +1,7 @@
--- The canonical text of a policy: one entry a line, in order, each line ended by a newline, without comments.
-use Rattle.std.specs.Prelude.{ℕ, Bool, List, [], ◌∷◌, ◌++◌, Option, Some, None, if◌then◌else◌, codes}
+-- The canonical text of a policy: one entry a line, in order, each line ended by a newline, without
+-- comments.
+use Rattle.std.specs.Prelude.{ℕ, Bool, List, [], ◌∷◌, ◌++◌, Option}
+use Rattle.std.specs.Prelude.{Some, None, if◌then◌else◌, codes}
 use Rattle.std.specs.List.{flat_map}
 use Rattle.sudo_words.specs.Bytes.{newline, bang}
 use Rattle.sudo_words.specs.Moment.{stamp}
@@ -55,12 +57,13 @@ tag_text nopasswd = if nopasswd then codes "NOPASSWD: " else []
 
 -- what stands before the `(` and after the `)`
 abbrev pub who_text : Rule → Text
-who_text r = names_text r.users ++ codes " " ++ names_text r.hosts ++ codes " = (" ++ names_text r.runas ++ codes ") "
+who_text r = names_text r.users ++ codes " " ++ names_text r.hosts
+    ++ codes " = (" ++ names_text r.runas ++ codes ") "
 
 abbrev pub what_text : Rule → Text
 what_text r =
-    date_text (codes "NOTBEFORE") r.not_before ++ date_text (codes "NOTAFTER") r.not_after ++ tag_text r.nopasswd
-    ++ signed_text cmnd_item_text r.cmnd
+    date_text (codes "NOTBEFORE") r.not_before ++ date_text (codes "NOTAFTER") r.not_after
+    ++ tag_text r.nopasswd ++ signed_text cmnd_item_text r.cmnd
 
 abbrev pub rule_text : Rule → Text
 rule_text r = who_text r ++ what_text r

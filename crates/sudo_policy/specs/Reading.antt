@@ -9,7 +9,8 @@ use Rattle.sudo_policy.specs.declared.entry.Entry.TheVariants as entries
 
 -- a byte stands in the text that no text may have
 abbrev pub HasOtherByte : Text → Type 0
-HasOtherByte text = (front rest : Text) × (b : ℕ) × (text ≡ front ++ b ∷ rest) × (is_text_byte b ≡ false)
+HasOtherByte text =
+    (front rest : Text) × (b : ℕ) × (text ≡ front ++ b ∷ rest) × (is_text_byte b ≡ false)
 
 -- a line of the text, from 1 to one past the count of its newlines
 abbrev pub IsLineOf : Text → ℕ → Type 0

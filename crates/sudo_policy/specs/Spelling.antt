@@ -16,7 +16,8 @@ abbrev pub SpellsEntries : List Tok → List Entry → Type 0
 SpellsEntries [] es = es ≡ []
 SpellsEntries (t ∷ ts) es = (line : Line) × SpellsTree (t ∷ ts) line × (es ≡ entries_of line)
 
--- a line without its comment, joined with those that continue it, and the entries that it stands for
+-- a line without its comment, joined with those that continue it, and the entries that it stands
+-- for
 abbrev pub SpellsLine : Text → List Entry → Type 0
 SpellsLine line es = (ts : List Tok) × Lexes line ts × SpellsEntries ts es
 

@@ -1,6 +1,7 @@
 //! The aliases that the entries of a policy define, of all four kinds.
 
-ghost use Rattle.std.specs.Prelude.{◌≡◌, ◌++◌, ◌∷◌, [], ◌↔◌, IsTrue, List, length, reverse, MatchOption, IfOk, IfErr};
+ghost use Rattle.std.specs.Prelude.{◌≡◌, ◌++◌, ◌∷◌, [], ◌↔◌, IsTrue, List};
+ghost use Rattle.std.specs.Prelude.{length, reverse, MatchOption, IfOk, IfErr};
 ghost use Rattle.std.specs.List.{AllByRecursion};
 ghost use Rattle.sudo_policy.specs.private.Measures.{stopped};
 ghost use Rattle.sudo_policy.specs.Policy.{IsPlaced, entry_weight};
@@ -38,7 +39,8 @@ impl AliasKinds {
 
     /// How much the rule weighs, where each alias in it is defined in the kind of its place.
     pub fn rule_weight(&self, rule: &Rule) -> Option<usize>
-        ensures { MatchOption result (¬ RuleIsKnown self.now rule.now) (λ w. RuleIsKnown self.now rule.now × (w ≡ stopped (rule_weight_in self.now rule.now))) }
+        ensures { MatchOption result (¬ RuleIsKnown self.now rule.now) (λ w.
+            RuleIsKnown self.now rule.now × (w ≡ stopped (rule_weight_in self.now rule.now))) }
     {
         let users = self.users.measured(rule.users.as_slice())?;
         let hosts = self.hosts.measured(rule.hosts.as_slice())?;
@@ -61,12 +63,14 @@ impl AliasKinds {
 
     /// Adds what an entry at this place defines, and gives what the entry weighs.
     ///
-    /// `AliasTwice` comes where its name is defined in its kind, else `UnknownAlias` where it uses an alias that is not, else
-    /// `TooLarge` where its depth is past the limit.
+    /// `AliasTwice` comes where its name is defined in its kind, else `UnknownAlias` where it uses
+    /// an alias that is not, else `TooLarge` where its depth is past the limit.
     pub fn enter(&mut self, alloc: Global, place: usize, entry: &Entry) -> Result<usize, LineFault>
         ensures found { (es : List Entered) → AreAliasKinds es self.old → place ≡ length es
-            → IfOk result (λ w. IsPlaced (reverse es) entry.now × AreAliasKinds (es ++ entry.now ∷ []) self.new × (w ≡ stopped (entry_weight (reverse es) entry.now))) }
-        ensures only { (es : List Entered) → AreAliasKinds es self.old → IsPlaced (reverse es) entry.now → IfErr result (λ e. e ≡ fault.NoMemory) }
+            → IfOk result (λ w. IsPlaced (reverse es) entry.now × AreAliasKinds (es
+            ++ entry.now ∷ []) self.new × (w ≡ stopped (entry_weight (reverse es) entry.now))) }
+        ensures only { (es : List Entered) → AreAliasKinds es self.old
+            → IsPlaced (reverse es) entry.now → IfErr result (λ e. e ≡ fault.NoMemory) }
     {
         match entry {
             Entry::UserAlias(name, list) => {

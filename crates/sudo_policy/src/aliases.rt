@@ -1,9 +1,12 @@
 //! The aliases of one kind: where each is defined, how much it weighs and how deep it is.
 
-ghost use Rattle.std.specs.Prelude.{◌≡◌, ◌+◌, ◌∷◌, [], List, ℕ, Option, max, MatchOption, OnOk, OnErr, IfOk, IfErr, Some};
+ghost use Rattle.std.specs.Prelude.{◌≡◌, ◌+◌, ◌∷◌, [], List, ℕ, Option, max};
+ghost use Rattle.std.specs.Prelude.{MatchOption, OnOk, OnErr, IfOk, IfErr, Some};
 ghost use Rattle.std.specs.Option.{option_copied};
 ghost use Rattle.sudo_policy.specs.Alias.{item_alias, cmnd_alias};
-ghost use Rattle.sudo_policy.specs.private.Measures.{alias_at, stopped, IsUnmeasured, IsMeasured, IsItemUnmeasured, IsItemMeasured, IsDefinable, Defines};
+ghost use Rattle.sudo_policy.specs.private.Measures.{alias_at, stopped, IsUnmeasured};
+ghost use Rattle.sudo_policy.specs.private.Measures.{IsMeasured, IsItemUnmeasured};
+ghost use Rattle.sudo_policy.specs.private.Measures.{IsItemMeasured, IsDefinable, Defines};
 ghost use Rattle.sudo_policy.specs.declared.fault.LineFault.TheVariants as fault;
 
 use crate::entry::{CmndItem, Item, Signed};
@@ -109,7 +112,8 @@ impl Aliases {
 
     /// The measure of an item, where it is no alias or one of these.
     fn measured_item<T: Aliased>(&self, item: &T) -> Option<Measure>
-        ensures { MatchOption result (IsItemUnmeasured self.now (T.alias_of item.now)) (IsItemMeasured self.now (T.alias_of item.now)) }
+        ensures { MatchOption result (IsItemUnmeasured self.now (T.alias_of item.now))
+            (IsItemMeasured self.now (T.alias_of item.now)) }
     {
         match item.alias() {
             None => Some(Measure {
@@ -125,7 +129,8 @@ impl Aliases {
 
     /// The measure of a list, where each alias in it is one of these.
     pub fn measured<T: Aliased>(&self, list: &[Signed<T>]) -> Option<Measure>
-        ensures { MatchOption result (IsUnmeasured T.alias_of self.now list.now) (IsMeasured T.alias_of self.now list.now) }
+        ensures { MatchOption result (IsUnmeasured T.alias_of self.now list.now)
+            (IsMeasured T.alias_of self.now list.now) }
     {
         let mut all = Measure {
             weight: 0,
@@ -140,14 +145,15 @@ impl Aliases {
 
     /// The measure of a list that may define an alias of this name.
     ///
-    /// `AliasTwice` comes where the name is defined, else `UnknownAlias` where the list uses an alias that is not, else
-    /// `TooLarge` where its depth is past the limit.
+    /// `AliasTwice` comes where the name is defined, else `UnknownAlias` where the list uses an
+    /// alias that is not, else `TooLarge` where its depth is past the limit.
     fn definable<T: Aliased>(
         &self,
         name: &AliasName,
         list: &[Signed<T>],
     ) -> Result<Measure, LineFault>
-        ensures found { IfOk result (λ a. IsDefinable T.alias_of self.now name.now list.now × IsMeasured T.alias_of self.now list.now a) }
+        ensures found { IfOk result (λ a. IsDefinable T.alias_of self.now name.now list.now
+            × IsMeasured T.alias_of self.now list.now a) }
         ensures only { OnErr result (IsDefinable T.alias_of self.now name.now list.now → ⊥) }
     {
         if self.get(name).is_some() {
@@ -171,7 +177,8 @@ impl Aliases {
         list: &[Signed<T>],
     ) -> Result<(), LineFault>
         ensures found { OnOk result (Defines T.alias_of self.old self.new name.now place list.now) }
-        ensures only { IsDefinable T.alias_of self.old name.now list.now → IfErr result (λ e. e ≡ fault.NoMemory) }
+        ensures only { IsDefinable T.alias_of self.old name.now list.now
+            → IfErr result (λ e. e ≡ fault.NoMemory) }
     {
         let measure = self.definable(name, list)?;
         let alias = Alias {

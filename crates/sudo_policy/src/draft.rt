@@ -24,20 +24,23 @@ fn push<T: Drop>(items: &mut Vec<T>, item: T) -> Result<(), LineFault>
     Ok(())
 }
 
-/// Adds one more to a list, where nothing was wrong with it, and gives what was wrong with it where something was.
+/// Adds one more to a list, where nothing was wrong with it, and gives what was wrong with it where
+/// something was.
 fn push_entered<T: Drop>(
     items: &mut Vec<T>,
     item: T,
     entered: Result<(), LineFault>,
 ) -> Result<(), LineFault>
     ensures found { OnOk result (IsOk entered × (items.new.items ≡ items.old.items ++ item ∷ [])) }
-    ensures only { IfErr entered (λ e. e ≡ fault.NoMemory) → IfErr result (λ e. e ≡ fault.NoMemory) }
+    ensures only { IfErr entered (λ e. e ≡ fault.NoMemory)
+        → IfErr result (λ e. e ≡ fault.NoMemory) }
 {
     entered?;
     push(items, item)
 }
 
-/// Entries that are a policy, what is kept of their aliases, their weight, and the length of their canonical text.
+/// Entries that are a policy, what is kept of their aliases, their weight, and the length of their
+/// canonical text.
 #[derive(Drop)]
 pub struct Draft {
     /// The entries, in order.
@@ -66,25 +69,30 @@ impl Draft {
 
     /// Adds one more entry after its own.
     ///
-    /// `AliasTwice` comes where the entry defines an alias that is defined in its kind, else `UnknownAlias` where it uses one
-    /// that is not, else `TooLarge` where the whole is past a limit. After a fault it is a draft no longer.
+    /// `AliasTwice` comes where the entry defines an alias that is defined in its kind, else
+    /// `UnknownAlias` where it uses one that is not, else `TooLarge` where the whole is past a
+    /// limit. After a fault it is a draft no longer.
     pub fn add(&mut self, alloc: Global, entry: Entry) -> Result<(), LineFault>
         requires draft { IsDraft self.old }
         requires entry { IsEntry entry }
         ensures found { OnOk result (Adds self.old self.new (entry ∷ [])) }
-        ensures only { IsPolicy (self.old.entries.items ++ entry ∷ []) → IfErr result (λ e. e ≡ fault.NoMemory) }
+        ensures only { IsPolicy (self.old.entries.items ++ entry ∷ [])
+            → IfErr result (λ e. e ≡ fault.NoMemory) }
     {
         // One call gives the entry up, whether it was entered or not.
         let entered = self.enter(alloc, &entry);
         push_entered(&mut self.entries, entry, entered)
     }
 
-    /// Enters what an entry defines, weighs and is long, and leaves the entries as they are. Its faults are those of `add`.
+    /// Enters what an entry defines, weighs and is long, and leaves the entries as they are. Its
+    /// faults are those of `add`.
     fn enter(&mut self, alloc: Global, entry: &Entry) -> Result<(), LineFault>
         requires draft { IsDraft self.old }
         requires entry { IsEntry entry.now }
-        ensures found { OnOk result (IsWhole (self.old.entries.items ++ entry.now ∷ []) self.new.scope self.new.weight self.new.text_len) }
-        ensures only { IsPolicy (self.old.entries.items ++ entry.now ∷ []) → IfErr result (λ e. e ≡ fault.NoMemory) }
+        ensures found { OnOk result (IsWhole (self.old.entries.items
+            ++ entry.now ∷ []) self.new.scope self.new.weight self.new.text_len) }
+        ensures only { IsPolicy (self.old.entries.items ++ entry.now ∷ [])
+            → IfErr result (λ e. e ≡ fault.NoMemory) }
         ensures entries { self.new.entries ≡ self.old.entries }
     {
         let place = self.entries.len();

@@ -31,7 +31,8 @@ pub enum CmndItem {
     Cmnd(Cmnd),
 }
 
-/// Who may run which command, on which hosts, as whom and when. What a later command of a list inherits is written in.
+/// Who may run which command, on which hosts, as whom and when. What a later command of a list
+/// inherits is written in.
 #[derive(Debug, Drop)]
 pub struct Rule {
     /// The users whom it is about.

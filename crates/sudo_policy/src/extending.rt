@@ -1,9 +1,11 @@
 //! Policies with further rules after them.
 
-ghost use Rattle.std.specs.Prelude.{◌≡◌, ◌⊎◌, [], ◌++◌, IfOk, IfErr, OnOk, MatchResult, map, reverse};
+ghost use Rattle.std.specs.Prelude.{◌≡◌, ◌⊎◌, [], ◌++◌, IfOk, IfErr};
+ghost use Rattle.std.specs.Prelude.{OnOk, MatchResult, map, reverse};
 ghost use Rattle.std.specs.List.{AllByRecursion};
 ghost use Rattle.sudo_policy.specs.declared.entry.Entry.TheVariants as entries;
-ghost use Rattle.sudo_policy.specs.declared.fault.FaultKind.TheVariants.{TooLarge, UnknownAlias, NoMemory};
+ghost use Rattle.sudo_policy.specs.declared.fault.FaultKind.TheVariants.{TooLarge, UnknownAlias};
+ghost use Rattle.sudo_policy.specs.declared.fault.FaultKind.TheVariants.{NoMemory};
 ghost use Rattle.sudo_policy.specs.Policy.{IsPolicy, IsRule, KnowsRule};
 ghost use Rattle.sudo_policy.specs.Reading as reading;
 ghost use Rattle.sudo_policy.specs.private.AliasKinds.{Adds, IsDraft};
@@ -33,7 +35,8 @@ fn add_rules(alloc: Global, draft: &mut Draft, rules: Vec<Rule>) -> Result<(), L
     requires draft { IsDraft draft.old }
     requires rules { AllByRecursion IsRule rules.items }
     ensures found { OnOk result (Adds draft.old draft.new (map entries.Rule rules.items)) }
-    ensures only { IsPolicy (draft.old.entries.items ++ map entries.Rule rules.items) → IfErr result (λ e. e ≡ fault.NoMemory) }
+    ensures only { IsPolicy (draft.old.entries.items ++ map entries.Rule rules.items)
+        → IfErr result (λ e. e ≡ fault.NoMemory) }
 {
     for rule in rules {
         draft.add(alloc, Entry::Rule(rule))?;
@@ -62,8 +65,10 @@ fn add_both(
     requires draft { IsDraft draft.old }
     requires none { draft.old.entries.items ≡ [] }
     requires rules { AllByRecursion IsRule rules.items }
-    ensures found { OnOk result (IsDraft draft.new × (draft.new.entries.items ≡ reading.with_rules base.now rules.items)) }
-    ensures only { IsPolicy (reading.with_rules base.now rules.items) → IfErr result (λ e. e ≡ fault.NoMemory) }
+    ensures found { OnOk result
+        (IsDraft draft.new × (draft.new.entries.items ≡ reading.with_rules base.now rules.items)) }
+    ensures only { IsPolicy (reading.with_rules base.now rules.items)
+        → IfErr result (λ e. e ≡ fault.NoMemory) }
 {
     add_base(alloc, draft, base)?;
     add_rules(alloc, draft, rules)
@@ -71,15 +76,18 @@ fn add_both(
 
 /// The policy with these rules after its entries.
 ///
-/// `UnknownAlias` comes where a rule uses an alias that the base lacks, else `TooLarge` where the whole is past a limit, and
-/// `NoMemory` where memory runs out. There is no text, so the line is 0.
+/// `UnknownAlias` comes where a rule uses an alias that the base lacks, else `TooLarge` where the
+/// whole is past a limit, and `NoMemory` where memory runs out. There is no text, so the line is 0.
 pub fn extend(alloc: Global, base: &Policy, rules: Vec<Rule>) -> Result<Policy, ReadFault>
     requires { AllByRecursion IsRule rules.items }
     ensures found { IfOk result (λ p. p ≡ reading.with_rules base.now rules.items) }
-    ensures only { IsPolicy (reading.with_rules base.now rules.items) → MatchResult result (λ p. p ≡ reading.with_rules base.now rules.items) (λ f. f.kind ≡ NoMemory) }
+    ensures only { IsPolicy (reading.with_rules base.now rules.items) → MatchResult result
+        (λ p. p ≡ reading.with_rules base.now rules.items) (λ f. f.kind ≡ NoMemory) }
     ensures line { IfErr result (λ f. f.line ≡ 0) }
-    ensures unknown { ¬ AllByRecursion (KnowsRule (reverse base.now)) rules.items → IfErr result (λ f. (f.kind ≡ UnknownAlias) ⊎ (f.kind ≡ NoMemory)) }
-    ensures kind { AllByRecursion (KnowsRule (reverse base.now)) rules.items → IfErr result (λ f. (f.kind ≡ TooLarge) ⊎ (f.kind ≡ NoMemory)) }
+    ensures unknown { ¬ AllByRecursion (KnowsRule (reverse base.now)) rules.items
+        → IfErr result (λ f. (f.kind ≡ UnknownAlias) ⊎ (f.kind ≡ NoMemory)) }
+    ensures kind { AllByRecursion (KnowsRule (reverse base.now)) rules.items
+        → IfErr result (λ f. (f.kind ≡ TooLarge) ⊎ (f.kind ≡ NoMemory)) }
 {
     if !base.knows(&rules) {
         return Err(ReadFault {

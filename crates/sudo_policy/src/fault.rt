@@ -60,7 +60,8 @@ impl fmt::Display for FaultKind {
 
 impl Error for FaultKind {}
 
-/// Why a text was not read: what is wrong, and in which line, from 1. It is shown as `S5 UnknownAlias line 3`.
+/// Why a text was not read: what is wrong, and in which line, from 1. It is shown as `S5
+/// UnknownAlias line 3`.
 #[derive(Clone, Copy, Debug, PartialEq, Eq)]
 pub struct ReadFault {
     /// The line.
@@ -84,7 +85,8 @@ impl fmt::Display for ReadFault {
 
 impl Error for ReadFault {}
 
-/// What is wrong with a line: the kinds that a line has of itself, each as the `FaultKind` of its name.
+/// What is wrong with a line: the kinds that a line has of itself, each as the `FaultKind` of its
+/// name.
 #[derive(Clone, Copy)]
 pub enum LineFault {
     /// A word is not of the form that its place asks for.

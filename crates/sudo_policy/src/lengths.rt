@@ -5,7 +5,9 @@ ghost use Rattle.std.specs.List.{AllByRecursion};
 ghost use Rattle.sudo_policy.specs.declared.entry.Entry.TheVariants as entries;
 ghost use Rattle.sudo_policy.specs.private.Lengths.{stopped};
 ghost use Rattle.sudo_policy.specs.Policy.{IsCmndItem, IsEntry, IsItem, IsRule};
-ghost use Rattle.sudo_policy.specs.Printing.{alias_text, cmnd_item_text, date_text, item_text, line_text, list_text, signed_text, tail_text, who_text};
+ghost use Rattle.sudo_policy.specs.Printing.{alias_text, cmnd_item_text, date_text};
+ghost use Rattle.sudo_policy.specs.Printing.{item_text, line_text, list_text};
+ghost use Rattle.sudo_policy.specs.Printing.{signed_text, tail_text, who_text};
 
 use crate::entry::{CmndItem, Entry, Item, Rule, Signed};
 use sudo_words::{AliasName, Form, Moment, Word, cmnd_len};
@@ -134,12 +136,14 @@ fn rule_line_len(rule: &Rule) -> usize
 fn alias_line_len<T: Lengthy>(kind: &str, name: &AliasName, list: &[Signed<T>]) -> usize
     requires kind { length kind.now ≤ 16 }
     requires list { AllByRecursion (λ s. T.holds s.item) list.now }
-    ensures { result ≡ stopped (length (alias_text kind.now name.now (list_text (signed_text T.text) list.now) ++ codes "\n")) }
+    ensures { result ≡ stopped (length
+        (alias_text kind.now name.now (list_text (signed_text T.text) list.now) ++ codes "\n")) }
 {
     plus(plus(kind.len() + 5, name.as_str().len()), list_len(list))
 }
 
-/// The line of an entry, with its newline. A length past the limit of a policy's text is counted as one past it.
+/// The line of an entry, with its newline. A length past the limit of a policy's text is counted as
+/// one past it.
 pub fn line_len(entry: &Entry) -> usize
     requires { IsEntry entry.now }
     ensures { result ≡ stopped (length (line_text entry.now)) }

@@ -1,4 +1,5 @@
-//! Policies: what they are made of, which texts spell them, and how they grow and are printed. Reading a text is left to `sudo_syntax`.
+//! Policies: what they are made of, which texts spell them, and how they grow and are printed.
+//! Reading a text is left to `sudo_syntax`.
 #![tactic(auto)]
 
 mod alias_kinds;

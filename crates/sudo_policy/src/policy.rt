@@ -2,7 +2,8 @@
 
 ghost use Rattle.std.specs.Prelude.{◌≡◌, ◌↔◌, IsTrue, length, reverse, false, MatchOption};
 ghost use Rattle.std.specs.List.{AllByRecursion};
-ghost use Rattle.sudo_policy.specs.Alias.{DefinedAt, is_defined, user_def, runas_def, host_def, cmnd_def, user_defs, runas_defs, host_defs, cmnd_defs};
+ghost use Rattle.sudo_policy.specs.Alias.{DefinedAt, is_defined, user_def, runas_def, host_def};
+ghost use Rattle.sudo_policy.specs.Alias.{cmnd_def, user_defs, runas_defs, host_defs, cmnd_defs};
 ghost use Rattle.sudo_policy.specs.Printing.{canon};
 ghost use Rattle.sudo_policy.specs.Policy.{KnowsRule, weight};
 ghost use Rattle.sudo_policy.specs.private.AliasKinds.{IsDraft as IsGrown};
@@ -15,8 +16,8 @@ use sudo_words::{AliasName, HostName, Name};
 
 /// A policy in normal form, which contracts see as the list of its entries.
 ///
-/// It has at most 16,384 entries, a weight of at most 131,072, and a canonical text of at most 16 MiB. Each alias is defined
-/// once in its kind, above its uses, and has a depth of at most 64.
+/// It has at most 16,384 entries, a weight of at most 131,072, and a canonical text of at most 16
+/// MiB. Each alias is defined once in its kind, above its uses, and has a depth of at most 64.
 #[derive(Drop)]
 pub struct Policy {
     draft: Draft,
@@ -68,7 +69,8 @@ impl Policy {
 
     /// Where the alias of users is defined, and its list. It takes no memory.
     pub fn user_alias(&self, name: &AliasName) -> Option<(usize, &[Signed<Item<Name>>])>
-        ensures { MatchOption result (is_defined (user_defs self.now) name.now ≡ false) (λ x. DefinedAt user_def self.now x.0 name.now x.1.now) }
+        ensures { MatchOption result (is_defined (user_defs self.now) name.now
+            ≡ false) (λ x. DefinedAt user_def self.now x.0 name.now x.1.now) }
     {
         let alias = self.draft.scope.users.get(name)?;
         match self.draft.entries.get(alias.place) {
@@ -79,7 +81,8 @@ impl Policy {
 
     /// Where the alias of targets is defined, and its list. It takes no memory.
     pub fn runas_alias(&self, name: &AliasName) -> Option<(usize, &[Signed<Item<Name>>])>
-        ensures { MatchOption result (is_defined (runas_defs self.now) name.now ≡ false) (λ x. DefinedAt runas_def self.now x.0 name.now x.1.now) }
+        ensures { MatchOption result (is_defined (runas_defs self.now) name.now
+            ≡ false) (λ x. DefinedAt runas_def self.now x.0 name.now x.1.now) }
     {
         let alias = self.draft.scope.runas.get(name)?;
         match self.draft.entries.get(alias.place) {
@@ -90,7 +93,8 @@ impl Policy {
 
     /// Where the alias of hosts is defined, and its list. It takes no memory.
     pub fn host_alias(&self, name: &AliasName) -> Option<(usize, &[Signed<Item<HostName>>])>
-        ensures { MatchOption result (is_defined (host_defs self.now) name.now ≡ false) (λ x. DefinedAt host_def self.now x.0 name.now x.1.now) }
+        ensures { MatchOption result (is_defined (host_defs self.now) name.now
+            ≡ false) (λ x. DefinedAt host_def self.now x.0 name.now x.1.now) }
     {
         let alias = self.draft.scope.hosts.get(name)?;
         match self.draft.entries.get(alias.place) {
@@ -101,7 +105,8 @@ impl Policy {
 
     /// Where the alias of commands is defined, and its list. It takes no memory.
     pub fn cmnd_alias(&self, name: &AliasName) -> Option<(usize, &[Signed<CmndItem>])>
-        ensures { MatchOption result (is_defined (cmnd_defs self.now) name.now ≡ false) (λ x. DefinedAt cmnd_def self.now x.0 name.now x.1.now) }
+        ensures { MatchOption result (is_defined (cmnd_defs self.now) name.now
+            ≡ false) (λ x. DefinedAt cmnd_def self.now x.0 name.now x.1.now) }
     {
         let alias = self.draft.scope.cmnds.get(name)?;
         match self.draft.entries.get(alias.place) {

@@ -1,12 +1,16 @@
 //! Policies printed as their canonical text.
 
-ghost use Rattle.std.specs.Prelude.{◌≡◌, [], List, ℕ, IfOk, OnOk, ◌++◌, codes, length, string_bytes};
+ghost use Rattle.std.specs.Prelude.{◌≡◌, [], List, ℕ, IfOk, OnOk};
+ghost use Rattle.std.specs.Prelude.{◌++◌, codes, length, string_bytes};
 ghost use Rattle.std.specs.List.{AllByRecursion};
 ghost use Rattle.sudo_words.specs.Command.{IsLawful, cmnd_text};
 ghost use Rattle.sudo_words.specs.Moment.{stamp};
 ghost use Rattle.sudo_policy.specs.Spelling.{Spells};
 ghost use Rattle.sudo_policy.specs.Policy.{IsEntry, IsRule, IsCmndItem};
-ghost use Rattle.sudo_policy.specs.Printing.{alias_text, canon, cmnds_text, date_text, tag_text, item_text, cmnd_item_text, entry_text, line_text, names_text, rule_text, signed_text, tail_text, what_text, who_text};
+ghost use Rattle.sudo_policy.specs.Printing.{alias_text, canon, cmnds_text, date_text};
+ghost use Rattle.sudo_policy.specs.Printing.{tag_text, item_text, cmnd_item_text};
+ghost use Rattle.sudo_policy.specs.Printing.{entry_text, line_text, names_text, rule_text};
+ghost use Rattle.sudo_policy.specs.Printing.{signed_text, tail_text, what_text, who_text};
 
 use crate::entry::{CmndItem, Entry, Item, Rule, Signed};
 use crate::policy::Policy;
@@ -24,7 +28,8 @@ fn push_item<F: Form>(out: &mut String, item: &Item<Word<F>>) -> Result<(), Allo
 }
 
 fn push_signed<F: Form>(out: &mut String, signed: &Signed<Item<Word<F>>>) -> Result<(), AllocError>
-    ensures { OnOk result (string_bytes out.new ≡ string_bytes out.old ++ signed_text item_text signed.now) }
+    ensures { OnOk result
+        (string_bytes out.new ≡ string_bytes out.old ++ signed_text item_text signed.now) }
 {
     if signed.negated {
         out.push_str("!")?;
@@ -34,7 +39,8 @@ fn push_signed<F: Form>(out: &mut String, signed: &Signed<Item<Word<F>>>) -> Res
 
 /// The items after the first, with a comma and a space before each.
 fn push_tail<F: Form>(out: &mut String, items: &[Signed<Item<Word<F>>>]) -> Result<(), AllocError>
-    ensures { OnOk result (string_bytes out.new ≡ string_bytes out.old ++ tail_text (signed_text item_text) items.now) }
+    ensures { OnOk result (string_bytes out.new
+        ≡ string_bytes out.old ++ tail_text (signed_text item_text) items.now) }
 {
     for item in items {
         out.push_str(", ")?;
@@ -75,7 +81,8 @@ pub fn push_moment(out: &mut String, moment: Moment) -> Result<(), AllocError>
 }
 
 fn push_date(out: &mut String, option: &str, date: Option<Moment>) -> Result<(), AllocError>
-    ensures { OnOk result (string_bytes out.new ≡ string_bytes out.old ++ date_text option.now date) }
+    ensures { OnOk result
+        (string_bytes out.new ≡ string_bytes out.old ++ date_text option.now date) }
 {
     match date {
         None => Ok(()),
@@ -97,7 +104,8 @@ fn push_tag(out: &mut String, nopasswd: bool) -> Result<(), AllocError>
     Ok(())
 }
 
-/// Adds a command's text. One without a rule for its arguments is its head, which needs no text of its own.
+/// Adds a command's text. One without a rule for its arguments is its head, which needs no text of
+/// its own.
 pub fn push_command(alloc: Global, out: &mut String, cmnd: &Cmnd) -> Result<(), NoMemory>
     requires { IsLawful cmnd.now }
     ensures { OnOk result (string_bytes out.new ≡ string_bytes out.old ++ cmnd_text cmnd.now) }
@@ -126,7 +134,8 @@ fn push_cmnd_item(alloc: Global, out: &mut String, item: &CmndItem) -> Result<()
 
 fn push_cmnd(alloc: Global, out: &mut String, signed: &Signed<CmndItem>) -> Result<(), NoMemory>
     requires { IsCmndItem signed.now.item }
-    ensures { OnOk result (string_bytes out.new ≡ string_bytes out.old ++ signed_text cmnd_item_text signed.now) }
+    ensures { OnOk result
+        (string_bytes out.new ≡ string_bytes out.old ++ signed_text cmnd_item_text signed.now) }
 {
     if signed.negated {
         out.push_str("!")?;
@@ -141,7 +150,8 @@ fn push_cmnd_tail(
     items: &[Signed<CmndItem>],
 ) -> Result<(), NoMemory>
     requires { AllByRecursion (λ s. IsCmndItem s.item) items.now }
-    ensures { OnOk result (string_bytes out.new ≡ string_bytes out.old ++ tail_text (signed_text cmnd_item_text) items.now) }
+    ensures { OnOk result (string_bytes out.new
+        ≡ string_bytes out.old ++ tail_text (signed_text cmnd_item_text) items.now) }
 {
     for item in items {
         out.push_str(", ")?;
@@ -165,7 +175,8 @@ fn push_cmnds(alloc: Global, out: &mut String, items: &[Signed<CmndItem>]) -> Re
 
 /// What stands before an alias's list.
 fn push_head(out: &mut String, kind: &str, name: &AliasName) -> Result<(), AllocError>
-    ensures { OnOk result (string_bytes out.new ≡ string_bytes out.old ++ alias_text kind.now name.now []) }
+    ensures { OnOk result
+        (string_bytes out.new ≡ string_bytes out.old ++ alias_text kind.now name.now []) }
 {
     out.push_str(kind)?;
     out.push_str(" ")?;
@@ -179,7 +190,8 @@ fn push_alias<F: Form>(
     name: &AliasName,
     list: &[Signed<Item<Word<F>>>],
 ) -> Result<(), NoMemory>
-    ensures { OnOk result (string_bytes out.new ≡ string_bytes out.old ++ alias_text kind.now name.now (names_text list.now)) }
+    ensures { OnOk result (string_bytes out.new
+        ≡ string_bytes out.old ++ alias_text kind.now name.now (names_text list.now)) }
 {
     push_head(out, kind, name)?;
     push_names(out, list)?;
@@ -193,7 +205,8 @@ fn push_cmnd_alias(
     list: &[Signed<CmndItem>],
 ) -> Result<(), NoMemory>
     requires { AllByRecursion (λ s. IsCmndItem s.item) list.now }
-    ensures { OnOk result (string_bytes out.new ≡ string_bytes out.old ++ alias_text (codes "Cmnd_Alias") name.now (cmnds_text list.now)) }
+    ensures { OnOk result (string_bytes out.new
+        ≡ string_bytes out.old ++ alias_text (codes "Cmnd_Alias") name.now (cmnds_text list.now)) }
 {
     push_head(out, "Cmnd_Alias", name)?;
     push_cmnds(alloc, out, list)
@@ -245,7 +258,8 @@ fn printed(alloc: Global, entries: &[Entry], room: usize) -> Result<String, NoMe
     Ok(out)
 }
 
-/// The policy's canonical text: one entry a line, without comments. `read_policy` reads it as the same policy.
+/// The policy's canonical text: one entry a line, without comments. `read_policy` reads it as the
+/// same policy.
 pub fn print_policy(alloc: Global, policy: &Policy) -> Result<String, NoMemory>
     ensures text { IfOk result (λ s. string_bytes s ≡ canon policy.now) }
     ensures read_back { IfOk result (λ s. Spells (string_bytes s) policy.now) }
@@ -253,8 +267,9 @@ pub fn print_policy(alloc: Global, policy: &Policy) -> Result<String, NoMemory>
     printed(alloc, policy.entries(), policy.text_len())
 }
 
-/// The text of the entries, which has this length, one a line. The second half of them is printed by itself and given back before the first half is
-/// printed: so the whole text never stands beside all entries.
+/// The text of the entries, which has this length, one a line. The second half of them is printed
+/// by itself and given back before the first half is printed: so the whole text never stands beside
+/// all entries.
 fn printed_in_halves(alloc: Global, entries: Vec<Entry>, len: usize) -> Result<String, NoMemory>
     requires { AllByRecursion IsEntry entries.items }
     ensures { IfOk result (λ s. string_bytes s ≡ canon entries.items) }
@@ -270,7 +285,8 @@ fn printed_in_halves(alloc: Global, entries: Vec<Entry>, len: usize) -> Result<S
     Ok(out)
 }
 
-/// The policy's canonical text, as `print_policy` prints it. The policy is given back on the way, which takes less memory at once.
+/// The policy's canonical text, as `print_policy` prints it. The policy is given back on the way,
+/// which takes less memory at once.
 pub fn print_owned(alloc: Global, policy: Policy) -> Result<String, NoMemory>
     ensures text { IfOk result (λ s. string_bytes s ≡ canon policy) }
     ensures read_back { IfOk result (λ s. Spells (string_bytes s) policy) }

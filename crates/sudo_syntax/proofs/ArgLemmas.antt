@@ -37,8 +37,8 @@ pub record Next (out : List (List ℕ)) (text : List ℕ) (next : List Tok) (arg
   pub rest : next ≡ arg_toks more ++ r
   pub room : length out < length args
 
-next_is : (out : List (List ℕ)) (ts : List Tok) (text : List ℕ) (next : List Tok) → ts ≡ word true 0 text ∷ next → (args : List (List ℕ)) (r : List Tok) → Fit args r
-    → (more : List (List ℕ)) → args ≡ out ++ more → ts ≡ arg_toks more ++ r → Next out text next args r
+next_is : (out : List (List ℕ)) (ts : List Tok) (text : List ℕ) (next : List Tok) → ts ≡ word true 0 text ∷ next → (args : List (List ℕ)) (r : List Tok)
+    → Fit args r → (more : List (List ℕ)) → args ≡ out ++ more → ts ≡ arg_toks more ++ r → Next out text next args r
 next_is out ts text next e args r f [] l t = absurd (f.stops text next (sym t ∙ e))
 next_is out ts text next e args r f (y ∷ ys) l t =
     let two = sym e ∙ t in
@@ -52,19 +52,25 @@ next_is out ts text next e args r f (y ∷ ys) l t =
       room = omega (arith, ap length l, length-append out (y ∷ ys));
     }
 
-pub next_arg : (out : List (List ℕ)) (ts : List Tok) (text : List ℕ) (next : List Tok) → ts ≡ word true 0 text ∷ next → (args : List (List ℕ)) (r : List Tok) → Fit args r → Left out ts args r → Next out text next args r
+pub next_arg : (out : List (List ℕ)) (ts : List Tok) (text : List ℕ) (next : List Tok) → ts ≡ word true 0 text ∷ next
+    → (args : List (List ℕ)) (r : List Tok) → Fit args r → Left out ts args r → Next out text next args r
 next_arg out ts text next e args r f h = next_is out ts text next e args r f h.0 h.1 h.2
 
 pub arg_read : (out : List (List ℕ)) (ts : List Tok) (text : List ℕ) (next : List Tok) (a : List ℕ) → ts ≡ word true 0 text ∷ next → text ≡ arg_text a
     → ((y : List ℕ) → is_arg y ≡ true → text ≡ arg_text y → a ≡ y) → Leads Fit (Left out ts) (Left (out ++ a ∷ []) next)
 arg_read out ts text next a e t one = record {
-  back = λ args r h. (a ∷ h.0, h.1 ∙ append_assoc out (a ∷ []) h.0, e ∙ ap (λ (w : List ℕ). word true 0 w ∷ next) t ∙ ap (λ (n : List Tok). word true 0 (arg_text a) ∷ n) h.2);
+  back = λ args r h. (
+    a ∷ h.0,
+    h.1 ∙ append_assoc out (a ∷ []) h.0,
+    e ∙ ap (λ (w : List ℕ). word true 0 w ∷ next) t ∙ ap (λ (n : List Tok). word true 0 (arg_text a) ∷ n) h.2,
+  );
   on = λ args r f h.
       let n = next_arg out ts text next e args r f h in
       (n.more, n.list ∙ ap (λ (x : List ℕ). out ++ x ∷ n.more) (sym (one n.arg n.is n.text_is)) ∙ sym (append_assoc out (a ∷ []) n.more), n.rest);
 }
 
-no_args : (out : List (List ℕ)) (ts : List Tok) → NoArg ts → (args : List (List ℕ)) (r : List Tok) (more : List (List ℕ)) → args ≡ out ++ more → ts ≡ arg_toks more ++ r → (out ≡ args) × (ts ≡ r)
+no_args : (out : List (List ℕ)) (ts : List Tok) → NoArg ts → (args : List (List ℕ)) (r : List Tok) (more : List (List ℕ))
+    → args ≡ out ++ more → ts ≡ arg_toks more ++ r → (out ≡ args) × (ts ≡ r)
 no_args out ts n args r [] l t = (sym (l ∙ append-nil out), t)
 no_args out ts n args r (y ∷ ys) l t = absurd (n (arg_text y) (arg_toks ys ++ r) t)
 

@@ -1,5 +1,6 @@
 -- Commands at the front of tokens are read in one way.
-use Rattle.std.proofs.Common.{◌≡◌, ◌≢◌, ℕ, zero, suc, ◌-◌, ◌≤◌, ◌==◌, Bool, true, false, ◌&&◌, nat_le, List, [], ◌∷◌, ◌++◌, length, take, drop, refl, sym, ap, subst, ◌∙◌, inl, inr, arith}
+use Rattle.std.proofs.Common.{◌≡◌, ◌≢◌, ℕ, zero, suc, ◌-◌, ◌≤◌, ◌==◌, Bool, true, false, ◌&&◌, nat_le, List}
+use Rattle.std.proofs.Common.{[], ◌∷◌, ◌++◌, length, take, drop, refl, sym, ap, subst, ◌∙◌, inl, inr, arith}
 use Rattle.std.specs.Prelude.{codes}
 use Rattle.std.specs.Str.{bytes_eq}
 use Rattle.std.proofs.lemmas.Bool.{false≢true, and_parts, eqb-true}
@@ -102,7 +103,8 @@ ends_no_quote (mark a b ∷ ts) (inl h) next e = let is_quote : b ≡ quote = cc
 ends_no_quote (mark a b ∷ ts) (inr h) next e = let is_quote : b ≡ quote = cc in absurd (omega arith)
 
 -- behind `""` no other rule stands
-pub empty_is : (rule : ArgRule) (ts next rest : List Tok) → IsArgRule rule → EndsBy comma rest → ts ≡ mark true quote ∷ mark false quote ∷ next → ts ≡ rule_toks rule ++ rest → (rules.Empty ≡ rule) × (next ≡ rest)
+pub empty_is : (rule : ArgRule) (ts next rest : List Tok) → IsArgRule rule → EndsBy comma rest
+    → ts ≡ mark true quote ∷ mark false quote ∷ next → ts ≡ rule_toks rule ++ rest → (rules.Empty ≡ rule) × (next ≡ rest)
 empty_is rules.Any ts next rest is f e h = absurd (ends_no_quote rest f (mark false quote ∷ next) (sym h ∙ e))
 empty_is rules.Empty ts next rest is f e h = let two = sym e ∙ h in (refl, cc)
 empty_is (rules.Exactly []) ts next rest is f e h = absurd (omega (arith, is.1))
@@ -116,7 +118,8 @@ pub record Listing (rule : ArgRule) (ts rest : List Tok) : Type 0 where
   pub toks : ts ≡ arg_toks args ++ rest
   pub rule_is : rule_from args ≡ rule
 
-pub listed_args : (rule : ArgRule) (ts rest : List Tok) → IsArgRule rule → ((next : List Tok) → ts ≢ mark true quote ∷ mark false quote ∷ next) → ts ≡ rule_toks rule ++ rest → Listing rule ts rest
+pub listed_args : (rule : ArgRule) (ts rest : List Tok) → IsArgRule rule
+    → ((next : List Tok) → ts ≢ mark true quote ∷ mark false quote ∷ next) → ts ≡ rule_toks rule ++ rest → Listing rule ts rest
 listed_args rules.Any ts rest is n h = record { args = []; each = tt; few = omega arith; toks = h; rule_is = refl }
 listed_args rules.Empty ts rest is n h = absurd (n rest h)
 listed_args (rules.Exactly []) ts rest is n h = absurd (omega (arith, is.1))
@@ -148,6 +151,7 @@ args_no_equals (cmnds.Alias name) rest h = no_equals rest h
 args_no_equals (cmnds.Cmnd c) rest h = rule_no_mark equals (rule_of c) rest equals_no_quote (no_equals rest h)
 
 -- an alias's name is a head of its own
-pub alias_is : (i : CmndItem) (w : List ℕ) (ts rest : List Tok) → is_alias_name w ≡ true → IsCmndItem i → w ≡ head_of i → ts ≡ args_of i ++ rest → (cmnds.Alias w ≡ i) × (ts ≡ rest)
+pub alias_is : (i : CmndItem) (w : List ℕ) (ts rest : List Tok) → is_alias_name w ≡ true
+    → IsCmndItem i → w ≡ head_of i → ts ≡ args_of i ++ rest → (cmnds.Alias w ≡ i) × (ts ≡ rest)
 alias_is (cmnds.Alias name) w ts rest a is e t = (ap (λ (x : List ℕ). cmnds.Alias x) e, t)
 alias_is (cmnds.Cmnd c) w ts rest a is e t = absurd (no_alias_head c is.head (subst (λ (x : List ℕ). is_alias_name x ≡ true) e a))

@@ -13,7 +13,8 @@ pub cut_is : (p : ℕ → Bool) (bytes : List ℕ) → IsCut p bytes (take (leng
 cut_is p [] = record { whole = refl; each = tt; stops = tt }
 cut_is p (b ∷ bs) =
     let one : 1 + prefix_len p bs ≡ suc (prefix_len p bs) = omega arith in
-    elim (p b) as (λ v. p b ≡ v → IsCut p (b ∷ bs) (take (length (take (cond v (1 + prefix_len p bs) 0) (b ∷ bs))) (b ∷ bs)) (drop (length (take (cond v (1 + prefix_len p bs) 0) (b ∷ bs))) (b ∷ bs))) [
+    elim (p b) as (λ v. p b ≡ v → IsCut p (b ∷ bs) (take (length (take (cond v (1 + prefix_len p bs) 0) (b ∷ bs))) (b ∷ bs))
+    (drop (length (take (cond v (1 + prefix_len p bs) 0) (b ∷ bs))) (b ∷ bs))) [
       | true ↦ λ e. rw one (cut_more p b bs _ _ e (cut_is p bs))
       | false ↦ λ e. record { whole = refl; each = tt; stops = e }
     ] refl

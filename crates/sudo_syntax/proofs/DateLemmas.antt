@@ -42,8 +42,9 @@ pub record Next (before after : Option ℕ) (name time : List ℕ) (next : List 
   pub gap : begins_spaced next ≡ true
   pub left : Left new_before new_after next v r
 
-next_is : (before after : Option ℕ) (ts : List Tok) (a : Bool) (name time : List ℕ) (next : List Tok) → ts ≡ word a 0 name ∷ mark false equals ∷ word false 0 time ∷ next
-    → (v : Option ℕ × Option ℕ) (r : List Tok) → NoDate r → (dates : List Date) → SpellsDates ts dates r → Bounds before after dates v.0 v.1 → Next before after name time next v r
+next_is : (before after : Option ℕ) (ts : List Tok) (a : Bool) (name time : List ℕ) (next : List Tok)
+    → ts ≡ word a 0 name ∷ mark false equals ∷ word false 0 time ∷ next → (v : Option ℕ × Option ℕ) (r : List Tok) → NoDate r
+    → (dates : List Date) → SpellsDates ts dates r → Bounds before after dates v.0 v.1 → Next before after name time next v r
 unfolding named
 next_is before after ts a name time next e v r f [] h b = absurd (f a name time next (sym h ∙ e))
 next_is before after ts a name time next e v r f (date ∷ dates) h b =
@@ -54,16 +55,22 @@ next_is before after ts a name time next e v r f (date ∷ dates) h b =
     record {
       new_before = b.0;
       new_after = b.1;
-      adds = (date.moment, subst (λ (w : List ℕ). moments.Spells w date.moment) time_is h.3, subst (λ (w : List ℕ). GivesBound before after (named w date.moment) b.0 b.1) word_is b.2);
+      adds = (
+        date.moment,
+        subst (λ (w : List ℕ). moments.Spells w date.moment) time_is h.3,
+        subst (λ (w : List ℕ). GivesBound before after (named w date.moment) b.0 b.1) word_is b.2,
+      );
       gap = subst (λ (t : List Tok). begins_spaced t ≡ true) next_same h.5;
       left = (dates, subst (λ (t : List Tok). SpellsDates t dates r) next_same h.6, b.3);
     }
 
-pub next_date : (before after : Option ℕ) (ts : List Tok) (a : Bool) (name time : List ℕ) (next : List Tok) → ts ≡ word a 0 name ∷ mark false equals ∷ word false 0 time ∷ next
+pub next_date : (before after : Option ℕ) (ts : List Tok) (a : Bool) (name time : List ℕ) (next : List Tok)
+    → ts ≡ word a 0 name ∷ mark false equals ∷ word false 0 time ∷ next
     → (v : Option ℕ × Option ℕ) (r : List Tok) → NoDate r → Left before after ts v r → Next before after name time next v r
 next_date before after ts a name time next e v r f h = next_is before after ts a name time next e v r f h.0 h.1 h.2
 
-same_left : (before after new_before new_after : Option ℕ) (ts : List Tok) (v : Option ℕ × Option ℕ) (r : List Tok) → before ≡ new_before → after ≡ new_after → Left new_before new_after ts v r → Left before after ts v r
+same_left : (before after new_before new_after : Option ℕ) (ts : List Tok) (v : Option ℕ × Option ℕ) (r : List Tok)
+    → before ≡ new_before → after ≡ new_after → Left new_before new_after ts v r → Left before after ts v r
 same_left before after new_before new_after ts v r b a h = rw (b, a) h
 
 pub date_read : (before after : Option ℕ) (ts : List Tok) (a : Bool) (name time : List ℕ) (next : List Tok) (new_before new_after : Option ℕ)
@@ -78,13 +85,14 @@ date_read before after ts a name time next new_before new_after e gap adds one =
       same_left new_before new_after n.new_before n.new_after next v r p.0 p.1 n.left;
 }
 
-no_dates : (before after : Option ℕ) (ts : List Tok) → NoDate ts → (v : Option ℕ × Option ℕ) (r : List Tok) (dates : List Date) → SpellsDates ts dates r → Bounds before after dates v.0 v.1
-    → (before ≡ v.0) × (after ≡ v.1) × (ts ≡ r)
+no_dates : (before after : Option ℕ) (ts : List Tok) → NoDate ts → (v : Option ℕ × Option ℕ) (r : List Tok) (dates : List Date)
+    → SpellsDates ts dates r → Bounds before after dates v.0 v.1 → (before ≡ v.0) × (after ≡ v.1) × (ts ≡ r)
 no_dates before after ts n v r [] h b = (sym b.0, sym b.1, h)
 no_dates before after ts n v r (date ∷ dates) h b = absurd (n h.0 date.word h.1 h.2 h.4)
 
 -- where no date stands at the front, the bounds are these
-pub dates_end : (before after : Option ℕ) (ts : List Tok) → NoDate ts → (v : Option ℕ × Option ℕ) (r : List Tok) → Left before after ts v r → (before ≡ v.0) × (after ≡ v.1) × (ts ≡ r)
+pub dates_end : (before after : Option ℕ) (ts : List Tok) → NoDate ts → (v : Option ℕ × Option ℕ) (r : List Tok)
+    → Left before after ts v r → (before ≡ v.0) × (after ≡ v.1) × (ts ≡ r)
 dates_end before after ts n v r h = no_dates before after ts n v r h.0 h.1 h.2
 
 pub dates_done : (before after : Option ℕ) (ts : List Tok) → Left before after ts (before, after) ts

@@ -84,8 +84,15 @@ front_tokens (t ∷ ts) end = is_token t (bytes_of ts end) && front_tokens ts en
 pub lexed_more : (ts : List Tok) (end : List ℕ) (us : List Tok) → front_tokens ts end ≡ true → Lexes end us → Lexes (bytes_of ts end) (ts ++ us)
 lexed_more [] end us h more = more
 lexed_more (t ∷ ts) end us h more =
-    let parts = and_parts (is_token t (bytes_of ts end)) (front_tokens ts end) h in
-    (gap (is_spaced t), bytes_of ts end, space_blank (is_spaced t), space_some (is_spaced t), a_token t (bytes_of ts end) parts.0, refl, lexed_more ts end us parts.1 more)
+    let parts = and_parts (is_token t (bytes_of ts end)) (front_tokens ts end) h in (
+      gap (is_spaced t),
+      bytes_of ts end,
+      space_blank (is_spaced t),
+      space_some (is_spaced t),
+      a_token t (bytes_of ts end) parts.0,
+      refl,
+      lexed_more ts end us parts.1 more,
+    )
 
 -- ---- lines
 
@@ -196,16 +203,25 @@ entry_ok (entries.RunasAlias name list) = is_alias_name name && list_ok (item_ok
 entry_ok (entries.HostAlias name list) = is_alias_name name && list_ok (item_ok is_host_name) list
 entry_ok (entries.CmndAlias name list) = is_alias_name name && list_ok cmnd_ok list
 entry_ok (entries.Rule r) =
-    list_ok (item_ok is_name) r.users && (list_ok (item_ok is_host_name) r.hosts && (list_ok (item_ok is_name) r.runas && (moment_ok r.not_before && (moment_ok r.not_after && cmnd_ok r.cmnd.item))))
+    list_ok (item_ok is_name) r.users && (list_ok (item_ok is_host_name) r.hosts
+    && (list_ok (item_ok is_name) r.runas && (moment_ok r.not_before && (moment_ok r.not_after && cmnd_ok r.cmnd.item))))
 
 names_is : (form : List ℕ → Bool) (xs : List (Signed (Item (List ℕ)))) → list_ok (item_ok form) xs ≡ true → IsList (IsItem form) xs
 names_is form = list_is (item_ok form) (IsItem form) (item_is form)
 
 entry_is : (e : Entry) → entry_ok e ≡ true → IsEntry e
-entry_is (entries.UserAlias name list) h = let parts = and_parts (is_alias_name name) (list_ok (item_ok is_name) list) h in (parts.0, names_is is_name list parts.1)
-entry_is (entries.RunasAlias name list) h = let parts = and_parts (is_alias_name name) (list_ok (item_ok is_name) list) h in (parts.0, names_is is_name list parts.1)
-entry_is (entries.HostAlias name list) h = let parts = and_parts (is_alias_name name) (list_ok (item_ok is_host_name) list) h in (parts.0, names_is is_host_name list parts.1)
-entry_is (entries.CmndAlias name list) h = let parts = and_parts (is_alias_name name) (list_ok cmnd_ok list) h in (parts.0, list_is cmnd_ok IsCmndItem cmnd_is list parts.1)
+entry_is (entries.UserAlias name list) h =
+    let parts = and_parts (is_alias_name name) (list_ok (item_ok is_name) list) h in
+    (parts.0, names_is is_name list parts.1)
+entry_is (entries.RunasAlias name list) h =
+    let parts = and_parts (is_alias_name name) (list_ok (item_ok is_name) list) h in
+    (parts.0, names_is is_name list parts.1)
+entry_is (entries.HostAlias name list) h =
+    let parts = and_parts (is_alias_name name) (list_ok (item_ok is_host_name) list) h in
+    (parts.0, names_is is_host_name list parts.1)
+entry_is (entries.CmndAlias name list) h =
+    let parts = and_parts (is_alias_name name) (list_ok cmnd_ok list) h in
+    (parts.0, list_is cmnd_ok IsCmndItem cmnd_is list parts.1)
 entry_is (entries.Rule r) h =
     let users = and_parts (list_ok (item_ok is_name) r.users) _ h in
     let hosts = and_parts (list_ok (item_ok is_host_name) r.hosts) _ users.1 in
@@ -231,18 +247,25 @@ known_one : (p : List ℕ → Bool) (o : Option (List ℕ)) → option_map_or p 
 known_one p None h = tt
 known_one p (Some n) h = h
 
-known_is : {X : Type 0} (alias_of : X → Option (List ℕ)) (defs : List (Definition X)) (list : List (Signed X)) → known alias_of defs list ≡ true → KnowsList alias_of defs list
+known_is : {X : Type 0} (alias_of : X → Option (List ℕ)) (defs : List (Definition X)) (list : List (Signed X))
+    → known alias_of defs list ≡ true → KnowsList alias_of defs list
 known_is alias_of defs list h =
-    all_is (λ s. option_map_or (is_defined defs) (alias_of s.item) true) (λ s. IfSome (alias_of s.item) (λ n. is_defined defs n ≡ true)) (λ s. known_one (is_defined defs) (alias_of s.item)) list h
+    all_is (λ s. option_map_or (is_defined defs) (alias_of s.item) true)
+    (λ s. IfSome (alias_of s.item) (λ n. is_defined defs n ≡ true)) (λ s. known_one (is_defined defs) (alias_of s.item)) list h
 
 abbrev new_ok : {X : Type 0} → (X → Option (List ℕ)) → List (Definition X) → List ℕ → List (Signed X) → Bool
 new_ok alias_of defs name list = not (is_defined defs name) && (known alias_of defs list && nat_le (depth_of alias_of (alias_depth alias_of defs) list) 64)
 
-new_is : {X : Type 0} (alias_of : X → Option (List ℕ)) (defs : List (Definition X)) (name : List ℕ) (list : List (Signed X)) → new_ok alias_of defs name list ≡ true → IsNew alias_of defs name list
+new_is : {X : Type 0} (alias_of : X → Option (List ℕ)) (defs : List (Definition X)) (name : List ℕ) (list : List (Signed X))
+    → new_ok alias_of defs name list ≡ true → IsNew alias_of defs name list
 new_is alias_of defs name list h =
     let new = and_parts (not (is_defined defs name)) _ h in
     let rest = and_parts (known alias_of defs list) (nat_le (depth_of alias_of (alias_depth alias_of defs) list) 64) new.1 in
-    record { new = not_true (is_defined defs name) new.0; knows = known_is alias_of defs list rest.0; shallow = leb-true (depth_of alias_of (alias_depth alias_of defs) list) 64 rest.1 }
+    record {
+      new = not_true (is_defined defs name) new.0;
+      knows = known_is alias_of defs list rest.0;
+      shallow = leb-true (depth_of alias_of (alias_depth alias_of defs) list) 64 rest.1;
+    }
 
 abbrev placed_ok : List Entry → Entry → Bool
 placed_ok above (entries.UserAlias name list) = new_ok item_alias (user_defs above) name list
@@ -250,7 +273,8 @@ placed_ok above (entries.RunasAlias name list) = new_ok item_alias (runas_defs a
 placed_ok above (entries.HostAlias name list) = new_ok item_alias (host_defs above) name list
 placed_ok above (entries.CmndAlias name list) = new_ok cmnd_alias (cmnd_defs above) name list
 placed_ok above (entries.Rule r) =
-    known item_alias (user_defs above) r.users && (known item_alias (host_defs above) r.hosts && (known item_alias (runas_defs above) r.runas && known cmnd_alias (cmnd_defs above) (r.cmnd ∷ [])))
+    known item_alias (user_defs above) r.users
+    && (known item_alias (host_defs above) r.hosts && (known item_alias (runas_defs above) r.runas && known cmnd_alias (cmnd_defs above) (r.cmnd ∷ [])))
 
 placed_is : (above : List Entry) (e : Entry) → placed_ok above e ≡ true → IsPlaced above e
 placed_is above (entries.UserAlias name list) h = new_is item_alias (user_defs above) name list h
@@ -301,7 +325,8 @@ policy_is es h =
 abbrev pub text_ok : List ℕ → Bool
 text_ok text = nat_le (length text) 16_777_216 && list_all is_text_byte text
 
-pub spelled : (text : List ℕ) (joined : List (List ℕ)) (es : List Entry) → text_ok text ≡ true → Joined (lines_of text) joined → SpellsLines joined es → policy_ok es ≡ true → Spells text es
+pub spelled : (text : List ℕ) (joined : List (List ℕ)) (es : List Entry) → text_ok text ≡ true
+    → Joined (lines_of text) joined → SpellsLines joined es → policy_ok es ≡ true → Spells text es
 spelled text joined es ok lines entries policy =
     let parts = and_parts (nat_le (length text) 16_777_216) (list_all is_text_byte text) ok in
     record {

@@ -1,5 +1,6 @@
 -- 16 aliases that double are a policy, and 17 weigh too much.
-use Rattle.std.proofs.Common.{◌≡◌, ℕ, zero, suc, ◌+◌, ◌*◌, ◌<◌, ◌≤◌, max, Bool, true, false, ◌||◌, if◌then◌else◌, List, [], ◌∷◌, length, reverse, refl, ap, subst, ◌∙◌, arith, lit≤, lit<}
+use Rattle.std.proofs.Common.{◌≡◌, ℕ, zero, suc, ◌+◌, ◌*◌, ◌<◌, ◌≤◌, max, Bool, true, false, ◌||◌, if◌then◌else◌}
+use Rattle.std.proofs.Common.{List, [], ◌∷◌, length, reverse, refl, ap, subst, ◌∙◌, arith, lit≤, lit<}
 use Rattle.std.specs.Prelude.{codes}
 use Rattle.std.specs.Fmt.{digits}
 use Rattle.std.specs.List.{AllByRecursion}
@@ -60,9 +61,9 @@ weighs : (n : ℕ) → item_weight (alias_weight item_alias (defs n)) (item_alia
 unfolding power
 weighs zero = refl
 weighs (suc n) =
-    ap (λ (ds : Defs). alias_weight item_alias ds (double_name (suc n))) (defs_next n)
-    ∙ if_true (bytes_eq (double_name (suc n)) (double_name (suc n))) (list_weight item_alias (alias_weight item_alias (defs n)) (double_item n ∷ double_item n ∷ [])) (alias_weight item_alias (defs n) (double_name (suc n))) (self (double_name (suc n)))
-    ∙ twice (item_weight (alias_weight item_alias (defs n)) (item_alias (double_item n).item)) (power n) (weighs n)
+    ap (λ (ds : Defs). alias_weight item_alias ds (double_name (suc n))) (defs_next n) ∙ if_true (bytes_eq (double_name (suc n)) (double_name (suc n)))
+    (list_weight item_alias (alias_weight item_alias (defs n)) (double_item n ∷ double_item n ∷ [])) (alias_weight item_alias (defs n) (double_name (suc n)))
+    (self (double_name (suc n))) ∙ twice (item_weight (alias_weight item_alias (defs n)) (item_alias (double_item n).item)) (power n) (weighs n)
 
 no_weight : (n : ℕ) → weight (double_aliases n) ≡ 0
 unfolding double_aliases
@@ -96,9 +97,9 @@ deeper d n e = omega arith
 deep : (n : ℕ) → item_depth (alias_depth item_alias (defs n)) (item_alias (double_item n).item) ≡ n
 deep zero = refl
 deep (suc n) =
-    ap (λ (ds : Defs). alias_depth item_alias ds (double_name (suc n))) (defs_next n)
-    ∙ if_true (bytes_eq (double_name (suc n)) (double_name (suc n))) (depth_of item_alias (alias_depth item_alias (defs n)) (double_item n ∷ double_item n ∷ [])) (alias_depth item_alias (defs n) (double_name (suc n))) (self (double_name (suc n)))
-    ∙ deeper (item_depth (alias_depth item_alias (defs n)) (item_alias (double_item n).item)) n (deep n)
+    ap (λ (ds : Defs). alias_depth item_alias ds (double_name (suc n))) (defs_next n) ∙ if_true (bytes_eq (double_name (suc n)) (double_name (suc n)))
+    (depth_of item_alias (alias_depth item_alias (defs n)) (double_item n ∷ double_item n ∷ [])) (alias_depth item_alias (defs n) (double_name (suc n)))
+    (self (double_name (suc n))) ∙ deeper (item_depth (alias_depth item_alias (defs n)) (item_alias (double_item n).item)) n (deep n)
 
 is_known : (n : ℕ) → is_defined (defs (suc n)) (double_name (suc n)) ≡ true
 is_known n =
@@ -118,8 +119,11 @@ shallow d n e h = omega arith
 next : (n : ℕ) → n < 64 → is_defined (defs n) (double_name (suc n)) ≡ false → ArePlaced [] (double_aliases n) → ArePlaced [] (double_aliases (suc n))
 unfolding double_aliases defs
 next n below new placed =
-    placed_push (double_aliases n) (double_alias n) placed
-    (record { new = new; knows = knows_two n; shallow = shallow (item_depth (alias_depth item_alias (defs n)) (item_alias (double_item n).item)) n (deep n) below })
+    placed_push (double_aliases n) (double_alias n) placed (record {
+      new = new;
+      knows = knows_two n;
+      shallow = shallow (item_depth (alias_depth item_alias (defs n)) (item_alias (double_item n).item)) n (deep n) below;
+    })
 
 placed_16 : ArePlaced [] (double_aliases 16)
 unfolding defs double_aliases digits

@@ -29,7 +29,8 @@ front_is done here more all e p = policy_front (done ++ here) more (subst IsPoli
 -- ---- the tree of tokens
 
 -- entries of one token or more are those of a tree
-pub tree_from : (tokens : List Token) (es : List Entry) → (length tokens ≡ 0 → ⊥) → SpellsEntries (toks tokens) es → (line : Line) × SpellsTree (toks tokens) line
+pub tree_from : (tokens : List Token) (es : List Entry) → (length tokens ≡ 0 → ⊥)
+    → SpellsEntries (toks tokens) es → (line : Line) × SpellsTree (toks tokens) line
 tree_from [] es some h = absurd (some refl)
 tree_from (t ∷ ts) es some h = (h.0, h.1)
 
@@ -42,12 +43,13 @@ rules_front users hosts before (s ∷ front) last =
     ap (λ es. entries.Rule (rule_with users hosts (with_spec before s) s.cmnd) ∷ es) (rules_front users hosts (with_spec before s) front last)
 
 -- the rules of a list of commands are those of all before the last, and that of the last
-pub rules_last : (users hosts : List (Signed (Item (List ℕ)))) (before : Settings) (front specs : List CmndSpec) (last : CmndSpec)
-    → specs ≡ front ++ last ∷ [] → rules_of users hosts before specs ≡ rules_of users hosts before front ++ rules_of users hosts (fold with_spec before front) (last ∷ [])
+pub rules_last : (users hosts : List (Signed (Item (List ℕ)))) (before : Settings) (front specs : List CmndSpec) (last : CmndSpec) → specs ≡ front ++ last ∷ []
+    → rules_of users hosts before specs ≡ rules_of users hosts before front ++ rules_of users hosts (fold with_spec before front) (last ∷ [])
 rules_last users hosts before front specs last specs_are = ap (rules_of users hosts before) specs_are ∙ rules_front users hosts before front last
 
 -- where the rules of all before the last are added, what is still to add is that of the last
-pub rules_behind : (users hosts : List (Signed (Item (List ℕ)))) (done so_far : List Entry) (before behind : Settings) (front specs : List CmndSpec) (last : CmndSpec)
+pub rules_behind :
+    (users hosts : List (Signed (Item (List ℕ)))) (done so_far : List Entry) (before behind : Settings) (front specs : List CmndSpec) (last : CmndSpec)
     → specs ≡ front ++ last ∷ [] → behind ≡ fold with_spec before front → so_far ≡ done ++ rules_of users hosts before front
     → so_far ++ rules_of users hosts behind (last ∷ []) ≡ done ++ rules_of users hosts before specs
 rules_behind users hosts done so_far before behind front specs last specs_are behind_is so_far_is =

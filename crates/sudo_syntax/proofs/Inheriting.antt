@@ -65,7 +65,8 @@ unfolding behind last_of
 behind_not_after h [] = refl
 behind_not_after h (s ∷ specs) = behind_not_after (with_spec h s) specs ∙ or_later (last_of (map (λ c. c.not_after) specs)) s.not_after h.not_after
 
-inherits : (users hosts : List (Signed (Item (List ℕ)))) (specs : List CmndSpec) (s : CmndSpec) → Inherits specs (rule_with users hosts (behind first_settings specs) s.cmnd)
+inherits : (users hosts : List (Signed (Item (List ℕ)))) (specs : List CmndSpec) (s : CmndSpec)
+    → Inherits specs (rule_with users hosts (behind first_settings specs) s.cmnd)
 inherits users hosts specs s =
     let bound = λ (given : List (Option ℕ)) (held : Option ℕ) (e : held ≡ option_or (last_of given) None).
     subst (LastGiven given) (sym (e ∙ or_none (last_of given))) (last_is given) in
@@ -79,8 +80,8 @@ inherits users hosts specs s =
 -- ---- the rule at a place
 
 rule_behind : (users hosts : List (Signed (Item (List ℕ)))) (h : Settings) (before : List CmndSpec) (s : CmndSpec) (after : List CmndSpec)
-    → rules_of users hosts h (before ++ s ∷ after)
-    ≡ rules_of users hosts h before ++ entries.Rule (rule_with users hosts (behind h (before ++ s ∷ [])) s.cmnd) ∷ rules_of users hosts (behind h (before ++ s ∷ [])) after
+    → rules_of users hosts h (before ++ s ∷ after) ≡ rules_of users hosts h before
+    ++ entries.Rule (rule_with users hosts (behind h (before ++ s ∷ [])) s.cmnd) ∷ rules_of users hosts (behind h (before ++ s ∷ [])) after
 unfolding behind
 rule_behind users hosts h [] s after = refl
 rule_behind users hosts h (c ∷ before) s after =
@@ -93,7 +94,8 @@ rules_count users hosts h (s ∷ specs) = ap suc (rules_count users hosts (with_
 pub one_each : (users : List (Signed (Item (List ℕ)))) (part : Part) → length (part_rules users part) ≡ length part.specs
 one_each users part = rules_count users part.hosts first_settings part.specs
 
-pub has_rule : (users : List (Signed (Item (List ℕ)))) (part : Part) (before after : List CmndSpec) (s : CmndSpec) → part.specs ≡ before ++ s ∷ after → HasRule users part before s
+pub has_rule : (users : List (Signed (Item (List ℕ)))) (part : Part) (before after : List CmndSpec) (s : CmndSpec)
+    → part.specs ≡ before ++ s ∷ after → HasRule users part before s
 has_rule users part before after s are = record {
   rules_before = rules_of users part.hosts first_settings before;
   rule = rule_with users part.hosts (behind first_settings (before ++ s ∷ [])) s.cmnd;

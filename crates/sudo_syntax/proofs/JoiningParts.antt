@@ -19,7 +19,8 @@ use Rattle.sudo_policy.specs.declared.tree.Line.TheVariants as lines
 use Rattle.sudo_policy.specs.Span.{Each}
 use Rattle.sudo_policy.specs.private.Cuts.{Stops}
 use Rattle.sudo_policy.specs.Lex.{Tok, word, mark, text_of, is_blank, is_some_blank, is_word_byte, goes_on, IsTok, Lexes}
-use Rattle.sudo_policy.specs.Grammar.{begins_spaced, More, Listed, SpellsItem, SpellsCmnd, args_of, head_of, Users, SpellsRunas, SpellsDates, SpellsTags, SpellsCmndSpec, SpellsPart, SpellsDef, SpellsAliases, SpellsTree}
+use Rattle.sudo_policy.specs.Grammar.{begins_spaced, More, Listed, SpellsItem, SpellsCmnd, args_of, head_of, Users, SpellsRunas}
+use Rattle.sudo_policy.specs.Grammar.{SpellsDates, SpellsTags, SpellsCmndSpec, SpellsPart, SpellsDef, SpellsAliases, SpellsTree}
 use Rattle.sudo_policy.specs.Inheritance.{part_rules, entries_of}
 use Rattle.sudo_policy.specs.Spelling.{SpellsEntries, SpellsLine}
 use Rattle.sudo_syntax.specs.Apart.{AreUsers, AreParts, AreDefs, SpellsBoth}
@@ -37,8 +38,10 @@ spaced (mark a m ∷ ts) = mark true m ∷ ts
 
 lex_spaced : (bytes : List ℕ) (ts : List Tok) → Lexes bytes ts → Lexes (space ∷ bytes) (spaced ts)
 lex_spaced bytes [] h = (refl, h)
-lex_spaced bytes (word a n w ∷ ts) (blanks, rest, each, is, tok, whole, more) = (space ∷ blanks, rest, (refl, each), refl, tok, ap (λ (x : List ℕ). space ∷ x) whole, more)
-lex_spaced bytes (mark a m ∷ ts) (blanks, rest, each, is, tok, whole, more) = (space ∷ blanks, rest, (refl, each), refl, tok, ap (λ (x : List ℕ). space ∷ x) whole, more)
+lex_spaced bytes (word a n w ∷ ts) (blanks, rest, each, is, tok, whole, more) =
+    (space ∷ blanks, rest, (refl, each), refl, tok, ap (λ (x : List ℕ). space ∷ x) whole, more)
+lex_spaced bytes (mark a m ∷ ts) (blanks, rest, each, is, tok, whole, more) =
+    (space ∷ blanks, rest, (refl, each), refl, tok, ap (λ (x : List ℕ). space ∷ x) whole, more)
 
 and_last : (a : Bool) → (a && false) ≡ false
 and_last true = refl
@@ -80,7 +83,8 @@ lex_behind u v (t ∷ ts) us (blanks, rest, each, is, tok, whole, more) k = (
   each,
   is,
   tok_behind t rest v tok,
-  ap (λ (x : List ℕ). x ++ space ∷ v) whole ∙ append_assoc blanks (text_of t ++ rest) (space ∷ v) ∙ ap (λ (x : List ℕ). blanks ++ x) (append_assoc (text_of t) rest (space ∷ v)),
+  ap (λ (x : List ℕ). x ++ space ∷ v) whole ∙ append_assoc blanks (text_of t ++ rest) (space ∷ v)
+      ∙ ap (λ (x : List ℕ). blanks ++ x) (append_assoc (text_of t) rest (space ∷ v)),
   lex_behind rest v ts us more k,
 )
 
@@ -118,8 +122,15 @@ begins_grows (t ∷ ts) us h = h
 
 runas_grows : Grows SpellsRunas
 runas_grows ts None rest us h = ap (λ (x : List Tok). x ++ us) h
-runas_grows ts (Some runas) rest us (a, b, next, mid, e, users, close) =
-    (a, b, next ++ us, mid ++ us, ap (λ (x : List Tok). x ++ us) e, listed_grows comma (SpellsItem is_name) (item_grows is_name) next runas mid us users, ap (λ (x : List Tok). x ++ us) close)
+runas_grows ts (Some runas) rest us (a, b, next, mid, e, users, close) = (
+  a,
+  b,
+  next ++ us,
+  mid ++ us,
+  ap (λ (x : List Tok). x ++ us) e,
+  listed_grows comma (SpellsItem is_name) (item_grows is_name) next runas mid us users,
+  ap (λ (x : List Tok). x ++ us) close,
+)
 
 dates_grows : Grows SpellsDates
 dates_grows ts [] rest us h = ap (λ (x : List Tok). x ++ us) h
@@ -178,7 +189,8 @@ listed_more m Is a next (y ∷ ys) rest (mid, is, more) = (a, next, mid, refl, i
 listed_append : {X : Type 0} (m : ℕ) (Is : List Tok → X → List Tok → Type 0) (a : Bool) (ts next : List Tok) (xs ys : List X) (rest : List Tok)
     → Listed m Is ts xs (mark a m ∷ next) → Listed m Is next ys rest → Listed m Is ts (xs ++ ys) rest
 listed_append m Is a ts next [] ys rest h k = absurd h
-listed_append m Is a ts next (x ∷ xs) ys rest (mid, is, more) k = (mid, is, more_append m Is mid xs ys (mark a m ∷ next) rest more (listed_more m Is a next ys rest k))
+listed_append m Is a ts next (x ∷ xs) ys rest (mid, is, more) k =
+    (mid, is, more_append m Is mid xs ys (mark a m ∷ next) rest more (listed_more m Is a next ys rest k))
 
 -- ---- blanks before the first token are of no account
 
@@ -192,7 +204,8 @@ item_frees form = record {
   some = λ s rest g. let is = g.toks in cc;
 }
 
-listed_spaces : {X : Type 0} (m : ℕ) (Is : List Tok → X → List Tok → Type 0) → Frees Is → (ts : List Tok) (xs : List X) (rest : List Tok) → Listed m Is ts xs rest → Listed m Is (spaced ts) xs rest
+listed_spaces : {X : Type 0} (m : ℕ) (Is : List Tok → X → List Tok → Type 0) → Frees Is
+    → (ts : List Tok) (xs : List X) (rest : List Tok) → Listed m Is ts xs rest → Listed m Is (spaced ts) xs rest
 listed_spaces m Is f ts [] rest h = h
 listed_spaces m Is f ts (x ∷ xs) rest (mid, is, more) = (mid, f.spaces ts x mid is, more)
 
@@ -217,7 +230,8 @@ def_frees Is = record {
   some = λ d rest g. let is = g.toks in cc;
 }
 
-begins : {X : Type 0} (m : ℕ) (Is : List Tok → X → List Tok → Type 0) → Frees Is → (ts : List Tok) (xs : List X) (rest : List Tok) → Listed m Is ts xs rest → begins_spaced (spaced ts) ≡ true
+begins : {X : Type 0} (m : ℕ) (Is : List Tok → X → List Tok → Type 0) → Frees Is
+    → (ts : List Tok) (xs : List X) (rest : List Tok) → Listed m Is ts xs rest → begins_spaced (spaced ts) ≡ true
 begins m Is f [] xs rest h = absurd (listed_some m Is f xs rest h)
 begins m Is f (word a n w ∷ ts) xs rest h = refl
 begins m Is f (mark a k ∷ ts) xs rest h = refl
@@ -230,7 +244,8 @@ record IsTail {X : Type 0} (Is : List Tok → X → List Tok → Type 0) (bytes 
   begins_so : begins_spaced toks ≡ true
   listed : Listed colon Is toks xs []
 
-tail_of : {X : Type 0} (Is : List Tok → X → List Tok → Type 0) → Frees Is → (bytes : List ℕ) (ts : List Tok) (xs : List X) → Lexes bytes ts → Listed colon Is ts xs [] → IsTail Is bytes xs
+tail_of : {X : Type 0} (Is : List Tok → X → List Tok → Type 0) → Frees Is
+    → (bytes : List ℕ) (ts : List Tok) (xs : List X) → Lexes bytes ts → Listed colon Is ts xs [] → IsTail Is bytes xs
 tail_of Is f bytes ts xs lexes listed = record {
   toks = spaced ts;
   lexes = lex_spaced bytes ts lexes;
@@ -238,20 +253,22 @@ tail_of Is f bytes ts xs lexes listed = record {
   listed = listed_spaces colon Is f ts xs [] listed;
 }
 
-both_tails : {X : Type 0} (Is : List Tok → X → List Tok → Type 0) → Grows Is → (p q : List ℕ) (xs ys : List X) → IsTail Is p xs → IsTail Is q ys → IsTail Is (p ++ codes " : " ++ q) (xs ++ ys)
+both_tails : {X : Type 0} (Is : List Tok → X → List Tok → Type 0) → Grows Is → (p q : List ℕ) (xs ys : List X)
+    → IsTail Is p xs → IsTail Is q ys → IsTail Is (p ++ codes " : " ++ q) (xs ++ ys)
 both_tails Is grows p q xs ys a b = record {
   toks = a.toks ++ mark true colon ∷ b.toks;
   lexes =
       subst (λ (x : List ℕ). Lexes (space ∷ x) (a.toks ++ mark true colon ∷ b.toks)) (sym (append_assoc p (codes " : ") q))
       (lex_behind (space ∷ p) (colon ∷ space ∷ q) a.toks (mark true colon ∷ b.toks) a.lexes (space ∷ [], space ∷ q, (refl, tt), refl, refl, refl, b.lexes));
   begins_so = begins_grows a.toks (mark true colon ∷ b.toks) a.begins_so;
-  listed = listed_append colon Is true (a.toks ++ mark true colon ∷ b.toks) b.toks xs ys [] (listed_grows colon Is grows a.toks xs [] (mark true colon ∷ b.toks) a.listed) b.listed;
+  listed = listed_append colon Is true (a.toks ++ mark true colon ∷ b.toks) b.toks xs ys []
+      (listed_grows colon Is grows a.toks xs [] (mark true colon ∷ b.toks) a.listed) b.listed;
 }
 
 -- ---- lines
 
-both : (begin p q : List ℕ) (first second whole : List Entry) → SpellsLine (begin ++ space ∷ p) first → SpellsLine (begin ++ space ∷ q) second → SpellsLine (begin ++ space ∷ (p ++ codes " : " ++ q)) whole
-    → whole ≡ first ++ second → SpellsBoth begin p q
+both : (begin p q : List ℕ) (first second whole : List Entry) → SpellsLine (begin ++ space ∷ p) first → SpellsLine (begin ++ space ∷ q) second
+    → SpellsLine (begin ++ space ∷ (p ++ codes " : " ++ q)) whole → whole ≡ first ++ second → SpellsBoth begin p q
 both begin p q first second whole one two three same a b of_a of_b =
     let is_a = line_one (begin ++ space ∷ p) first a one of_a in
     let is_b = line_one (begin ++ space ∷ q) second b two of_b in
@@ -266,7 +283,8 @@ users_some : (ts us : List Tok) (users : List (Signed (Item (List ℕ)))) (rest 
 users_some [] us users rest h e = listed_some comma (SpellsItem is_name) (item_frees is_name) users rest h
 users_some (t ∷ ts) us users rest h e = cc
 
-user_spec_line : (u p : List ℕ) (users : List (Signed (Item (List ℕ)))) (parts : List Part) → AreUsers u users → IsTail SpellsPart p parts → SpellsLine (u ++ space ∷ p) (entries_of (lines.UserSpec users parts))
+user_spec_line : (u p : List ℕ) (users : List (Signed (Item (List ℕ)))) (parts : List Part) → AreUsers u users
+    → IsTail SpellsPart p parts → SpellsLine (u ++ space ∷ p) (entries_of (lines.UserSpec users parts))
 user_spec_line u p users parts (ts, lexes, are) t = (
   ts ++ t.toks,
   lex_behind u p ts t.toks lexes t.lexes,
@@ -274,21 +292,24 @@ user_spec_line u p users parts (ts, lexes, are) t = (
       (t.toks, listed_grows comma (SpellsItem is_name) (item_grows is_name) ts users [] t.toks are, t.begins_so, t.listed),
 )
 
-pub parts_apart : (u p q : List ℕ) (users : List (Signed (Item (List ℕ)))) (ps qs : List Part) → AreUsers u users → AreParts p ps → AreParts q qs → SpellsBoth u p q
+pub parts_apart : (u p q : List ℕ) (users : List (Signed (Item (List ℕ)))) (ps qs : List Part)
+    → AreUsers u users → AreParts p ps → AreParts q qs → SpellsBoth u p q
 parts_apart u p q users ps qs are (tp, lex_p, list_p) (tq, lex_q, list_q) =
     let a = tail_of SpellsPart part_frees p tp ps lex_p list_p in
     let b = tail_of SpellsPart part_frees q tq qs lex_q list_q in
-    both u p q (entries_of (lines.UserSpec users ps)) (entries_of (lines.UserSpec users qs)) (entries_of (lines.UserSpec users (ps ++ qs))) (user_spec_line u p users ps are a) (user_spec_line u q users qs are b)
-    (user_spec_line u (p ++ codes " : " ++ q) users (ps ++ qs) are (both_tails SpellsPart part_grows p q ps qs a b))
-    (flat_map-append (part_rules users) ps qs)
+    both u p q (entries_of (lines.UserSpec users ps)) (entries_of (lines.UserSpec users qs))
+    (entries_of (lines.UserSpec users (ps ++ qs))) (user_spec_line u p users ps are a) (user_spec_line u q users qs are b)
+    (user_spec_line u (p ++ codes " : " ++ q) users (ps ++ qs) are (both_tails SpellsPart part_grows p q ps qs a b)) (flat_map-append (part_rules users) ps qs)
 
 -- a line of definitions, by its kind
-record IsKind {X : Type 0} (kind : List ℕ) (Is : List Tok → Signed X → List Tok → Type 0) (line : List (Definition X) → Line) (entry : Definition X → Entry) : Type 0 where
+record IsKind {X : Type 0} (kind : List ℕ) (Is : List Tok → Signed X → List Tok
+    → Type 0) (line : List (Definition X) → Line) (entry : Definition X → Entry) : Type 0 where
   lexes : Lexes kind (word false 0 kind ∷ [])
   tree : (ts : List Tok) (defs : List (Definition X)) → SpellsAliases kind Is ts defs → SpellsTree ts (line defs)
   are : (defs : List (Definition X)) → entries_of (line defs) ≡ map entry defs
 
-defs_line : {X : Type 0} (kind : List ℕ) (Is : List Tok → Signed X → List Tok → Type 0) (line : List (Definition X) → Line) (entry : Definition X → Entry) → IsKind kind Is line entry
+defs_line : {X : Type 0} (kind : List ℕ) (Is : List Tok → Signed X → List Tok → Type 0) (line : List (Definition X) → Line) (entry : Definition X → Entry)
+    → IsKind kind Is line entry
     → (d : List ℕ) (defs : List (Definition X)) → IsTail (SpellsDef Is) d defs → SpellsLine (kind ++ space ∷ d) (entries_of (line defs))
 defs_line kind Is line entry k d defs t = (
   word false 0 kind ∷ t.toks,
@@ -296,32 +317,37 @@ defs_line kind Is line entry k d defs t = (
   (line defs, k.tree (word false 0 kind ∷ t.toks) defs (false, t.toks, refl, t.begins_so, t.listed), refl),
 )
 
-defs_apart : {X : Type 0} (kind : List ℕ) (Is : List Tok → Signed X → List Tok → Type 0) (line : List (Definition X) → Line) (entry : Definition X → Entry) → IsKind kind Is line entry → Grows Is
-    → (d e : List ℕ) (defs others : List (Definition X)) → AreDefs Is d defs → AreDefs Is e others → SpellsBoth kind d e
+defs_apart : {X : Type 0} (kind : List ℕ) (Is : List Tok → Signed X → List Tok → Type 0) (line : List (Definition X) → Line) (entry : Definition X → Entry)
+    → IsKind kind Is line entry → Grows Is → (d e : List ℕ) (defs others : List (Definition X)) → AreDefs Is d defs → AreDefs Is e others → SpellsBoth kind d e
 defs_apart kind Is line entry k grows d e defs others (td, lex_d, list_d) (te, lex_e, list_e) =
     let a = tail_of (SpellsDef Is) (def_frees Is) d td defs lex_d list_d in
     let b = tail_of (SpellsDef Is) (def_frees Is) e te others lex_e list_e in
-    both kind d e (entries_of (line defs)) (entries_of (line others)) (entries_of (line (defs ++ others))) (defs_line kind Is line entry k d defs a) (defs_line kind Is line entry k e others b)
+    both kind d e (entries_of (line defs)) (entries_of (line others))
+    (entries_of (line (defs ++ others))) (defs_line kind Is line entry k d defs a) (defs_line kind Is line entry k e others b)
     (defs_line kind Is line entry k (d ++ codes " : " ++ e) (defs ++ others) (both_tails (SpellsDef Is) (def_grows Is grows) d e defs others a b))
     (k.are (defs ++ others) ∙ map-append entry defs others ∙ ap (λ (x : List Entry). x ++ map entry others) (sym (k.are defs))
     ∙ ap (λ (x : List Entry). entries_of (line defs) ++ x) (sym (k.are others)))
 
-pub users_apart : (d e : List ℕ) (defs others : List (Definition (Item (List ℕ)))) → AreDefs (SpellsItem is_name) d defs → AreDefs (SpellsItem is_name) e others → SpellsBoth (codes "User_Alias") d e
+pub users_apart : (d e : List ℕ) (defs others : List (Definition (Item (List ℕ))))
+    → AreDefs (SpellsItem is_name) d defs → AreDefs (SpellsItem is_name) e others → SpellsBoth (codes "User_Alias") d e
 users_apart =
     defs_apart (codes "User_Alias") (SpellsItem is_name) lines.Users (λ d. entries.UserAlias d.name d.list)
     (record { lexes = lexed (word false 0 (codes "User_Alias") ∷ []) [] refl; tree = λ ts defs h. h; are = λ defs. refl }) (item_grows is_name)
 
-pub runas_apart : (d e : List ℕ) (defs others : List (Definition (Item (List ℕ)))) → AreDefs (SpellsItem is_name) d defs → AreDefs (SpellsItem is_name) e others → SpellsBoth (codes "Runas_Alias") d e
+pub runas_apart : (d e : List ℕ) (defs others : List (Definition (Item (List ℕ))))
+    → AreDefs (SpellsItem is_name) d defs → AreDefs (SpellsItem is_name) e others → SpellsBoth (codes "Runas_Alias") d e
 runas_apart =
     defs_apart (codes "Runas_Alias") (SpellsItem is_name) lines.Runas (λ d. entries.RunasAlias d.name d.list)
     (record { lexes = lexed (word false 0 (codes "Runas_Alias") ∷ []) [] refl; tree = λ ts defs h. h; are = λ defs. refl }) (item_grows is_name)
 
-pub hosts_apart : (d e : List ℕ) (defs others : List (Definition (Item (List ℕ)))) → AreDefs (SpellsItem is_host_name) d defs → AreDefs (SpellsItem is_host_name) e others → SpellsBoth (codes "Host_Alias") d e
+pub hosts_apart : (d e : List ℕ) (defs others : List (Definition (Item (List ℕ)))) → AreDefs (SpellsItem is_host_name) d defs
+    → AreDefs (SpellsItem is_host_name) e others → SpellsBoth (codes "Host_Alias") d e
 hosts_apart =
     defs_apart (codes "Host_Alias") (SpellsItem is_host_name) lines.Hosts (λ d. entries.HostAlias d.name d.list)
     (record { lexes = lexed (word false 0 (codes "Host_Alias") ∷ []) [] refl; tree = λ ts defs h. h; are = λ defs. refl }) (item_grows is_host_name)
 
-pub cmnds_apart : (d e : List ℕ) (defs others : List (Definition CmndItem)) → AreDefs SpellsCmnd d defs → AreDefs SpellsCmnd e others → SpellsBoth (codes "Cmnd_Alias") d e
+pub cmnds_apart : (d e : List ℕ) (defs others : List (Definition CmndItem))
+    → AreDefs SpellsCmnd d defs → AreDefs SpellsCmnd e others → SpellsBoth (codes "Cmnd_Alias") d e
 cmnds_apart =
     defs_apart (codes "Cmnd_Alias") SpellsCmnd lines.Cmnds (λ d. entries.CmndAlias d.name d.list)
     (record { lexes = lexed (word false 0 (codes "Cmnd_Alias") ∷ []) [] refl; tree = λ ts defs h. h; are = λ defs. refl }) cmnd_grows

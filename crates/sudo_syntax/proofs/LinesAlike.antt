@@ -9,7 +9,8 @@ use Rattle.sudo_policy.specs.Lines.{is_no_hash, last_passes, may_go_on, is_befor
 use Rattle.sudo_syntax.specs.Alike.{SpellAlike, DifferIn, MayHaveNote, GoesOnWith}
 use Rattle.sudo_policy.proofs.Spans.{one_cut}
 use Rattle.sudo_syntax.proofs.CutLemmas.{cut_is}
-use Rattle.sudo_policy.proofs.LineTexts.{is_backslash, last_passes_last, backslash_last, last_split, one_front, each_append, IsNote, cut_of, body_of, body_one, body_or_front, front_one}
+use Rattle.sudo_policy.proofs.LineTexts.{is_backslash, last_passes_last, backslash_last, last_split, one_front}
+use Rattle.sudo_policy.proofs.LineTexts.{each_append, IsNote, cut_of, body_of, body_one, body_or_front, front_one}
 
 -- ---- texts that are joined alike
 
@@ -17,12 +18,16 @@ use Rattle.sudo_policy.proofs.LineTexts.{is_backslash, last_passes_last, backsla
 abbrev JoinAlike : List (List ℕ) → List (List ℕ) → Type 0
 JoinAlike these those = (after joined : List (List ℕ)) → Joined (these ++ after) joined → Joined (those ++ after) joined
 
-alike_behind : (these those : List (List ℕ)) → JoinAlike these those → (before after joined : List (List ℕ)) → Joined (before ++ (these ++ after)) joined → Joined (before ++ (those ++ after)) joined
+alike_behind : (these those : List (List ℕ)) → JoinAlike these those → (before after joined : List (List ℕ))
+    → Joined (before ++ (these ++ after)) joined → Joined (before ++ (those ++ after)) joined
 alike_behind these those alike [] after joined h = alike after joined h
-alike_behind these those alike (l ∷ before) after joined (inl (body, more, is, e, rest)) = inl (body, more, is, e, alike_behind these those alike before after more rest)
-alike_behind these those alike (l ∷ before) after joined (inr (front, body, more, is, e, rest)) = inr (front, body, more, is, e, alike_behind these those alike before after (body ∷ more) rest)
+alike_behind these those alike (l ∷ before) after joined (inl (body, more, is, e, rest)) =
+    inl (body, more, is, e, alike_behind these those alike before after more rest)
+alike_behind these those alike (l ∷ before) after joined (inr (front, body, more, is, e, rest)) =
+    inr (front, body, more, is, e, alike_behind these those alike before after (body ∷ more) rest)
 
-pub spell_alike : (text other : List ℕ) (these those : List (List ℕ)) → JoinAlike these those → JoinAlike those these → DifferIn text other these those → SpellAlike text other
+pub spell_alike : (text other : List ℕ) (these those : List (List ℕ)) → JoinAlike these those
+    → JoinAlike those these → DifferIn text other these those → SpellAlike text other
 spell_alike text other these those there back d ok fine es = (
   λ s. record {
     short = fine.0;
@@ -72,7 +77,8 @@ pub comments : (text other line note : List ℕ) → MayHaveNote line note → D
 comments text other line note m d =
     let a = noted_body line note m in
     let b = bare_body line note m in
-    spell_alike text other ((line ++ hash ∷ note) ∷ []) (line ∷ []) (same_body (line ++ hash ∷ note) line line a b) (same_body line (line ++ hash ∷ note) line b a) d
+    spell_alike text other ((line ++ hash ∷ note) ∷ []) (line ∷ []) (same_body (line ++ hash ∷ note) line line a b)
+    (same_body line (line ++ hash ∷ note) line b a) d
 
 -- ---- what a line ends with, where some bytes stand before it
 
@@ -108,7 +114,8 @@ note_back front body (h ∷ note) n = (sym (before_behind front body) ∙ n.0, n
 each_behind : (front body : List ℕ) → Each is_no_hash front → Each is_no_hash body → Each is_no_hash (front ++ space ∷ body)
 each_behind front body f b = each_append is_no_hash front (space ∷ body) f (refl, b)
 
-cut_behind : (front next body rest : List ℕ) → Each is_no_hash front → IsCut is_no_hash next body rest → IsCut is_no_hash (front ++ space ∷ next) (front ++ space ∷ body) rest
+cut_behind : (front next body rest : List ℕ) → Each is_no_hash front → IsCut is_no_hash next body rest
+    → IsCut is_no_hash (front ++ space ∷ next) (front ++ space ∷ body) rest
 cut_behind front next body rest f c = record {
   whole = ap (λ (w : List ℕ). front ++ space ∷ w) c.whole ∙ sym (append_assoc front (space ∷ body) rest);
   each = each_behind front body f c.each;
@@ -120,8 +127,8 @@ body_behind front next body f is =
     let cut = cut_of next body is in
     body_of (front ++ space ∷ next) (front ++ space ∷ body) cut.0 (cut_behind front next body cut.0 f cut.1) (note_behind front body cut.0 cut.2)
 
-body_of_cut : (front next own left whole rest : List ℕ) → Each is_no_hash front → IsCut is_no_hash next own left → IsCut is_no_hash (front ++ space ∷ next) whole rest → IsNote whole rest
-    → (body : List ℕ) × (whole ≡ front ++ space ∷ body) × IsBody next body
+body_of_cut : (front next own left whole rest : List ℕ) → Each is_no_hash front → IsCut is_no_hash next own left
+    → IsCut is_no_hash (front ++ space ∷ next) whole rest → IsNote whole rest → (body : List ℕ) × (whole ≡ front ++ space ∷ body) × IsBody next body
 body_of_cut front next own left whole rest f cut c n =
     let both = cut_behind front next own left f cut in
     let same = one_cut is_no_hash whole rest (front ++ space ∷ own) left c.each c.stops both.each both.stops (sym c.whole ∙ both.whole) in (
@@ -130,7 +137,8 @@ body_of_cut front next own left whole rest f cut c n =
       body_of next own left cut (note_back front own left (subst (IsNote (front ++ space ∷ own)) same.1 (subst (λ (b : List ℕ). IsNote b rest) same.0 n))),
     )
 
-body_back : (front next whole : List ℕ) → Each is_no_hash front → IsBody (front ++ space ∷ next) whole → (body : List ℕ) × (whole ≡ front ++ space ∷ body) × IsBody next body
+body_back : (front next whole : List ℕ) → Each is_no_hash front → IsBody (front ++ space ∷ next) whole
+    → (body : List ℕ) × (whole ≡ front ++ space ∷ body) × IsBody next body
 body_back front next whole f is =
     let cut = cut_of (front ++ space ∷ next) whole is in
     body_of_cut front next _ _ whole cut.0 f (cut_is is_no_hash next) cut.1 cut.2
@@ -148,7 +156,8 @@ each_back p [] ys h = h
 each_back p (x ∷ xs) ys h = each_back p xs ys h.1
 
 -- the part of the next line that goes on
-part_of : (front next part whole : List ℕ) → next ≡ part ++ backslash ∷ [] → front ++ space ∷ part ≡ whole → (next ≡ backslash ∷ [] → ⊥) → IsContinued (front ++ space ∷ next) whole → IsContinued next part
+part_of : (front next part whole : List ℕ) → next ≡ part ++ backslash ∷ [] → front ++ space ∷ part ≡ whole
+    → (next ≡ backslash ∷ [] → ⊥) → IsContinued (front ++ space ∷ next) whole → IsContinued next part
 part_of front next [] whole e same some c = absurd (some e)
 part_of front next (b ∷ bs) whole e same some c = record {
   whole = e;
@@ -158,13 +167,16 @@ part_of front next (b ∷ bs) whole e same some c = record {
       ∙ ap (last_passes may_go_on) same ∙ c.ends;
 }
 
-goes_back : (front next whole : List ℕ) → (next ≡ backslash ∷ [] → ⊥) → IsContinued (front ++ space ∷ next) whole → (part : List ℕ) × (whole ≡ front ++ space ∷ part) × IsContinued next part
+goes_back : (front next whole : List ℕ) → (next ≡ backslash ∷ [] → ⊥) → IsContinued (front ++ space ∷ next) whole
+    → (part : List ℕ) × (whole ≡ front ++ space ∷ part) × IsContinued next part
 goes_back front next whole some c =
-    let last : last_passes is_backslash (front ++ space ∷ next) ≡ true = ap (last_passes is_backslash) c.whole ∙ last_passes_last is_backslash whole backslash in
+    let last : last_passes is_backslash (front ++ space ∷ next) ≡ true =
+    ap (last_passes is_backslash) c.whole ∙ last_passes_last is_backslash whole backslash in
     let split = last_split is_backslash next (sym (ends_behind_blank is_backslash front next refl) ∙ last) in
     let e : next ≡ split.0 ++ backslash ∷ [] = split.2 ∙ ap (λ (x : ℕ). split.0 ++ x ∷ []) (eqb-true split.1 backslash split.3) in
     let same : front ++ space ∷ split.0 ≡ whole =
-    one_front (front ++ space ∷ split.0) whole backslash (append_assoc front (space ∷ split.0) (backslash ∷ []) ∙ sym (ap (λ (w : List ℕ). front ++ space ∷ w) e) ∙ c.whole) in
+    one_front (front ++ space ∷ split.0) whole backslash
+    (append_assoc front (space ∷ split.0) (backslash ∷ []) ∙ sym (ap (λ (w : List ℕ). front ++ space ∷ w) e) ∙ c.whole) in
     (split.0, sym same, part_of front next split.0 whole e same some c)
 
 -- ---- continuations
@@ -175,11 +187,18 @@ Two front next = (front ++ backslash ∷ []) ∷ next ∷ []
 abbrev One : List ℕ → List ℕ → List (List ℕ)
 One front next = (front ++ space ∷ next) ∷ []
 
-next_joined : (front next body : List ℕ) (after joined more : List (List ℕ)) → Each is_no_hash front → joined ≡ (front ++ space ∷ body) ∷ more → Joined (next ∷ after) (body ∷ more) → Joined (One front next ++ after) joined
+next_joined : (front next body : List ℕ) (after joined more : List (List ℕ)) → Each is_no_hash front
+    → joined ≡ (front ++ space ∷ body) ∷ more → Joined (next ∷ after) (body ∷ more) → Joined (One front next ++ after) joined
 next_joined front next body after joined more f e (inl (other, rest, is, same, last)) =
     let bodies : body ≡ other = cc in
     let mores : more ≡ rest = cc in
-    inl (front ++ space ∷ other, rest, body_behind front next other f is, e ∙ ap (λ (b : List ℕ). (front ++ space ∷ b) ∷ more) bodies ∙ ap (λ (m : List (List ℕ)). (front ++ space ∷ other) ∷ m) mores, last)
+    inl (
+      front ++ space ∷ other,
+      rest,
+      body_behind front next other f is,
+      e ∙ ap (λ (b : List ℕ). (front ++ space ∷ b) ∷ more) bodies ∙ ap (λ (m : List (List ℕ)). (front ++ space ∷ other) ∷ m) mores,
+      last,
+    )
 next_joined front next body after joined more f e (inr (part, other, rest, is, same, last)) =
     let bodies : body ≡ part ++ space ∷ other = cc in
     let mores : more ≡ rest = cc in
@@ -214,5 +233,6 @@ to_two front next g after joined (inr (whole, body, more, is, e, rest)) =
       inr (back.0, body, more, back.2, refl, rest),
     )
 
-pub continuations : (text other front next : List ℕ) → GoesOnWith front next → DifferIn text other ((front ++ backslash ∷ []) ∷ next ∷ []) ((front ++ space ∷ next) ∷ []) → SpellAlike text other
+pub continuations : (text other front next : List ℕ) → GoesOnWith front next
+    → DifferIn text other ((front ++ backslash ∷ []) ∷ next ∷ []) ((front ++ space ∷ next) ∷ []) → SpellAlike text other
 continuations text other front next g d = spell_alike text other (Two front next) (One front next) (to_one front next g) (to_two front next g) d

@@ -15,7 +15,8 @@ unfolding is_reserved
 all_reserved h = false≢true h
 
 -- nor a name
-pub item_all : (has : List ℕ → Bool) → ((w : List ℕ) → has w ≡ true → begins_upper w ≡ false) → (i : Item (List ℕ)) → IsItem has i → codes "ALL" ≡ item_text i → items.All ≡ i
+pub item_all : (has : List ℕ → Bool) → ((w : List ℕ) → has w ≡ true → begins_upper w ≡ false)
+    → (i : Item (List ℕ)) → IsItem has i → codes "ALL" ≡ item_text i → items.All ≡ i
 item_all has low items.All is e = refl
 item_all has low (items.Name w) is e = absurd (false≢true (sym (low w is) ∙ ap begins_upper (sym e)))
 item_all has low (items.Alias w) is e = absurd (all_reserved (subst (λ (x : List ℕ). is_alias_name x ≡ true) (sym e) is))

@@ -21,7 +21,8 @@ use Rattle.sudo_policy.specs.Policy.{IsCmndItem, IsPolicy}
 use Rattle.sudo_policy.specs.Lex.{Tok, word, mark, Lexes}
 use Rattle.sudo_syntax.specs.private.Tokens.{NoLexing}
 use Rattle.sudo_policy.specs.Lines.{is_no_hash, ends_in_backslash, lines_of, Joined}
-use Rattle.sudo_policy.specs.Grammar.{Listed, More, SpellsItem, SpellsCmnd, SpellsRunas, SpellsDates, SpellsTags, SpellsCmndSpec, SpellsPart, SpellsUserSpec, SpellsTree, Date, head_of, args_of, rule_toks}
+use Rattle.sudo_policy.specs.Grammar.{Listed, More, SpellsItem, SpellsCmnd, SpellsRunas, SpellsDates, SpellsTags}
+use Rattle.sudo_policy.specs.Grammar.{SpellsCmndSpec, SpellsPart, SpellsUserSpec, SpellsTree, Date, head_of, args_of, rule_toks}
 use Rattle.sudo_policy.specs.Inheritance.{entries_of}
 use Rattle.sudo_policy.specs.Spelling.{Spells, SpellsEntries, SpellsLine, SpellsLines}
 use Rattle.sudo_syntax.specs.Worked.{SpellsNone}
@@ -50,8 +51,8 @@ blank_text = codes "! ann db1 = ALL"
 
 blank_lexes : NoLexing blank_text
 blank_lexes =
-    lex_none blank_text [] blank_text (codes "!") (codes " ann db1 = ALL") (record { whole = refl; each = tt; stops = refl }) bang (codes " ann db1 = ALL") refl refl
-    (record { whole = refl; each = (refl, tt); stops = refl }) refl
+    lex_none blank_text [] blank_text (codes "!") (codes " ann db1 = ALL") (record { whole = refl; each = tt; stops = refl }) bang
+    (codes " ann db1 = ALL") refl refl (record { whole = refl; each = (refl, tt); stops = refl }) refl
 
 pub blank_none : SpellsNone blank_text
 unfolding is_keyword
@@ -76,7 +77,12 @@ use_line = user_spec (yes (items.Alias (codes "B"))) (part (codes "db1") (only (
 
 use_tree : SpellsTree (word false 0 (codes "B") ∷ all_toks) use_line
 unfolding is_reserved is_keyword
-use_tree = (_, (_, item refl, refl), refl, (_, record { spaced = true; next = _; hosts = (_, item refl, refl); specs = (_, only_spelled (cmnd (cmnd_is all refl)), refl) }, refl))
+use_tree = (
+  _,
+  (_, item refl, refl),
+  refl,
+  (_, record { spaced = true; next = _; hosts = (_, item refl, refl); specs = (_, only_spelled (cmnd (cmnd_is all refl)), refl) }, refl),
+)
 
 abbrev below_entries : List Entry
 below_entries = entries_of use_line ++ entries_of user_line
@@ -88,14 +94,16 @@ below_lines = (
   spells_line (codes "B db1 = ALL") (word false 0 (codes "B")) all_toks use_line (lexed (word false 0 (codes "B") ∷ all_toks) [] refl) use_tree,
   refl,
   one_line (codes "User_Alias B = ann") (entries_of user_line)
-      (spells_line (codes "User_Alias B = ann") (word false 0 (codes "User_Alias")) user_toks user_line (lexed (word false 0 (codes "User_Alias") ∷ user_toks) [] refl) user_tree),
+      (spells_line (codes "User_Alias B = ann") (word false 0 (codes "User_Alias")) user_toks user_line
+      (lexed (word false 0 (codes "User_Alias") ∷ user_toks) [] refl) user_tree),
 )
 
 pub below_none : SpellsNone (codes "B db1 = ALL\nUser_Alias B = ann")
 below_none es s =
     let a = codes "B db1 = ALL" in
     let b = codes "User_Alias B = ann" in
-    let same : s.joined ≡ a ∷ b ∷ [] = joined_one (a ∷ b ∷ []) s.joined (a ∷ b ∷ []) s.lines (plain a (b ∷ []) (b ∷ []) refl refl (plain b [] [] refl refl refl)) in
+    let same : s.joined ≡ a ∷ b ∷ [] =
+    joined_one (a ∷ b ∷ []) s.joined (a ∷ b ∷ []) s.lines (plain a (b ∷ []) (b ∷ []) refl refl (plain b [] [] refl refl refl)) in
     let is : es ≡ below_entries = lines_one (a ∷ b ∷ []) es below_entries (subst (λ (ls : List (List ℕ)). SpellsLines ls es) same s.entries) below_lines in
     let policy : IsPolicy below_entries = subst IsPolicy is s.policy in
     false≢true policy.placed.0.users.0
@@ -124,7 +132,8 @@ hosts_end t b c rest (x ∷ y ∷ xs) next h =
     let marks : mark b equals ∷ rest ≡ mark h.2.0 comma ∷ h.2.1 = cc in
     absurd (omega (arith, same_mark b h.2.0 equals comma rest h.2.1 marks))
 
-no_runas : (t : Bool) (n : ℕ) (w : List ℕ) (ts : List Tok) (o : Option (List (Signed (Item (List ℕ))))) (behind : List Tok) → SpellsRunas (word t n w ∷ ts) o behind → behind ≡ word t n w ∷ ts
+no_runas : (t : Bool) (n : ℕ) (w : List ℕ) (ts : List Tok) (o : Option (List (Signed (Item (List ℕ))))) (behind : List Tok)
+    → SpellsRunas (word t n w ∷ ts) o behind → behind ≡ word t n w ∷ ts
 no_runas t n w ts None behind h = sym h
 no_runas t n w ts (Some xs) behind h = let is = h.4 in absurd (cc)
 
@@ -166,9 +175,11 @@ record HasArgs (c : List ℕ) (tail : List Tok) : Type 0 where
   behind : Behind rest
 
 none_behind : (a : List ℕ) (tail rest : List Tok) → word true 0 a ∷ tail ≡ rest → Behind rest → ⊥
-none_behind a tail rest e k = no_word true 0 a tail k.mid k.specs k.parts (subst (λ (ts : List Tok). More comma SpellsCmndSpec ts k.specs k.mid) (sym e) k.more) k.last
+none_behind a tail rest e k =
+    no_word true 0 a tail k.mid k.specs k.parts (subst (λ (ts : List Tok). More comma SpellsCmndSpec ts k.specs k.mid) (sym e) k.more) k.last
 
-args_are : (c a : List ℕ) (tail : List Tok) (x : CmndItem) (rest : List Tok) → IsCmndItem x → c ≡ head_of x → word true 0 a ∷ tail ≡ args_of x ++ rest → Behind rest → HasArgs c tail
+args_are : (c a : List ℕ) (tail : List Tok) (x : CmndItem) (rest : List Tok) → IsCmndItem x
+    → c ≡ head_of x → word true 0 a ∷ tail ≡ args_of x ++ rest → Behind rest → HasArgs c tail
 args_are c a tail (cmnds.Alias name) rest lawful head e k = absurd (none_behind a tail rest e k)
 args_are c a tail (cmnds.Cmnd commands.All) rest lawful head e k = absurd (none_behind a tail rest e k)
 args_are c a tail (cmnds.Cmnd (commands.Dir dir)) rest lawful head e k = absurd (none_behind a tail rest e k)
@@ -193,7 +204,8 @@ specs_args c a tail (s ∷ specs) mid parts h k =
     let args : word true 0 a ∷ tail ≡ args_of s.cmnd.item ++ h.0 = cc in
     args_are c a tail s.cmnd.item h.0 cmnd.item head args (record { specs = specs; mid = mid; parts = parts; more = h.2; last = k })
 
-parts_args : (t : Tok) (b : Bool) (c a : List ℕ) (tail : List Tok) (parts : List Part) → Listed colon SpellsPart (t ∷ mark b equals ∷ Path2 c a tail) parts [] → HasArgs c tail
+parts_args : (t : Tok) (b : Bool) (c a : List ℕ) (tail : List Tok) (parts : List Part)
+    → Listed colon SpellsPart (t ∷ mark b equals ∷ Path2 c a tail) parts [] → HasArgs c tail
 parts_args t b c a tail [] h = absurd h
 parts_args t b c a tail (p ∷ parts) h =
     let next = hosts_end t b h.1.spaced (Path2 c a tail) p.hosts h.1.next h.1.hosts in
@@ -202,7 +214,8 @@ parts_args t b c a tail (p ∷ parts) h =
 abbrev Begun : List ℕ → List ℕ → List ℕ → List ℕ → List Tok → List Tok
 Begun u h c a tail = word false 0 u ∷ word true 0 h ∷ mark true equals ∷ Path2 c a tail
 
-user_spec_args : (u h c a : List ℕ) (tail : List Tok) (users : List (Signed (Item (List ℕ)))) (parts : List Part) → SpellsUserSpec (Begun u h c a tail) users parts → HasArgs c tail
+user_spec_args : (u h c a : List ℕ) (tail : List Tok) (users : List (Signed (Item (List ℕ)))) (parts : List Part)
+    → SpellsUserSpec (Begun u h c a tail) users parts → HasArgs c tail
 user_spec_args u h c a tail users parts g =
     let next = users_end (word false 0 u) true 0 h (mark true equals ∷ Path2 c a tail) users g.0 g.1 in
     parts_args (word true 0 h) true c a tail parts (subst (λ (ts : List Tok). Listed colon SpellsPart ts parts []) next g.3)
@@ -234,19 +247,22 @@ pub dir_none : SpellsNone dir_text
 unfolding is_keyword
 dir_none es s =
     let line = line_spelled dir_text dir_text es refl refl refl s in
-    let has = line_args dir_text (codes "ann") (codes "db1") (codes "/usr/bin/") (codes "-l") [] line.0 refl (lexed (Begun (codes "ann") (codes "db1") (codes "/usr/bin/") (codes "-l") []) [] refl) line.1 in
+    let has = line_args dir_text (codes "ann") (codes "db1") (codes "/usr/bin/") (codes "-l") [] line.0 refl
+    (lexed (Begun (codes "ann") (codes "db1") (codes "/usr/bin/") (codes "-l") []) [] refl) line.1 in
     false≢true has.file
 
 -- ---- a `:` without a backslash
 
-hosts_missing : (b : Bool) (w : List ℕ) (hosts : List (Signed (Item (List ℕ)))) (c : Bool) (next : List Tok) → Listed comma (SpellsItem is_host_name) (word b 0 w ∷ []) hosts (mark c equals ∷ next) → ⊥
+hosts_missing : (b : Bool) (w : List ℕ) (hosts : List (Signed (Item (List ℕ)))) (c : Bool) (next : List Tok)
+    → Listed comma (SpellsItem is_host_name) (word b 0 w ∷ []) hosts (mark c equals ∷ next) → ⊥
 hosts_missing b w [] c next h = h
 hosts_missing b w (x ∷ []) c next h = let is = h.1.toks in let behind = h.2 in cc
 hosts_missing b w (x ∷ y ∷ xs) c next h = let is = h.1.toks in let behind = h.2.3 in cc
 
 part_missing : (b : Bool) (w : List ℕ) (ts mid : List Tok) (p : Part) → ts ≡ word b 0 w ∷ [] → SpellsPart ts p mid → ⊥
 part_missing b w ts mid p e h =
-    hosts_missing b w p.hosts h.spaced h.next (subst (λ (x : List Tok). Listed comma (SpellsItem is_host_name) x p.hosts (mark h.spaced equals ∷ h.next)) e h.hosts)
+    hosts_missing b w p.hosts h.spaced h.next
+    (subst (λ (x : List Tok). Listed comma (SpellsItem is_host_name) x p.hosts (mark h.spaced equals ∷ h.next)) e h.hosts)
 
 no_part : (b : Bool) (w : List ℕ) (mid rest : List Tok) (specs : List CmndSpec) (parts : List Part) → rest ≡ mark false colon ∷ word b 0 w ∷ []
     → More comma SpellsCmndSpec rest specs mid → More colon SpellsPart mid parts [] → ⊥
@@ -258,7 +274,8 @@ no_part b w mid rest [] (p ∷ parts) e h k =
 no_part b w mid rest (s ∷ specs) parts e h k =
     absurd (omega (arith, same_mark false h.0 colon comma (word b 0 w ∷ []) h.1 (sym e ∙ h.3)))
 
-colon_behind : (b : Bool) (w : List ℕ) (args : List (List ℕ)) (rest : List Tok) → mark false colon ∷ word b 0 w ∷ [] ≡ rule_toks (rules.Exactly args) ++ rest → Behind rest → ⊥
+colon_behind : (b : Bool) (w : List ℕ) (args : List (List ℕ)) (rest : List Tok)
+    → mark false colon ∷ word b 0 w ∷ [] ≡ rule_toks (rules.Exactly args) ++ rest → Behind rest → ⊥
 colon_behind b w [] rest e k = no_part b w k.mid rest k.specs k.parts (sym e) k.more k.last
 colon_behind b w (a ∷ args) rest e k = cc
 
@@ -272,5 +289,6 @@ pub colon_none : SpellsNone colon_text
 unfolding is_keyword
 colon_none es s =
     let line = line_spelled colon_text colon_text es refl refl refl s in
-    let has = line_args colon_text (codes "ann") (codes "db1") (codes "/bin/echo") (codes "a") colon_tail line.0 refl (lexed (Begun (codes "ann") (codes "db1") (codes "/bin/echo") (codes "a") colon_tail) [] refl) line.1 in
+    let has = line_args colon_text (codes "ann") (codes "db1") (codes "/bin/echo") (codes "a") colon_tail line.0 refl
+    (lexed (Begun (codes "ann") (codes "db1") (codes "/bin/echo") (codes "a") colon_tail) [] refl) line.1 in
     colon_behind false (codes "b") has.args has.rest has.tail_is has.behind

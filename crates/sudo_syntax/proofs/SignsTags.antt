@@ -44,16 +44,19 @@ cmnd_by a n m w ts s rest same g =
     }
 
 pub items_signs : (form : List ℕ → Bool) (a : Bool) (n : ℕ) (w : List ℕ) (ts : List Tok) (s : Signed (Item (List ℕ))) (rest : List Tok)
-    → (SpellsItem form (word a (n + 2) w ∷ ts) s rest → SpellsItem form (word a n w ∷ ts) s rest) × (SpellsItem form (word a n w ∷ ts) s rest → SpellsItem form (word a (n + 2) w ∷ ts) s rest)
+    → (SpellsItem form (word a (n + 2) w ∷ ts) s rest → SpellsItem form (word a n w ∷ ts) s rest)
+    × (SpellsItem form (word a n w ∷ ts) s rest → SpellsItem form (word a (n + 2) w ∷ ts) s rest)
 items_signs form a n w ts s rest = (item_by form a (n + 2) n w ts s rest (odd_more n), item_by form a n (n + 2) w ts s rest (sym (odd_more n)))
 
 pub cmnds_signs : (a : Bool) (n : ℕ) (w : List ℕ) (ts : List Tok) (s : Signed CmndItem) (rest : List Tok)
-    → (SpellsCmnd (word a (n + 2) w ∷ ts) s rest → SpellsCmnd (word a n w ∷ ts) s rest) × (SpellsCmnd (word a n w ∷ ts) s rest → SpellsCmnd (word a (n + 2) w ∷ ts) s rest)
+    → (SpellsCmnd (word a (n + 2) w ∷ ts) s rest → SpellsCmnd (word a n w ∷ ts) s rest)
+    × (SpellsCmnd (word a n w ∷ ts) s rest → SpellsCmnd (word a (n + 2) w ∷ ts) s rest)
 cmnds_signs a n w ts s rest = (cmnd_by a (n + 2) n w ts s rest (odd_more n), cmnd_by a n (n + 2) w ts s rest (sym (odd_more n)))
 
 last_is : (tags : List Bool) (tag : Bool) → last_tag (tags ++ tag ∷ []) ≡ Some tag
 last_is [] tag = refl
 last_is (t ∷ tags) tag = ap (λ (o : Option Bool). option_or o (Some t)) (last_is tags tag)
 
-pub last_counts : (ts : List Tok) (s : CmndSpec) (rest : List Tok) (g : SpellsCmndSpec ts s rest) (before : List Bool) (tag : Bool) → g.tags ≡ before ++ tag ∷ [] → s.nopasswd ≡ Some tag
+pub last_counts : (ts : List Tok) (s : CmndSpec) (rest : List Tok) (g : SpellsCmndSpec ts s rest) (before : List Bool) (tag : Bool)
+    → g.tags ≡ before ++ tag ∷ [] → s.nopasswd ≡ Some tag
 last_counts ts s rest g before tag are = g.passwd ∙ ap last_tag are ∙ last_is before tag

@@ -35,11 +35,13 @@ second_byte (t ∷ mark a b ∷ ts) = b
 colon_no_equals : ◌≡◌ {A = ℕ} colon equals → ⊥
 colon_no_equals e = absurd (omega arith)
 
-pub tags_close_dates : (ts : List Tok) (tags : List Bool) (behind : List Tok) (s : Signed CmndItem) (rest : List Tok) → EndsBy comma rest → SpellsTags ts tags behind → SpellsCmnd behind s rest → NoDate ts
+pub tags_close_dates : (ts : List Tok) (tags : List Bool) (behind : List Tok) (s : Signed CmndItem) (rest : List Tok)
+    → EndsBy comma rest → SpellsTags ts tags behind → SpellsCmnd behind s rest → NoDate ts
 tags_close_dates ts [] behind s rest f t h = subst NoDate (sym t) (cmnd_no_date behind s rest f h)
 tags_close_dates ts (tag ∷ tags) behind s rest f t h = λ a name time next e. colon_no_equals (ap second_byte (sym t.3 ∙ e))
 
-tags_begin_word : (ts : List Tok) (tags : List Bool) (behind : List Tok) (s : Signed CmndItem) (rest : List Tok) → SpellsTags ts tags behind → SpellsCmnd behind s rest → NoMark opening ts
+tags_begin_word : (ts : List Tok) (tags : List Bool) (behind : List Tok) (s : Signed CmndItem) (rest : List Tok)
+    → SpellsTags ts tags behind → SpellsCmnd behind s rest → NoMark opening ts
 tags_begin_word ts [] behind s rest t h = subst (NoMark opening) (sym (t ∙ h.toks)) tt
 tags_begin_word ts (tag ∷ tags) behind s rest t h = subst (NoMark opening) (sym t.3) tt
 

@@ -31,8 +31,11 @@ next_is said ts a b tag next e v r f [] h o = absurd (f a b tag next (sym h ∙ 
 next_is said ts a b tag next e v r f (t ∷ tags) h o =
     let two = sym e ∙ h.3 in
     let words : tag_word t ≡ tag_word tag = cc in
-    let next_same : h.2 ≡ next = cc in
-    (tags, subst (λ (x : List Tok). SpellsTags x tags r) next_same h.4, o ∙ or_some (last_tag tags) t said ∙ ap (λ (x : Bool). option_or (last_tag tags) (Some x)) (one_tag t tag words))
+    let next_same : h.2 ≡ next = cc in (
+      tags,
+      subst (λ (x : List Tok). SpellsTags x tags r) next_same h.4,
+      o ∙ or_some (last_tag tags) t said ∙ ap (λ (x : Bool). option_or (last_tag tags) (Some x)) (one_tag t tag words),
+    )
 
 pub tag_read : (said : Option Bool) (ts : List Tok) (a b : Bool) (tag : Bool) (next : List Tok) → ts ≡ word a 0 (tag_word tag) ∷ mark b colon ∷ next
     → Leads Ends (Left said ts) (Left (Some tag) next)
@@ -41,7 +44,8 @@ tag_read said ts a b tag next e = record {
   on = λ v r f h. next_is said ts a b tag next e v r f h.0 h.1 h.2;
 }
 
-no_tags : (said : Option Bool) (ts : List Tok) → NoTag ts → (v : Option Bool) (r : List Tok) (tags : List Bool) → SpellsTags ts tags r → v ≡ option_or (last_tag tags) said → (said ≡ v) × (ts ≡ r)
+no_tags : (said : Option Bool) (ts : List Tok) → NoTag ts → (v : Option Bool) (r : List Tok) (tags : List Bool)
+    → SpellsTags ts tags r → v ≡ option_or (last_tag tags) said → (said ≡ v) × (ts ≡ r)
 no_tags said ts n v r [] h o = (sym o, h)
 no_tags said ts n v r (t ∷ tags) h o = absurd (n h.0 h.1 t h.2 h.3)
 

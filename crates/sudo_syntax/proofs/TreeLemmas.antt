@@ -76,7 +76,8 @@ no_item kind n (items.Alias w) is e = false≢true (sym n.2 ∙ ap is_alias_name
 
 -- ---- a line of one kind begins with no other's word
 
-aliases_begin : {X : Type 0} (kind other : List ℕ) (Is : List Tok → Signed X → List Tok → Type 0) (ts : List Tok) (defs : List (Definition X)) → (kind ≡ other → ⊥) → SpellsAliases kind Is ts defs → NoKind other ts
+aliases_begin : {X : Type 0} (kind other : List ℕ) (Is : List Tok → Signed X → List Tok → Type 0) (ts : List Tok) (defs : List (Definition X))
+    → (kind ≡ other → ⊥) → SpellsAliases kind Is ts defs → NoKind other ts
 aliases_begin kind other Is ts defs n h = λ a next e.
     let two = sym h.2 ∙ e in
     let same : kind ≡ other = cc in
@@ -89,7 +90,8 @@ users_begin kind n ts (u ∷ users) rest h = λ a next e.
     let same : item_text u.item ≡ kind = cc in
     no_item kind n u.item h.1.item same
 
-user_spec_begin : (kind : List ℕ) → IsNoItem kind → (ts : List Tok) (users : List (Signed (Item (List ℕ)))) (parts : List Part) → SpellsUserSpec ts users parts → NoKind kind ts
+user_spec_begin : (kind : List ℕ) → IsNoItem kind → (ts : List Tok) (users : List (Signed (Item (List ℕ)))) (parts : List Part)
+    → SpellsUserSpec ts users parts → NoKind kind ts
 user_spec_begin kind n ts users parts h = users_begin kind n ts users h.0 h.1
 
 not : (kind other : List ℕ) → (other ≡ kind → ⊥) → kind ≡ other → ⊥
@@ -130,7 +132,8 @@ by_cmnds R ts (lines.Cmnds defs) h here there = here defs h
 by_cmnds R ts (lines.UserSpec users parts) h here there = there (user_spec_begin cmnds_kind (all_cmnds, refl, refl) ts users parts h)
 
 -- a line that begins with none of the words
-pub by_user_spec : (R : Line → Type 0) (ts : List Tok) (l : Line) → SpellsTree ts l → NoKind users_kind ts → NoKind runas_kind ts → NoKind hosts_kind ts → NoKind cmnds_kind ts
+pub by_user_spec : (R : Line → Type 0) (ts : List Tok) (l : Line) → SpellsTree ts l
+    → NoKind users_kind ts → NoKind runas_kind ts → NoKind hosts_kind ts → NoKind cmnds_kind ts
     → ((users : List (Signed (Item (List ℕ)))) (parts : List Part) → SpellsUserSpec ts users parts → R (lines.UserSpec users parts)) → R l
 by_user_spec R ts (lines.Users defs) h a b c d here = absurd (a h.0 h.1 h.2)
 by_user_spec R ts (lines.Runas defs) h a b c d here = absurd (b h.0 h.1 h.2)

@@ -71,7 +71,8 @@ front_more bytes front rest part after f p = record {
 }
 
 -- the whole word, by its length
-pub front_end : (bytes front rest : List ℕ) → IsFront bytes front rest → goes_on rest ≡ false → IsWordCut bytes (take (length bytes - length rest) bytes) (drop (length bytes - length rest) bytes)
+pub front_end : (bytes front rest : List ℕ) → IsFront bytes front rest → goes_on rest ≡ false
+    → IsWordCut bytes (take (length bytes - length rest) bytes) (drop (length bytes - length rest) bytes)
 front_end bytes front rest f stop =
     let size : length bytes - length rest ≡ length front = omega (arith, ap length f.whole, length-append front rest) in
     let left : take (length bytes - length rest) bytes ≡ front = rw (size, f.whole) (take-append_seam front rest) in

@@ -78,14 +78,20 @@ signs_line = user_spec (user (codes "ann")) (part (codes "db1") (only (no su)) �
 
 signs_tree : SpellsTree (word false 2 (codes "ann") ∷ signs_toks) signs_line
 unfolding is_keyword
-signs_tree = (_, (_, item refl, refl), refl, (_, record { spaced = true; next = _; hosts = (_, item refl, refl); specs = (_, only_spelled (cmnd (cmnd_is su refl)), refl) }, refl))
+signs_tree = (
+  _,
+  (_, item refl, refl),
+  refl,
+  (_, record { spaced = true; next = _; hosts = (_, item refl, refl); specs = (_, only_spelled (cmnd (cmnd_is su refl)), refl) }, refl),
+)
 
 pub signs_spell : SpellsAs signs_text (codes "ann db1 = (root) !/bin/su\n")
 unfolding is_keyword
 signs_spell = (
   entries_of signs_line,
   spelled signs_text (signs_text ∷ []) (entries_of signs_line) refl (plain signs_text [] [] refl refl refl)
-      (one_line signs_text (entries_of signs_line) (spells_line signs_text (word false 2 (codes "ann")) signs_toks signs_line (lexed (word false 2 (codes "ann") ∷ signs_toks) [] refl) signs_tree)) refl,
+      (one_line signs_text (entries_of signs_line)
+      (spells_line signs_text (word false 2 (codes "ann")) signs_toks signs_line (lexed (word false 2 (codes "ann") ∷ signs_toks) [] refl) signs_tree)) refl,
   refl,
 )
 
@@ -102,15 +108,26 @@ all_line = user_spec (user (codes "ann")) (part (codes "db1") (only (yes all)) �
 
 all_tree : SpellsTree (word false 0 (codes "ann") ∷ all_toks) all_line
 unfolding is_keyword
-all_tree = (_, (_, item refl, refl), refl, (_, record { spaced = true; next = _; hosts = (_, item refl, refl); specs = (_, only_spelled (cmnd (cmnd_is all refl)), refl) }, refl))
+all_tree = (
+  _,
+  (_, item refl, refl),
+  refl,
+  (_, record { spaced = true; next = _; hosts = (_, item refl, refl); specs = (_, only_spelled (cmnd (cmnd_is all refl)), refl) }, refl),
+)
 
 pub note_spell : SpellsAs (codes "ann db1 = ALL # see #12") (codes "ann db1 = (root) ALL\n")
 unfolding is_keyword
 note_spell = (
   entries_of all_line,
   spelled (codes "ann db1 = ALL # see #12") (note_body ∷ []) (entries_of all_line) refl
-      (inl (note_body, [], inr (codes " see #12", record { whole = refl; each = each_of is_no_hash note_body refl; before = refl; allowed = refl }), refl, refl))
-      (one_line note_body (entries_of all_line) (spells_line note_body (word false 0 (codes "ann")) all_toks all_line (lexed (word false 0 (codes "ann") ∷ all_toks) (codes " ") refl) all_tree)) refl,
+      (inl (
+        note_body,
+        [],
+        inr (codes " see #12", record { whole = refl; each = each_of is_no_hash note_body refl; before = refl; allowed = refl }),
+        refl,
+        refl,
+      )) (one_line note_body (entries_of all_line)
+      (spells_line note_body (word false 0 (codes "ann")) all_toks all_line (lexed (word false 0 (codes "ann") ∷ all_toks) (codes " ") refl) all_tree)) refl,
   refl,
 )
 
@@ -127,7 +144,12 @@ ls_line = user_spec (user (codes "ann")) (part (codes "db1") (only (yes ls)) ∷
 
 ls_tree : SpellsTree (word false 0 (codes "ann") ∷ ls_toks) ls_line
 unfolding is_keyword
-ls_tree = (_, (_, item refl, refl), refl, (_, record { spaced = true; next = _; hosts = (_, item refl, refl); specs = (_, only_spelled (cmnd (cmnd_is ls refl)), refl) }, refl))
+ls_tree = (
+  _,
+  (_, item refl, refl),
+  refl,
+  (_, record { spaced = true; next = _; hosts = (_, item refl, refl); specs = (_, only_spelled (cmnd (cmnd_is ls refl)), refl) }, refl),
+)
 
 continued_lexes : Lexes continued (word false 0 (codes "ann") ∷ ls_toks)
 continued_lexes =
@@ -139,8 +161,14 @@ unfolding is_keyword
 continued_spell = (
   entries_of ls_line,
   spelled (codes "ann db1 = \\\n/bin/ls") (continued ∷ []) (entries_of ls_line) refl
-      (inr (codes "ann db1 = ", codes "/bin/ls", [], record { whole = refl; each = each_of is_no_hash (codes "ann db1 = ") refl; ends = refl }, refl, plain (codes "/bin/ls") [] [] refl refl refl))
-      (one_line continued (entries_of ls_line) (spells_line continued (word false 0 (codes "ann")) ls_toks ls_line continued_lexes ls_tree)) refl,
+      (inr (
+        codes "ann db1 = ",
+        codes "/bin/ls",
+        [],
+        record { whole = refl; each = each_of is_no_hash (codes "ann db1 = ") refl; ends = refl },
+        refl,
+        plain (codes "/bin/ls") [] [] refl refl refl,
+      )) (one_line continued (entries_of ls_line) (spells_line continued (word false 0 (codes "ann")) ls_toks ls_line continued_lexes ls_tree)) refl,
   refl,
 )
 
@@ -169,7 +197,14 @@ users_tree = (
   (
     _,
     record { name_spaced = true; spaced = true; next = _; toks = refl; name = refl; list = (_, item refl, (false, _, _, refl, item refl, refl)) },
-    (true, _, _, refl, record { name_spaced = true; spaced = true; next = _; toks = refl; name = refl; list = (_, item refl, (false, _, _, refl, item refl, refl)) }, refl),
+    (
+      true,
+      _,
+      _,
+      refl,
+      record { name_spaced = true; spaced = true; next = _; toks = refl; name = refl; list = (_, item refl, (false, _, _, refl, item refl, refl)) },
+      refl,
+    ),
   ),
 )
 
@@ -238,13 +273,16 @@ pub aliases_spell : SpellsAs aliases_text (codes "User_Alias A = ann, bob\nUser_
 unfolding is_reserved is_keyword
 aliases_spell = (
   aliases_entries,
-  spelled aliases_text (users_text ∷ parts_text ∷ []) aliases_entries refl (plain users_text (parts_text ∷ []) (parts_text ∷ []) refl refl (plain parts_text [] [] refl refl refl)) (
-    entries_of users_line,
-    entries_of parts_line,
-    spells_line users_text (word false 0 (codes "User_Alias")) users_toks users_line (lexed (word false 0 (codes "User_Alias") ∷ users_toks) [] refl) users_tree,
-    refl,
-    one_line parts_text (entries_of parts_line) (spells_line parts_text (word false 0 (codes "B")) parts_toks parts_line (lexed (word false 0 (codes "B") ∷ parts_toks) [] refl) parts_tree),
-  ) refl,
+  spelled aliases_text (users_text ∷ parts_text ∷ []) aliases_entries refl
+      (plain users_text (parts_text ∷ []) (parts_text ∷ []) refl refl (plain parts_text [] [] refl refl refl)) (
+        entries_of users_line,
+        entries_of parts_line,
+        spells_line users_text (word false 0 (codes "User_Alias")) users_toks users_line
+            (lexed (word false 0 (codes "User_Alias") ∷ users_toks) [] refl) users_tree,
+        refl,
+        one_line parts_text (entries_of parts_line)
+            (spells_line parts_text (word false 0 (codes "B")) parts_toks parts_line (lexed (word false 0 (codes "B") ∷ parts_toks) [] refl) parts_tree),
+      ) refl,
   refl,
 )
 
@@ -278,7 +316,12 @@ both_line = user_spec (yes (items.Alias (codes "B"))) (record { hosts = yes (ite
 
 both_tree : SpellsTree (word false 0 (codes "B") ∷ both_toks) both_line
 unfolding is_reserved is_keyword
-both_tree = (_, (_, item refl, refl), refl, (_, record { spaced = true; next = _; hosts = (_, item refl, refl); specs = (_, only_spelled (cmnd (cmnd_is all refl)), refl) }, refl))
+both_tree = (
+  _,
+  (_, item refl, refl),
+  refl,
+  (_, record { spaced = true; next = _; hosts = (_, item refl, refl); specs = (_, only_spelled (cmnd (cmnd_is all refl)), refl) }, refl),
+)
 
 abbrev kinds_text : List ℕ
 kinds_text = codes "Host_Alias B = db1\nUser_Alias B = ann\nB B = ALL"
@@ -293,19 +336,21 @@ kinds_spell =
     let b = codes "User_Alias B = ann" in
     let c = codes "B B = ALL" in (
       kinds_entries,
-      spelled kinds_text (a ∷ b ∷ c ∷ []) kinds_entries refl (plain a (b ∷ c ∷ []) (b ∷ c ∷ []) refl refl (plain b (c ∷ []) (c ∷ []) refl refl (plain c [] [] refl refl refl))) (
-        entries_of host_line,
-        entries_of user_line ++ entries_of both_line,
-        spells_line a (word false 0 (codes "Host_Alias")) host_toks host_line (lexed (word false 0 (codes "Host_Alias") ∷ host_toks) [] refl) host_tree,
-        refl,
-        (
-          entries_of user_line,
-          entries_of both_line,
-          spells_line b (word false 0 (codes "User_Alias")) user_toks user_line (lexed (word false 0 (codes "User_Alias") ∷ user_toks) [] refl) user_tree,
-          refl,
-          one_line c (entries_of both_line) (spells_line c (word false 0 (codes "B")) both_toks both_line (lexed (word false 0 (codes "B") ∷ both_toks) [] refl) both_tree),
-        ),
-      ) refl,
+      spelled kinds_text (a ∷ b ∷ c ∷ []) kinds_entries refl
+          (plain a (b ∷ c ∷ []) (b ∷ c ∷ []) refl refl (plain b (c ∷ []) (c ∷ []) refl refl (plain c [] [] refl refl refl))) (
+            entries_of host_line,
+            entries_of user_line ++ entries_of both_line,
+            spells_line a (word false 0 (codes "Host_Alias")) host_toks host_line (lexed (word false 0 (codes "Host_Alias") ∷ host_toks) [] refl) host_tree,
+            refl,
+            (
+              entries_of user_line,
+              entries_of both_line,
+              spells_line b (word false 0 (codes "User_Alias")) user_toks user_line (lexed (word false 0 (codes "User_Alias") ∷ user_toks) [] refl) user_tree,
+              refl,
+              one_line c (entries_of both_line)
+                  (spells_line c (word false 0 (codes "B")) both_toks both_line (lexed (word false 0 (codes "B") ∷ both_toks) [] refl) both_tree),
+            ),
+          ) refl,
       refl,
     )
 
@@ -325,13 +370,18 @@ echo_line = user_spec (user (codes "ann")) (part (codes "db1") (only (yes echo))
 
 echo_tree : SpellsTree (word false 0 (codes "ann") ∷ echo_toks) echo_line
 unfolding is_keyword
-echo_tree = (_, (_, item refl, refl), refl, (_, record { spaced = true; next = _; hosts = (_, item refl, refl); specs = (_, only_spelled (cmnd (cmnd_is echo refl)), refl) }, refl))
+echo_tree = (
+  _,
+  (_, item refl, refl),
+  refl,
+  (_, record { spaced = true; next = _; hosts = (_, item refl, refl); specs = (_, only_spelled (cmnd (cmnd_is echo refl)), refl) }, refl),
+)
 
 pub echo_spell : Spells echo_text (may_run (commands.Path (codes "/bin/echo") (rules.Exactly (codes "a:b" ∷ []))))
 unfolding is_keyword
 echo_spell =
-    spelled echo_text (echo_text ∷ []) (entries_of echo_line) refl (plain echo_text [] [] refl refl refl)
-    (one_line echo_text (entries_of echo_line) (spells_line echo_text (word false 0 (codes "ann")) echo_toks echo_line (lexed (word false 0 (codes "ann") ∷ echo_toks) [] refl) echo_tree)) refl
+    spelled echo_text (echo_text ∷ []) (entries_of echo_line) refl (plain echo_text [] [] refl refl refl) (one_line echo_text (entries_of echo_line)
+    (spells_line echo_text (word false 0 (codes "ann")) echo_toks echo_line (lexed (word false 0 (codes "ann") ∷ echo_toks) [] refl) echo_tree)) refl
 
 abbrev bin : CmndItem
 bin = cmnds.Cmnd (commands.Dir (codes "/usr/bin/"))
@@ -347,19 +397,25 @@ bin_line = user_spec (user (codes "ann")) (part (codes "db1") (only (yes bin)) �
 
 bin_tree : SpellsTree (word false 0 (codes "ann") ∷ bin_toks) bin_line
 unfolding is_keyword
-bin_tree = (_, (_, item refl, refl), refl, (_, record { spaced = true; next = _; hosts = (_, item refl, refl); specs = (_, only_spelled (cmnd (cmnd_is bin refl)), refl) }, refl))
+bin_tree = (
+  _,
+  (_, item refl, refl),
+  refl,
+  (_, record { spaced = true; next = _; hosts = (_, item refl, refl); specs = (_, only_spelled (cmnd (cmnd_is bin refl)), refl) }, refl),
+)
 
 pub bin_spell : Spells bin_text (may_run (commands.Dir (codes "/usr/bin/")))
 unfolding is_keyword
 bin_spell =
-    spelled bin_text (bin_text ∷ []) (entries_of bin_line) refl (plain bin_text [] [] refl refl refl)
-    (one_line bin_text (entries_of bin_line) (spells_line bin_text (word false 0 (codes "ann")) bin_toks bin_line (lexed (word false 0 (codes "ann") ∷ bin_toks) [] refl) bin_tree)) refl
+    spelled bin_text (bin_text ∷ []) (entries_of bin_line) refl (plain bin_text [] [] refl refl refl) (one_line bin_text (entries_of bin_line)
+    (spells_line bin_text (word false 0 (codes "ann")) bin_toks bin_line (lexed (word false 0 (codes "ann") ∷ bin_toks) [] refl) bin_tree)) refl
 
 -- ---- dates, of which the second command inherits one
 
 five_january : (clock : List ℕ) (seconds : ℕ) → IsClockText clock seconds → moments.Spells (codes "20260105" ++ clock ++ codes "Z") (86_400 * 20_458 + seconds)
 unfolding date_of date_from_year date_from_month
-five_january clock seconds is = spells_from (codes "20260105" ++ clock ++ codes "Z") (codes "20260105") clock 20_458 seconds refl (lit≤ tt) (date_text_is 20_458 (lit≤ tt)) is
+five_january clock seconds is =
+    spells_from (codes "20260105" ++ clock ++ codes "Z") (codes "20260105") clock 20_458 seconds refl (lit≤ tt) (date_text_is 20_458 (lit≤ tt)) is
 
 eleven : moments.Spells (codes "2026010511Z") 1_767_610_800
 eleven = five_january (codes "11") 39_600 (lit< tt, inr (inr (refl, refl, refl)))
@@ -441,12 +497,14 @@ dates_tree = (
   ),
 )
 
-pub dates_spell : SpellsAs dates_text (codes "ann db1 = (root) NOTAFTER=20260105110000Z /bin/ls\nann db1 = (root) NOTBEFORE=20260105090000Z NOTAFTER=20260105110000Z /bin/cat\nann db2 = (root) /bin/ls\n")
+pub dates_spell : SpellsAs dates_text
+    (codes "ann db1 = (root) NOTAFTER=20260105110000Z /bin/ls\nann db1 = (root) NOTBEFORE=20260105090000Z NOTAFTER=20260105110000Z /bin/cat\nann db2 = (root) /bin/ls\n")
 unfolding date_of date_from_year date_from_month is_keyword
 dates_spell = (
   entries_of dates_line,
   spelled dates_text (dates_text ∷ []) (entries_of dates_line) refl (plain dates_text [] [] refl refl refl)
-      (one_line dates_text (entries_of dates_line) (spells_line dates_text (word false 0 (codes "ann")) dates_toks dates_line (lexed (word false 0 (codes "ann") ∷ dates_toks) [] refl) dates_tree)) refl,
+      (one_line dates_text (entries_of dates_line)
+      (spells_line dates_text (word false 0 (codes "ann")) dates_toks dates_line (lexed (word false 0 (codes "ann") ∷ dates_toks) [] refl) dates_tree)) refl,
   refl,
 )
 
@@ -461,7 +519,8 @@ ahead_toks =
     ∷ word true 0 (codes "/bin/ls") ∷ []
 
 abbrev ahead_line : Line
-ahead_line = user_spec (user (codes "ann")) (part (codes "db1") (record { runas = None; not_before = Some 1_767_603_600; not_after = None; nopasswd = None; cmnd = yes ls }) ∷ [])
+ahead_line = user_spec (user (codes "ann"))
+    (part (codes "db1") (record { runas = None; not_before = Some 1_767_603_600; not_after = None; nopasswd = None; cmnd = yes ls }) ∷ [])
 
 ahead_tree : SpellsTree (word false 0 (codes "ann") ∷ ahead_toks) ahead_line
 unfolding is_keyword
@@ -502,6 +561,7 @@ unfolding date_of date_from_year date_from_month is_keyword
 ahead_spell = (
   entries_of ahead_line,
   spelled ahead_text (ahead_text ∷ []) (entries_of ahead_line) refl (plain ahead_text [] [] refl refl refl)
-      (one_line ahead_text (entries_of ahead_line) (spells_line ahead_text (word false 0 (codes "ann")) ahead_toks ahead_line (lexed (word false 0 (codes "ann") ∷ ahead_toks) [] refl) ahead_tree)) refl,
+      (one_line ahead_text (entries_of ahead_line)
+      (spells_line ahead_text (word false 0 (codes "ann")) ahead_toks ahead_line (lexed (word false 0 (codes "ann") ∷ ahead_toks) [] refl) ahead_tree)) refl,
   refl,
 )

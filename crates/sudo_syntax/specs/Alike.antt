@@ -1,4 +1,5 @@
--- Texts that spell the same, and lines that differ in their comment or in how they go on (sudoers(5), "Other special characters and reserved words").
+-- Texts that spell the same, and lines that differ in their comment or in how they go on
+-- (sudoers(5), "Other special characters and reserved words").
 use Rattle.std.specs.Prelude.{◌≡◌, ◌≤◌, true, List, [], ◌∷◌, ◌++◌, length}
 use Rattle.sudo_words.specs.Bytes.{backslash}
 use Rattle.sudo_policy.specs.declared.entry.Entry.{Entry}
@@ -6,7 +7,8 @@ use Rattle.sudo_policy.specs.Limits.{most_text_bytes}
 use Rattle.sudo_policy.specs.Text.{Text}
 use Rattle.sudo_policy.specs.Span.{Each}
 use Rattle.sudo_policy.specs.Lex.{is_text_byte}
-use Rattle.sudo_policy.specs.Lines.{lines_of, is_no_hash, is_before_comment, is_comment, IsContinued}
+use Rattle.sudo_policy.specs.Lines.{lines_of, is_no_hash, is_before_comment}
+use Rattle.sudo_policy.specs.Lines.{is_comment, IsContinued}
 use Rattle.sudo_policy.specs.Spelling.{Spells}
 
 -- a text may have these bytes, and so many
@@ -16,7 +18,8 @@ IsText text = (length text ≤ most_text_bytes) × Each is_text_byte text
 -- each spells what the other spells, where both may be texts
 abbrev pub SpellAlike : Text → Text → Type 0
 SpellAlike text other =
-    IsText text → IsText other → (es : List Entry) → (Spells text es → Spells other es) × (Spells other es → Spells text es)
+    IsText text → IsText other → (es : List Entry)
+    → (Spells text es → Spells other es) × (Spells other es → Spells text es)
 
 -- The texts have the same lines, but that in one place the first has these and the other those.
 pub record DifferIn (text other : Text) (these those : List Text) : Type 0 where

@@ -1,4 +1,5 @@
--- Specifications and definitions that are joined by `:`, and on lines of their own (sudoers(5), "Aliases", "User specification").
+-- Specifications and definitions that are joined by `:`, and on lines of their own (sudoers(5),
+-- "Aliases", "User specification").
 use Rattle.std.specs.Prelude.{List, [], ◌∷◌, ◌++◌, codes}
 use Rattle.sudo_words.specs.Bytes.{space, colon}
 use Rattle.sudo_policy.specs.declared.entry.Signed.{Signed}
@@ -19,11 +20,14 @@ abbrev pub AreParts : Text → List Part → Type 0
 AreParts bytes parts = (ts : List Tok) × Lexes bytes ts × Listed colon SpellsPart ts parts []
 
 -- these definitions, with `:` between
-abbrev pub AreDefs : {X : Type 0} → (List Tok → Signed X → List Tok → Type 0) → Text → List (Definition X) → Type 0
+abbrev pub AreDefs : {X : Type 0} → (List Tok → Signed X → List Tok → Type 0)
+    → Text → List (Definition X) → Type 0
 AreDefs Is bytes defs = (ts : List Tok) × Lexes bytes ts × Listed colon (SpellsDef Is) ts defs []
 
--- `BEGIN FIRST : SECOND` spells what the lines `BEGIN FIRST` and `BEGIN SECOND` spell, one after the other
+-- `BEGIN FIRST : SECOND` spells what the lines `BEGIN FIRST` and `BEGIN SECOND` spell, one after
+-- the other
 abbrev pub SpellsBoth : (begin first second : Text) → Type 0
 SpellsBoth begin first second =
-    (a b : List Entry) → SpellsLine (begin ++ space ∷ first) a → SpellsLine (begin ++ space ∷ second) b
+    (a b : List Entry) → SpellsLine (begin ++ space ∷ first) a
+    → SpellsLine (begin ++ space ∷ second) b
     → SpellsLine (begin ++ space ∷ (first ++ codes " : " ++ second)) (a ++ b)

@@ -1,4 +1,5 @@
--- Worked weights: `User_Alias X1 = a, a`, `User_Alias X2 = X1, X1` and so on, each twice as heavy as the one above it.
+-- Worked weights: `User_Alias X1 = a, a`, `User_Alias X2 = X1, X1` and so on, each twice as heavy
+-- as the one above it.
 use Rattle.std.specs.Prelude.{ℕ, zero, suc, false, List, [], ◌∷◌, ◌++◌, None, codes, decimal}
 use Rattle.sudo_words.specs.declared.cmnd.Cmnd.TheVariants as commands
 use Rattle.sudo_policy.specs.declared.entry.Signed.{Signed}

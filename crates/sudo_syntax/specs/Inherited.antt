@@ -1,5 +1,6 @@
 -- What holds of each command of a list, wherever it stands (sudoers(5), "Cmnd_Spec_List").
-use Rattle.std.specs.Prelude.{◌≡◌, false, List, [], ◌∷◌, ◌++◌, length, map, Option, Some, None, unwrap_or}
+use Rattle.std.specs.Prelude.{◌≡◌, false, List, [], ◌∷◌, ◌++◌, length}
+use Rattle.std.specs.Prelude.{map, Option, Some, None, unwrap_or}
 use Rattle.std.specs.List.{AllByRecursion}
 use Rattle.sudo_policy.specs.declared.entry.Rule.{Rule}
 use Rattle.sudo_policy.specs.declared.entry.Entry.{Entry}
@@ -15,21 +16,27 @@ NoneGiven given = AllByRecursion (λ o. o ≡ None) given
 -- the last one given, if any is: those after it are not
 abbrev pub LastGiven : {X : Type 0} → List (Option X) → Option X → Type 0
 LastGiven given None = NoneGiven given
-LastGiven {X} given (Some x) = (before after : List (Option X)) × (given ≡ before ++ Some x ∷ after) × NoneGiven after
+LastGiven {X} given (Some x) =
+    (before after : List (Option X)) × (given ≡ before ++ Some x ∷ after) × NoneGiven after
 
 -- the same, or what holds where none is given
 abbrev pub LastGivenOr : {X : Type 0} → X → List (Option X) → X → Type 0
-LastGivenOr {X} default given held = (last : Option X) × LastGiven given last × (held ≡ unwrap_or last default)
+LastGivenOr {X} default given held =
+    (last : Option X) × LastGiven given last × (held ≡ unwrap_or last default)
 
--- What the rule has is the last one given by these commands; where none gives one, it is `root`, no bound, and a password.
+-- What the rule has is the last one given by these commands; where none gives one, it is `root`, no
+-- bound, and a password.
 pub record Inherits (specs : List CmndSpec) (rule : Rule) : Type 0 where
   pub runas : LastGivenOr root (map (λ s. s.runas) specs) rule.runas
   pub not_before : LastGiven (map (λ s. s.not_before) specs) rule.not_before
   pub not_after : LastGiven (map (λ s. s.not_after) specs) rule.not_after
   pub nopasswd : LastGivenOr false (map (λ s. s.nopasswd) specs) rule.nopasswd
 
--- The command that stands after these in a part has a rule at its own place among the part's entries: with the part's users and hosts and the command itself, and what it inherits from the commands up to and including it.
-pub record HasRule (users : Names) (part : Part) (before : List CmndSpec) (s : CmndSpec) : Type 0 where
+-- The command that stands after these in a part has a rule at its own place among the part's
+-- entries: with the part's users and hosts and the command itself, and what it inherits from the
+-- commands up to and including it.
+pub record HasRule (users : Names) (part : Part) (before : List CmndSpec)
+    (s : CmndSpec) : Type 0 where
   pub rules_before : List Entry
   pub rule : Rule
   pub rules_after : List Entry

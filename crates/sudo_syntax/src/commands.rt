@@ -1,9 +1,11 @@
 //! Commands read from tokens.
 
-ghost use Rattle.std.specs.Prelude.{◌≡◌, ◌≤◌, ◌++◌, ◌∷◌, [], List, ℕ, length, IfErr, IfOk, MatchResult, OnOk, true};
+ghost use Rattle.std.specs.Prelude.{◌≡◌, ◌≤◌, ◌++◌, ◌∷◌, [], List, ℕ, length};
+ghost use Rattle.std.specs.Prelude.{IfErr, IfOk, MatchResult, OnOk, true};
 ghost use Rattle.std.specs.List.{AllByRecursion};
 ghost use Rattle.sudo_words.specs.Bytes.{comma};
-ghost use Rattle.sudo_words.specs.Command.{IsArgRule, IsLawful, arg_text, head_text, most_args, rule_of};
+ghost use Rattle.sudo_words.specs.Command.{IsArgRule, IsLawful, arg_text};
+ghost use Rattle.sudo_words.specs.Command.{head_text, most_args, rule_of};
 ghost use Rattle.sudo_words.specs.Word.{is_arg};
 ghost use Rattle.sudo_words.specs.declared.cmnd.ArgRule.{ArgRule as Ruled};
 ghost use Rattle.sudo_words.specs.declared.cmnd.Cmnd.{Cmnd as Command};
@@ -29,7 +31,8 @@ use sudo_words::{
 /// The argument that a word is.
 fn arg_of(alloc: Global, text: &str) -> Result<Arg, LineFault>
     ensures found { IfOk result (λ a. text.now ≡ arg_text a) }
-    ensures only { (a : List ℕ) → is_arg a ≡ true → text.now ≡ arg_text a → MatchResult result (λ x. x ≡ a) (λ e. e ≡ NoMemory) }
+    ensures only { (a : List ℕ) → is_arg a ≡ true → text.now ≡ arg_text a
+        → MatchResult result (λ x. x ≡ a) (λ e. e ≡ NoMemory) }
 {
     match read_arg(alloc, text) {
         Ok(arg) => Ok(arg),
@@ -40,9 +43,11 @@ fn arg_of(alloc: Global, text: &str) -> Result<Arg, LineFault>
 
 /// Adds the argument that a word is.
 fn push_arg(alloc: Global, args: &mut Vec<Arg>, text: &str) -> Result<(), LineFault>
-    ensures found { OnOk result ((a : List ℕ) × (args.new.items ≡ args.old.items ++ a ∷ []) × (text.now ≡ arg_text a)
+    ensures found { OnOk result
+        ((a : List ℕ) × (args.new.items ≡ args.old.items ++ a ∷ []) × (text.now ≡ arg_text a)
         × ((b : List ℕ) → is_arg b ≡ true → text.now ≡ arg_text b → a ≡ b)) }
-    ensures only { (a : List ℕ) → is_arg a ≡ true → text.now ≡ arg_text a → IfErr result (λ e. e ≡ NoMemory) }
+    ensures only { (a : List ℕ) → is_arg a ≡ true
+        → text.now ≡ arg_text a → IfErr result (λ e. e ≡ NoMemory) }
 {
     let arg = arg_of(alloc, text)?;
     args.push(arg)?;
@@ -56,7 +61,9 @@ fn args_at<'a, 'b>(
 ) -> Result<(Items<Arg>, &'b [Token<'a>]), LineFault>
     ensures found { IfOk result (λ x. toks tokens.now ≡ arg_toks x.0 ++ toks x.1.now) }
     ensures shorter { IfOk result (λ x. length x.1.now ≤ length tokens.now) }
-    ensures only { (args : List (List ℕ)) (rest : List Tok) → AllByRecursion (λ arg. is_arg arg ≡ true) args → length args ≤ most_args → NoArg rest → toks tokens.now ≡ arg_toks args ++ rest
+    ensures only { (args : List (List ℕ)) (rest : List Tok)
+        → AllByRecursion (λ arg. is_arg arg ≡ true) args → length args ≤ most_args
+        → NoArg rest → toks tokens.now ≡ arg_toks args ++ rest
         → MatchResult result (λ x. (x.0 ≡ args) × (toks x.1.now ≡ rest)) (λ e. e ≡ NoMemory) }
 {
     let mut args = Vec::new(alloc);
@@ -78,8 +85,10 @@ fn listed_at<'a, 'b>(
 ) -> Result<(ArgRule, &'b [Token<'a>]), LineFault>
     ensures found { IfOk result (λ x. toks tokens.now ≡ rule_toks x.0 ++ toks x.1.now) }
     ensures shorter { IfOk result (λ x. length x.1.now ≤ length tokens.now) }
-    ensures only { (args : List (List ℕ)) (rest : List Tok) → AllByRecursion (λ arg. is_arg arg ≡ true) args → length args ≤ most_args → NoArg rest → toks tokens.now ≡ arg_toks args ++ rest
-        → MatchResult result (λ x. (x.0 ≡ rule_from args) × (toks x.1.now ≡ rest)) (λ e. e ≡ NoMemory) }
+    ensures only { (args : List (List ℕ)) (rest : List Tok)
+        → AllByRecursion (λ arg. is_arg arg ≡ true) args → length args ≤ most_args
+        → NoArg rest → toks tokens.now ≡ arg_toks args ++ rest → MatchResult result
+        (λ x. (x.0 ≡ rule_from args) × (toks x.1.now ≡ rest)) (λ e. e ≡ NoMemory) }
 {
     let (args, rest) = args_at(alloc, tokens)?;
     if args.as_slice().is_empty() {
@@ -95,7 +104,8 @@ fn rule_at<'a, 'b>(
 ) -> Result<(ArgRule, &'b [Token<'a>]), LineFault>
     ensures found { IfOk result (λ x. toks tokens.now ≡ rule_toks x.0 ++ toks x.1.now) }
     ensures shorter { IfOk result (λ x. length x.1.now ≤ length tokens.now) }
-    ensures only { (rule : Ruled) (rest : List Tok) → IsArgRule rule → EndsBy comma rest → toks tokens.now ≡ rule_toks rule ++ rest
+    ensures only { (rule : Ruled) (rest : List Tok) → IsArgRule rule
+        → EndsBy comma rest → toks tokens.now ≡ rule_toks rule ++ rest
         → MatchResult result (λ x. (x.0 ≡ rule) × (toks x.1.now ≡ rest)) (λ e. e ≡ NoMemory) }
 {
     match after_empty(tokens) {
@@ -107,7 +117,8 @@ fn rule_at<'a, 'b>(
 /// The lawful command of this head and this rule.
 fn cmnd_of(alloc: Global, head: &str, rule: ArgRule) -> Result<Cmnd, LineFault>
     ensures found { IfOk result (λ c. IsLawful c × (head_text c ≡ head.now) × (rule_of c ≡ rule)) }
-    ensures only { (c : Command) → IsLawful c → head.now ≡ head_text c → rule ≡ rule_of c → MatchResult result (λ d. d ≡ c) (λ e. e ≡ NoMemory) }
+    ensures only { (c : Command) → IsLawful c → head.now ≡ head_text c
+        → rule ≡ rule_of c → MatchResult result (λ d. d ≡ c) (λ e. e ≡ NoMemory) }
 {
     match command_of(alloc, head, rule) {
         Ok(cmnd) => Ok(cmnd),
@@ -122,9 +133,11 @@ fn cmnd_item_at<'a, 'b>(
     head: &str,
     tokens: &'b [Token<'a>],
 ) -> Result<(CmndItem, &'b [Token<'a>]), LineFault>
-    ensures found { IfOk result (λ x. IsCmndItem x.0 × (head.now ≡ head_of x.0) × (toks tokens.now ≡ args_of x.0 ++ toks x.1.now)) }
+    ensures found { IfOk result (λ x. IsCmndItem x.0 × (head.now ≡ head_of x.0)
+        × (toks tokens.now ≡ args_of x.0 ++ toks x.1.now)) }
     ensures shorter { IfOk result (λ x. length x.1.now ≤ length tokens.now) }
-    ensures only { (i : Said) (rest : List Tok) → IsCmndItem i → EndsBy comma rest → head.now ≡ head_of i → toks tokens.now ≡ args_of i ++ rest
+    ensures only { (i : Said) (rest : List Tok) → IsCmndItem i → EndsBy comma rest
+        → head.now ≡ head_of i → toks tokens.now ≡ args_of i ++ rest
         → MatchResult result (λ x. (x.0 ≡ i) × (toks x.1.now ≡ rest)) (λ e. e ≡ NoMemory) }
 {
     if AliasForm::test(head.as_bytes()) {

@@ -1,6 +1,7 @@
 //! Definitions of aliases read from tokens.
 
-ghost use Rattle.std.specs.Prelude.{◌≡◌, ◌<◌, List, length, IfOk, MatchOption, MatchResult, Ok, Some, None};
+ghost use Rattle.std.specs.Prelude.{◌≡◌, ◌<◌, List, length, IfOk};
+ghost use Rattle.std.specs.Prelude.{MatchOption, MatchResult, Ok, Some, None};
 ghost use Rattle.sudo_words.specs.Bytes.{comma, colon};
 ghost use Rattle.sudo_policy.specs.declared.fault.LineFault.TheVariants.{NoMemory};
 ghost use Rattle.sudo_policy.specs.declared.tree.Definition.{Definition as Defined};
@@ -25,9 +26,11 @@ fn definition_at<'a, 'b, T: Drop>(
 where
     Signed<T>: Spelled,
     requires { (rest : List Tok) → EndsBy comma rest → ⟦<Signed<T> as Spelled>⟧.follows rest }
-    ensures found { IfOk result (λ x. SpellsDef (⟦<Signed<T> as Spelled>⟧.spells) (toks tokens.now) x.0 (toks x.1.now)) }
+    ensures found { IfOk result
+        (λ x. SpellsDef (⟦<Signed<T> as Spelled>⟧.spells) (toks tokens.now) x.0 (toks x.1.now)) }
     ensures shorter { IfOk result (λ x. length x.1.now < length tokens.now) }
-    ensures only { (d : Defined T) (rest : List Tok) → EndsBy colon rest → SpellsDef (⟦<Signed<T> as Spelled>⟧.spells) (toks tokens.now) d rest
+    ensures only { (d : Defined T) (rest : List Tok) → EndsBy colon rest
+        → SpellsDef (⟦<Signed<T> as Spelled>⟧.spells) (toks tokens.now) d rest
         → MatchResult result (λ x. (x.0 ≡ d) × (toks x.1.now ≡ rest)) (λ e. e ≡ NoMemory) }
 {
     let Some((name, next)) = head_at(Mark::Equals, tokens) else {
@@ -64,7 +67,8 @@ impl Spelled for Definition<CmndItem> {
     }
 }
 
-/// The definitions that the tokens spell after the word of their kind, where it stands at the front.
+/// The definitions that the tokens spell after the word of their kind, where it stands at the
+/// front.
 pub(crate) fn aliases_of<T: Drop>(
     alloc: Global,
     kind: &str,
@@ -73,9 +77,11 @@ pub(crate) fn aliases_of<T: Drop>(
 where
     Definition<T>: Spelled,
     requires { (rest : List Tok) → EndsBy colon rest → ⟦<Definition<T> as Spelled>⟧.follows rest }
-    ensures found { IfOk result (λ o. MatchOption o (NoKind kind.now (toks tokens.now)) (λ defs. Defines kind.now (⟦<Definition<T> as Spelled>⟧.spells) (toks tokens.now) defs)) }
+    ensures found { IfOk result (λ o. MatchOption o (NoKind kind.now (toks tokens.now))
+        (λ defs. Defines kind.now (⟦<Definition<T> as Spelled>⟧.spells) (toks tokens.now) defs)) }
     ensures other { NoKind kind.now (toks tokens.now) → result ≡ Ok None }
-    ensures only { (defs : List (Defined T)) → Defines kind.now (⟦<Definition<T> as Spelled>⟧.spells) (toks tokens.now) defs
+    ensures only { (defs : List (Defined T))
+        → Defines kind.now (⟦<Definition<T> as Spelled>⟧.spells) (toks tokens.now) defs
         → MatchResult result (λ o. o ≡ Some defs) (λ e. e ≡ NoMemory) }
 {
     let Some(next) = after_word(kind, tokens) else {

@@ -1,6 +1,7 @@
 //! What stands at the front of tokens.
 
-ghost use Rattle.std.specs.Prelude.{◌≡◌, ◌≢◌, ◌<◌, ◌∷◌, Bool, true, false, List, ℕ, length, IfSome, MatchOption};
+ghost use Rattle.std.specs.Prelude.{◌≡◌, ◌≢◌, ◌<◌, ◌∷◌, Bool, true, false};
+ghost use Rattle.std.specs.Prelude.{List, ℕ, length, IfSome, MatchOption};
 ghost use Rattle.sudo_words.specs.Bytes.{equals, quote};
 ghost use Rattle.sudo_syntax.specs.private.Fronts.{NoArg, NoDate, NoHead, NoKind, NoMark, NoWord};
 ghost use Rattle.sudo_policy.specs.Grammar as grammar;
@@ -12,7 +13,8 @@ use crate::token::{Mark, Token, TokenKind};
 
 /// The word that the token is, where it is one without `!` before it.
 fn plain_word<'a>(token: &Token<'a>) -> Option<&'a str>
-    ensures { MatchOption result ((a : Bool) (text : List ℕ) → tok token.now ≢ lex.word a 0 text) (λ text. tok token.now ≡ lex.word token.now.spaced 0 text.now) }
+    ensures { MatchOption result ((a : Bool) (text : List ℕ) → tok token.now ≢ lex.word a 0 text)
+        (λ text. tok token.now ≡ lex.word token.now.spaced 0 text.now) }
 {
     match token.kind {
         TokenKind::Word { bangs: 0, text } => Some(text),
@@ -43,7 +45,8 @@ pub(crate) fn begins_spaced(tokens: &[Token<'_>]) -> bool
 
 /// How many `!` stand before the word at the front, the word, and what follows it.
 pub(crate) fn word_at<'a, 'b>(tokens: &'b [Token<'a>]) -> Option<(usize, &'a str, &'b [Token<'a>])>
-    ensures found { MatchOption result (NoWord (toks tokens.now)) (λ x. (a : Bool) × (toks tokens.now ≡ lex.word a x.0 x.1.now ∷ toks x.2.now)) }
+    ensures found { MatchOption result (NoWord (toks tokens.now))
+        (λ x. (a : Bool) × (toks tokens.now ≡ lex.word a x.0 x.1.now ∷ toks x.2.now)) }
     ensures shorter { IfSome result (λ x. length x.2.now < length tokens.now) }
 {
     let [first, rest @ ..] = tokens else {
@@ -57,7 +60,8 @@ pub(crate) fn word_at<'a, 'b>(tokens: &'b [Token<'a>]) -> Option<(usize, &'a str
 
 /// What follows the mark, where it stands at the front.
 pub(crate) fn after_mark<'a, 'b>(mark: Mark, tokens: &'b [Token<'a>]) -> Option<&'b [Token<'a>]>
-    ensures found { MatchOption result (NoMark (mark_byte mark) (toks tokens.now)) (λ rest. (a : Bool) × (toks tokens.now ≡ lex.mark a (mark_byte mark) ∷ toks rest.now)) }
+    ensures found { MatchOption result (NoMark (mark_byte mark) (toks tokens.now))
+        (λ rest. (a : Bool) × (toks tokens.now ≡ lex.mark a (mark_byte mark) ∷ toks rest.now)) }
     ensures shorter { IfSome result (λ rest. length rest.now < length tokens.now) }
 {
     match tokens {
@@ -68,7 +72,9 @@ pub(crate) fn after_mark<'a, 'b>(mark: Mark, tokens: &'b [Token<'a>]) -> Option<
 
 /// What follows `""` with blanks before and none between, where it stands at the front.
 pub(crate) fn after_empty<'a, 'b>(tokens: &'b [Token<'a>]) -> Option<&'b [Token<'a>]>
-    ensures found { MatchOption result ((next : List Tok) → toks tokens.now ≢ lex.mark true quote ∷ lex.mark false quote ∷ next) (λ rest. toks tokens.now ≡ lex.mark true quote ∷ lex.mark false quote ∷ toks rest.now) }
+    ensures found { MatchOption result ((next : List Tok)
+        → toks tokens.now ≢ lex.mark true quote ∷ lex.mark false quote ∷ next)
+        (λ rest. toks tokens.now ≡ lex.mark true quote ∷ lex.mark false quote ∷ toks rest.now) }
     ensures shorter { IfSome result (λ rest. length rest.now < length tokens.now) }
 {
     match tokens {
@@ -89,7 +95,8 @@ pub(crate) fn after_empty<'a, 'b>(tokens: &'b [Token<'a>]) -> Option<&'b [Token<
 
 /// The word after blanks at the front, and what follows it.
 pub(crate) fn arg_at<'a, 'b>(tokens: &'b [Token<'a>]) -> Option<(&'a str, &'b [Token<'a>])>
-    ensures found { MatchOption result (NoArg (toks tokens.now)) (λ x. toks tokens.now ≡ lex.word true 0 x.0.now ∷ toks x.1.now) }
+    ensures found { MatchOption result (NoArg (toks tokens.now))
+        (λ x. toks tokens.now ≡ lex.word true 0 x.0.now ∷ toks x.1.now) }
     ensures shorter { IfSome result (λ x. length x.1.now < length tokens.now) }
 {
     let [first, rest @ ..] = tokens else {
@@ -105,7 +112,9 @@ pub(crate) fn arg_at<'a, 'b>(tokens: &'b [Token<'a>]) -> Option<(&'a str, &'b [T
 pub(crate) fn date_at<'a, 'b>(
     tokens: &'b [Token<'a>],
 ) -> Option<(&'a str, &'a str, &'b [Token<'a>])>
-    ensures found { MatchOption result (NoDate (toks tokens.now)) (λ x. (a : Bool) × (toks tokens.now ≡ lex.word a 0 x.0.now ∷ lex.mark false equals ∷ lex.word false 0 x.1.now ∷ toks x.2.now)) }
+    ensures found { MatchOption result (NoDate (toks tokens.now))
+        (λ x. (a : Bool) × (toks tokens.now
+        ≡ lex.word a 0 x.0.now ∷ lex.mark false equals ∷ lex.word false 0 x.1.now ∷ toks x.2.now)) }
     ensures shorter { IfSome result (λ x. length x.2.now < length tokens.now) }
 {
     let [name, sign, time, rest @ ..] = tokens else {
@@ -123,7 +132,9 @@ pub(crate) fn head_at<'a, 'b>(
     mark: Mark,
     tokens: &'b [Token<'a>],
 ) -> Option<(&'a str, &'b [Token<'a>])>
-    ensures found { MatchOption result (NoHead (mark_byte mark) (toks tokens.now)) (λ x. (a b : Bool) × (toks tokens.now ≡ lex.word a 0 x.0.now ∷ lex.mark b (mark_byte mark) ∷ toks x.1.now)) }
+    ensures found { MatchOption result
+        (NoHead (mark_byte mark) (toks tokens.now)) (λ x. (a b : Bool)
+        × (toks tokens.now ≡ lex.word a 0 x.0.now ∷ lex.mark b (mark_byte mark) ∷ toks x.1.now)) }
     ensures shorter { IfSome result (λ x. length x.1.now < length tokens.now) }
 {
     let [name, next, rest @ ..] = tokens else {
@@ -137,7 +148,8 @@ pub(crate) fn head_at<'a, 'b>(
 
 /// What follows this word, where it stands at the front.
 pub(crate) fn after_word<'a, 'b>(kind: &str, tokens: &'b [Token<'a>]) -> Option<&'b [Token<'a>]>
-    ensures { MatchOption result (NoKind kind.now (toks tokens.now)) (λ rest. (a : Bool) × (toks tokens.now ≡ lex.word a 0 kind.now ∷ toks rest.now)) }
+    ensures { MatchOption result (NoKind kind.now (toks tokens.now))
+        (λ rest. (a : Bool) × (toks tokens.now ≡ lex.word a 0 kind.now ∷ toks rest.now)) }
 {
     let [first, rest @ ..] = tokens else {
         return None;

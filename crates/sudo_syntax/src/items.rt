@@ -1,6 +1,7 @@
 //! Lists of what tokens spell in one way, and the items of users, hosts and targets.
 
-ghost use Rattle.std.specs.Prelude.{◌≡◌, ◌<◌, ◌∷◌, [], Bool, List, ℕ, length, IfOk, MatchResult, true, false};
+ghost use Rattle.std.specs.Prelude.{◌≡◌, ◌<◌, ◌∷◌, [], Bool, List, ℕ};
+ghost use Rattle.std.specs.Prelude.{length, IfOk, MatchResult, true, false};
 ghost use Rattle.sudo_words.specs.Bytes.{colon};
 ghost use Rattle.sudo_policy.specs.declared.fault.LineFault.TheVariants.{NoMemory};
 ghost use Rattle.sudo_syntax.specs.private.Fronts.{EndsBy, NoMark, begins_upper};
@@ -45,9 +46,11 @@ pub(crate) fn list_at<'a, 'b, T: Spelled>(
     tokens: &'b [Token<'a>],
 ) -> Result<(Items<T>, &'b [Token<'a>]), LineFault>
     requires { (a : Bool) (rest : List Tok) → T.follows (lex.mark a (mark_byte mark) ∷ rest) }
-    ensures found { IfOk result (λ x. Listed (mark_byte mark) T.spells (toks tokens.now) x.0 (toks x.1.now)) }
+    ensures found { IfOk result
+        (λ x. Listed (mark_byte mark) T.spells (toks tokens.now) x.0 (toks x.1.now)) }
     ensures shorter { IfOk result (λ x. length x.1.now < length tokens.now) }
-    ensures only { (xs : List T) (rest : List Tok) → T.follows rest → NoMark (mark_byte mark) rest → Listed (mark_byte mark) T.spells (toks tokens.now) xs rest
+    ensures only { (xs : List T) (rest : List Tok) → T.follows rest → NoMark (mark_byte mark) rest
+        → Listed (mark_byte mark) T.spells (toks tokens.now) xs rest
         → MatchResult result (λ x. (x.0 ≡ xs) × (toks x.1.now ≡ rest)) (λ e. e ≡ NoMemory) }
 {
     // Most lists have one item.
@@ -68,9 +71,10 @@ pub(crate) fn rest_as<T: Spelled>(
     tokens: &[Token<'_>],
 ) -> Result<Items<T>, LineFault>
     requires { (rest : List Tok) → EndsBy colon rest → T.follows rest }
-    ensures found { IfOk result (λ xs. (begins_spaced (toks tokens.now) ≡ true) × Listed colon T.spells (toks tokens.now) xs []) }
-    ensures only { (xs : List T) → begins_spaced (toks tokens.now) ≡ true → Listed colon T.spells (toks tokens.now) xs []
-        → MatchResult result (λ ys. ys ≡ xs) (λ e. e ≡ NoMemory) }
+    ensures found { IfOk result (λ xs. (begins_spaced (toks tokens.now) ≡ true)
+        × Listed colon T.spells (toks tokens.now) xs []) }
+    ensures only { (xs : List T) → begins_spaced (toks tokens.now) ≡ true → Listed colon T.spells
+        (toks tokens.now) xs [] → MatchResult result (λ ys. ys ≡ xs) (λ e. e ≡ NoMemory) }
 {
     if !begins_spaced(tokens) {
         return Err(misplaced(tokens));
@@ -102,7 +106,8 @@ impl NameForm for HostForm {
 /// The word of a form that the text is.
 pub(crate) fn word_of<F: Form>(alloc: Global, text: &str) -> Result<Word<F>, LineFault>
     ensures found { IfOk result (λ w. (w ≡ text.now) × (F.has text.now ≡ true)) }
-    ensures only { F.has text.now ≡ true → MatchResult result (λ w. w ≡ text.now) (λ e. e ≡ NoMemory) }
+    ensures only { F.has text.now ≡ true
+        → MatchResult result (λ w. w ≡ text.now) (λ e. e ≡ NoMemory) }
 {
     match Word::read(alloc, text) {
         Ok(word) => Ok(word),
@@ -114,7 +119,8 @@ pub(crate) fn word_of<F: Form>(alloc: Global, text: &str) -> Result<Word<F>, Lin
 /// `ALL`, the one of this name, or an alias.
 fn item_of<F: NameForm>(alloc: Global, text: &str) -> Result<Item<Word<F>>, LineFault>
     ensures found { IfOk result (λ x. IsItem F.has x × (text.now ≡ item_text x)) }
-    ensures only { (i : Said (List ℕ)) → IsItem F.has i → text.now ≡ item_text i → MatchResult result (λ x. x ≡ i) (λ e. e ≡ NoMemory) }
+    ensures only { (i : Said (List ℕ)) → IsItem F.has i → text.now ≡ item_text i
+        → MatchResult result (λ x. x ≡ i) (λ e. e ≡ NoMemory) }
 {
     if text == "ALL" {
         return Ok(Item::All);

@@ -1,4 +1,5 @@
-//! Policies' texts, read: lines, comments and continuations, and what commands inherit. What policies are, and how they are printed, stands in `sudo_policy`, which is given on.
+//! Policies' texts, read: lines, comments and continuations, and what commands inherit. What
+//! policies are, and how they are printed, stands in `sudo_policy`, which is given on.
 #![tactic(auto)]
 
 mod commands;

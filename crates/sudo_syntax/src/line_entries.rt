@@ -114,9 +114,11 @@ fn targets_of(
     }
 }
 
-/// What holds after the first command of a list, and the command. `root` is made only where the command gives no target.
+/// What holds after the first command of a list, and the command. `root` is made only where the
+/// command gives no target.
 fn first_spec(alloc: Global, spec: CmndSpec) -> Result<(Settings, Signed<CmndItem>), LineFault>
-    ensures found { IfOk result (λ x. (x.0 ≡ inheritance.with_spec inheritance.first_settings spec) × (x.1 ≡ spec.cmnd)) }
+    ensures found { IfOk result
+        (λ x. (x.0 ≡ inheritance.with_spec inheritance.first_settings spec) × (x.1 ≡ spec.cmnd)) }
     ensures only { IfErr result (λ e. e ≡ fault.NoMemory) }
 {
     let CmndSpec {
@@ -144,15 +146,19 @@ fn add_only(
     spec: CmndSpec,
 ) -> Result<(), LineFault>
     requires draft { IsDraft draft.old }
-    requires entries { AllByRecursion IsEntry (inheritance.rules_of users hosts inheritance.first_settings (spec ∷ [])) }
-    ensures found { OnOk result (Adds draft.old draft.new (inheritance.rules_of users hosts inheritance.first_settings (spec ∷ []))) }
-    ensures only { IsPolicy (draft.old.entries.items ++ inheritance.rules_of users hosts inheritance.first_settings (spec ∷ [])) → IfErr result (λ e. e ≡ fault.NoMemory) }
+    requires entries { AllByRecursion IsEntry
+        (inheritance.rules_of users hosts inheritance.first_settings (spec ∷ [])) }
+    ensures found { OnOk result (Adds draft.old draft.new
+        (inheritance.rules_of users hosts inheritance.first_settings (spec ∷ []))) }
+    ensures only { IsPolicy (draft.old.entries.items ++ inheritance.rules_of users hosts
+        inheritance.first_settings (spec ∷ [])) → IfErr result (λ e. e ≡ fault.NoMemory) }
 {
     let (settings, cmnd) = first_spec(alloc, spec)?;
     draft.add(alloc, Entry::Rule(rule_with(users, hosts, settings, cmnd)))
 }
 
-/// Adds the rule of a command where these settings hold before it, and gives what holds after it: the lists are copied.
+/// Adds the rule of a command where these settings hold before it, and gives what holds after it:
+/// the lists are copied.
 fn add_copy(
     alloc: Global,
     draft: &mut Draft,
@@ -162,10 +168,13 @@ fn add_copy(
     spec: CmndSpec,
 ) -> Result<Settings, LineFault>
     requires draft { IsDraft draft.old }
-    requires entries { AllByRecursion IsEntry (inheritance.rules_of users.now hosts.now held (spec ∷ [])) }
-    ensures found { OnOk result (Adds draft.old draft.new (inheritance.rules_of users.now hosts.now held (spec ∷ []))) }
+    requires entries { AllByRecursion IsEntry
+        (inheritance.rules_of users.now hosts.now held (spec ∷ [])) }
+    ensures found { OnOk result
+        (Adds draft.old draft.new (inheritance.rules_of users.now hosts.now held (spec ∷ []))) }
     ensures after { IfOk result (λ x. x ≡ inheritance.with_spec held spec) }
-    ensures only { IsPolicy (draft.old.entries.items ++ inheritance.rules_of users.now hosts.now held (spec ∷ [])) → IfErr result (λ e. e ≡ fault.NoMemory) }
+    ensures only { IsPolicy (draft.old.entries.items ++ inheritance.rules_of users.now
+        hosts.now held (spec ∷ [])) → IfErr result (λ e. e ≡ fault.NoMemory) }
 {
     let (settings, cmnd) = with_spec(held, spec);
     let rule = copy_rule(users, hosts, &settings, cmnd)?;
@@ -173,8 +182,8 @@ fn add_copy(
     Ok(settings)
 }
 
-/// Adds one rule for each command before the last, and gives what holds after them. Each is added before the next is made, so that
-/// the limits of a policy bound what is copied.
+/// Adds one rule for each command before the last, and gives what holds after them. Each is added
+/// before the next is made, so that the limits of a policy bound what is copied.
 fn add_front(
     alloc: Global,
     draft: &mut Draft,
@@ -183,10 +192,14 @@ fn add_front(
     front: Vec<CmndSpec>,
 ) -> Result<Settings, LineFault>
     requires draft { IsDraft draft.old }
-    requires entries { AllByRecursion IsEntry (inheritance.rules_of users.now hosts.now inheritance.first_settings front.items) }
-    ensures found { OnOk result (Adds draft.old draft.new (inheritance.rules_of users.now hosts.now inheritance.first_settings front.items)) }
-    ensures after { IfOk result (λ x. x ≡ fold inheritance.with_spec inheritance.first_settings front.items) }
-    ensures only { IsPolicy (draft.old.entries.items ++ inheritance.rules_of users.now hosts.now inheritance.first_settings front.items) → IfErr result (λ e. e ≡ fault.NoMemory) }
+    requires entries { AllByRecursion IsEntry
+        (inheritance.rules_of users.now hosts.now inheritance.first_settings front.items) }
+    ensures found { OnOk result (Adds draft.old draft.new
+        (inheritance.rules_of users.now hosts.now inheritance.first_settings front.items)) }
+    ensures after { IfOk result
+        (λ x. x ≡ fold inheritance.with_spec inheritance.first_settings front.items) }
+    ensures only { IsPolicy (draft.old.entries.items ++ inheritance.rules_of users.now hosts.now
+        inheritance.first_settings front.items) → IfErr result (λ e. e ≡ fault.NoMemory) }
 {
     let mut held = first_settings(alloc)?;
     for spec in front {
@@ -195,7 +208,8 @@ fn add_front(
     Ok(held)
 }
 
-/// Adds the rule of the last command of a list, where these settings hold before it: it takes the lists.
+/// Adds the rule of the last command of a list, where these settings hold before it: it takes the
+/// lists.
 fn add_last(
     alloc: Global,
     draft: &mut Draft,
@@ -206,8 +220,10 @@ fn add_last(
 ) -> Result<(), LineFault>
     requires draft { IsDraft draft.old }
     requires entries { AllByRecursion IsEntry (inheritance.rules_of users hosts held (spec ∷ [])) }
-    ensures found { OnOk result (Adds draft.old draft.new (inheritance.rules_of users hosts held (spec ∷ []))) }
-    ensures only { IsPolicy (draft.old.entries.items ++ inheritance.rules_of users hosts held (spec ∷ [])) → IfErr result (λ e. e ≡ fault.NoMemory) }
+    ensures found { OnOk result
+        (Adds draft.old draft.new (inheritance.rules_of users hosts held (spec ∷ []))) }
+    ensures only { IsPolicy (draft.old.entries.items ++ inheritance.rules_of users hosts held
+        (spec ∷ [])) → IfErr result (λ e. e ≡ fault.NoMemory) }
 {
     let (settings, cmnd) = with_spec(held, spec);
     draft.add(alloc, Entry::Rule(rule_with(users, hosts, settings, cmnd)))
@@ -222,9 +238,12 @@ fn add_specs(
     specs: Vec<CmndSpec>,
 ) -> Result<(), LineFault>
     requires draft { IsDraft draft.old }
-    requires entries { AllByRecursion IsEntry (inheritance.rules_of users hosts inheritance.first_settings specs.items) }
-    ensures found { OnOk result (Adds draft.old draft.new (inheritance.rules_of users hosts inheritance.first_settings specs.items)) }
-    ensures only { IsPolicy (draft.old.entries.items ++ inheritance.rules_of users hosts inheritance.first_settings specs.items) → IfErr result (λ e. e ≡ fault.NoMemory) }
+    requires entries { AllByRecursion IsEntry
+        (inheritance.rules_of users hosts inheritance.first_settings specs.items) }
+    ensures found { OnOk result (Adds draft.old draft.new
+        (inheritance.rules_of users hosts inheritance.first_settings specs.items)) }
+    ensures only { IsPolicy (draft.old.entries.items ++ inheritance.rules_of users hosts
+        inheritance.first_settings specs.items) → IfErr result (λ e. e ≡ fault.NoMemory) }
 {
     let mut front = specs;
     let Some(last) = front.pop() else {
@@ -247,7 +266,8 @@ fn add_part(
     requires draft { IsDraft draft.old }
     requires entries { AllByRecursion IsEntry (inheritance.part_rules users.now part) }
     ensures found { OnOk result (Adds draft.old draft.new (inheritance.part_rules users.now part)) }
-    ensures only { IsPolicy (draft.old.entries.items ++ inheritance.part_rules users.now part) → IfErr result (λ e. e ≡ fault.NoMemory) }
+    ensures only { IsPolicy (draft.old.entries.items ++ inheritance.part_rules users.now part)
+        → IfErr result (λ e. e ≡ fault.NoMemory) }
 {
     let users = copy_names(users)?;
     let Part { hosts, specs } = part;
@@ -262,9 +282,12 @@ fn add_front_parts(
     front: Vec<Part>,
 ) -> Result<(), LineFault>
     requires draft { IsDraft draft.old }
-    requires entries { AllByRecursion IsEntry (flat_map (inheritance.part_rules users.now) front.items) }
-    ensures found { OnOk result (Adds draft.old draft.new (flat_map (inheritance.part_rules users.now) front.items)) }
-    ensures only { IsPolicy (draft.old.entries.items ++ flat_map (inheritance.part_rules users.now) front.items) → IfErr result (λ e. e ≡ fault.NoMemory) }
+    requires entries { AllByRecursion IsEntry
+        (flat_map (inheritance.part_rules users.now) front.items) }
+    ensures found { OnOk result
+        (Adds draft.old draft.new (flat_map (inheritance.part_rules users.now) front.items)) }
+    ensures only { IsPolicy (draft.old.entries.items ++ flat_map (inheritance.part_rules users.now)
+        front.items) → IfErr result (λ e. e ≡ fault.NoMemory) }
 {
     for part in front {
         add_part(alloc, draft, users, part)?;
@@ -280,9 +303,12 @@ fn add_parts(
     parts: Vec<Part>,
 ) -> Result<(), LineFault>
     requires draft { IsDraft draft.old }
-    requires entries { AllByRecursion IsEntry (flat_map (inheritance.part_rules users) parts.items) }
-    ensures found { OnOk result (Adds draft.old draft.new (flat_map (inheritance.part_rules users) parts.items)) }
-    ensures only { IsPolicy (draft.old.entries.items ++ flat_map (inheritance.part_rules users) parts.items) → IfErr result (λ e. e ≡ fault.NoMemory) }
+    requires entries { AllByRecursion IsEntry
+        (flat_map (inheritance.part_rules users) parts.items) }
+    ensures found { OnOk result
+        (Adds draft.old draft.new (flat_map (inheritance.part_rules users) parts.items)) }
+    ensures only { IsPolicy (draft.old.entries.items ++ flat_map (inheritance.part_rules users)
+        parts.items) → IfErr result (λ e. e ≡ fault.NoMemory) }
 {
     let mut front = parts;
     let Some(last) = front.pop() else {
@@ -300,9 +326,12 @@ fn add_users(
     defs: Vec<Definition<Item<Name>>>,
 ) -> Result<(), LineFault>
     requires draft { IsDraft draft.old }
-    requires entries { AllByRecursion IsEntry (map (λ d. entries.UserAlias d.name d.list) defs.items) }
-    ensures found { OnOk result (Adds draft.old draft.new (map (λ d. entries.UserAlias d.name d.list) defs.items)) }
-    ensures only { IsPolicy (draft.old.entries.items ++ map (λ d. entries.UserAlias d.name d.list) defs.items) → IfErr result (λ e. e ≡ fault.NoMemory) }
+    requires entries { AllByRecursion IsEntry
+        (map (λ d. entries.UserAlias d.name d.list) defs.items) }
+    ensures found { OnOk result
+        (Adds draft.old draft.new (map (λ d. entries.UserAlias d.name d.list) defs.items)) }
+    ensures only { IsPolicy (draft.old.entries.items ++ map (λ d. entries.UserAlias d.name d.list)
+        defs.items) → IfErr result (λ e. e ≡ fault.NoMemory) }
 {
     for def in defs {
         draft.add(alloc, Entry::UserAlias(def.name, def.list))?;
@@ -317,9 +346,12 @@ fn add_runas(
     defs: Vec<Definition<Item<Name>>>,
 ) -> Result<(), LineFault>
     requires draft { IsDraft draft.old }
-    requires entries { AllByRecursion IsEntry (map (λ d. entries.RunasAlias d.name d.list) defs.items) }
-    ensures found { OnOk result (Adds draft.old draft.new (map (λ d. entries.RunasAlias d.name d.list) defs.items)) }
-    ensures only { IsPolicy (draft.old.entries.items ++ map (λ d. entries.RunasAlias d.name d.list) defs.items) → IfErr result (λ e. e ≡ fault.NoMemory) }
+    requires entries { AllByRecursion IsEntry
+        (map (λ d. entries.RunasAlias d.name d.list) defs.items) }
+    ensures found { OnOk result
+        (Adds draft.old draft.new (map (λ d. entries.RunasAlias d.name d.list) defs.items)) }
+    ensures only { IsPolicy (draft.old.entries.items ++ map (λ d. entries.RunasAlias d.name d.list)
+        defs.items) → IfErr result (λ e. e ≡ fault.NoMemory) }
 {
     for def in defs {
         draft.add(alloc, Entry::RunasAlias(def.name, def.list))?;
@@ -334,9 +366,12 @@ fn add_hosts(
     defs: Vec<Definition<Item<HostName>>>,
 ) -> Result<(), LineFault>
     requires draft { IsDraft draft.old }
-    requires entries { AllByRecursion IsEntry (map (λ d. entries.HostAlias d.name d.list) defs.items) }
-    ensures found { OnOk result (Adds draft.old draft.new (map (λ d. entries.HostAlias d.name d.list) defs.items)) }
-    ensures only { IsPolicy (draft.old.entries.items ++ map (λ d. entries.HostAlias d.name d.list) defs.items) → IfErr result (λ e. e ≡ fault.NoMemory) }
+    requires entries { AllByRecursion IsEntry
+        (map (λ d. entries.HostAlias d.name d.list) defs.items) }
+    ensures found { OnOk result
+        (Adds draft.old draft.new (map (λ d. entries.HostAlias d.name d.list) defs.items)) }
+    ensures only { IsPolicy (draft.old.entries.items ++ map (λ d. entries.HostAlias d.name d.list)
+        defs.items) → IfErr result (λ e. e ≡ fault.NoMemory) }
 {
     for def in defs {
         draft.add(alloc, Entry::HostAlias(def.name, def.list))?;
@@ -351,9 +386,12 @@ fn add_cmnds(
     defs: Vec<Definition<CmndItem>>,
 ) -> Result<(), LineFault>
     requires draft { IsDraft draft.old }
-    requires entries { AllByRecursion IsEntry (map (λ d. entries.CmndAlias d.name d.list) defs.items) }
-    ensures found { OnOk result (Adds draft.old draft.new (map (λ d. entries.CmndAlias d.name d.list) defs.items)) }
-    ensures only { IsPolicy (draft.old.entries.items ++ map (λ d. entries.CmndAlias d.name d.list) defs.items) → IfErr result (λ e. e ≡ fault.NoMemory) }
+    requires entries { AllByRecursion IsEntry
+        (map (λ d. entries.CmndAlias d.name d.list) defs.items) }
+    ensures found { OnOk result
+        (Adds draft.old draft.new (map (λ d. entries.CmndAlias d.name d.list) defs.items)) }
+    ensures only { IsPolicy (draft.old.entries.items ++ map (λ d. entries.CmndAlias d.name d.list)
+        defs.items) → IfErr result (λ e. e ≡ fault.NoMemory) }
 {
     for def in defs {
         draft.add(alloc, Entry::CmndAlias(def.name, def.list))?;
@@ -366,7 +404,8 @@ pub(crate) fn add_line(alloc: Global, draft: &mut Draft, line: Line) -> Result<(
     requires draft { IsDraft draft.old }
     requires entries { AllByRecursion IsEntry (inheritance.entries_of line) }
     ensures found { OnOk result (Adds draft.old draft.new (inheritance.entries_of line)) }
-    ensures only { IsPolicy (draft.old.entries.items ++ inheritance.entries_of line) → IfErr result (λ e. e ≡ fault.NoMemory) }
+    ensures only { IsPolicy (draft.old.entries.items ++ inheritance.entries_of line)
+        → IfErr result (λ e. e ≡ fault.NoMemory) }
 {
     match line {
         Line::Users(defs) => add_users(alloc, draft, defs.into_vec()),

@@ -17,59 +17,71 @@ ghost use Rattle.sudo_syntax.specs.Inherited.{HasRule};
 ghost use Rattle.sudo_policy.specs.Lex.{Tok, word};
 ghost use Rattle.sudo_policy.specs.Text.{Names};
 
-/// Each command of a list has one rule, at its own place, with the target, the bounds and the tag that were given last
-/// in the list up to and including it (sudoers(5), "Cmnd_Spec_List").
+/// Each command of a list has one rule, at its own place, with the target, the bounds and the tag
+/// that were given last in the list up to and including it (sudoers(5), "Cmnd_Spec_List").
 pub fn inheritance()
     ensures rule { (users : Names) (part : Part) (before after : List CmndSpec) (s : CmndSpec) →
         part.specs ≡ before ++ s ∷ after → HasRule users part before s }
-    ensures each { (users : Names) (part : Part) → length (part_rules users part) ≡ length part.specs }
+    ensures each { (users : Names) (part : Part)
+        → length (part_rules users part) ≡ length part.specs }
 {}
 
-/// A comment may be left out: of two texts that have the same lines, but for a comment after one of them, each spells what
-/// the other spells.
+/// A comment may be left out: of two texts that have the same lines, but for a comment after one of
+/// them, each spells what the other spells.
 pub fn comments()
     ensures { (text other line note : List ℕ) → MayHaveNote line note →
         DifferIn text other ((line ++ hash ∷ note) ∷ []) (line ∷ []) → SpellAlike text other }
 {}
 
-/// A line that goes on spells what one line spells, with a blank in place of the backslash and the newline; the next line is
-/// no backslash alone.
+/// A line that goes on spells what one line spells, with a blank in place of the backslash and the
+/// newline; the next line is no backslash alone.
 pub fn continuations()
-    ensures { (text other front next : List ℕ) → GoesOnWith front next →
-        DifferIn text other ((front ++ backslash ∷ []) ∷ next ∷ []) ((front ++ space ∷ next) ∷ []) → SpellAlike text other }
+    ensures { (text other front next : List ℕ) → GoesOnWith front next
+        → DifferIn text other ((front ++ backslash ∷ []) ∷ next ∷ []) ((front ++ space ∷ next) ∷ [])
+        → SpellAlike text other }
 {}
 
 /// Two more `!` directly before an item or a command change nothing that it spells.
 pub fn signs()
-    ensures items { (form : List ℕ → Bool) (spaced : Bool) (n : ℕ) (text : List ℕ) (ts : List Tok) (s : AnySigned (AnyItem (List ℕ))) (rest : List Tok) →
-        (SpellsItem form (word spaced (n + 2) text ∷ ts) s rest → SpellsItem form (word spaced n text ∷ ts) s rest)
-        × (SpellsItem form (word spaced n text ∷ ts) s rest → SpellsItem form (word spaced (n + 2) text ∷ ts) s rest) }
-    ensures cmnds { (spaced : Bool) (n : ℕ) (text : List ℕ) (ts : List Tok) (s : AnySigned AnyCmnd) (rest : List Tok) →
-        (SpellsCmnd (word spaced (n + 2) text ∷ ts) s rest → SpellsCmnd (word spaced n text ∷ ts) s rest)
-        × (SpellsCmnd (word spaced n text ∷ ts) s rest → SpellsCmnd (word spaced (n + 2) text ∷ ts) s rest) }
+    ensures items { (form : List ℕ → Bool) (spaced : Bool) (n : ℕ) (text : List ℕ)
+        (ts : List Tok) (s : AnySigned (AnyItem (List ℕ))) (rest : List Tok)
+        → (SpellsItem form (word spaced (n + 2) text ∷ ts) s rest → SpellsItem form
+        (word spaced n text ∷ ts) s rest) × (SpellsItem form (word spaced n text ∷ ts) s rest
+        → SpellsItem form (word spaced (n + 2) text ∷ ts) s rest) }
+    ensures cmnds { (spaced : Bool) (n : ℕ) (text : List ℕ) (ts : List Tok) (s : AnySigned AnyCmnd)
+        (rest : List Tok) → (SpellsCmnd (word spaced (n + 2) text ∷ ts) s rest
+        → SpellsCmnd (word spaced n text ∷ ts) s rest) × (SpellsCmnd (word spaced n text ∷ ts) s
+        rest → SpellsCmnd (word spaced (n + 2) text ∷ ts) s rest) }
 {}
 
 /// Of several tags before a command only the last counts.
 pub fn tags()
-    ensures { (ts : List Tok) (s : CmndSpec) (rest : List Tok) (spelled : SpellsCmndSpec ts s rest) (before : List Bool) (tag : Bool) →
-        spelled.tags ≡ before ++ tag ∷ [] → s.nopasswd ≡ Some tag }
+    ensures { (ts : List Tok) (s : CmndSpec) (rest : List Tok)
+        (spelled : SpellsCmndSpec ts s rest) (before : List Bool) (tag : Bool)
+        → spelled.tags ≡ before ++ tag ∷ [] → s.nopasswd ≡ Some tag }
 {}
 
-/// A specification joined by `:` spells what specifications of the same users spell on lines of their own (sudoers(5),
-/// "User specification").
+/// A specification joined by `:` spells what specifications of the same users spell on lines of
+/// their own (sudoers(5), "User specification").
 pub fn joined_parts()
-    ensures { (users_text first second : List ℕ) (users : Names) (parts others : List Part) →
-        AreUsers users_text users → AreParts first parts → AreParts second others → SpellsBoth users_text first second }
+    ensures { (users_text first second : List ℕ) (users : Names) (parts others : List Part)
+        → AreUsers users_text users → AreParts first parts
+        → AreParts second others → SpellsBoth users_text first second }
 {}
 
-/// Definitions joined by `:` spell what they spell on lines of their own, in each kind (sudoers(5), "Aliases").
+/// Definitions joined by `:` spell what they spell on lines of their own, in each kind (sudoers(5),
+/// "Aliases").
 pub fn joined_definitions()
-    ensures users { (first second : List ℕ) (defs others : List (AnyDefinition (AnyItem (List ℕ)))) →
-        AreDefs (SpellsItem is_name) first defs → AreDefs (SpellsItem is_name) second others → SpellsBoth (codes "User_Alias") first second }
-    ensures runas { (first second : List ℕ) (defs others : List (AnyDefinition (AnyItem (List ℕ)))) →
-        AreDefs (SpellsItem is_name) first defs → AreDefs (SpellsItem is_name) second others → SpellsBoth (codes "Runas_Alias") first second }
-    ensures hosts { (first second : List ℕ) (defs others : List (AnyDefinition (AnyItem (List ℕ)))) →
-        AreDefs (SpellsItem is_host_name) first defs → AreDefs (SpellsItem is_host_name) second others → SpellsBoth (codes "Host_Alias") first second }
-    ensures cmnds { (first second : List ℕ) (defs others : List (AnyDefinition AnyCmnd)) →
-        AreDefs SpellsCmnd first defs → AreDefs SpellsCmnd second others → SpellsBoth (codes "Cmnd_Alias") first second }
+    ensures users { (first second : List ℕ) (defs others : List (AnyDefinition (AnyItem (List ℕ))))
+        → AreDefs (SpellsItem is_name) first defs → AreDefs (SpellsItem is_name) second others
+        → SpellsBoth (codes "User_Alias") first second }
+    ensures runas { (first second : List ℕ) (defs others : List (AnyDefinition (AnyItem (List ℕ))))
+        → AreDefs (SpellsItem is_name) first defs → AreDefs (SpellsItem is_name) second others
+        → SpellsBoth (codes "Runas_Alias") first second }
+    ensures hosts { (first second : List ℕ) (defs others : List (AnyDefinition (AnyItem (List ℕ))))
+        → AreDefs (SpellsItem is_host_name) first defs → AreDefs (SpellsItem is_host_name)
+        second others → SpellsBoth (codes "Host_Alias") first second }
+    ensures cmnds { (first second : List ℕ) (defs others : List (AnyDefinition AnyCmnd))
+        → AreDefs SpellsCmnd first defs → AreDefs SpellsCmnd second others
+        → SpellsBoth (codes "Cmnd_Alias") first second }
 {}

@@ -56,7 +56,8 @@ pub(crate) fn bad_word(text: &str) -> LineFault {
 /// The options and tags that the desk has.
 const KNOWN: [&str; 4] = ["NOTBEFORE", "NOTAFTER", "PASSWD", "NOPASSWD"];
 
-/// Whether the word is no command that the desk has: it begins a digest, or names one of sudo's own commands, alone or as a path does.
+/// Whether the word is no command that the desk has: it begins a digest, or names one of sudo's own
+/// commands, alone or as a path does.
 fn is_no_file(text: &str) -> bool {
     let bytes = text.as_bytes();
     is_keyword(bytes) || is_sudoedit(bytes) || text == "list"

@@ -1,6 +1,7 @@
 //! Lines of a text: what stands before a comment, and whether a line goes on in the next.
 
-ghost use Rattle.std.specs.Prelude.{◌≡◌, ℕ, false, List, [], ◌∷◌, ◌++◌, IfOk, IfErr, MatchOption, length, take_while};
+ghost use Rattle.std.specs.Prelude.{◌≡◌, ℕ, false, List, [], ◌∷◌, ◌++◌, IfOk};
+ghost use Rattle.std.specs.Prelude.{IfErr, MatchOption, length, take_while};
 ghost use Rattle.sudo_words.specs.Bytes.{backslash};
 ghost use Rattle.sudo_policy.specs.Lines.{IsBody, IsContinued};
 ghost use Rattle.sudo_policy.specs.Lines as lines;
@@ -78,7 +79,8 @@ fn may_go_on(front: &[u8]) -> bool
 
 /// What stands before the backslash that the line ends in, if it ends in one.
 fn before_backslash(line: &[u8]) -> Option<&[u8]>
-    ensures { MatchOption result (lines.ends_in_backslash line.now ≡ false) (λ front. line.now ≡ front.now ++ backslash ∷ []) }
+    ensures { MatchOption result (lines.ends_in_backslash line.now
+        ≡ false) (λ front. line.now ≡ front.now ++ backslash ∷ []) }
 {
     line.strip_suffix(b"\\")
 }

@@ -1,9 +1,11 @@
 //! Policies read from text.
 
-ghost use Rattle.std.specs.Prelude.{◌≡◌, ◌+◌, ◌<◌, ◌≤◌, ◌==◌, ◌⊎◌, List, ℕ, IfOk, IfErr, IsErrAnd, MatchResult, OnOk, length, count_by, ◌++◌, [], ◌∷◌};
+ghost use Rattle.std.specs.Prelude.{◌≡◌, ◌+◌, ◌<◌, ◌≤◌, ◌==◌, ◌⊎◌, List, ℕ, IfOk, IfErr};
+ghost use Rattle.std.specs.Prelude.{IsErrAnd, MatchResult, OnOk, length, count_by, ◌++◌, [], ◌∷◌};
 ghost use Rattle.sudo_words.specs.Bytes.{newline};
 ghost use Rattle.sudo_policy.specs.declared.entry.Entry.{Entry as Entered};
-ghost use Rattle.sudo_policy.specs.declared.fault.FaultKind.TheVariants.{TooLong, BadByte, TooLarge, NoMemory};
+ghost use Rattle.sudo_policy.specs.declared.fault.FaultKind.TheVariants.{TooLong, BadByte};
+ghost use Rattle.sudo_policy.specs.declared.fault.FaultKind.TheVariants.{TooLarge, NoMemory};
 ghost use Rattle.sudo_policy.specs.declared.fault.LineFault.TheVariants.{NoMemory as OutOfMemory};
 ghost use Rattle.sudo_policy.specs.Spelling.{Spells, SpellsLine};
 ghost use Rattle.sudo_syntax.specs.private.Pending.{Leads, SpellsAfter};
@@ -43,10 +45,12 @@ fn fault_after(front: &[u8], kind: FaultKind) -> ReadFault
 
 /// Tests that a text is of at most 16 MiB, and of the bytes that a text may have.
 fn check_bytes(text: &[u8]) -> Result<(), ReadFault>
-    ensures ok { OnOk result ((length text.now ≤ most_text_bytes) × Each lex.is_text_byte text.now) }
+    ensures ok { OnOk result
+        ((length text.now ≤ most_text_bytes) × Each lex.is_text_byte text.now) }
     ensures too_long { most_text_bytes < length text.now → IsErrAnd result (λ f. f.kind ≡ TooLong) }
     ensures line { IfErr result (λ f. IsLineOf text.now f.line) }
-    ensures kind { IfErr result (λ f. ((f.kind ≡ TooLong) × (most_text_bytes < length text.now)) ⊎ ((f.kind ≡ BadByte) × HasOtherByte text.now)) }
+    ensures kind { IfErr result (λ f. ((f.kind ≡ TooLong) × (most_text_bytes < length text.now))
+        ⊎ ((f.kind ≡ BadByte) × HasOtherByte text.now)) }
 {
     if text.len() > MOST_TEXT_BYTES {
         let (front, _) = text.split_at(MOST_TEXT_BYTES);
@@ -83,8 +87,11 @@ fn kind_of(fault: LineFault) -> FaultKind
 /// Adds what a line stands for, where the line is joined with those that continue it.
 fn add_joined(alloc: Global, draft: &mut Draft, line: &[u8]) -> Result<(), LineFault>
     requires { IsDraft draft.old }
-    ensures found { OnOk result ((here : List Entered) × SpellsLine line.now here × ((es : List Entered) → SpellsLine line.now es → es ≡ here) × Adds draft.old draft.new here) }
-    ensures only { IfErr result (λ e. (es : List Entered) → SpellsLine line.now es → IsPolicy (draft.old.entries.items ++ es) → e ≡ OutOfMemory) }
+    ensures found { OnOk result ((here : List Entered) × SpellsLine line.now here
+        × ((es : List Entered) → SpellsLine line.now es → es ≡ here)
+        × Adds draft.old draft.new here) }
+    ensures only { IfErr result (λ e. (es : List Entered) → SpellsLine line.now es
+        → IsPolicy (draft.old.entries.items ++ es) → e ≡ OutOfMemory) }
 {
     let tokens = tokens(alloc, line)?;
     if tokens.is_empty() {
@@ -94,8 +101,8 @@ fn add_joined(alloc: Global, draft: &mut Draft, line: &[u8]) -> Result<(), LineF
     add_line(alloc, draft, line)
 }
 
-/// Adds what a line of the text stands for. Before the line stands the front that the lines before it left; where the line goes
-/// on, it adds to that front, and else the front is empty afterwards.
+/// Adds what a line of the text stands for. Before the line stands the front that the lines before
+/// it left; where the line goes on, it adds to that front, and else the front is empty afterwards.
 fn add_piece(
     alloc: Global,
     draft: &mut Draft,
@@ -103,8 +110,12 @@ fn add_piece(
     line: &[u8],
 ) -> Result<(), LineFault>
     requires { IsDraft draft.old }
-    ensures found { OnOk result ((here : List Entered) × Adds draft.old draft.new here × ((rest : List (List ℕ)) → Leads pending.old.items (line.now ∷ rest) here pending.new.items rest)) }
-    ensures only { IfErr result (λ e. (rest : List (List ℕ)) (es : List Entered) → SpellsAfter pending.old.items (line.now ∷ rest) es → IsPolicy (draft.old.entries.items ++ es) → e ≡ OutOfMemory) }
+    ensures found { OnOk result
+        ((here : List Entered) × Adds draft.old draft.new here × ((rest : List (List ℕ))
+        → Leads pending.old.items (line.now ∷ rest) here pending.new.items rest)) }
+    ensures only { IfErr result (λ e. (rest : List (List ℕ)) (es : List Entered)
+        → SpellsAfter pending.old.items (line.now ∷ rest) es
+        → IsPolicy (draft.old.entries.items ++ es) → e ≡ OutOfMemory) }
 {
     match piece_of(line)? {
         Piece::GoesOn(front) => {
@@ -125,8 +136,8 @@ fn add_piece(
     }
 }
 
-/// Where a fault is that came up at a line: there, where its comment or its continuation is wrong, and else where the line begins
-/// that is continued there.
+/// Where a fault is that came up at a line: there, where its comment or its continuation is wrong,
+/// and else where the line begins that is continued there.
 fn fault_line(line: &[u8], begins: usize, here: usize) -> usize
     ensures { (result ≡ begins) ⊎ (result ≡ here) }
 {
@@ -137,11 +148,13 @@ fn fault_line(line: &[u8], begins: usize, here: usize) -> usize
     }
 }
 
-/// Adds what the lines of a text stand for. Each is read where it stands in the text: no list of them is made.
+/// Adds what the lines of a text stand for. Each is read where it stands in the text: no list of
+/// them is made.
 fn add_lines(alloc: Global, draft: &mut Draft, text: &[u8]) -> Result<(), ReadFault>
     requires draft { IsDraft draft.old }
     requires none { draft.old.entries.items ≡ [] }
-    ensures found { OnOk result (IsDraft draft.new × SpellsBy (lines_of text.now) draft.new.entries.items) }
+    ensures found { OnOk result
+        (IsDraft draft.new × SpellsBy (lines_of text.now) draft.new.entries.items) }
     ensures only { (es : List Entered) → SpellsBy (lines_of text.now) es → IsPolicy es
         → MatchResult result (λ _. draft.new.entries.items ≡ es) (λ f. f.kind ≡ NoMemory) }
     ensures line { IfErr result (λ f. IsLineOf text.now f.line) }
@@ -187,16 +200,20 @@ fn policy_of(alloc: Global, text: &[u8]) -> Result<Policy, ReadFault>
 
 /// The policy that a text spells (sudoers(5), "SUDOERS FILE FORMAT"), as far as the desk reads it.
 ///
-/// Faults: `TooLong` where the text is over 16 MiB, else `BadByte` where a byte stands in it that no text may have,
-/// else the first fault of a line, with its number from 1; `NoMemory` where memory runs out.
+/// Faults: `TooLong` where the text is over 16 MiB, else `BadByte` where a byte stands in it that
+/// no text may have, else the first fault of a line, with its number from 1; `NoMemory` where
+/// memory runs out.
 pub fn read_policy(alloc: Global, text: &[u8]) -> Result<Policy, ReadFault>
     // What is read is spelled so.
     ensures found { IfOk result (λ p. Spells text.now p) }
-    // What is spelled so is read, unless memory runs out: so no other fault comes where a policy is spelled.
-    ensures only { (es : List Entered) → Spells text.now es → MatchResult result (λ p. p ≡ es) (λ f. f.kind ≡ NoMemory) }
+    // What is spelled so is read, unless memory runs out: so no other fault comes where a policy is
+    // spelled.
+    ensures only { (es : List Entered) → Spells text.now es
+        → MatchResult result (λ p. p ≡ es) (λ f. f.kind ≡ NoMemory) }
     // `TooLong` comes exactly where the text is too long.
     ensures too_long { most_text_bytes < length text.now → IsErrAnd result (λ f. f.kind ≡ TooLong) }
-    ensures too_long_only { IfErr result (λ f. f.kind ≡ TooLong → most_text_bytes < length text.now) }
+    ensures too_long_only { IfErr result
+        (λ f. f.kind ≡ TooLong → most_text_bytes < length text.now) }
     ensures bad_byte { IfErr result (λ f. f.kind ≡ BadByte → HasOtherByte text.now) }
     ensures line { IfErr result (λ f. IsLineOf text.now f.line) }
 {

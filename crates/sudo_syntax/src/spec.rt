@@ -1,10 +1,13 @@
-//! Commands of user specifications read from tokens, with the targets, dates and tags that each gives of its own.
+//! Commands of user specifications read from tokens, with the targets, dates and tags that each
+//! gives of its own.
 
-ghost use Rattle.std.specs.Prelude.{◌≡◌, ◌≤◌, ◌<◌, ◌∷◌, List, ℕ, Bool, length, IfOk, IfSome, MatchOption, MatchResult, Option, Some, None, Ok, true, false};
+ghost use Rattle.std.specs.Prelude.{◌≡◌, ◌≤◌, ◌<◌, ◌∷◌, List, ℕ, Bool, length, IfOk, IfSome};
+ghost use Rattle.std.specs.Prelude.{MatchOption, MatchResult, Option, Some, None, Ok, true, false};
 ghost use Rattle.sudo_words.specs.Bytes.{colon, comma, opening};
 ghost use Rattle.sudo_words.specs.Moment.{Spells};
 ghost use Rattle.sudo_policy.specs.declared.fault.LineFault.TheVariants.{NoMemory};
-ghost use Rattle.sudo_syntax.specs.private.Fronts.{AddsBound, Dated, NoDate, NoTag, Tagged, EndsBy, NoMark, NoWord};
+ghost use Rattle.sudo_syntax.specs.private.Fronts.{AddsBound, Dated, NoDate, NoTag};
+ghost use Rattle.sudo_syntax.specs.private.Fronts.{Tagged, EndsBy, NoMark, NoWord};
 ghost use Rattle.sudo_policy.specs.Grammar.{tag_word, SpellsRunas, SpellsCmndSpec};
 ghost use Rattle.sudo_policy.specs.Lex.{Tok, word, mark};
 ghost use Rattle.sudo_syntax.specs.private.Tokens.{toks};
@@ -43,8 +46,10 @@ fn gives(option: &str, name: &str, bound: &Option<Moment>) -> bool
 
 /// The bounds with the one that an option gives, which none gave before.
 fn with_bound(bounds: Bounds, option: &str, time: &str) -> Result<Bounds, LineFault>
-    ensures found { IfOk result (λ b. AddsBound bounds.not_before bounds.not_after option.now time.now b.not_before b.not_after) }
-    ensures only { (before after : Option ℕ) → AddsBound bounds.not_before bounds.not_after option.now time.now before after
+    ensures found { IfOk result (λ b.
+        AddsBound bounds.not_before bounds.not_after option.now time.now b.not_before b.not_after) }
+    ensures only { (before after : Option ℕ)
+        → AddsBound bounds.not_before bounds.not_after option.now time.now before after
         → MatchResult result (λ b. (b.not_before ≡ before) × (b.not_after ≡ after)) (λ e. ⊥) }
 {
     if gives(option, "NOTBEFORE", &bounds.not_before) {
@@ -66,10 +71,12 @@ fn with_bound(bounds: Bounds, option: &str, time: &str) -> Result<Bounds, LineFa
 pub(crate) fn bounds_at<'a, 'b>(
     tokens: &'b [Token<'a>],
 ) -> Result<(Bounds, &'b [Token<'a>]), LineFault>
-    ensures found { IfOk result (λ x. Dated None None (toks tokens.now) x.0.not_before x.0.not_after (toks x.1.now)) }
+    ensures found { IfOk result
+        (λ x. Dated None None (toks tokens.now) x.0.not_before x.0.not_after (toks x.1.now)) }
     ensures shorter { IfOk result (λ x. length x.1.now ≤ length tokens.now) }
-    ensures only { (before after : Option ℕ) (rest : List Tok) → NoDate rest → Dated None None (toks tokens.now) before after rest
-        → MatchResult result (λ x. (x.0.not_before ≡ before) × (x.0.not_after ≡ after) × (toks x.1.now ≡ rest)) (λ e. ⊥) }
+    ensures only { (before after : Option ℕ) (rest : List Tok) → NoDate rest
+        → Dated None None (toks tokens.now) before after rest → MatchResult result (λ x.
+        (x.0.not_before ≡ before) × (x.0.not_after ≡ after) × (toks x.1.now ≡ rest)) (λ e. ⊥) }
 {
     let none = Bounds {
         not_before: None,
@@ -87,7 +94,8 @@ pub(crate) fn bounds_at<'a, 'b>(
 
 /// Whether a tag's word says that no password is asked for.
 fn tag_of(name: &str) -> Option<bool>
-    ensures { MatchOption result ((tag : Bool) → name.now ≡ tag_word tag → ⊥) (λ tag. name.now ≡ tag_word tag) }
+    ensures { MatchOption result ((tag : Bool) → name.now ≡ tag_word tag
+        → ⊥) (λ tag. name.now ≡ tag_word tag) }
 {
     match name {
         "NOPASSWD" => Some(true),
@@ -98,7 +106,8 @@ fn tag_of(name: &str) -> Option<bool>
 
 /// The tag at the front, and what follows it.
 fn tag_at<'a, 'b>(tokens: &'b [Token<'a>]) -> Option<(bool, &'b [Token<'a>])>
-    ensures found { MatchOption result (NoTag (toks tokens.now)) (λ x. (a b : Bool) × (toks tokens.now ≡ word a 0 (tag_word x.0) ∷ mark b colon ∷ toks x.1.now)) }
+    ensures found { MatchOption result (NoTag (toks tokens.now)) (λ x. (a b : Bool)
+        × (toks tokens.now ≡ word a 0 (tag_word x.0) ∷ mark b colon ∷ toks x.1.now)) }
     ensures shorter { IfSome result (λ x. length x.1.now < length tokens.now) }
 {
     let (name, rest) = head_at(Mark::Colon, tokens)?;
@@ -110,7 +119,8 @@ fn tag_at<'a, 'b>(tokens: &'b [Token<'a>]) -> Option<(bool, &'b [Token<'a>])>
 pub(crate) fn tags_at<'a, 'b>(tokens: &'b [Token<'a>]) -> (Option<bool>, &'b [Token<'a>])
     ensures found { Tagged (toks tokens.now) result.0 (toks result.1.now) }
     ensures shorter { length result.1.now ≤ length tokens.now }
-    ensures only { (nopasswd : Option Bool) (rest : List Tok) → NoTag rest → Tagged (toks tokens.now) nopasswd rest
+    ensures only { (nopasswd : Option Bool) (rest : List Tok)
+        → NoTag rest → Tagged (toks tokens.now) nopasswd rest
         → (result.0 ≡ nopasswd) × (toks result.1.now ≡ rest) }
 {
     let mut read = (None, tokens);
@@ -134,7 +144,8 @@ fn runas_at<'a, 'b>(
 ) -> Result<(Option<Items<Signed<Item<Name>>>>, &'b [Token<'a>]), LineFault>
     ensures found { IfOk result (λ x. SpellsRunas (toks tokens.now) x.0 (toks x.1.now)) }
     ensures shorter { IfOk result (λ x. length x.1.now ≤ length tokens.now) }
-    ensures only { (runas : Option Names) (rest : List Tok) → NoMark opening rest → SpellsRunas (toks tokens.now) runas rest
+    ensures only { (runas : Option Names) (rest : List Tok)
+        → NoMark opening rest → SpellsRunas (toks tokens.now) runas rest
         → MatchResult result (λ x. (x.0 ≡ runas) × (toks x.1.now ≡ rest)) (λ e. e ≡ NoMemory) }
 {
     let Some(inner) = after_mark(Mark::Opening, tokens) else {

@@ -1,6 +1,8 @@
 //! The words and marks of a line.
 
-ghost use Rattle.std.specs.Prelude.{◌≡◌, ◌≤◌, true, false, length, take, drop, take_while, MatchResult, MatchOption, List, IfOk, IfErr, IfSome, IsSome, None, ℕ, ◌++◌};
+ghost use Rattle.std.specs.Prelude.{◌≡◌, ◌≤◌, true, false, length, take, drop};
+ghost use Rattle.std.specs.Prelude.{take_while, MatchResult, MatchOption, List};
+ghost use Rattle.std.specs.Prelude.{IfOk, IfErr, IfSome, IsSome, None, ℕ, ◌++◌};
 ghost use Rattle.std.specs.List.{list_all};
 ghost use Rattle.sudo_policy.specs.declared.fault.LineFault.TheVariants.{NoMemory};
 ghost use Rattle.sudo_words.specs.Command as command;
@@ -34,7 +36,8 @@ pub(crate) enum Mark {
 impl Mark {
     /// The mark that the byte is, if it is one.
     fn read(byte: u8) -> Option<Mark>
-        ensures { MatchOption result (lex.is_mark byte ≡ false) (λ mark. (lexing.mark_byte mark ≡ byte) × (lex.is_mark byte ≡ true)) }
+        ensures { MatchOption result (lex.is_mark byte
+            ≡ false) (λ mark. (lexing.mark_byte mark ≡ byte) × (lex.is_mark byte ≡ true)) }
     {
         match byte {
             b'=' => Some(Mark::Equals),
@@ -115,7 +118,8 @@ fn text_len(bytes: &[u8]) -> usize
     bytes.iter().take_while(|b| is_text_byte(**b)).count()
 }
 
-/// Whether a text may have each of the bytes. Each is looked at, also after one that no text has: so many are tested at once.
+/// Whether a text may have each of the bytes. Each is looked at, also after one that no text has:
+/// so many are tested at once.
 pub(crate) fn is_text(bytes: &[u8]) -> bool
     ensures { result ≡ list_all lex.is_text_byte bytes.now }
 {
@@ -147,7 +151,8 @@ fn cut_bangs(bytes: &[u8]) -> (&[u8], &[u8])
     bytes.split_at(bang_len(bytes))
 }
 
-/// What follows a byte of a word, or a backslash and the byte that it escapes, where such a part of a word stands at the front.
+/// What follows a byte of a word, or a backslash and the byte that it escapes, where such a part of
+/// a word stands at the front.
 fn behind_part(bytes: &[u8]) -> Option<&[u8]>
     ensures found { IfSome result (λ rest. (part : List ℕ) × IsBehindPart bytes.now part rest.now) }
     ensures none { result ≡ None → lex.goes_on bytes.now ≡ false }
@@ -187,8 +192,8 @@ fn text_of(word: &[u8]) -> &str
     unsafe { str::from_utf8_unchecked(word) }
 }
 
-/// What is wrong where no word begins with this byte, which is no `!`: wildcards, quotes, escapes and comments are left out,
-/// marks and blanks may not follow a `!`, and no other byte has a place.
+/// What is wrong where no word begins with this byte, which is no `!`: wildcards, quotes, escapes
+/// and comments are left out, marks and blanks may not follow a `!`, and no other byte has a place.
 fn stray(byte: u8) -> LineFault {
     match byte {
         b'*' | b'?' | b'[' | b']' | b'"' | b'\\' | b'#' => LineFault::LeftOut,
@@ -207,7 +212,8 @@ fn no_word(bytes: &[u8]) -> LineFault {
 
 /// The first token, if there is one, and what follows it.
 fn next_token(bytes: &[u8]) -> Result<Option<(Token<'_>, &[u8])>, LineFault>
-    ensures first { IfOk result (λ o. MatchOption o (lexing.IsLast bytes.now) (λ x. IsFirst bytes.now (lexing.tok x.0) x.1.now)) }
+    ensures first { IfOk result (λ o.
+        MatchOption o (lexing.IsLast bytes.now) (λ x. IsFirst bytes.now (lexing.tok x.0) x.1.now)) }
     ensures fault { IfErr result (λ e. lexing.NoLexing bytes.now) }
 {
     let (blanks, rest) = cut_blanks(bytes);
@@ -234,7 +240,8 @@ fn next_token(bytes: &[u8]) -> Result<Option<(Token<'_>, &[u8])>, LineFault>
 #[tactic(auto, using(crate::proofs::TokenLemmas::leads_end))]
 pub(crate) fn tokens(alloc: Global, line: &[u8]) -> Result<Vec<Token<'_>>, LineFault>
     ensures found { IfOk result (λ v. lex.Lexes line.now (lexing.toks v.items)) }
-    ensures only { (ts : List lex.Tok) → lex.Lexes line.now ts → MatchResult result (λ v. lexing.toks v.items ≡ ts) (λ e. e ≡ NoMemory) }
+    ensures only { (ts : List lex.Tok) → lex.Lexes line.now ts
+        → MatchResult result (λ v. lexing.toks v.items ≡ ts) (λ e. e ≡ NoMemory) }
 {
     let mut out = Vec::with_capacity(alloc, line.len() / 4)?;
     let mut rest = line;

@@ -48,7 +48,8 @@ pub(crate) struct UserSpec {
 /// The user specification that the tokens spell.
 pub(crate) fn user_spec_of(alloc: Global, tokens: &[Token<'_>]) -> Result<UserSpec, LineFault>
     ensures found { IfOk result (λ r. SpellsUserSpec (toks tokens.now) r.users r.parts) }
-    ensures only { (users : Names) (parts : List Parted) → SpellsUserSpec (toks tokens.now) users parts
+    ensures only { (users : Names) (parts : List Parted)
+        → SpellsUserSpec (toks tokens.now) users parts
         → MatchResult result (λ r. (r.users ≡ users) × (r.parts ≡ parts)) (λ e. e ≡ NoMemory) }
 {
     let (users, next) = list_at(alloc, Mark::Comma, tokens)?;
@@ -56,13 +57,14 @@ pub(crate) fn user_spec_of(alloc: Global, tokens: &[Token<'_>]) -> Result<UserSp
     Ok(UserSpec { users, parts })
 }
 
-/// The line that tokens spell: definitions of aliases of one kind, or a user specification (sudoers(5), "Aliases", "User
-/// specification").
+/// The line that tokens spell: definitions of aliases of one kind, or a user specification
+/// (sudoers(5), "Aliases", "User specification").
 ///
 /// Faults: `NoMemory` where memory runs out; any other only where the tokens spell no line.
 pub(crate) fn tree_of(alloc: Global, tokens: &[Token<'_>]) -> Result<Line, LineFault>
     ensures found { IfOk result (λ l. SpellsTree (toks tokens.now) l) }
-    ensures only { (l : Tree) → SpellsTree (toks tokens.now) l → MatchResult result (λ x. x ≡ l) (λ e. e ≡ NoMemory) }
+    ensures only { (l : Tree) → SpellsTree (toks tokens.now) l
+        → MatchResult result (λ x. x ≡ l) (λ e. e ≡ NoMemory) }
 {
     if let Some(users) = aliases_of::<Item<Name>>(alloc, "User_Alias", tokens)? {
         return Ok(Line::Users(users));

@@ -1,5 +1,6 @@
 -- Arguments and their texts: an argument's text is of that argument alone.
-use Rattle.std.proofs.Common.{◌≡◌, ℕ, ◌+◌, ◌≤◌, ◌⊎◌, Bool, true, false, cond, leb, ◌&&◌, List, [], ◌∷◌, ◌++◌, length, count_by, refl, sym, ap, subst, ◌∙◌, inl, inr, append_assoc, length-append, arith}
+use Rattle.std.proofs.Common.{◌≡◌, ℕ, ◌+◌, ◌≤◌, ◌⊎◌, Bool, true, false, cond, leb, ◌&&◌, List, [], ◌∷◌, ◌++◌, length}
+use Rattle.std.proofs.Common.{count_by, refl, sym, ap, subst, ◌∙◌, inl, inr, append_assoc, length-append, arith}
 use Rattle.std.specs.List.{AllByRecursion, list_all}
 use Rattle.std.proofs.lemmas.Bool.{and_parts, cases_Bool, false≢true, leb-true}
 use Rattle.std.proofs.lemmas.List.Sums.{sum_by-cons}
@@ -109,7 +110,8 @@ pub same_arg : (a w : List ℕ) → is_arg a ≡ true → is_arg w ≡ true → 
 same_arg a w x y e = same_bytes a w (arg_parts a x).bytes (arg_parts w y).bytes e
 
 -- what holds of a backslash and of each byte of an argument holds of each byte of the text
-pub arg_text_each : (P : ℕ → Type 0) → P 92 → ((b : ℕ) → is_arg_byte b ≡ true → P b) → (a : List ℕ) → list_all is_arg_byte a ≡ true → AllByRecursion P (arg_text a)
+pub arg_text_each : (P : ℕ → Type 0) → P 92 → ((b : ℕ) → is_arg_byte b ≡ true → P b)
+    → (a : List ℕ) → list_all is_arg_byte a ≡ true → AllByRecursion P (arg_text a)
 arg_text_each P escape byte [] h = tt
 arg_text_each P escape byte (b ∷ a) h =
     let both = and_parts (is_arg_byte b) (list_all is_arg_byte a) h in

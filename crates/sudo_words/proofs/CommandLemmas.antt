@@ -65,7 +65,8 @@ cmnd_words c x =
 -- no text is two commands'
 pub one_command : (c d : Cmnd) → IsLawful c → IsLawful d → cmnd_text c ≡ cmnd_text d → c ≡ d
 one_command c d x y e =
-    let both : head_text c ∷ words_of (rule_of c) ≡ head_text d ∷ words_of (rule_of d) = sym (cmnd_words c x) ∙ ap (slice_split (λ (b : ℕ). eqb b 32)) e ∙ cmnd_words d y in
+    let both : head_text c ∷ words_of (rule_of c) ≡ head_text d ∷ words_of (rule_of d) =
+    sym (cmnd_words c x) ∙ ap (slice_split (λ (b : ℕ). eqb b 32)) e ∙ cmnd_words d y in
     let heads : head_text c ≡ head_text d = cc in
     let others : words_of (rule_of c) ≡ words_of (rule_of d) = cc in
     same_command c d x y heads (one_rule (rule_of c) (rule_of d) x.args y.args others)

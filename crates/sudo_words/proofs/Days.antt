@@ -7,7 +7,8 @@ use Rattle.jiff_core.specs.Date.{epoch_day}
 use Rattle.jiff_core.specs.Calendar.{IsYear, IsCivilDate, day_count, day_of_year, days_from_civil, days_in_month, days_in_year, days_of_months}
 use Rattle.jiff_core.proofs.SignedLemmas.{signed_arith}
 use Rattle.jiff_core.proofs.MarchLemmas.{day_count-early}
-use Rattle.jiff_core.proofs.CalendarLemmas.{days_from_civil-day_count, day_count-epoch, day_count-next_year, day_count-day_of_year, days_in_month_bounds, days_of_months_more, days_of_months-zero, days_of_months_all}
+use Rattle.jiff_core.proofs.CalendarLemmas.{days_from_civil-day_count, day_count-epoch, day_count-next_year, day_count-day_of_year}
+use Rattle.jiff_core.proofs.CalendarLemmas.{days_in_month_bounds, days_of_months_more, days_of_months-zero, days_of_months_all}
 use Rattle.jiff_core.proofs.DateLemmas.{epoch_day_injective}
 use Rattle.sudo_words.specs.Moment.{CalendarDate, date_from_month, date_from_year, date_of}
 
@@ -23,7 +24,8 @@ month-here : (later y m days : ℕ) → days < days_in_month (pos y) m → date_
 unfolding date_from_month
 month-here later y m days h = cond-true _ _ _ (lt-ltb days (days_in_month (pos y) m) h)
 
-month-later : (later y m days : ℕ) → days_in_month (pos y) m ≤ days → date_from_month (suc later) y m days ≡ date_from_month later y (m + 1) (days - days_in_month (pos y) m)
+month-later : (later y m days : ℕ) → days_in_month (pos y) m ≤ days
+    → date_from_month (suc later) y m days ≡ date_from_month later y (m + 1) (days - days_in_month (pos y) m)
 unfolding date_from_month
 month-later later y m days h = cond-false _ _ _ (le-ltb days (days_in_month (pos y) m) h)
 
@@ -56,7 +58,8 @@ place y m days low high h = record {
 }
 
 -- counting on from a month finds the place in the year
-place_from_month : (later y m days : ℕ) → 1 ≤ m → m + later ≡ 12 → days + days_of_months (pos y) (m - 1) < days_in_year (pos y) → IsPlace (date_from_month later y m days) y (days + days_of_months (pos y) (m - 1) + 1)
+place_from_month : (later y m days : ℕ) → 1 ≤ m → m + later ≡ 12 → days + days_of_months (pos y) (m - 1) < days_in_year (pos y)
+    → IsPlace (date_from_month later y m days) y (days + days_of_months (pos y) (m - 1) + 1)
 place_from_month zero y m days low end h =
     let december : m ≡ 12 = omega arith in
     let all : days_of_months (pos y) m ≡ days_in_year (pos y) = ap (days_of_months (pos y)) december ∙ days_of_months_all (pos y) in
@@ -68,7 +71,8 @@ place_from_month (suc later) y m days low end h =
       | inr after ↦
           let rest = days - days_in_month (pos y) m in
           let back : m + 1 - 1 ≡ m = omega arith in
-          let sum : rest + days_of_months (pos y) (m + 1 - 1) ≡ days + days_of_months (pos y) (m - 1) = rw back (omega (arith, days_of_months_more (pos y) m low, after)) in
+          let sum : rest + days_of_months (pos y) (m + 1 - 1) ≡ days + days_of_months (pos y) (m - 1) =
+          rw back (omega (arith, days_of_months_more (pos y) m low, after)) in
           let found = place_from_month later y (m + 1) rest (omega arith) (omega arith) (rw sum h) in
           rw (month-later later y m days after) (rw sum at found)
     ]
@@ -82,7 +86,8 @@ record IsCounted (date : CalendarDate) (y last count : ℕ) : Type 0 where
 counted : (date : CalendarDate) (y days last : ℕ) → y ≤ last → last ≤ 9999 → IsPlace date y (days + 1) → IsCounted date y last (days + day_count (pos y) 1 1)
 counted date y days last low high p =
     let year : IsYear (pos y) = omega (arith, signed_arith) in
-    let count : day_count (pos y) date.month date.day_of_month ≡ days + day_count (pos y) 1 1 = omega (arith, day_count-day_of_year (pos y) date.month date.day_of_month p.day_in.0, p.place_is) in
+    let count : day_count (pos y) date.month date.day_of_month ≡ days + day_count (pos y) 1 1 =
+    omega (arith, day_count-day_of_year (pos y) date.month date.day_of_month p.day_in.0, p.place_is) in
     let same = sym p.year_is in
     record {
       year_in = (omega (arith, p.year_is), omega (arith, p.year_is));
@@ -96,7 +101,8 @@ place_in_year y days h =
     rw none at (place_from_month 11 y 1 days (omega arith) refl (rw none h))
 
 -- counting on from a year finds a date with so many days before it
-counted_from_year : (later y days last : ℕ) → y + later ≡ last → last ≤ 9999 → days + day_count (pos y) 1 1 < day_count (pos last) 1 1 + days_in_year (pos last) → IsCounted (date_from_year later y days) y last (days + day_count (pos y) 1 1)
+counted_from_year : (later y days last : ℕ) → y + later ≡ last → last ≤ 9999 → days + day_count (pos y) 1 1 < day_count (pos last) 1 1 + days_in_year (pos last)
+    → IsCounted (date_from_year later y days) y last (days + day_count (pos y) 1 1)
 counted_from_year zero y days last end high h =
     let same : last ≡ y = omega arith in
     let in_year : days < days_in_year (pos y) = omega (arith, rw same at h) in
@@ -138,14 +144,23 @@ date_of_is day h =
     }
 
 -- the library's date with a day number has the numbers of `date_of`
-pub library_date_is : (date : Date) (day : ℕ) → day ≤ 47_481 → epoch_day date ≡ pos day → (date.year ≡ pos (date_of day).year) × (date.month ≡ (date_of day).month) × (date.day ≡ (date_of day).day_of_month)
+pub library_date_is : (date : Date) (day : ℕ) → day ≤ 47_481 → epoch_day date ≡ pos day
+    → (date.year ≡ pos (date_of day).year) × (date.month ≡ (date_of day).month) × (date.day ≡ (date_of day).day_of_month)
 library_date_is date day h number =
     let is = date_of_is day h in
-    let known : Date = record { year = pos (date_of day).year; month = (date_of day).month; day = (date_of day).day_of_month; year_in = is.civil.0; month_in = is.civil.1; day_in = is.civil.2 } in
+    let known : Date = record {
+      year = pos (date_of day).year;
+      month = (date_of day).month;
+      day = (date_of day).day_of_month;
+      year_in = is.civil.0;
+      month_in = is.civil.1;
+      day_in = is.civil.2;
+    } in
     epoch_day_injective date known (number ∙ sym is.number)
 
 -- and no other date of the calendar has it
-pub date_of_only : (y m d day : ℕ) → day ≤ 47_481 → IsCivilDate (pos y) m d → days_from_civil (pos y) m d ≡ pos day → (y ≡ (date_of day).year) × (m ≡ (date_of day).month) × (d ≡ (date_of day).day_of_month)
+pub date_of_only : (y m d day : ℕ) → day ≤ 47_481 → IsCivilDate (pos y) m d → days_from_civil (pos y) m d ≡ pos day
+    → (y ≡ (date_of day).year) × (m ≡ (date_of day).month) × (d ≡ (date_of day).day_of_month)
 date_of_only y m d day h civil number =
     let known : Date = record { year = pos y; month = m; day = d; year_in = civil.0; month_in = civil.1; day_in = civil.2 } in
     let same = library_date_is known day h number in

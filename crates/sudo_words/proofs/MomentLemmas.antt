@@ -1,12 +1,14 @@
 -- The canonical texts of moments and their bytes, and the parts of any spelling.
-use Rattle.std.proofs.Common.{◌≡◌, ℕ, ◌+◌, ◌-◌, ◌*◌, ◌/◌, ◌%◌, ◌<◌, ◌≤◌, ◌∙◌, ◌⊎◌, List, [], ◌∷◌, ◌++◌, length, get_or, take, drop, refl, sym, ap, inl, inr, arith, true, append_assoc, length-append, ℤ, pos, neg_ℤ, FitsSigned, w32, ◌+ℤ◌, ◌-ℤ◌, ◌*ℤ◌}
+use Rattle.std.proofs.Common.{◌≡◌, ℕ, ◌+◌, ◌-◌, ◌*◌, ◌/◌, ◌%◌, ◌<◌, ◌≤◌, ◌∙◌, ◌⊎◌, List, [], ◌∷◌, ◌++◌, length, get_or, take, drop, refl}
+use Rattle.std.proofs.Common.{sym, ap, inl, inr, arith, true, append_assoc, length-append, ℤ, pos, neg_ℤ, FitsSigned, w32, ◌+ℤ◌, ◌-ℤ◌, ◌*ℤ◌}
 use Rattle.std.specs.Prelude.{codes}
 use Rattle.std.specs.List.{AllByRecursion}
 use Rattle.std.proofs.lemmas.Bool.Decides.{nat_tests}
 use Rattle.std.proofs.lemmas.List.{take_at, drop_at, get_or-append-add, get_or-append_right}
 use Rattle.jiff_core.proofs.CalendarLemmas.{day_count_bounds, days_from_civil-day_count}
 use Rattle.jiff_core.proofs.SignedLemmas.{signed_arith}
-use Rattle.sudo_words.specs.Moment.{IsMoment, IsDateText, IsClockText, IsDistance, IsOffsetText, IsStamp, Spells, date_of, date_text, four, hour, is_stamp_byte, minute, second, stamp, two}
+use Rattle.sudo_words.specs.Moment.{IsMoment, IsDateText, IsClockText, IsDistance, IsOffsetText, IsStamp, Spells}
+use Rattle.sudo_words.specs.Moment.{date_of, date_text, four, hour, is_stamp_byte, minute, second, stamp, two}
 use Rattle.sudo_words.proofs.Days.{date_of_is, date_of_only, numbers_in}
 
 -- the day of a moment is among the days that `date_of` knows
@@ -49,7 +51,8 @@ utc_moment : (days seconds : ℕ) → pos (86_400 * days + seconds) ≡ pos 86_4
 utc_moment days seconds = omega (arith, signed_arith)
 
 -- the time of day of a moment is that of its seconds into the day
-pub clock_in_day : (t : ℕ) → two (hour t) ++ two (minute t) ++ two (second t) ≡ two (hour (t % 86_400)) ++ two (minute (t % 86_400)) ++ two (second (t % 86_400))
+pub clock_in_day : (t : ℕ)
+    → two (hour t) ++ two (minute t) ++ two (second t) ≡ two (hour (t % 86_400)) ++ two (minute (t % 86_400)) ++ two (second (t % 86_400))
 clock_in_day t =
     let h : hour t ≡ hour (t % 86_400) = omega arith in
     let m : minute t ≡ minute (t % 86_400) = omega arith in
@@ -57,7 +60,8 @@ clock_in_day t =
     rw (h, m, z) refl
 
 -- a date and a time of day of UTC spell the moment of both
-pub spells_from : (text date clock : List ℕ) (days seconds : ℕ) → text ≡ date ++ clock ++ codes "Z" → days ≤ 47_481 → IsDateText date (pos days) → IsClockText clock seconds → Spells text (86_400 * days + seconds)
+pub spells_from : (text date clock : List ℕ) (days seconds : ℕ) → text ≡ date ++ clock ++ codes "Z" → days ≤ 47_481
+    → IsDateText date (pos days) → IsClockText clock seconds → Spells text (86_400 * days + seconds)
 spells_from text date clock days seconds e below date_is clock_is = record {
   moment = omega (arith, clock_is.0);
   date = date;
@@ -86,7 +90,8 @@ offset_fits end o (inr (inl h)) = rw h.4 (omega (arith, signed_arith, h.3))
 offset_fits end o (inr (inr h)) = rw h.4 (omega (arith, signed_arith, h.3))
 
 -- what a spelling has in its first 8 bytes, and behind them
-pub cut_date : (text date clock zone : List ℕ) (day : ℤ) → text ≡ date ++ clock ++ zone → IsDateText date day → (take 8 text ≡ date) × (drop 8 text ≡ clock ++ zone)
+pub cut_date : (text date clock zone : List ℕ) (day : ℤ) → text ≡ date ++ clock ++ zone
+    → IsDateText date day → (take 8 text ≡ date) × (drop 8 text ≡ clock ++ zone)
 cut_date text date clock zone day e d =
     let digits = four d.year ++ two d.month ++ two d.day_of_month in
     let whole : text ≡ digits ++ clock ++ zone = e ∙ ap (λ (l : List ℕ). l ++ clock ++ zone) d.text_is in
@@ -131,7 +136,8 @@ ends_utc text front end e z =
     let whole : text ≡ front ++ codes "Z" = rw z at e in
     record {
       length_is = sym (ap length whole ∙ length-append front (codes "Z"));
-      last_is = ap (λ (l : List ℕ). get_or l (length front) 0) whole ∙ get_or-append_right front (codes "Z") (length front) (length front) 0 refl (omega arith) ∙ zulu_at (length front);
+      last_is = ap (λ (l : List ℕ). get_or l (length front) 0) whole
+          ∙ get_or-append_right front (codes "Z") (length front) (length front) 0 refl (omega arith) ∙ zulu_at (length front);
     }
 
 ends_offset : (text front end : List ℕ) → text ≡ front ++ end → IsNumeric end → IsOffset text front
@@ -146,7 +152,8 @@ pub ends : (text front end : List ℕ) (o : ℤ) → text ≡ front ++ end → I
 ends text front end o e (inl z) = inl (ends_utc text front end e z.0)
 ends text front end o e (inr z) = inr (ends_offset text front end e (numeric_end end o z))
 
-pub utc_end : (text front end : List ℕ) (o : ℤ) → text ≡ front ++ end → IsOffsetText end o → get_or text (length text - 1) 0 ≡ 90 → (end ≡ codes "Z") × (o ≡ pos 0)
+pub utc_end : (text front end : List ℕ) (o : ℤ) → text ≡ front ++ end → IsOffsetText end o
+    → get_or text (length text - 1) 0 ≡ 90 → (end ≡ codes "Z") × (o ≡ pos 0)
 utc_end text front end o e (inl z) last = z
 utc_end text front end o e (inr z) last =
     let is = ends_offset text front end e (numeric_end end o z) in
@@ -190,7 +197,8 @@ zulu_byte = (refl, tt)
 date_bytes : (text : List ℕ) (day : ℕ) → day ≤ 47_481 → IsDateText text (pos day) → AreStampBytes text
 date_bytes text day h d =
     let in_years = numbers_in d.year d.month d.day_of_month day h d.date d.number in
-    let year = bytes_append (two (d.year / 100)) (two (d.year % 100)) (two_bytes (d.year / 100) (omega (arith, in_years.0))) (two_bytes (d.year % 100) (omega arith)) in
+    let year = bytes_append (two (d.year / 100)) (two (d.year % 100))
+    (two_bytes (d.year / 100) (omega (arith, in_years.0))) (two_bytes (d.year % 100) (omega arith)) in
     let month = two_bytes d.month (omega (arith, in_years.1)) in
     let day = two_bytes d.day_of_month (omega (arith, in_years.2)) in
     rw d.text_is (bytes_append (four d.year ++ two d.month) (two d.day_of_month) (bytes_append (four d.year) (two d.month) year month) day)

@@ -1,5 +1,6 @@
 -- A text spells one moment, and its spelling of 15 bytes that ends in `Z` is the canonical one.
-use Rattle.std.proofs.Common.{◌≡◌, ℕ, ◌+◌, ◌-◌, ◌*◌, ◌/◌, ◌%◌, ◌<◌, ◌∙◌, List, [], ◌∷◌, ◌++◌, length, get_or, drop, refl, sym, inl, inr, lit≤, arith, ℤ, pos, negsuc, neg_ℤ, ◌+ℤ◌, ◌-ℤ◌, ◌*ℤ◌, append_assoc, length-append, ap}
+use Rattle.std.proofs.Common.{◌≡◌, ℕ, ◌+◌, ◌-◌, ◌*◌, ◌/◌, ◌%◌, ◌<◌, ◌∙◌, List, [], ◌∷◌, ◌++◌, length, get_or, drop, refl, sym}
+use Rattle.std.proofs.Common.{inl, inr, lit≤, arith, ℤ, pos, negsuc, neg_ℤ, ◌+ℤ◌, ◌-ℤ◌, ◌*ℤ◌, append_assoc, length-append, ap}
 use Rattle.std.specs.Prelude.{codes}
 use Rattle.jiff_core.specs.Calendar.{days_from_civil}
 use Rattle.jiff_core.proofs.CalendarLemmas.{days_in_month_bounds}
@@ -24,7 +25,8 @@ pub one_day : (text : List ℕ) (m n : ℤ) → IsDateText text m → IsDateText
 one_day text m n a b =
     let long = days_in_month_bounds (pos a.year) a.month in
     let long_too = days_in_month_bounds (pos b.year) b.month in
-    let year = four_front a.year b.year (two a.month ++ two a.day_of_month) (two b.month ++ two b.day_of_month) (omega (arith, signed_arith, a.date.0)) (omega (arith, signed_arith, b.date.0)) (sym a.text_is ∙ b.text_is) in
+    let year = four_front a.year b.year (two a.month ++ two a.day_of_month) (two b.month ++ two b.day_of_month)
+    (omega (arith, signed_arith, a.date.0)) (omega (arith, signed_arith, b.date.0)) (sym a.text_is ∙ b.text_is) in
     let month = two_front a.month b.month (two a.day_of_month) (two b.day_of_month) (omega (arith, a.date.1)) (omega (arith, b.date.1)) year.1 in
     let day = two_front a.day_of_month b.day_of_month [] [] (omega (arith, a.date.2, long)) (omega (arith, b.date.2, long_too)) month.1 in
     let same : days_from_civil (pos a.year) a.month a.day_of_month ≡ days_from_civil (pos b.year) b.month b.day_of_month = rw (year.0, month.0, day.0) refl in
@@ -44,7 +46,8 @@ one_time s t a b h m z = omega arith
 -- a time of day's text is of one time of day
 pub one_clock : (text : List ℕ) (s t : ℕ) → IsClockText text s → IsClockText text t → s ≡ t
 one_clock text s t (low, inl a) (high, inl b) =
-    let front = pair_front (hour s) (hour t) (minute s) (minute t) (two (second s)) (two (second t)) (omega arith) (omega arith) (omega arith) (omega arith) (sym a ∙ b) in
+    let front = pair_front (hour s) (hour t) (minute s) (minute t) (two (second s))
+    (two (second t)) (omega arith) (omega arith) (omega arith) (omega arith) (sym a ∙ b) in
     let last = two_front (second s) (second t) [] [] (omega arith) (omega arith) front.2 in
     one_time s t low high front.0 front.1 last.0
 one_clock text s t (low, inl a) (high, inr (inl b)) = let z = sym a ∙ b.0 in absurd cc
@@ -109,8 +112,8 @@ one_end text a x b y o p e h f k =
     same_parts text a x b y e f len
 
 -- so whatever a text spells has the day, the seconds and the offset of its parts
-pub spelled_equation : (text date clock zone : List ℕ) (day : ℤ) (seconds : ℕ) (offset : ℤ) (t : ℕ) → text ≡ date ++ clock ++ zone → IsDateText date day → IsClockText clock seconds → IsOffsetText zone offset → Spells text t
-    → pos t ≡ pos 86_400 *ℤ day +ℤ pos seconds -ℤ pos 60 *ℤ offset
+pub spelled_equation : (text date clock zone : List ℕ) (day : ℤ) (seconds : ℕ) (offset : ℤ) (t : ℕ) → text ≡ date ++ clock ++ zone → IsDateText date day
+    → IsClockText clock seconds → IsOffsetText zone offset → Spells text t → pos t ≡ pos 86_400 *ℤ day +ℤ pos seconds -ℤ pos 60 *ℤ offset
 spelled_equation text date clock zone day seconds offset t e date_is clock_is zone_is s =
     let x = cut_date text date clock zone day e date_is in
     let y = cut_date text s.date s.clock s.zone s.day s.text_is s.date_is in
@@ -122,11 +125,13 @@ spelled_equation text date clock zone day seconds offset t e date_is clock_is zo
 
 pub one_spelled : (text : List ℕ) (s t : ℕ) → Spells text s → Spells text t → s ≡ t
 one_spelled text s t a b =
-    let same : pos s ≡ pos t = a.moment_is ∙ sym (spelled_equation text a.date a.clock a.zone a.day a.seconds a.offset t a.text_is a.date_is a.clock_is a.zone_is b) in
+    let same : pos s ≡ pos t =
+    a.moment_is ∙ sym (spelled_equation text a.date a.clock a.zone a.day a.seconds a.offset t a.text_is a.date_is a.clock_is a.zone_is b) in
     cc
 
 -- in UTC a moment's day and the seconds into it are the day and the seconds of its text
-utc_parts : (t : ℕ) (day : ℤ) (seconds : ℕ) → seconds < 86_400 → pos t ≡ pos 86_400 *ℤ day +ℤ pos seconds -ℤ pos 60 *ℤ pos 0 → (day ≡ pos (t / 86_400)) × (seconds ≡ t % 86_400)
+utc_parts : (t : ℕ) (day : ℤ) (seconds : ℕ) → seconds < 86_400
+    → pos t ≡ pos 86_400 *ℤ day +ℤ pos seconds -ℤ pos 60 *ℤ pos 0 → (day ≡ pos (t / 86_400)) × (seconds ≡ t % 86_400)
 utc_parts t (pos n) seconds h e =
     let same : t ≡ 86_400 * n + seconds = omega (arith, signed_arith, e) in
     let days : n ≡ t / 86_400 = omega (arith, same) in
@@ -134,7 +139,8 @@ utc_parts t (pos n) seconds h e =
 utc_parts t (negsuc n) seconds h e = absurd (omega (arith, signed_arith, e))
 
 -- a time of day of six bytes has its minutes and its seconds
-whole_clock : (text : List ℕ) (seconds : ℕ) → IsClockText text seconds → length text ≡ 6 → text ≡ two (hour seconds) ++ two (minute seconds) ++ two (second seconds)
+whole_clock : (text : List ℕ) (seconds : ℕ) → IsClockText text seconds → length text ≡ 6
+    → text ≡ two (hour seconds) ++ two (minute seconds) ++ two (second seconds)
 whole_clock text seconds (low, inl full) len = full
 whole_clock text seconds (low, inr (inl short)) len = absurd (omega (arith, len, ap length short.0))
 whole_clock text seconds (low, inr (inr shortest)) len = absurd (omega (arith, len, ap length shortest.0))
@@ -148,6 +154,7 @@ stamp_from_length text t s len last =
     let end : length s.zone ≡ 1 = ap length utc.0 in
     let six : length s.clock ≡ 6 = omega (arith, len, ap length s.text_is, length-append (s.date ++ s.clock) s.zone, length-append s.date s.clock, date, end) in
     let parts = utc_parts t s.day s.seconds s.clock_is.0 (rw utc.1 at s.moment_is) in
-    let clock = whole_clock s.clock s.seconds s.clock_is six ∙ ap (λ (n : ℕ). two (hour n) ++ two (minute n) ++ two (second n)) parts.1 ∙ sym (clock_in_day t) in
+    let clock =
+    whole_clock s.clock s.seconds s.clock_is six ∙ ap (λ (n : ℕ). two (hour n) ++ two (minute n) ++ two (second n)) parts.1 ∙ sym (clock_in_day t) in
     let whole : text ≡ s.date ++ (two (hour t) ++ two (minute t) ++ two (second t)) ++ codes "Z" = rw (clock, utc.0) at s.text_is in
     record { moment = s.moment; date = s.date; text_is = whole ∙ sym (simp append_assoc); date_is = rw parts.0 at s.date_is }

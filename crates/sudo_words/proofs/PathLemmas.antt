@@ -1,5 +1,6 @@
 -- Paths: which bytes stand in them, and that no file's path is a directory's.
-use Rattle.std.proofs.Common.{◌≡◌, ℕ, ◌-◌, ◌<◌, true, false, eqb, leb, not, ◌&&◌, List, [], ◌∷◌, ◌++◌, length, take, drop, refl, sym, ap, subst, ◌∙◌, inl, inr, arith}
+use Rattle.std.proofs.Common.{◌≡◌, ℕ, ◌-◌, ◌<◌, true, false, eqb, leb, not, ◌&&◌, List, [], ◌∷◌}
+use Rattle.std.proofs.Common.{◌++◌, length, take, drop, refl, sym, ap, subst, ◌∙◌, inl, inr, arith}
 use Rattle.std.specs.Prelude.{codes}
 use Rattle.std.specs.Str.{bytes_eq}
 use Rattle.std.specs.List.{AllByRecursion, list_all, slice_split, onto_first}
@@ -22,7 +23,8 @@ parts_bytes (part ∷ parts) h =
     let bytes = and_parts (leb 1 (length part)) (list_all is_path_byte part) shape.0 in
     and_from (list_all is_path_byte part) (list_all (list_all is_path_byte) parts) bytes.1 (parts_bytes parts both.1)
 
-onto_bytes : (x : ℕ) (parts : List (List ℕ)) → list_all (list_all is_path_byte) (onto_first x parts) ≡ true → (is_path_byte x ≡ true) × (list_all (list_all is_path_byte) parts ≡ true)
+onto_bytes : (x : ℕ) (parts : List (List ℕ)) → list_all (list_all is_path_byte) (onto_first x parts) ≡ true
+    → (is_path_byte x ≡ true) × (list_all (list_all is_path_byte) parts ≡ true)
 onto_bytes x [] h = let all = and_parts (is_path_byte x && true) true h in ((and_parts (is_path_byte x) true all.0).0, refl)
 onto_bytes x (part ∷ parts) h =
     let all = and_parts (is_path_byte x && list_all is_path_byte part) (list_all (list_all is_path_byte) parts) h in
@@ -73,7 +75,8 @@ dir_parts w h =
 pub dir_each : (P : ℕ → Type 0) → P 47 → ((b : ℕ) → is_path_byte b ≡ true → P b) → (w : List ℕ) → is_dir_path w ≡ true → AllByRecursion P w
 dir_each P slash byte w h =
     let parts = dir_parts w h in
-    subst (AllByRecursion P) (sym (slash_end w parts.0)) (append_slash P slash byte (take (length w - 1) w) (absolute_each P slash byte (take (length w - 1) w) parts.1))
+    subst (AllByRecursion P) (sym (slash_end w parts.0))
+    (append_slash P slash byte (take (length w - 1) w) (absolute_each P slash byte (take (length w - 1) w) parts.1))
 
 onto_append : (x : ℕ) (parts more : List (List ℕ)) → 0 < length parts → onto_first x (parts ++ more) ≡ onto_first x parts ++ more
 onto_append x [] more h = absurd (omega arith)
@@ -99,7 +102,8 @@ no_slash_end [] = refl
 no_slash_end (b ∷ bs) =
     let at = λ (x : ℕ). eqb x 47 in
     let parts : are_components (bs ++ 47 ∷ []) ≡ false =
-    ap (list_all is_component) (split_end bs) ∙ list_all-append is_component (slice_split at bs) ([] ∷ []) ∙ and_right (list_all is_component (slice_split at bs)) false refl in
+    ap (list_all is_component) (split_end bs) ∙ list_all-append is_component (slice_split at bs) ([] ∷ [])
+    ∙ and_right (list_all is_component (slice_split at bs)) false refl in
     and_right (eqb b 47) (are_components (bs ++ 47 ∷ [])) parts
 
 -- a file's path does not end in a slash

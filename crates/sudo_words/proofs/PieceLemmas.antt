@@ -24,9 +24,11 @@ spaced w = 32 ∷ w
 abbrev pub HasNoSpace : List ℕ → Type 0
 HasNoSpace w = AllByRecursion (λ b. eqb b 32 ≡ false) w
 
-pub cut_words : (first : List ℕ) (others : List (List ℕ)) → HasNoSpace first → AllByRecursion HasNoSpace others → slice_split (λ b. eqb b 32) (first ++ flat_map spaced others) ≡ first ∷ others
+pub cut_words : (first : List ℕ) (others : List (List ℕ)) → HasNoSpace first → AllByRecursion HasNoSpace others
+    → slice_split (λ b. eqb b 32) (first ++ flat_map spaced others) ≡ first ∷ others
 cut_words first [] h k =
-    ap (slice_split (λ (b : ℕ). eqb b 32)) (append-nil first) ∙ slice_split_none (λ (b : ℕ). eqb b 32) first (All-from_recursion (λ (b : ℕ). eqb b 32 ≡ false) first h)
+    ap (slice_split (λ (b : ℕ). eqb b 32)) (append-nil first)
+    ∙ slice_split_none (λ (b : ℕ). eqb b 32) first (All-from_recursion (λ (b : ℕ). eqb b 32 ≡ false) first h)
 cut_words first (w ∷ ws) h k =
     slice_split_at (λ (b : ℕ). eqb b 32) first 32 (w ++ flat_map spaced ws) (All-from_recursion (λ (b : ℕ). eqb b 32 ≡ false) first h) refl
     ∙ ap (λ (t : List (List ℕ)). first ∷ t) (cut_words w ws k.0 k.1)
@@ -76,10 +78,12 @@ words_text (Exactly args) = args_text args
 
 no_quoted : (a : List ℕ) → is_arg a ≡ true → arg_text a ≡ codes "\"\"" → ⊥
 no_quoted a h e =
-    let each : AllByRecursion (λ b. eqb b 34 ≡ false) (codes "\"\"") = subst (AllByRecursion (λ (b : ℕ). eqb b 34 ≡ false)) e (arg_text_each (λ (b : ℕ). eqb b 34 ≡ false) refl arg_no_quote a (arg_parts a h).bytes) in
+    let each : AllByRecursion (λ b. eqb b 34 ≡ false) (codes "\"\"") =
+    subst (AllByRecursion (λ (b : ℕ). eqb b 34 ≡ false)) e (arg_text_each (λ (b : ℕ). eqb b 34 ≡ false) refl arg_no_quote a (arg_parts a h).bytes) in
     false≢true (sym each.0)
 
-pub same_args : (xs ys : List (List ℕ)) → AllByRecursion (λ arg. is_arg arg ≡ true) xs → AllByRecursion (λ arg. is_arg arg ≡ true) ys → map arg_text xs ≡ map arg_text ys → xs ≡ ys
+pub same_args : (xs ys : List (List ℕ)) → AllByRecursion (λ arg. is_arg arg ≡ true) xs
+    → AllByRecursion (λ arg. is_arg arg ≡ true) ys → map arg_text xs ≡ map arg_text ys → xs ≡ ys
 same_args [] [] h k e = refl
 same_args [] (y ∷ ys) h k e = absurd cc
 same_args (x ∷ xs) [] h k e = absurd cc

@@ -1,6 +1,7 @@
--- Commands of a sudoers text: which invocations they match, which of them are lawful, and how each is written
--- (sudoers(5), "Cmnd_List" and "Command arguments").
-use Rattle.std.specs.Prelude.{◌≡◌, ℕ, ◌≤◌, Bool, true, false, ◌&&◌, ◌||◌, ◌==◌, if◌then◌else◌, List, [], ◌∷◌, ◌++◌, length, take, drop, codes}
+-- Commands of a sudoers text: which invocations they match, which of them are lawful, and how each
+-- is written (sudoers(5), "Cmnd_List" and "Command arguments").
+use Rattle.std.specs.Prelude.{◌≡◌, ℕ, ◌≤◌, Bool, true, false, ◌&&◌, ◌||◌, ◌==◌}
+use Rattle.std.specs.Prelude.{if◌then◌else◌, List, [], ◌∷◌, ◌++◌, length, take, drop, codes}
 use Rattle.std.specs.List.{AllByRecursion, flat_map}
 use Rattle.std.specs.Str.{bytes_eq}
 use Rattle.std.specs.Cmp.Lexicographic.{pointwise}
@@ -17,9 +18,11 @@ allows Any args = true
 allows Empty args = length args == 0
 allows (Exactly wanted) args = pointwise bytes_eq args wanted
 
--- A file directly within the directory, whose path ends in a slash: the directory and one component (`directory_and_component` says so).
+-- A file directly within the directory, whose path ends in a slash: the directory and one component
+-- (`directory_and_component` says so).
 abbrev pub is_directly_in : List ℕ → List ℕ → Bool
-is_directly_in dir path = bytes_eq (take (length dir) path) dir && is_component (drop (length dir) path)
+is_directly_in dir path =
+    bytes_eq (take (length dir) path) dir && is_component (drop (length dir) path)
 
 -- Whether a command matches a path that is run with these arguments.
 abbrev pub matches : Cmnd → List ℕ → List (List ℕ) → Bool
@@ -42,7 +45,8 @@ arg_text arg = flat_map escaped_byte arg
 abbrev pub spaced_arg : List ℕ → List ℕ
 spaced_arg arg = space ∷ arg_text arg
 
--- what stands after a path: nothing where any arguments are allowed, `""` where none is, else the arguments
+-- what stands after a path: nothing where any arguments are allowed, `""` where none is, else the
+-- arguments
 abbrev pub rule_text : ArgRule → List ℕ
 rule_text Any = []
 rule_text Empty = codes " \"\""
@@ -63,7 +67,8 @@ rule_of (Dir dir) = Any
 abbrev pub cmnd_text : Cmnd → List ℕ
 cmnd_text cmnd = head_text cmnd ++ rule_text (rule_of cmnd)
 
--- ---- The commands that policies hold: `ALL`, a directory, or a file with a rule for its arguments.
+-- ---- The commands that policies hold: `ALL`, a directory, or a file with a rule for its
+-- arguments.
 
 -- a path has at most so many bytes
 abbrev pub most_path_bytes : ℕ
@@ -80,14 +85,16 @@ most_cmnd_bytes = 1024
 -- a path keeps its limit, and names no file that sudo takes for its own command `sudoedit`
 abbrev pub IsHead : Cmnd → Type 0
 IsHead All = Unit {0}
-IsHead (Path file rule) = (is_file_path file ≡ true) × (length file ≤ most_path_bytes) × (is_sudoedit file ≡ false)
+IsHead (Path file rule) =
+    (is_file_path file ≡ true) × (length file ≤ most_path_bytes) × (is_sudoedit file ≡ false)
 IsHead (Dir dir) = (is_dir_path dir ≡ true) × (length dir ≤ most_path_bytes)
 
 -- at least one argument, and not too many, where they are listed
 abbrev pub IsArgRule : ArgRule → Type 0
 IsArgRule Any = Unit {0}
 IsArgRule Empty = Unit {0}
-IsArgRule (Exactly args) = AllByRecursion (λ arg. is_arg arg ≡ true) args × (1 ≤ length args) × (length args ≤ most_args)
+IsArgRule (Exactly args) =
+    AllByRecursion (λ arg. is_arg arg ≡ true) args × (1 ≤ length args) × (length args ≤ most_args)
 
 -- The path, the arguments and the text keep their limits, and no file is `sudoedit`.
 pub record IsLawful (cmnd : Cmnd) : Type 0 where

@@ -5,4 +5,5 @@ use Rattle.std.specs.Char.{is_ascii_digit}
 
 -- 1 to 9 digits
 abbrev pub is_decimal : List ℕ → Bool
-is_decimal value = nat_lt 0 (length value) && (nat_le (length value) 9 && list_all is_ascii_digit value)
+is_decimal value =
+    nat_lt 0 (length value) && (nat_le (length value) 9 && list_all is_ascii_digit value)

@@ -1,5 +1,8 @@
--- Moments, after Generalized Time (RFC 4517, section 3.3.13): whole seconds of UTC, and the texts that spell them.
-use Rattle.std.specs.Prelude.{◌≡◌, ℕ, zero, suc, ◌+◌, ◌-◌, ◌/◌, ◌%◌, ◌<◌, ◌≤◌, ◌⊎◌, ◌&&◌, ◌||◌, ◌==◌, Bool, nat_lt, nat_le, if◌then◌else◌, List, [], ◌∷◌, ◌++◌, ℤ, pos, neg_ℤ, ◌+ℤ◌, ◌-ℤ◌, ◌*ℤ◌, codes}
+-- Moments, after Generalized Time (RFC 4517, section 3.3.13): whole seconds of UTC, and the texts
+-- that spell them.
+use Rattle.std.specs.Prelude.{◌≡◌, ℕ, zero, suc, ◌+◌, ◌-◌, ◌/◌, ◌%◌, ◌<◌, ◌≤◌, ◌⊎◌, ◌&&◌}
+use Rattle.std.specs.Prelude.{◌||◌, ◌==◌, Bool, nat_lt, nat_le, if◌then◌else◌, List, []}
+use Rattle.std.specs.Prelude.{◌∷◌, ◌++◌, ℤ, pos, neg_ℤ, ◌+ℤ◌, ◌-ℤ◌, ◌*ℤ◌, codes}
 use Rattle.jiff_core.specs.Calendar.{IsCivilDate, days_from_civil, days_in_month, days_in_year}
 
 -- A moment is the count of seconds since 1970-01-01T00:00:00Z, up to 2099-12-31T23:59:59Z.
@@ -20,7 +23,8 @@ two n = (48 + n / 10) ∷ (48 + n % 10) ∷ []
 abbrev pub four : ℕ → List ℕ
 four n = two (n / 100) ++ two (n % 100)
 
--- `yyyymmdd`: the calendar's date with this day number, where 1970-01-01 is 0 and the day before it -1. The year has four digits.
+-- `yyyymmdd`: the calendar's date with this day number, where 1970-01-01 is 0 and the day before it
+-- -1. The year has four digits.
 pub record IsDateText (text : List ℕ) (day : ℤ) : Type 0 where
   pub year : ℕ
   pub month : ℕ
@@ -39,8 +43,8 @@ minute t = t % 3600 / 60
 abbrev pub second : ℕ → ℕ
 second t = t % 60
 
--- What may stand after the date, for a time so many seconds into the day: `HHMMSS`; or `HHMM` where the seconds are 00; or `HH` where the
--- minutes are 00 too.
+-- What may stand after the date, for a time so many seconds into the day: `HHMMSS`; or `HHMM` where
+-- the seconds are 00; or `HH` where the minutes are 00 too.
 abbrev pub IsClockText : List ℕ → ℕ → Type 0
 IsClockText text seconds =
     (seconds < 86_400) × (
@@ -52,15 +56,17 @@ IsClockText text seconds =
 abbrev pub IsDistance : List ℕ → ℕ → Type 0
 IsDistance text minutes = (minutes < 1_440) × (text ≡ two (minutes / 60) ++ two (minutes % 60))
 
--- What ends a time, for a clock so many minutes ahead of UTC: `Z` for UTC itself; `+hhmm`; or `-hhmm` for one that is behind it.
+-- What ends a time, for a clock so many minutes ahead of UTC: `Z` for UTC itself; `+hhmm`; or
+-- `-hhmm` for one that is behind it.
 abbrev pub IsOffsetText : List ℕ → ℤ → Type 0
 IsOffsetText text offset =
-    ((text ≡ codes "Z") × (offset ≡ pos 0))
-    ⊎ ((digits : List ℕ) × (minutes : ℕ) × (text ≡ codes "+" ++ digits) × IsDistance digits minutes × (offset ≡ pos minutes))
-    ⊎ ((digits : List ℕ) × (minutes : ℕ) × (text ≡ codes "-" ++ digits) × IsDistance digits minutes × (offset ≡ neg_ℤ (pos minutes)))
+    ((text ≡ codes "Z") × (offset ≡ pos 0)) ⊎ ((digits : List ℕ) × (minutes : ℕ)
+    × (text ≡ codes "+" ++ digits) × IsDistance digits minutes × (offset ≡ pos minutes))
+    ⊎ ((digits : List ℕ) × (minutes : ℕ) × (text ≡ codes "-" ++ digits)
+    × IsDistance digits minutes × (offset ≡ neg_ℤ (pos minutes)))
 
--- The text spells the moment: 86,400 seconds for each day up to its date, and the seconds into that day, less 60 for each minute of its offset.
--- The date itself may lie outside the years of moments.
+-- The text spells the moment: 86,400 seconds for each day up to its date, and the seconds into that
+-- day, less 60 for each minute of its offset. The date itself may lie outside the years of moments.
 pub record Spells (text : List ℕ) (t : ℕ) : Type 0 where
   pub moment : IsMoment t
   pub date : List ℕ
@@ -90,9 +96,14 @@ pub record CalendarDate : Type 0 where
 
 -- so many days after the first of a month, in that month or one of the `later` months after it
 unfoldable pub date_from_month : (later year month days : ℕ) → CalendarDate
-date_from_month zero year month days = record { year = year; month = month; day_of_month = days + 1 }
+date_from_month zero year month days = record {
+  year = year;
+  month = month;
+  day_of_month = days + 1;
+}
 date_from_month (suc later) year month days =
-    if nat_lt days (days_in_month (pos year) month) then record { year = year; month = month; day_of_month = days + 1 }
+    if nat_lt days (days_in_month (pos year) month) then
+    record { year = year; month = month; day_of_month = days + 1 }
     else date_from_month later year (month + 1) (days - days_in_month (pos year) month)
 
 -- so many days after 1 January, in that year or one of the `later` years after it

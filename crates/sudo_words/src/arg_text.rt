@@ -1,6 +1,7 @@
 //! Arguments as texts of sudoers have them: each `,`, `:` and `=` stands after a backslash.
 
-ghost use Rattle.std.specs.Prelude.{◌≡◌, ◌<◌, ◌++◌, ℕ, List, true, IfOk, IfSome, IsSome, MatchResult, OnOk, string_bytes};
+ghost use Rattle.std.specs.Prelude.{◌≡◌, ◌<◌, ◌++◌, ℕ, List, true, IfOk, IfSome};
+ghost use Rattle.std.specs.Prelude.{IsSome, MatchResult, OnOk, string_bytes};
 ghost use Rattle.std.specs.List.{list_all};
 ghost use Rattle.sudo_words.specs.Word.{is_arg, is_arg_byte as may_stand};
 ghost use Rattle.sudo_words.specs.Command.{arg_text, escaped_byte};
@@ -11,7 +12,8 @@ use crate::arg::{Arg, is_arg_byte};
 use crate::fault::WordFault;
 use std::alloc::{AllocError, Global};
 
-/// Whether the byte stands after a backslash in an argument's text (sudoers(5), "Other special characters and reserved words").
+/// Whether the byte stands after a backslash in an argument's text (sudoers(5), "Other special
+/// characters and reserved words").
 pub fn is_escaped(byte: u8) -> bool
     ensures { result ≡ command.is_escaped byte }
 {
@@ -20,8 +22,10 @@ pub fn is_escaped(byte: u8) -> bool
 
 /// The byte of an argument that a text begins with, and what stands after it.
 fn next_byte(text: &[u8]) -> Option<(u8, &[u8])>
-    ensures found { IfSome result (λ p. (may_stand p.0 ≡ true) × (text.now ≡ escaped_byte p.0 ++ p.1.now)) }
-    ensures only { (b : ℕ) (rest : List ℕ) → may_stand b ≡ true → text.now ≡ escaped_byte b ++ rest → IsSome result }
+    ensures found { IfSome result
+        (λ p. (may_stand p.0 ≡ true) × (text.now ≡ escaped_byte p.0 ++ p.1.now)) }
+    ensures only { (b : ℕ) (rest : List ℕ) → may_stand b ≡ true
+        → text.now ≡ escaped_byte b ++ rest → IsSome result }
 {
     let (first, rest) = text.split_first()?;
     if *first == b'\\' {
@@ -41,7 +45,8 @@ fn next_byte(text: &[u8]) -> Option<(u8, &[u8])>
 /// The bytes that the text stands for, which are bytes of an argument.
 fn unescaped(alloc: Global, text: &[u8]) -> Result<String, WordFault>
     ensures found { IfOk result (λ s. text.now ≡ arg_text (string_bytes s)) }
-    ensures only { (a : List ℕ) → list_all may_stand a ≡ true → text.now ≡ arg_text a → MatchResult result (λ s. string_bytes s ≡ a) (λ e. e ≡ NoMemory) }
+    ensures only { (a : List ℕ) → list_all may_stand a ≡ true → text.now ≡ arg_text a
+        → MatchResult result (λ s. string_bytes s ≡ a) (λ e. e ≡ NoMemory) }
 {
     let mut out = String::new(alloc);
     let mut left = text;
@@ -59,7 +64,8 @@ fn unescaped(alloc: Global, text: &[u8]) -> Result<String, WordFault>
 /// The argument that the text is, with its backslashes; `BadWord` where it is none's.
 pub fn read_arg(alloc: Global, text: &str) -> Result<Arg, WordFault>
     ensures found { IfOk result (λ a. (is_arg a ≡ true) × (text.now ≡ arg_text a)) }
-    ensures only { (a : List ℕ) → is_arg a ≡ true → text.now ≡ arg_text a → MatchResult result (λ x. x ≡ a) (λ e. e ≡ NoMemory) }
+    ensures only { (a : List ℕ) → is_arg a ≡ true → text.now ≡ arg_text a
+        → MatchResult result (λ x. x ≡ a) (λ e. e ≡ NoMemory) }
 {
     Arg::from_string(unescaped(alloc, text.as_bytes())?)
 }

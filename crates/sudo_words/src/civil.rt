@@ -20,13 +20,16 @@ pub(crate) struct Civil {
     ghost day_digits: { day < 100 },
 }
 
-/// The day number of the date, where the calendar has it. Its numbers are of so many digits that they fit the calendar's signed types.
+/// The day number of the date, where the calendar has it. Its numbers are of so many digits that
+/// they fit the calendar's signed types.
 pub(crate) fn day_number(year: u16, month: u8, day: u8) -> Option<i32>
     requires year_digits { year < 10000 }
     requires month_digits { month < 100 }
     requires day_digits { day < 100 }
-    ensures found { IfSome result (λ n. IsCivilDate (pos year) month day × (days_from_civil (pos year) month day ≡ n)) }
-    ensures only { IsCivilDate (pos year) month day → result ≡ Some (days_from_civil (pos year) month day) }
+    ensures found { IfSome result
+        (λ n. IsCivilDate (pos year) month day × (days_from_civil (pos year) month day ≡ n)) }
+    ensures only { IsCivilDate (pos year) month day
+        → result ≡ Some (days_from_civil (pos year) month day) }
 {
     match Date::new(year as i16, month as i8, day as i8) {
         Ok(date) => Some(date.to_plain().to_unix_epoch_day()),

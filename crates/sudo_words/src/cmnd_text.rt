@@ -1,11 +1,14 @@
 //! Commands read from text and printed.
 
-ghost use Rattle.std.specs.Prelude.{◌≡◌, ◌==◌, ◌-◌, ◌++◌, ◌∷◌, [], ℕ, List, IfOk, IsTrue, ◌↔◌, MatchResult, OnOk, true, codes, drop, length, map, string_bytes};
+ghost use Rattle.std.specs.Prelude.{◌≡◌, ◌==◌, ◌-◌, ◌++◌, ◌∷◌, [], ℕ, List};
+ghost use Rattle.std.specs.Prelude.{IfOk, IsTrue, ◌↔◌, MatchResult, OnOk, true};
+ghost use Rattle.std.specs.Prelude.{codes, drop, length, map, string_bytes};
 ghost use Rattle.std.specs.List.{AllByRecursion, flat_map, slice_split};
 ghost use Rattle.std.specs.Str.{bytes_eq};
 ghost use Rattle.sudo_words.specs.Bytes.{space};
 ghost use Rattle.sudo_words.specs.Word.{is_arg};
-ghost use Rattle.sudo_words.specs.Command.{IsArgRule, IsHead, IsLawful, arg_text, cmnd_text, head_text, rule_of, rule_text, spaced_arg};
+ghost use Rattle.sudo_words.specs.Command.{IsArgRule, IsHead, IsLawful, arg_text, cmnd_text};
+ghost use Rattle.sudo_words.specs.Command.{head_text, rule_of, rule_text, spaced_arg};
 ghost use Rattle.sudo_words.specs.private.Pieces.{words_of};
 ghost use Rattle.sudo_words.specs.declared.cmnd.ArgRule.TheVariants.{Any as AnyArguments};
 ghost use Rattle.sudo_words.specs.declared.cmnd.ArgRule.{ArgRule as ArgumentRule};
@@ -34,7 +37,9 @@ fn words(alloc: Global, text: &str) -> Result<Vec<&str>, AllocError>
 
 fn args_of(alloc: Global, words: &[&str]) -> Result<Vec<Arg>, WordFault>
     ensures found { IfOk result (λ v. map (λ w. w.now) words.now ≡ map arg_text v.items) }
-    ensures only { (args : List (List ℕ)) → AllByRecursion (λ a. is_arg a ≡ true) args → map (λ w. w.now) words.now ≡ map arg_text args → MatchResult result (λ v. v.items ≡ args) (λ e. e ≡ WordNoMemory) }
+    ensures only { (args : List (List ℕ)) → AllByRecursion (λ a. is_arg a ≡ true) args
+        → map (λ w. w.now) words.now ≡ map arg_text args
+        → MatchResult result (λ v. v.items ≡ args) (λ e. e ≡ WordNoMemory) }
 {
     let mut args = Vec::new(alloc);
     for word in words {
@@ -56,7 +61,8 @@ fn is_no_args(words: &[&str]) -> bool
 /// The rule whose text has these words after the path.
 fn args_rule(alloc: Global, words: &[&str]) -> Result<ArgRule, WordFault>
     ensures found { IfOk result (λ r. map (λ w. w.now) words.now ≡ words_of r) }
-    ensures only { (r : ArgumentRule) → IsArgRule r → map (λ w. w.now) words.now ≡ words_of r → MatchResult result (λ s. s ≡ r) (λ e. e ≡ WordNoMemory) }
+    ensures only { (r : ArgumentRule) → IsArgRule r → map (λ w. w.now) words.now ≡ words_of r
+        → MatchResult result (λ s. s ≡ r) (λ e. e ≡ WordNoMemory) }
 {
     if words.is_empty() {
         return Ok(ArgRule::Any);
@@ -79,7 +85,8 @@ fn ends_in_slash(head: &[u8]) -> bool
 /// The command of this head, with any arguments.
 fn with_any(alloc: Global, head: &str) -> Result<Cmnd, CmndFault>
     ensures found { IfOk result (λ c. (head_text c ≡ head.now) × (rule_of c ≡ AnyArguments)) }
-    ensures only { (c : Command) → IsHead c → head.now ≡ head_text c → rule_of c ≡ AnyArguments → MatchResult result (λ d. d ≡ c) (λ e. e ≡ OutOfMemory) }
+    ensures only { (c : Command) → IsHead c → head.now ≡ head_text c
+        → rule_of c ≡ AnyArguments → MatchResult result (λ d. d ≡ c) (λ e. e ≡ OutOfMemory) }
 {
     if head == "ALL" {
         return Ok(Cmnd::All);
@@ -93,7 +100,8 @@ fn with_any(alloc: Global, head: &str) -> Result<Cmnd, CmndFault>
 /// The command of this head and this rule, of any length. `ALL` and directories take any arguments.
 fn headed(alloc: Global, head: &str, rule: ArgRule) -> Result<Cmnd, CmndFault>
     ensures found { IfOk result (λ c. (head_text c ≡ head.now) × (rule_of c ≡ rule)) }
-    ensures only { (c : Command) → IsHead c → head.now ≡ head_text c → rule ≡ rule_of c → MatchResult result (λ d. d ≡ c) (λ e. e ≡ OutOfMemory) }
+    ensures only { (c : Command) → IsHead c → head.now ≡ head_text c
+        → rule ≡ rule_of c → MatchResult result (λ d. d ≡ c) (λ e. e ≡ OutOfMemory) }
 {
     match rule {
         ArgRule::Any => with_any(alloc, head),
@@ -104,7 +112,8 @@ fn headed(alloc: Global, head: &str, rule: ArgRule) -> Result<Cmnd, CmndFault>
 /// The lawful command of this head and this rule; `BadCmnd` where there is none.
 pub fn command_of(alloc: Global, head: &str, rule: ArgRule) -> Result<Cmnd, CmndFault>
     ensures found { IfOk result (λ c. IsLawful c × (head_text c ≡ head.now) × (rule_of c ≡ rule)) }
-    ensures only { (c : Command) → IsLawful c → head.now ≡ head_text c → rule ≡ rule_of c → MatchResult result (λ d. d ≡ c) (λ e. e ≡ OutOfMemory) }
+    ensures only { (c : Command) → IsLawful c → head.now ≡ head_text c
+        → rule ≡ rule_of c → MatchResult result (λ d. d ≡ c) (λ e. e ≡ OutOfMemory) }
 {
     let cmnd = headed(alloc, head, rule)?;
     if is_lawful(&cmnd) {
@@ -117,7 +126,8 @@ pub fn command_of(alloc: Global, head: &str, rule: ArgRule) -> Result<Cmnd, Cmnd
 /// The lawful command that the text is; `BadCmnd` where it is none's.
 pub fn read_cmnd(alloc: Global, text: &str) -> Result<Cmnd, CmndFault>
     ensures found { IfOk result (λ c. IsLawful c × (text.now ≡ cmnd_text c)) }
-    ensures only { (c : Command) → IsLawful c → text.now ≡ cmnd_text c → MatchResult result (λ d. d ≡ c) (λ e. e ≡ OutOfMemory) }
+    ensures only { (c : Command) → IsLawful c → text.now ≡ cmnd_text c
+        → MatchResult result (λ d. d ≡ c) (λ e. e ≡ OutOfMemory) }
 {
     let words = words(alloc, text)?;
     let Some((head, args)) = words.split_first() else {
@@ -129,7 +139,8 @@ pub fn read_cmnd(alloc: Global, text: &str) -> Result<Cmnd, CmndFault>
 
 /// Adds the arguments' texts, with a space before each.
 fn push_args(out: &mut String, args: &[Arg]) -> Result<(), AllocError>
-    ensures { OnOk result (string_bytes out.new ≡ string_bytes out.old ++ flat_map spaced_arg args.now) }
+    ensures { OnOk result
+        (string_bytes out.new ≡ string_bytes out.old ++ flat_map spaced_arg args.now) }
 {
     for arg in args {
         out.push_str(" ")?;

@@ -40,8 +40,8 @@ impl Day {
         self.number
     }
 
-    /// The day from 1970-01-01 to 2099-12-31 whose date the text is, `yyyymmdd`, or `None` where it is none's. It takes no
-    /// memory.
+    /// The day from 1970-01-01 to 2099-12-31 whose date the text is, `yyyymmdd`, or `None` where it
+    /// is none's. It takes no memory.
     pub fn read(text: &str) -> Option<Day>
         ensures found { IfSome result (λ d. IsDay d × IsDateText text.now (pos d)) }
         ensures only { (d : ℕ) → IsDay d → IsDateText text.now (pos d) → result ≡ Some d }

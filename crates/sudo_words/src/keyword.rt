@@ -22,7 +22,8 @@ pub fn is_keyword(text: &[u8]) -> bool
     is_among(&KEYWORDS, text)
 }
 
-/// Whether the path's last component is `sudoedit`, which sudo takes for its own command of that name.
+/// Whether the path's last component is `sudoedit`, which sudo takes for its own command of that
+/// name.
 pub fn is_sudoedit(path: &[u8]) -> bool
     ensures { result ≡ word.is_sudoedit path.now }
 {

@@ -4,7 +4,8 @@ ghost use Rattle.std.specs.Prelude.{◌≡◌, ◌↔◌, ◌≤◌, IsTrue, Mat
 ghost use Rattle.std.specs.List.{AllByRecursion, flat_map};
 ghost use Rattle.sudo_words.specs.Word.{is_arg};
 ghost use Rattle.sudo_words.specs.Command as command;
-ghost use Rattle.sudo_words.specs.Command.{IsArgRule, IsLawful, arg_text, cmnd_text, most_args, rule_text, spaced_arg};
+ghost use Rattle.sudo_words.specs.Command.{IsArgRule, IsLawful, arg_text, cmnd_text};
+ghost use Rattle.sudo_words.specs.Command.{most_args, rule_text, spaced_arg};
 
 use crate::arg::Arg;
 use crate::arg_text::is_escaped;
@@ -52,7 +53,8 @@ fn args_length(args: &[Arg]) -> usize
 
 /// The length of the rule's text; `None` where it lists no argument, or too many.
 fn rule_length(rule: &ArgRule) -> Option<usize>
-    ensures { MatchOption result (¬ IsArgRule rule.now) (λ n. IsArgRule rule.now × (n ≡ length (rule_text rule.now)) × (n ≤ 2064)) }
+    ensures { MatchOption result (¬ IsArgRule rule.now)
+        (λ n. IsArgRule rule.now × (n ≡ length (rule_text rule.now)) × (n ≤ 2064)) }
 {
     match rule {
         ArgRule::Any => Some(0),
@@ -67,10 +69,9 @@ fn rule_length(rule: &ArgRule) -> Option<usize>
     }
 }
 
-/// Whether policies hold the command: `ALL`, a directory, or a file with any arguments, with none, or
-/// with 1 to 16 that are listed; its path has at most 255 bytes, and its text at most 1,024. No file is
-/// `sudoedit`.
-/// It takes no memory.
+/// Whether policies hold the command: `ALL`, a directory, or a file with any arguments, with none,
+/// or with 1 to 16 that are listed; its path has at most 255 bytes, and its text at most 1,024. No
+/// file is `sudoedit`. It takes no memory.
 pub fn is_lawful(cmnd: &Cmnd) -> bool
     ensures { IsTrue result ↔ IsLawful cmnd.now }
 {

@@ -16,18 +16,24 @@ pub fn one_command()
     ensures { (c d : Command) → IsLawful c → IsLawful d → cmnd_text c ≡ cmnd_text d → c ≡ d }
 {}
 
-/// What is directly in a directory has the directory's path and one component after it, and whatever has that is in it.
+/// What is directly in a directory has the directory's path and one component after it, and
+/// whatever has that is in it.
 pub fn directory_and_component()
-    ensures { (dir path : List ℕ) → (is_directly_in dir path ≡ true) ↔ ((component : List ℕ) × (path ≡ dir ++ component) × (is_component component ≡ true)) }
+    ensures { (dir path : List ℕ) → (is_directly_in dir path ≡ true)
+        ↔ ((component : List ℕ) × (path ≡ dir ++ component) × (is_component component ≡ true)) }
 {}
 
-/// The paths that sudo takes for its own command are those that end in `/sudoedit`, and no lawful command has one.
+/// The paths that sudo takes for its own command are those that end in `/sudoedit`, and no lawful
+/// command has one.
 pub fn no_sudoedit()
-    ensures last { (path : List ℕ) → (is_sudoedit path ≡ true) ↔ ((front : List ℕ) × (path ≡ front ++ codes "/sudoedit")) }
-    ensures unlawful { (front : List ℕ) (rule : Ruled) → ¬ IsLawful (Path (front ++ codes "/sudoedit") rule) }
+    ensures last { (path : List ℕ)
+        → (is_sudoedit path ≡ true) ↔ ((front : List ℕ) × (path ≡ front ++ codes "/sudoedit")) }
+    ensures unlawful { (front : List ℕ) (rule : Ruled)
+        → ¬ IsLawful (Path (front ++ codes "/sudoedit") rule) }
 {}
 
-/// Worked paths: those that sudo takes for its own command, those that it does not, and a directory of that name.
+/// Worked paths: those that sudo takes for its own command, those that it does not, and a directory
+/// of that name.
 pub fn worked_paths()
     ensures in_directory { is_sudoedit (codes "/opt/app/bin/sudoedit") ≡ true }
     ensures in_root { is_sudoedit (codes "/sudoedit") ≡ true }
@@ -37,13 +43,16 @@ pub fn worked_paths()
     ensures directory { IsLawful (Dir (codes "/opt/sudoedit/")) }
 {}
 
-/// Worked names: a keyword is no user's, target's or host's name, but one with more after it is, and a label may be one.
+/// Worked names: a keyword is no user's, target's or host's name, but one with more after it is,
+/// and a label may be one.
 pub fn worked_names()
-    ensures sudoedit { (is_name (codes "sudoedit") ≡ false) × (is_host_name (codes "sudoedit") ≡ false) }
+    ensures sudoedit { (is_name (codes "sudoedit") ≡ false)
+        × (is_host_name (codes "sudoedit") ≡ false) }
     ensures sha224 { (is_name (codes "sha224") ≡ false) × (is_host_name (codes "sha224") ≡ false) }
     ensures sha256 { (is_name (codes "sha256") ≡ false) × (is_host_name (codes "sha256") ≡ false) }
     ensures sha384 { (is_name (codes "sha384") ≡ false) × (is_host_name (codes "sha384") ≡ false) }
     ensures sha512 { (is_name (codes "sha512") ≡ false) × (is_host_name (codes "sha512") ≡ false) }
-    ensures longer { (is_name (codes "sha256x") ≡ true) × (is_host_name (codes "sudoedit2") ≡ true) }
+    ensures longer { (is_name (codes "sha256x") ≡ true)
+        × (is_host_name (codes "sudoedit2") ≡ true) }
     ensures label { is_label (codes "sudoedit") ≡ true }
 {}

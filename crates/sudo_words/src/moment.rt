@@ -21,9 +21,9 @@ const STAMP_LENGTH: usize = 15;
 /// A moment: a whole second of UTC in the years 1970 to 2099, without leap seconds.
 ///
 /// It is read from Generalized Time (RFC 4517, section 3.3.13) in one of the forms
-/// `yyyymmddHHMMSSZ`, `yyyymmddHHMMZ` and `yyyymmddHHZ`, and printed in the first, which is canonical.
-/// `+hhmm` or `-hhmm` may stand in place of `Z`, for a clock that is so far ahead of UTC or behind it.
-/// Fractions and offsets of hours alone, which that syntax has too, are not read.
+/// `yyyymmddHHMMSSZ`, `yyyymmddHHMMZ` and `yyyymmddHHZ`, and printed in the first, which is
+/// canonical. `+hhmm` or `-hhmm` may stand in place of `Z`, for a clock that is so far ahead of UTC
+/// or behind it. Fractions and offsets of hours alone, which that syntax has too, are not read.
 #[derive(Clone, Copy, Debug, PartialEq, Eq, PartialOrd, Ord)]
 pub struct Moment {
     secs: u32,
@@ -55,7 +55,8 @@ impl Moment {
         moment_at(date(front)?, clock(time)?, offset(end)?)
     }
 
-    /// The moment whose canonical text this is, or `None` where it is no moment's. It takes no memory.
+    /// The moment whose canonical text this is, or `None` where it is no moment's. It takes no
+    /// memory.
     pub fn read_stamp(text: &str) -> Option<Moment>
         ensures found { IfSome result (λ t. IsStamp text.now t) }
         ensures only { (t : ℕ) → IsStamp text.now t → result ≡ Some t }
@@ -95,8 +96,10 @@ impl Moment {
 
 /// The moment of a time so many seconds into a day, by a clock so many minutes ahead of UTC.
 fn moment_at(day: i32, seconds: u32, offset: i32) -> Option<Moment>
-    ensures found { IfSome result (λ t. IsMoment t × (pos t ≡ pos 86_400 *ℤ day +ℤ pos seconds -ℤ pos 60 *ℤ offset)) }
-    ensures only { (t : ℕ) → IsMoment t → pos t ≡ pos 86_400 *ℤ day +ℤ pos seconds -ℤ pos 60 *ℤ offset → result ≡ Some t }
+    ensures found { IfSome result
+        (λ t. IsMoment t × (pos t ≡ pos 86_400 *ℤ day +ℤ pos seconds -ℤ pos 60 *ℤ offset)) }
+    ensures only { (t : ℕ) → IsMoment t
+        → pos t ≡ pos 86_400 *ℤ day +ℤ pos seconds -ℤ pos 60 *ℤ offset → result ≡ Some t }
 {
     let secs = 86_400 * i64::from(day) + i64::from(seconds) - 60 * i64::from(offset);
     match u64::try_from(secs) {
@@ -113,7 +116,8 @@ fn digit(number: u8) -> u8
     b'0' + number
 }
 
-/// The bytes of the canonical text: a date's and a time of day's numbers in two digits each, and `Z`.
+/// The bytes of the canonical text: a date's and a time of day's numbers in two digits each, and
+/// `Z`.
 fn stamp_bytes(moment: Moment) -> [u8; 15]
     ensures { result ≡ stamp moment }
 {

@@ -18,11 +18,13 @@ pub fn stamp_is_stamp()
 /// The canonical text spells its moment, and is the only spelling of 15 bytes that ends in `Z`.
 pub fn stamp_spells()
     ensures spells { (text : List ℕ) (t : ℕ) → IsStamp text t → Spells text t }
-    ensures only { (text front : List ℕ) (t : ℕ) → Spells text t → length text ≡ 15 → text ≡ front ++ codes "Z" → IsStamp text t }
+    ensures only { (text front : List ℕ) (t : ℕ) → Spells text t
+        → length text ≡ 15 → text ≡ front ++ codes "Z" → IsStamp text t }
 {}
 
-/// Times by clocks ahead of UTC and behind it: at 09:00:00 UTC, at the first moment by a date before it, at the last; and some that are none, for
-/// they lie before the first moment or past the last, or their offset is of 24 hours, or of hours alone.
+/// Times by clocks ahead of UTC and behind it: at 09:00:00 UTC, at the first moment by a date
+/// before it, at the last; and some that are none, for they lie before the first moment or past the
+/// last, or their offset is of 24 hours, or of hours alone.
 pub fn worked_moments()
     ensures ahead { Spells (codes "20260105100000+0100") 1_767_603_600 }
     ensures behind { Spells (codes "2026010504-0500") 1_767_603_600 }

@@ -1,6 +1,7 @@
 //! The parts of a moment's text: its date, its time of day, and its offset from UTC.
 
-ghost use Rattle.std.specs.Prelude.{◌≡◌, ◌<◌, ◌*◌, ◌+◌, ◌++◌, ℕ, ℤ, List, [], ◌∷◌, IfSome, MatchOption, Some};
+ghost use Rattle.std.specs.Prelude.{◌≡◌, ◌<◌, ◌*◌, ◌+◌, ◌++◌, ℕ, ℤ, List};
+ghost use Rattle.std.specs.Prelude.{[], ◌∷◌, IfSome, MatchOption, Some};
 ghost use Rattle.sudo_words.specs.Moment.{two, IsClockText, IsDateText, IsDistance, IsOffsetText};
 
 use crate::civil::day_number;

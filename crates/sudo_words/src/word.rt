@@ -38,7 +38,8 @@ impl<F: Form> Word<F> {
     /// The word that the text is; `BadWord` where it has not the form.
     pub fn read(alloc: Global, text: &str) -> Result<Word<F>, WordFault>
         ensures found { IfOk result (λ w. (w ≡ text.now) × (F.has text.now ≡ true)) }
-        ensures only { F.has text.now ≡ true → MatchResult result (λ w. w ≡ text.now) (λ e. e ≡ NoMemory) }
+        ensures only { F.has text.now ≡ true
+            → MatchResult result (λ w. w ≡ text.now) (λ e. e ≡ NoMemory) }
     {
         if !F::test(text.as_bytes()) {
             return Err(WordFault::BadWord);
@@ -51,7 +52,8 @@ impl<F: Form> Word<F> {
 
     /// The word that the text is, which it keeps; `BadWord` where it has not the form.
     pub fn from_string(text: String) -> Result<Word<F>, WordFault>
-        ensures found { IfOk result (λ w. (w ≡ string_bytes text) × (F.has (string_bytes text) ≡ true)) }
+        ensures found { IfOk result
+            (λ w. (w ≡ string_bytes text) × (F.has (string_bytes text) ≡ true)) }
         ensures only { F.has (string_bytes text) ≡ true → result ≡ Ok (string_bytes text) }
     {
         if F::test(text.as_bytes()) {

@@ -26,4 +26,5 @@ pub record IsToldAt (messages : List Message) (name : RequestName) (about : Abou
 -- at each name the map has the set's messages about it, and nothing where there is none
 pub record Gathers (messages : List Message) (all : BTreeMap RequestName About) : Type 0 where
   pub ordered : IsOrdered name_cmp all
-  pub each : (name : RequestName) → MatchOption (at_name all name) (NobodySpeaks messages name) (IsToldAt messages name)
+  pub each : (name : RequestName)
+      → MatchOption (at_name all name) (NobodySpeaks messages name) (IsToldAt messages name)

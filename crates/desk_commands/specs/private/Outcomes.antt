@@ -1,5 +1,6 @@
 -- What a job comes to before its answer is written. For private clauses.
-use Rattle.std.specs.Prelude.{◌≡◌, ℕ, false, List, Option, Result, Err, Ok, IfErr, IfOk, string_bytes}
+use Rattle.std.specs.Prelude.{◌≡◌, ℕ, false, List, Option, Result}
+use Rattle.std.specs.Prelude.{Err, Ok, IfErr, IfOk, string_bytes}
 use Rattle.std.specs.Io.KnownBytes.{Appends}
 use Rattle.messages.specs.declared.message.Message.{Message}
 use Rattle.sudo_words.specs.declared.cmnd.Cmnd.{Cmnd}
@@ -19,14 +20,19 @@ use Rattle.desk_commands.specs.declared.refusal.Refusal.TheVariants as reasons
 use Rattle.desk_args.specs.declared.task.Job.{Job}
 use Rattle.desk_args.specs.declared.task.Store.{Store}
 
--- It has an answer, and what is to be said beside it stands on the standard error; or it is refused for a reason that it may be refused for.
-pub record IsOutcome (job : Job) (files : List (List ℕ)) (k : Kept) (input : Option (List ℕ)) (result : Result Answer Refusal)
+-- It has an answer, and what is to be said beside it stands on the standard error; or it is refused
+-- for a reason that it may be refused for.
+pub record IsOutcome (job : Job) (files : List (List ℕ))
+    (k : Kept) (input : Option (List ℕ)) (result : Result Answer Refusal)
     (err_before err_after : Option (List ℕ)) : Type 0 where
-  pub found : IfOk result (λ a. (said : List ℕ) × IsAnswer job files k input a.status (string_bytes a.text) said × Appends err_before err_after said)
+  pub found : IfOk result (λ a. (said : List ℕ) × IsAnswer job files k input a.status
+      (string_bytes a.text) said × Appends err_before err_after said)
   pub cause : IfErr result (IsCause job files k input)
 
--- What a job leaves that is refused for a cause: at the keeper, and on the standard error before the line that says so.
-pub record IsLeft (job : Job) (files : List (List ℕ)) (k : Kept) (Same : Type 0) (input err_before err_after : Option (List ℕ)) : Type 0 where
+-- What a job leaves that is refused for a cause: at the keeper, and on the standard error before
+-- the line that says so.
+pub record IsLeft (job : Job) (files : List (List ℕ)) (k : Kept) (Same : Type 0)
+    (input err_before err_after : Option (List ℕ)) : Type 0 where
   pub kept : k.up → KeepsAfterRefusal job files k Same input
   pub told : TellsBefore job files input err_before err_after
 
@@ -44,7 +50,8 @@ WantsIn job (Err reason) = IsWanting reason
 abbrev pub EndsParts : (roster_file base_file : List ℕ) → Refusal → Type 0
 EndsParts roster_file base_file reasons.NoMemory = Unit {0}
 EndsParts roster_file base_file (reasons.Roster fault) = IsRosterFault roster_file fault
-EndsParts roster_file base_file (reasons.Policy fault) = HoldsRoster roster_file × IsFaultOf base_file fault
+EndsParts roster_file base_file (reasons.Policy fault) =
+    HoldsRoster roster_file × IsFaultOf base_file fault
 EndsParts roster_file base_file reason = ⊥
 
 -- Taking lines may end for this. No line that is refused ends it.
@@ -60,11 +67,14 @@ abbrev pub EndsInput : Store → (Failed : Type 0) → Refusal → Type 0
 EndsInput store Failed reason = MayFailTaking store × EndsTaking Failed reason
 
 -- `print` over an open desk may be refused for this
-abbrev pub EndsFile : RosterFields Cmnd → (store : Store) (host : List ℕ) (after : Option ℕ) (old : Message → Type 0) (Up Failed : Type 0) → Option (List ℕ) → Refusal → Type 0
+abbrev pub EndsFile : RosterFields Cmnd → (store : Store) (host : List ℕ) (after : Option ℕ)
+    (old : Message → Type 0) (Up Failed : Type 0) → Option (List ℕ) → Refusal → Type 0
 EndsFile roster store host after old Up Failed input reasons.FileFailed = MayFailTaking store
 EndsFile roster store host after old Up Failed input reasons.NoMemory = Unit {0}
-EndsFile roster store host after old Up Failed input (reasons.Desk desk.UnknownHost) = is_among roster.hosts host ≡ false
-EndsFile roster store host after old Up Failed input (reasons.Desk desk.TooManyRules) = HasManyLines roster store host after old Up input
+EndsFile roster store host after old Up Failed input (reasons.Desk desk.UnknownHost) =
+    is_among roster.hosts host ≡ false
+EndsFile roster store host after old Up Failed input (reasons.Desk desk.TooManyRules) =
+    HasManyLines roster store host after old Up input
 EndsFile roster store host after old Up Failed input (reasons.Desk desk.NoMemory) = Unit {0}
 EndsFile roster store host after old Up Failed input (reasons.Desk desk.Storage) = Failed
 EndsFile roster store host after old Up Failed input reason = ⊥

@@ -7,7 +7,8 @@ use Rattle.desk_tables.specs.Kept.{table_in}
 use Rattle.desk_tables.specs.Stored.{IsUnreferred, tree_of}
 use Rattle.desk_tables.specs.private.Stepping.{IsInside, KeepsBut}
 use Rattle.desk_schema.specs.declared.part.Part.{Part}
-use Rattle.desk_schema.specs.declared.part.Part.TheVariants.{Desk, Messages, Names, Marks, Verdicts, Parked}
+use Rattle.desk_schema.specs.declared.part.Part.TheVariants.{Desk, Messages, Names}
+use Rattle.desk_schema.specs.declared.part.Part.TheVariants.{Marks, Verdicts, Parked}
 use Rattle.desk_schema.specs.Parts.{name_of}
 use Rattle.desk_schema.specs.Shapes.{FindsPart}
 use Rattle.desk_opening.specs.private.Selecting.{ShowsPart}
@@ -28,7 +29,9 @@ pub record Deletes (part : Part) (old new : Database) : Type 0 where
 
 pub record Deleted (part : Part) (old new : State) : Type 0 where
   pub inside : IsInside old new
-  pub deletes : FindsPart old.now.schema part → IsUnreferred old.now.schema (tree_of old.now.schema (name_of part)) → Deletes part old.now new.now
+  pub deletes : FindsPart old.now.schema part
+      → IsUnreferred old.now.schema (tree_of old.now.schema (name_of part))
+      → Deletes part old.now new.now
 
 -- the database is as it was, and these show the part's rows
 pub record Left (part : Part) (rows : List Row) (old new : State) : Type 0 where
@@ -44,4 +47,6 @@ pub record Clears (part : Part) (old new : Database) : Type 0 where
 
 pub record Cleared (part : Part) (old new : State) : Type 0 where
   pub mode : IsTrue new.in_transaction
-  pub clears : FindsPart old.now.schema part → IsUnreferred old.now.schema (tree_of old.now.schema (name_of part)) → Clears part old.now new.now
+  pub clears : FindsPart old.now.schema part
+      → IsUnreferred old.now.schema (tree_of old.now.schema (name_of part))
+      → Clears part old.now new.now

@@ -21,7 +21,9 @@ use Rattle.desk_migration.specs.Migrated.{GainsVerdicts, IsBeside, KeepsOthers, 
 pub record Empties (done : List Part) (old new : Database) : Type 0 where
   pub schema : new.schema ≡ old.schema
   pub empty : AllByRecursion (λ part. table_in new (name_of part) ≡ []) done
-  pub others : (t : Table) → Has old.schema.tables t → AllByRecursion (λ part. t.tree ≢ tree_of old.schema (name_of part)) done → new.trees t.tree ≡ old.trees t.tree
+  pub others : (t : Table) → Has old.schema.tables t
+      → AllByRecursion (λ part. t.tree ≢ tree_of old.schema (name_of part)) done
+      → new.trees t.tree ≡ old.trees t.tree
 
 -- all tables of an older desk but its messages
 abbrev pub EmptiesAll : Database → Database → Type 0
@@ -42,7 +44,8 @@ pub record Prepares (old new : Database) : Type 0 where
   pub messages : table_in new (codes "messages") ≡ table_in old (codes "messages")
   pub grown : GainsVerdicts old new
   pub others : KeepsOthers old new
-  pub foreign : (t : Table) → Has old.schema.tables t → IsBeside old.schema t.tree → IsForeign new.schema t.tree
+  pub foreign : (t : Table) → Has old.schema.tables t
+      → IsBeside old.schema t.tree → IsForeign new.schema t.tree
 
 pub record Prepared (old new : State) : Type 0 where
   pub mode : IsTrue new.in_transaction
@@ -51,4 +54,5 @@ pub record Prepared (old new : State) : Type 0 where
 -- The older desk became one of today, where the messages are those that it has.
 pub record Moved (roster : List ℕ) (messages : List Message) (old new : State) : Type 0 where
   pub mode : IsTrue new.in_transaction
-  pub migrates : IsOldDesk old.now → IsMigratable old.now.schema → Lists (HoldsText old.now) messages → Migrates roster old.now new.now
+  pub migrates : IsOldDesk old.now → IsMigratable old.now.schema
+      → Lists (HoldsText old.now) messages → Migrates roster old.now new.now

@@ -1,5 +1,6 @@
 -- What the test of the rows computes.
-use Rattle.std.specs.Prelude.{ℕ, ℤ, Bool, true, false, not, ◌&&◌, ◌||◌, ◌==◌, nat_le, if◌then◌else◌, List, length}
+use Rattle.std.specs.Prelude.{ℕ, ℤ, Bool, true, false, not, ◌&&◌, ◌||◌}
+use Rattle.std.specs.Prelude.{◌==◌, nat_le, if◌then◌else◌, List, length}
 use Rattle.std.specs.List.{list_all, list_any}
 use Rattle.std.specs.Ordering.{int_eq}
 use Rattle.std.specs.Str.{bytes_eq}
@@ -12,7 +13,8 @@ use Rattle.messages.specs.Wire.{wire, kind_text}
 use Rattle.messages.specs.declared.message.Message.{Message}
 use Rattle.messages.specs.declared.message.Message.TheVariants.{Request, Verdict}
 use Rattle.desk_schema.specs.declared.part.Part.{Part}
-use Rattle.desk_schema.specs.declared.part.Part.TheVariants.{Desk, Messages, Names, Marks, Verdicts, Parked}
+use Rattle.desk_schema.specs.declared.part.Part.TheVariants.{Desk, Messages, Names}
+use Rattle.desk_schema.specs.declared.part.Part.TheVariants.{Marks, Verdicts, Parked}
 pub use Rattle.desk_opening.specs.Opened.{is_number}
 
 -- ---- values
@@ -52,8 +54,9 @@ agree (Blob b) v = false
 
 abbrev pub is_same : Row → Row → Bool
 is_same r s =
-    (length r == length s) && (agree (column r 0) (column s 0) && (agree (column r 1) (column s 1) && (agree (column r 2) (column s 2)
-    && (agree (column r 3) (column s 3) && (agree (column r 4) (column s 4) && agree (column r 5) (column s 5))))))
+    (length r == length s) && (agree (column r 0) (column s 0)
+    && (agree (column r 1) (column s 1) && (agree (column r 2) (column s 2) && (agree (column r 3)
+    (column s 3) && (agree (column r 4) (column s 4) && agree (column r 5) (column s 5))))))
 
 abbrev pub is_apart : Row → Row → Bool
 is_apart r s = not (agree (column r 0) (column s 0)) || is_same r s
@@ -65,7 +68,8 @@ abbrev pub is_keyed : List Row → Row → Bool
 is_keyed rows r = has_rowid r && list_all (is_apart r) rows
 
 abbrev pub is_once : Row → Row → Bool
-is_once r s = not (agree (column r 1) (column s 1) && agree (column r 2) (column s 2)) || agree (column r 3) (column s 3)
+is_once r s = not (agree (column r 1) (column s 1) && agree (column r 2) (column s 2))
+    || agree (column r 3) (column s 3)
 
 abbrev pub is_of_name : List ℕ → ℕ → Row → Bool
 is_of_name asker number r = is_text asker (column r 1) && is_number number (column r 2)
@@ -97,16 +101,18 @@ waits messages (Verdict v) = not (asks messages v.of v.no)
 -- ---- rows beside messages
 
 abbrev pub shows_text : Row → Message → Bool
-shows_text r (Request q) = (length r == 5) && (is_text q.by (column r 1) && (is_number q.no (column r 2) && is_text (wire (Request q)) (column r 3)))
+shows_text r (Request q) = (length r == 5) && (is_text q.by (column r 1)
+    && (is_number q.no (column r 2) && is_text (wire (Request q)) (column r 3)))
 shows_text r (Verdict v) = false
 
 abbrev pub shows_request : List Message → Row → Message → Bool
-shows_request messages r m = shows_text r m && is_number (if is_disputed messages m then 1 else 0) (column r 4)
+shows_request messages r m =
+    shows_text r m && is_number (if is_disputed messages m then 1 else 0) (column r 4)
 
 abbrev pub is_verdict : Row → VerdictFields → Bool
 is_verdict r v =
-    (length r == 6) && (is_text v.of (column r 1) && (is_number v.no (column r 2) && (is_text v.by (column r 3) && (is_text (kind_text v.kind) (column r 4)
-    && is_number v.at (column r 5)))))
+    (length r == 6) && (is_text v.of (column r 1) && (is_number v.no (column r 2) && (is_text v.by
+    (column r 3) && (is_text (kind_text v.kind) (column r 4) && is_number v.at (column r 5)))))
 
 abbrev pub shows_verdict : Row → Message → Bool
 shows_verdict r (Request q) = false
@@ -114,7 +120,8 @@ shows_verdict r (Verdict v) = is_verdict r v
 
 abbrev pub shows_parked : Row → Message → Bool
 shows_parked r (Request q) = false
-shows_parked r (Verdict v) = (length r == 4) && (is_text (wire (Verdict v)) (column r 1) && (is_text v.of (column r 2) && is_number v.no (column r 3)))
+shows_parked r (Verdict v) = (length r == 4) && (is_text (wire (Verdict v)) (column r 1)
+    && (is_text v.of (column r 2) && is_number v.no (column r 3)))
 
 abbrev pub is_name_row : List Message → Row → Bool
 is_name_row messages r = list_any (shows_request messages r) messages
@@ -131,7 +138,8 @@ has_name_row names (Request q) = list_any (is_of_name q.by q.no) names
 has_name_row names (Verdict v) = true
 
 abbrev pub has_verdict_row : List Message → (verdicts : List Row) → Message → Bool
-has_verdict_row messages verdicts m = not (counts messages m) || list_any (λ r. shows_verdict r m) verdicts
+has_verdict_row messages verdicts m =
+    not (counts messages m) || list_any (λ r. shows_verdict r m) verdicts
 
 abbrev pub has_parked_row : List Message → (parked : List Row) → Message → Bool
 has_parked_row messages parked m = not (waits messages m) || list_any (λ r. shows_parked r m) parked
@@ -143,10 +151,13 @@ abbrev pub are_rows_of : Part → List Message → List Row → Bool
 are_rows_of Desk messages rows = true
 are_rows_of Messages messages rows = true
 are_rows_of Names messages rows =
-    list_all (is_name_row messages) rows && (list_all (has_name_row rows) messages && list_all (λ r. list_all (is_once r) rows) rows)
+    list_all (is_name_row messages) rows
+    && (list_all (has_name_row rows) messages && list_all (λ r. list_all (is_once r) rows) rows)
 are_rows_of Marks messages rows = true
-are_rows_of Verdicts messages rows = list_all (is_verdict_row messages) rows && list_all (has_verdict_row messages rows) messages
-are_rows_of Parked messages rows = list_all (is_parked_row messages) rows && list_all (has_parked_row messages rows) messages
+are_rows_of Verdicts messages rows =
+    list_all (is_verdict_row messages) rows && list_all (has_verdict_row messages rows) messages
+are_rows_of Parked messages rows =
+    list_all (is_parked_row messages) rows && list_all (has_parked_row messages rows) messages
 
 -- and each has a rowid of its own
 abbrev pub is_kept : Part → List Message → List Row → Bool
@@ -154,4 +165,5 @@ is_kept part messages rows = are_rows_of part messages rows && list_all (is_keye
 
 -- so of the three tables that follow from the messages
 abbrev pub are_kept : List Message → (names verdicts parked : List Row) → Bool
-are_kept messages names verdicts parked = is_kept Names messages names && (is_kept Verdicts messages verdicts && is_kept Parked messages parked)
+are_kept messages names verdicts parked = is_kept Names messages names
+    && (is_kept Verdicts messages verdicts && is_kept Parked messages parked)

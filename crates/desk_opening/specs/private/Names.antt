@@ -1,5 +1,6 @@
 -- The names that messages ask under, in order.
-use Rattle.std.specs.Prelude.{◌≡◌, ⊤, ℕ, ℤ, pos, Bool, false, not, ◌&&◌, ◌||◌, List, [], ◌∷◌, Option, Some, None, Contains}
+use Rattle.std.specs.Prelude.{◌≡◌, ⊤, ℕ, ℤ, pos, Bool, false, not, ◌&&◌, ◌||◌}
+use Rattle.std.specs.Prelude.{List, [], ◌∷◌, Option, Some, None, Contains}
 use Rattle.std.specs.List.{list_any}
 use Rattle.std.specs.List.Sorted.{IsSorted}
 use Rattle.std.specs.Str.{bytes_eq}
@@ -45,7 +46,8 @@ differ a b = is_at a.0.0.now a.0.1 b.0 && not (bytes_eq a.1.now b.1.now)
 abbrev pub differs : List ℕ → ℤ → List Asked → Bool
 differs asker number [] = false
 differs asker number (a ∷ []) = false
-differs asker number (a ∷ b ∷ rest) = (has_name asker number a && differ a b) || differs asker number (b ∷ rest)
+differs asker number (a ∷ b ∷ rest) =
+    (has_name asker number a && differ a b) || differs asker number (b ∷ rest)
 
 -- two neighbours are the same name
 abbrev pub repeats : List Name → Bool
@@ -70,15 +72,19 @@ IsTold (Verdict v) None = ⊤
 
 -- they are the names and the texts of the requests
 pub record AreAsked (messages : List Message) (asked : List Asked) : Type 0 where
-  pub each : (a : Asked) → Contains asked a → (q : RequestFields) × Contains messages (Request q) × IsFrom q a
-  pub all : (q : RequestFields) → Contains messages (Request q) → (a : Asked) × Contains asked a × IsFrom q a
+  pub each : (a : Asked) → Contains asked a
+      → (q : RequestFields) × Contains messages (Request q) × IsFrom q a
+  pub all : (q : RequestFields) → Contains messages (Request q)
+      → (a : Asked) × Contains asked a × IsFrom q a
 
 -- the names that have a request, and those that have two, each found by halving
 pub record IsIndex (messages : List Message) (names disputed : List Name) : Type 0 where
   pub names_rise : IsSorted name_cmp names
   pub disputed_rise : IsSorted name_cmp disputed
-  pub asks : (asker : List ℕ) (number : ℕ) → list_any (is_at asker (pos number)) names ≡ asks messages asker number
-  pub disputes : (q : RequestFields) → Contains messages (Request q) → list_any (is_at q.by (pos q.no)) disputed ≡ is_disputed messages (Request q)
+  pub asks : (asker : List ℕ) (number : ℕ)
+      → list_any (is_at asker (pos number)) names ≡ asks messages asker number
+  pub disputes : (q : RequestFields) → Contains messages (Request q)
+      → list_any (is_at q.by (pos q.no)) disputed ≡ is_disputed messages (Request q)
 
 -- the text of a value, or none
 abbrev pub text_in : Value → List ℕ
@@ -98,7 +104,8 @@ number_in (Blob b) = pos 0
 
 -- the row is of the name
 abbrev pub name_is : List ℕ → ℤ → Row → Bool
-name_is asker number r = bytes_eq (text_in (column r 1)) asker && int_eq (number_in (column r 2)) number
+name_is asker number r =
+    bytes_eq (text_in (column r 1)) asker && int_eq (number_in (column r 2)) number
 
 -- the row has the rowid, as a name with no bytes
 abbrev pub id_is : List ℕ → ℤ → Row → Bool

@@ -1,5 +1,6 @@
 -- What the rows that are read say.
-use Rattle.std.specs.Prelude.{◌≡◌, ◌≤◌, ◌&&◌, cond, List, [], ◌∷◌, ℕ, Contains, Option, None, length, map}
+use Rattle.std.specs.Prelude.{◌≡◌, ◌≤◌, ◌&&◌, cond, List, [], ◌∷◌, ℕ}
+use Rattle.std.specs.Prelude.{Contains, Option, None, length, map}
 use Rattle.sqlite.specs.declared.types.Value.{Value}
 use Rattle.sqlite.specs.declared.types.Value.TheVariants.{Text}
 use Rattle.sqlite.specs.Order.{Row, column}
@@ -15,7 +16,8 @@ use Rattle.desk_opening.specs.private.Compare.{is_number}
 -- the roster's text, of rows that show an id 1, this schema and the roster
 abbrev pub shown_mark : ℕ → List Row → Option (List ℕ)
 shown_mark version [] = None
-shown_mark version (r ∷ []) = cond (is_number 1 (column r 0) && is_number version (column r 1)) (text_at (column r 2)) None
+shown_mark version (r ∷ []) =
+    cond (is_number 1 (column r 0) && is_number version (column r 1)) (text_at (column r 2)) None
 shown_mark version (r ∷ s ∷ rs) = None
 
 -- ---- the messages

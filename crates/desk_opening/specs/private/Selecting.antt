@@ -5,7 +5,8 @@ use Rattle.sqlite.specs.Order.{Row, column}
 use Rattle.sqlite.specs.Effect.{Database}
 use Rattle.desk_tables.specs.Kept.{table_in}
 use Rattle.desk_schema.specs.declared.part.Part.{Part}
-use Rattle.desk_schema.specs.declared.part.Part.TheVariants.{Desk, Messages, Names, Marks, Verdicts, Parked}
+use Rattle.desk_schema.specs.declared.part.Part.TheVariants.{Desk, Messages, Names}
+use Rattle.desk_schema.specs.declared.part.Part.TheVariants.{Marks, Verdicts, Parked}
 use Rattle.desk_schema.specs.Parts.{name_of}
 
 abbrev pub select_of : Part → List ℕ
@@ -22,7 +23,8 @@ shown_of Desk r = column r 0 ∷ column r 2 ∷ column r 3 ∷ []
 shown_of Messages r = column r 1 ∷ []
 shown_of Names r = column r 0 ∷ column r 1 ∷ column r 2 ∷ column r 3 ∷ column r 4 ∷ []
 shown_of Marks r = column r 0 ∷ column r 1 ∷ column r 2 ∷ column r 3 ∷ column r 4 ∷ column r 5 ∷ []
-shown_of Verdicts r = column r 0 ∷ column r 1 ∷ column r 2 ∷ column r 3 ∷ column r 4 ∷ column r 5 ∷ []
+shown_of Verdicts r =
+    column r 0 ∷ column r 1 ∷ column r 2 ∷ column r 3 ∷ column r 4 ∷ column r 5 ∷ []
 shown_of Parked r = column r 0 ∷ column r 1 ∷ column r 2 ∷ column r 3 ∷ []
 
 -- the rows show those of the part's table, in some order

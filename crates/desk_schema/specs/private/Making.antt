@@ -1,5 +1,6 @@
 -- What the statements that make a desk leave of a connection.
-use Rattle.std.specs.Prelude.{◌≡◌, ◌+◌, ◌^◌, ◌++◌, IsTrue, nat_le, ℕ, false, List, [], ◌∷◌, None, codes}
+use Rattle.std.specs.Prelude.{◌≡◌, ◌+◌, ◌^◌, ◌++◌, IsTrue, nat_le}
+use Rattle.std.specs.Prelude.{ℕ, false, List, [], ◌∷◌, None, codes}
 use Rattle.std.specs.List.{AllByRecursion, position_from}
 use Rattle.std.specs.FinSet as set
 use Rattle.sqlite.specs.Table.{Table}
@@ -14,7 +15,8 @@ use Rattle.desk_tables.specs.Kept.{IsDeskDatabase}
 use Rattle.desk_tables.specs.Stored.{Content, Finds, IsUnreferred, content_of}
 use Rattle.desk_tables.specs.private.Stepping.{IsInside}
 use Rattle.desk_schema.specs.declared.part.Part.{Part}
-use Rattle.desk_schema.specs.declared.part.Part.TheVariants.{Desk, Messages, Names, Marks, Verdicts, Parked}
+use Rattle.desk_schema.specs.declared.part.Part.TheVariants.{Desk, Messages, Names}
+use Rattle.desk_schema.specs.declared.part.Part.TheVariants.{Marks, Verdicts, Parked}
 use Rattle.desk_schema.specs.Beside.{KeepsBeside}
 use Rattle.desk_schema.specs.Parts.{name_of, table_at}
 use Rattle.desk_schema.specs.Ready.{IsOpen, IsReady}
@@ -22,14 +24,20 @@ use Rattle.desk_schema.specs.Shapes.{Lacks}
 
 -- the statement that makes the table
 abbrev pub text_of : Part → List ℕ
-text_of Desk = codes "CREATE TABLE desk (id INTEGER PRIMARY KEY, schema INTEGER NOT NULL, roster TEXT NOT NULL) STRICT"
+text_of Desk =
+    codes "CREATE TABLE desk (id INTEGER PRIMARY KEY, schema INTEGER NOT NULL, roster TEXT NOT NULL) STRICT"
 text_of Messages = codes "CREATE TABLE messages (body TEXT PRIMARY KEY NOT NULL) STRICT"
-text_of Names = codes "CREATE TABLE names (asker TEXT NOT NULL, no INTEGER NOT NULL, body TEXT NOT NULL, disputed INTEGER NOT NULL, PRIMARY KEY (asker, no)) STRICT"
-text_of Marks = codes "CREATE TABLE marks (asker TEXT NOT NULL, no INTEGER NOT NULL, person TEXT NOT NULL, kind TEXT NOT NULL, at INTEGER NOT NULL, PRIMARY KEY (asker, no, person, kind)) STRICT"
-text_of Verdicts = codes "CREATE TABLE verdicts (asker TEXT NOT NULL, no INTEGER NOT NULL, person TEXT NOT NULL, kind TEXT NOT NULL, at INTEGER NOT NULL, PRIMARY KEY (asker, no, person, kind, at)) STRICT"
-text_of Parked = codes "CREATE TABLE parked (body TEXT PRIMARY KEY NOT NULL, asker TEXT NOT NULL, no INTEGER NOT NULL) STRICT"
+text_of Names =
+    codes "CREATE TABLE names (asker TEXT NOT NULL, no INTEGER NOT NULL, body TEXT NOT NULL, disputed INTEGER NOT NULL, PRIMARY KEY (asker, no)) STRICT"
+text_of Marks =
+    codes "CREATE TABLE marks (asker TEXT NOT NULL, no INTEGER NOT NULL, person TEXT NOT NULL, kind TEXT NOT NULL, at INTEGER NOT NULL, PRIMARY KEY (asker, no, person, kind)) STRICT"
+text_of Verdicts =
+    codes "CREATE TABLE verdicts (asker TEXT NOT NULL, no INTEGER NOT NULL, person TEXT NOT NULL, kind TEXT NOT NULL, at INTEGER NOT NULL, PRIMARY KEY (asker, no, person, kind, at)) STRICT"
+text_of Parked =
+    codes "CREATE TABLE parked (body TEXT PRIMARY KEY NOT NULL, asker TEXT NOT NULL, no INTEGER NOT NULL) STRICT"
 
--- The table was added, in a tree that is stored, and it is empty; those that were there keep their rows.
+-- The table was added, in a tree that is stored, and it is empty; those that were there keep their
+-- rows.
 pub record Adds (table : Table) (old new : Database) : Type 0 where
   pub schema : new.schema ≡ created old.schema table
   pub stored : nat_le (2 ^ 31) (next_tree old.schema) ≡ false
@@ -38,7 +46,8 @@ pub record Adds (table : Table) (old new : Database) : Type 0 where
 
 pub record AddsPart (part : Part) (old new : State) : Type 0 where
   pub inside : IsInside old new
-  pub adds : Lacks old.now.schema part → lacks_sequence old.now.schema ≡ false → Adds (table_at part 0) old.now new.now
+  pub adds : Lacks old.now.schema part → lacks_sequence old.now.schema ≡ false
+      → Adds (table_at part 0) old.now new.now
 
 -- the part's table is there, and has no row, and no foreign key refers to it
 pub record HasEmpty (db : Database) (part : Part) : Type 0 where
@@ -86,11 +95,14 @@ pub record Filled (roster : List ℕ) (old new : State) : Type 0 where
   pub founds : IsReady old.now.schema → Founds roster old.now new.now
   pub beside : IsReady old.now.schema → KeepsBeside old.now new.now
 
--- Whatever database has these trees: it is a desk of the roster text, with no message, beside the tables that were there.
+-- Whatever database has these trees: it is a desk of the roster text, with no message, beside the
+-- tables that were there.
 abbrev pub FoundsAt : List ℕ → Database → Trees → Type 0
-FoundsAt roster old trees = (db : Database) → db.trees ≡ trees → IsDatabase db → Founds roster old db
+FoundsAt roster old trees =
+    (db : Database) → db.trees ≡ trees → IsDatabase db → Founds roster old db
 
 -- the name of the other part is not that of this one, nor of an index that SQLite makes for it
 pub record Differs (part other : Part) : Type 0 where
   pub table : same_name (name_of part) (name_of other) ≡ false
-  pub index : (tree k : ℕ) → position_from (λ i. same_name i.name (name_of other)) k (automatics (table_at part tree) 0 (tree + 1) (table_at part tree).uniques) ≡ None
+  pub index : (tree k : ℕ) → position_from (λ i. same_name i.name (name_of other)) k
+      (automatics (table_at part tree) 0 (tree + 1) (table_at part tree).uniques) ≡ None

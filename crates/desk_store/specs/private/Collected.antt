@@ -1,5 +1,6 @@
 -- Messages in a list, each once, beside their texts.
-use Rattle.std.specs.Prelude.{◌≡◌, ◌≢◌, ◌⊎◌, ℕ, Bool, true, List, [], ◌∷◌, ◌++◌, AllPairs, Contains, String, string_bytes}
+use Rattle.std.specs.Prelude.{◌≡◌, ◌≢◌, ◌⊎◌, ℕ, Bool, true, List, [], ◌∷◌}
+use Rattle.std.specs.Prelude.{◌++◌, AllPairs, Contains, String, string_bytes}
 use Rattle.std.specs.List.{list_any}
 use Rattle.std.specs.BTreeMap.{is_at}
 use Rattle.std.specs.Cmp.Lexicographic.{slice_cmp}
@@ -16,7 +17,8 @@ IsPut old m new = (Contains old m × (new ≡ old)) ⊎ ((¬ Contains old m) × 
 abbrev pub has_text : List (String Global) → List ℕ → Bool
 has_text texts bytes = list_any (is_at (λ t. slice_cmp nat_cmp bytes (string_bytes t))) texts
 
--- Each is a message, none comes twice, and a message is among them exactly where its text is among the texts.
+-- Each is a message, none comes twice, and a message is among them exactly where its text is among
+-- the texts.
 pub record IsKept (messages : List Message) (texts : List (String Global)) : Type 0 where
   pub only : (m : Message) → Contains messages m → IsMessage m
   pub once : AllPairs (λ m n. m ≢ n) messages

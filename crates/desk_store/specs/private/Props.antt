@@ -15,12 +15,17 @@ Schema-set = Coded-set schema.the_row.coded
 
 Database-set : IsSet Database
 Database-set a b p q = λ i j. record {
-  schema = Schema-set a.schema b.schema (ap (λ (d : Database). d.schema) p) (ap (λ (d : Database). d.schema) q) i j;
-  trees = Trees-set a.trees b.trees (ap (λ (d : Database). d.trees) p) (ap (λ (d : Database). d.trees) q) i j;
+  schema = Schema-set a.schema b.schema (ap (λ (d : Database). d.schema) p)
+      (ap (λ (d : Database). d.schema) q) i j;
+  trees = Trees-set a.trees b.trees (ap (λ (d : Database). d.trees) p)
+      (ap (λ (d : Database). d.trees) q) i j;
 }
 
 IsAtRest-prop : (s : State) → IsProp (IsAtRest s)
-IsAtRest-prop s a b = λ i. record { settled = Database-set _ _ a.settled b.settled i; autocommit = Bool-set _ _ a.autocommit b.autocommit i }
+IsAtRest-prop s a b = λ i. record {
+  settled = Database-set _ _ a.settled b.settled i;
+  autocommit = Bool-set _ _ a.autocommit b.autocommit i;
+}
 
 pub Rests-prop : (s : State) → IsProp (Rests s)
 Rests-prop s = Π_prop (λ _. IsAtRest-prop s)

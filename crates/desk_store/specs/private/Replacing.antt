@@ -19,10 +19,12 @@ pub record Becomes (roster : List ℕ) (old new : Database) : Type 0 where
 
 -- whatever database has these trees
 abbrev pub BecomesAt : List ℕ → Database → Trees → Type 0
-BecomesAt roster old trees = (db : Database) → db.trees ≡ trees → IsDatabase db → Becomes roster old db
+BecomesAt roster old trees =
+    (db : Database) → db.trees ≡ trees → IsDatabase db → Becomes roster old db
 
 -- All of it was done in one commit, or nothing.
-pub record Replaces {A E : Type 0} (roster : List ℕ) (old new : State) (result : Result A E) : Type 0 where
+pub record Replaces {A E : Type 0} (roster : List ℕ)
+    (old new : State) (result : Result A E) : Type 0 where
   pub rests : Rests new
   pub was_up : IsUp new → IsUp old
   pub was_clean : HasCleanDisk new → HasCleanDisk old

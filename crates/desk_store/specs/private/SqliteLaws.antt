@@ -18,7 +18,9 @@ pub same_on : (a b c : Database) → b ≡ a → c ≡ b → c ≡ a
 same_on a b c first second = second ∙ first
 
 pub stays_empty : (a b : Database) → b ≡ a → IsVacant a.schema → IsVacant b.schema
-stays_empty a b same vacant = let P : Database → Type 0 = λ d. IsVacant d.schema in subst P (sym same) vacant
+stays_empty a b same vacant =
+    let P : Database → Type 0 = λ d. IsVacant d.schema in
+    subst P (sym same) vacant
 
 pub stays_desk : (a b : Database) → b ≡ a → IsKept a → IsKept b
 stays_desk a b same desk = subst IsKept (sym same) desk
@@ -27,7 +29,10 @@ pub stays_roster : (a b : Database) → b ≡ a → (content_of b).roster ≡ (c
 stays_roster a b same = ap (λ (d : Database). (content_of d).roster) same
 
 pub stays_set : (a b : Database) → b ≡ a → SameSet (HoldsText a) (HoldsText b)
-stays_set a b same = let P : Database → Type 0 = λ d. SameSet (HoldsText a) (HoldsText d) in subst P (sym same) (λ m. (λ h. h, λ h. h))
+stays_set a b same =
+    let P : Database → Type 0 = λ d. SameSet (HoldsText a) (HoldsText d) in
+    subst P (sym same) (λ m. (λ h. h, λ h. h))
 
-pub stays_old : (a b : Database) → b ≡ a → IsOldDesk a → IsOldDesk b × SameSet (HoldsText a) (HoldsText b)
+pub stays_old : (a b : Database) → b ≡ a → IsOldDesk a
+    → IsOldDesk b × SameSet (HoldsText a) (HoldsText b)
 stays_old a b same old = (subst IsOldDesk (sym same) old, stays_set a b same)

@@ -26,10 +26,12 @@ abbrev pub Tells : (names : RowSet) → RequestName → Bool → Type 0
 Tells names name true = (r : List Value) × names r × OfName 0 name r
 Tells names name false = (r : List Value) → names r → ¬ OfName 0 name r
 
--- The request's row stands in place of whatever row of its name, and is disputed where there was one.
+-- The request's row stands in place of whatever row of its name, and is disputed where there was
+-- one.
 pub record Names (q : RequestFields) (disputed : Bool) (old new : RowSet) : Type 0 where
   pub told : Tells old (name_of q) disputed
-  pub each : (r : List Value) → new r → (old r × (¬ OfName 0 (name_of q) r)) ⊎ (r ≡ name_row q disputed)
+  pub each : (r : List Value) → new r
+      → (old r × (¬ OfName 0 (name_of q) r)) ⊎ (r ≡ name_row q disputed)
   pub kept : (r : List Value) → old r → (¬ OfName 0 (name_of q) r) → new r
   pub there : new (name_row q disputed)
 
@@ -39,9 +41,11 @@ IsOf r v = IsMessage (Verdict v) × (column r 0 ≡ Text (wire (Verdict v)))
 
 -- each parked verdict of the name, and no other, was put to the verdicts
 pub record Joins (name : RequestName) (parked old new : RowSet) : Type 0 where
-  pub each : (r : List Value) → new r → old r ⊎ ((v : VerdictFields) × (p : List Value) × parked p × OfName 1 name p × IsOf p v × (r ≡ verdict_row v))
+  pub each : (r : List Value) → new r → old r ⊎ ((v : VerdictFields)
+      × (p : List Value) × parked p × OfName 1 name p × IsOf p v × (r ≡ verdict_row v))
   pub kept : (r : List Value) → old r → new r
-  pub joined : (p : List Value) → parked p → OfName 1 name p → (v : VerdictFields) × IsOf p v × new (verdict_row v)
+  pub joined : (p : List Value) → parked p → OfName 1 name p
+      → (v : VerdictFields) × IsOf p v × new (verdict_row v)
 
 -- no row is left
 abbrev pub IsEmptied : RowSet → RowSet → Type 0

@@ -1,5 +1,6 @@
 -- What a statement of a transaction does to the rows of a desk's tables.
-use Rattle.std.specs.Prelude.{◌≡◌, ◌≢◌, Some, IsTrue, true, false, Bool, if◌then◌else◌, ℕ, pos, List, [], ◌∷◌, codes}
+use Rattle.std.specs.Prelude.{◌≡◌, ◌≢◌, Some, IsTrue, true, false, Bool}
+use Rattle.std.specs.Prelude.{if◌then◌else◌, ℕ, pos, List, [], ◌∷◌, codes}
 use Rattle.std.specs.List.{AllByRecursion, list_any}
 use Rattle.std.specs.FinSet as set
 use Rattle.sqlite.specs.Order.{Row, column}
@@ -31,10 +32,12 @@ pub record IsOpenInside (old new : State) : Type 0 where
 
 -- each table but this one keeps its rows
 abbrev pub KeepsBut : List ℕ → Database → Database → Type 0
-KeepsBut name old new = AllByRecursion (λ (t : Table). t.tree ≢ tree_of old.schema name → new.trees t.tree ≡ old.trees t.tree) old.schema.tables
+KeepsBut name old new = AllByRecursion (λ (t : Table). t.tree ≢ tree_of old.schema name
+    → new.trees t.tree ≡ old.trees t.tree) old.schema.tables
 
 -- The rows of this table alone were changed, in trees that obey the schema that they list.
-pub record Alters (name : List ℕ) (Rows : RowSet → RowSet → Type 0) (old new : Database) : Type 0 where
+pub record Alters (name : List ℕ) (Rows : RowSet → RowSet
+    → Type 0) (old new : Database) : Type 0 where
   pub sound : IsDatabase new
   pub schema : new.schema ≡ old.schema
   pub rows : Rows (IsRow (table_in old name)) (IsRow (table_in new name))
@@ -50,8 +53,10 @@ pub record Wrote (name : List ℕ) (Rows : RowSet → RowSet → Type 0) (old ne
 pub record AddsText (text : List ℕ) (old new : Database) : Type 0 where
   pub sound : IsDatabase new
   pub schema : new.schema ≡ old.schema
-  pub texts : texts_of (table_in new (codes "messages")) ≡ set.insert (texts_of (table_in old (codes "messages"))) text
-  pub typed : list_any is_stray (table_in old (codes "messages")) ≡ false → list_any is_stray (table_in new (codes "messages")) ≡ false
+  pub texts : texts_of (table_in new (codes "messages"))
+      ≡ set.insert (texts_of (table_in old (codes "messages"))) text
+  pub typed : list_any is_stray (table_in old (codes "messages")) ≡ false
+      → list_any is_stray (table_in new (codes "messages")) ≡ false
   pub others : KeepsBut (codes "messages") old new
   pub tidy : IsTidy new
 
@@ -61,18 +66,23 @@ pub record WroteText (text : List ℕ) (old new : State) : Type 0 where
 
 -- ---- rows
 
-abbrev pub name_values : (asker : List ℕ) (number : ℕ) (body : List ℕ) (disputed : Bool) → List Value
-name_values asker number body disputed = Text asker ∷ Int (pos number) ∷ Text body ∷ Int (if disputed then pos 1 else pos 0) ∷ []
+abbrev pub name_values : (asker : List ℕ) (number : ℕ) (body : List ℕ) (disputed : Bool)
+    → List Value
+name_values asker number body disputed =
+    Text asker ∷ Int (pos number) ∷ Text body ∷ Int (if disputed then pos 1 else pos 0) ∷ []
 
-abbrev pub verdict_values : (asker : List ℕ) (number : ℕ) (person kind : List ℕ) (at : ℕ) → List Value
-verdict_values asker number person kind at = Text asker ∷ Int (pos number) ∷ Text person ∷ Text kind ∷ Int (pos at) ∷ []
+abbrev pub verdict_values : (asker : List ℕ) (number : ℕ) (person kind : List ℕ) (at : ℕ)
+    → List Value
+verdict_values asker number person kind at =
+    Text asker ∷ Int (pos number) ∷ Text person ∷ Text kind ∷ Int (pos at) ∷ []
 
 abbrev pub parked_values : (body asker : List ℕ) (number : ℕ) → List Value
 parked_values body asker number = Text body ∷ Text asker ∷ Int (pos number) ∷ []
 
 -- the rows show the bodies of the parked rows of the name
 pub record ShowsParked (name : RequestName) (parked : RowSet) (rows : List Row) : Type 0 where
-  pub each : (x : Row) → Has rows x → (r : List Value) × parked r × OfName 1 name r × (x ≡ column r 0 ∷ [])
+  pub each : (x : Row) → Has rows x
+      → (r : List Value) × parked r × OfName 1 name r × (x ≡ column r 0 ∷ [])
   pub all : (r : List Value) → parked r → OfName 1 name r → Has rows (column r 0 ∷ [])
 
 -- the database is as it was, and this is whether the name has a row
@@ -85,7 +95,8 @@ pub record Finds (name : RequestName) (told : Bool) (old new : State) : Type 0 w
 pub record FindsText (text : List ℕ) (told : Bool) (old new : State) : Type 0 where
   pub begun : IsOpenInside old new
   pub same : IsTidy old.now → new.now ≡ old.now
-  pub tells : IsTidy old.now → told ≡ set.contains (texts_of (table_in old.now (codes "messages"))) text
+  pub tells : IsTidy old.now
+      → told ≡ set.contains (texts_of (table_in old.now (codes "messages"))) text
 
 -- the database is as it was, and these show the name's parked verdicts
 pub record FindsParked (name : RequestName) (rows : List Row) (old new : State) : Type 0 where

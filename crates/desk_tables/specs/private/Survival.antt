@@ -31,4 +31,5 @@ pub record Changes (roster : List ℕ) (old new : Database) : Type 0 where
 
 -- Whatever database has these trees: it is the desk, with the other roster text.
 abbrev pub ChangesAt : List ℕ → Database → Trees → Type 0
-ChangesAt roster old trees = (db : Database) → db.trees ≡ trees → IsDatabase db → Changes roster old db
+ChangesAt roster old trees =
+    (db : Database) → db.trees ≡ trees → IsDatabase db → Changes roster old db

@@ -26,7 +26,8 @@ Stays old new = new ≡ old
 abbrev pub Rowwise : (RowSet → RowSet → Type 0) → List Row → List Row → Type 0
 Rowwise Rows old new = Rows (IsRow old) (IsRow new)
 
--- The three tables of rows were changed as told; the roster's row and the messages are as they were.
+-- The three tables of rows were changed as told; the roster's row and the messages are as they
+-- were.
 pub record Turns (N V P : List Row → List Row → Type 0) (old new : Database) : Type 0 where
   pub sound : IsDatabase old → IsDatabase new
   pub schema : new.schema ≡ old.schema
@@ -53,7 +54,8 @@ JoinsOne x old new = (v : VerdictFields) × ShowsVerdict x v × Gains (verdict_r
 
 -- the verdict of each of these rows, and no other, was put to the verdicts
 pub record JoinsAll (rows : List Row) (old new : RowSet) : Type 0 where
-  pub each : (r : List Value) → new r → old r ⊎ ((v : VerdictFields) × (x : Row) × Has rows x × ShowsVerdict x v × (r ≡ verdict_row v))
+  pub each : (r : List Value) → new r → old r
+      ⊎ ((v : VerdictFields) × (x : Row) × Has rows x × ShowsVerdict x v × (r ≡ verdict_row v))
   pub kept : (r : List Value) → old r → new r
   pub joined : (x : Row) → Has rows x → (v : VerdictFields) × ShowsVerdict x v × new (verdict_row v)
 
@@ -67,8 +69,10 @@ pub record JoinsParked (name : RequestName) (old new : Database) : Type 0 where
   pub schema : new.schema ≡ old.schema
   pub tidy : IsTidy new
   pub names : table_in new (codes "names") ≡ table_in old (codes "names")
-  pub verdicts : Joins name (IsRow (table_in old (codes "parked"))) (IsRow (table_in old (codes "verdicts"))) (IsRow (table_in new (codes "verdicts")))
-  pub parked : Loses (OfName 1 name) (IsRow (table_in old (codes "parked"))) (IsRow (table_in new (codes "parked")))
+  pub verdicts : Joins name (IsRow (table_in old (codes "parked")))
+      (IsRow (table_in old (codes "verdicts"))) (IsRow (table_in new (codes "verdicts")))
+  pub parked : Loses (OfName 1 name) (IsRow (table_in old (codes "parked")))
+      (IsRow (table_in new (codes "parked")))
   pub desk : table_in new (codes "desk") ≡ table_in old (codes "desk")
   pub messages : table_in new (codes "messages") ≡ table_in old (codes "messages")
   pub spares : Spares old new
@@ -77,12 +81,14 @@ pub record JoinedParked (name : RequestName) (old new : State) : Type 0 where
   pub mode : IsTrue new.in_transaction
   pub joins : IsTidy old.now → JoinsParked name old.now new.now
 
--- What a message that is new to the messages makes of the rows: where they were those of the messages without it, they are those of the messages with it.
+-- What a message that is new to the messages makes of the rows: where they were those of the
+-- messages without it, they are those of the messages with it.
 pub record Settles (m : Message) (old new : Database) : Type 0 where
   pub sound : IsDatabase old → IsDatabase new
   pub schema : new.schema ≡ old.schema
   pub tidy : IsTidy new
-  pub rows : (texts : Texts) → set.contains texts (wire m) ≡ false → HasRows texts old → HasRows (set.insert texts (wire m)) new
+  pub rows : (texts : Texts) → set.contains texts (wire m) ≡ false
+      → HasRows texts old → HasRows (set.insert texts (wire m)) new
   pub desk : table_in new (codes "desk") ≡ table_in old (codes "desk")
   pub messages : table_in new (codes "messages") ≡ table_in old (codes "messages")
   pub spares : Spares old new
@@ -136,7 +142,8 @@ pub record Renewed (messages : List Message) (old new : State) : Type 0 where
   pub mode : IsTrue new.in_transaction
   pub renews : IsTidy old.now → Renews messages old.now new.now
 
--- The roster's text was recorded in place of the one before; the rows and the messages are as they were.
+-- The roster's text was recorded in place of the one before; the rows and the messages are as they
+-- were.
 pub record Records (roster : List ℕ) (old new : Database) : Type 0 where
   pub sound : IsDatabase new
   pub tidy : IsTidy new
@@ -161,4 +168,5 @@ pub record Replaces (roster : List ℕ) (old new : Database) : Type 0 where
 -- where the messages are those of the desk
 pub record Replaced (roster : List ℕ) (messages : List Message) (old new : State) : Type 0 where
   pub mode : IsTrue new.in_transaction
-  pub replaces : IsDeskDatabase old.now → Lists (HoldsText old.now) messages → Replaces roster old.now new.now
+  pub replaces : IsDeskDatabase old.now
+      → Lists (HoldsText old.now) messages → Replaces roster old.now new.now

@@ -1,5 +1,6 @@
 -- The moment by which so many people have given a verdict that counts. For private clauses.
-use Rattle.std.specs.Prelude.{ℕ, zero, suc, ◌-◌, ◌++◌, Bool, true, ◌&&◌, not, nat_lt, if◌then◌else◌, List, [], ◌∷◌, Option, Some, None, option_map}
+use Rattle.std.specs.Prelude.{ℕ, zero, suc, ◌-◌, ◌++◌, Bool, true, ◌&&◌, not, nat_lt}
+use Rattle.std.specs.Prelude.{if◌then◌else◌, List, [], ◌∷◌, Option, Some, None, option_map}
 use Rattle.std.specs.List.{list_any}
 use Rattle.std.specs.Option.{option_and_then}
 use Rattle.std.specs.Str.{bytes_eq}
@@ -10,7 +11,8 @@ use Rattle.grants.specs.Verdicts.{may_give}
 use Rattle.grants.specs.declared.marks.Mark.{Mark}
 
 -- the verdict of the kind that a mark keeps counts, on what the asker asked for
-abbrev pub has_counting : RosterFields Cmnd → CeilingFields Cmnd → VerdictKind → (asker : List ℕ) → Mark → Bool
+abbrev pub has_counting : RosterFields Cmnd → CeilingFields Cmnd
+    → VerdictKind → (asker : List ℕ) → Mark → Bool
 has_counting f c kind asker mark = may_give f c kind mark.person asker mark.at
 
 -- the mark is one of these people's
@@ -29,7 +31,8 @@ is_sooner mark (Some other) = nat_lt mark.at other.at
 -- the first of this mark and of those that pass; of two of one moment the one that stands first
 abbrev pub earliest_from : Option Mark → (Mark → Bool) → List Mark → Option Mark
 earliest_from first test [] = first
-earliest_from first test (mark ∷ more) = earliest_from (if is_sooner mark first && test mark then Some mark else first) test more
+earliest_from first test (mark ∷ more) =
+    earliest_from (if is_sooner mark first && test mark then Some mark else first) test more
 
 abbrev pub earliest_of : (Mark → Bool) → List Mark → Option Mark
 earliest_of = earliest_from None
@@ -38,10 +41,13 @@ abbrev pub moment_of : Mark → ℕ
 moment_of mark = mark.at
 
 -- the moment by which one person other than these, and then so many more, have a mark that passes
-abbrev pub after_others : (Mark → Bool) → (others : List (List ℕ)) → (more : ℕ) → List Mark → Option ℕ
-after_others test others zero marks = option_map moment_of (earliest_of (is_of_another test others) marks)
+abbrev pub after_others : (Mark → Bool) → (others : List (List ℕ))
+    → (more : ℕ) → List Mark → Option ℕ
+after_others test others zero marks =
+    option_map moment_of (earliest_of (is_of_another test others) marks)
 after_others test others (suc more) marks =
-    option_and_then (λ first. after_others test (others ++ first.person ∷ []) more marks) (earliest_of (is_of_another test others) marks)
+    option_and_then (λ first. after_others test (others ++ first.person ∷ []) more marks)
+    (earliest_of (is_of_another test others) marks)
 
 -- the moment by which n people have a mark that passes, n being 1 at least
 abbrev pub nth_of : (Mark → Bool) → ℕ → List Mark → Option ℕ

@@ -1,5 +1,7 @@
--- Which commands reach no further than another, by cases on their forms. For private clauses: `is_inside` is proved equal to inclusion.
-use Rattle.std.specs.Prelude.{◌≡◌, ℕ, ◌-◌, ◌≤◌, ◌==◌, ◌⊎◌, Bool, true, false, ◌&&◌, List, length, get_or, take, drop}
+-- Which commands reach no further than another, by cases on their forms. For private clauses:
+-- `is_inside` is proved equal to inclusion.
+use Rattle.std.specs.Prelude.{◌≡◌, ℕ, ◌-◌, ◌≤◌, ◌==◌, ◌⊎◌, Bool, true}
+use Rattle.std.specs.Prelude.{false, ◌&&◌, List, length, get_or, take, drop}
 use Rattle.std.specs.List.{AllByRecursion}
 use Rattle.std.specs.Str.{bytes_eq}
 use Rattle.std.specs.Cmp.Lexicographic.{pointwise}

@@ -2,7 +2,8 @@
 use Rattle.std.specs.Prelude.{◌≤◌}
 use Rattle.messages.specs.Fields.{RequestFields}
 use Rattle.grants.specs.declared.outcome.Status.{Status}
-use Rattle.grants.specs.declared.outcome.Status.TheVariants.{Disputed, Lapsed, Refused, Waiting, Void, Granted}
+use Rattle.grants.specs.declared.outcome.Status.TheVariants.{Disputed, Lapsed, Refused}
+use Rattle.grants.specs.declared.outcome.Status.TheVariants.{Waiting, Void, Granted}
 
 -- a window that begins and ends by the last moment that the request asks for
 abbrev pub EndsInTime : RequestFields → Status → Type 0

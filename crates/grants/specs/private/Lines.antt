@@ -1,5 +1,6 @@
 -- The pieces of a line, and which requests can have one that is left. For private clauses.
-use Rattle.std.specs.Prelude.{ℕ, Bool, true, List, ◌++◌, Option, Some, None, ◌&&◌, nat_le, map, codes}
+use Rattle.std.specs.Prelude.{ℕ, Bool, true, List, ◌++◌, Option}
+use Rattle.std.specs.Prelude.{Some, None, ◌&&◌, nat_le, map, codes}
 use Rattle.std.specs.List.{list_any}
 use Rattle.std.specs.Str.{bytes_eq}
 use Rattle.sudo_words.specs.Moment.{stamp}
@@ -15,7 +16,8 @@ abbrev pub who : List ℕ → RequestFields → List ℕ
 who host q = q.by ++ codes " " ++ host ++ codes " = (" ++ q.runas
 
 abbrev pub when : (first last : ℕ) → List ℕ
-when first last = codes ") NOTBEFORE=" ++ stamp first ++ codes " NOTAFTER=" ++ stamp last ++ codes " "
+when first last =
+    codes ") NOTBEFORE=" ++ stamp first ++ codes " NOTAFTER=" ++ stamp last ++ codes " "
 
 -- the lines of rules
 abbrev pub lines_text : List Rule → List ℕ

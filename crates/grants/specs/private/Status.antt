@@ -1,5 +1,6 @@
 -- What an admitted request has come to, from the marks of its summary. For private clauses.
-use Rattle.std.specs.Prelude.{◌≡◌, ◌≤◌, ℕ, zero, suc, Bool, true, ◌&&◌, nat_le, max, if◌then◌else◌, List, Option, Some, None}
+use Rattle.std.specs.Prelude.{◌≡◌, ◌≤◌, ℕ, zero, suc, Bool, true, ◌&&◌, nat_le}
+use Rattle.std.specs.Prelude.{max, if◌then◌else◌, List, Option, Some, None}
 use Rattle.std.specs.List.{list_any}
 use Rattle.sudo_words.specs.declared.cmnd.Cmnd.{Cmnd}
 use Rattle.messages.specs.Fields.{RequestFields}
@@ -14,7 +15,8 @@ use Rattle.grants.specs.declared.outcome.Status.{Status}
 use Rattle.grants.specs.declared.outcome.Status.TheVariants.{Refused, Waiting, Void, Granted}
 
 -- The roster admits the request, and this is its ceiling.
-pub record IsAdmittedUnder (f : RosterFields Cmnd) (q : RequestFields) (c : CeilingFields Cmnd) : Type 0 where
+pub record IsAdmittedUnder (f : RosterFields Cmnd)
+    (q : RequestFields) (c : CeilingFields Cmnd) : Type 0 where
   pub admits : AdmitsRequest f q
   pub ceiling_is : ceiling_at f q.ceiling ≡ Some c
   pub needs : (1 ≤ c.needs) × (c.needs ≤ 3)
@@ -47,15 +49,18 @@ end_of until (Some revoked) = if nat_le revoked until then before revoked else S
 
 abbrev pub window : ℕ → Option ℕ → Status
 window start None = Void
-window start (Some end) = if nat_le start end then Granted (record { start = start; end = end }) else Void
+window start (Some end) =
+    if nat_le start end then Granted (record { start = start; end = end }) else Void
 
 abbrev pub from_complete : RosterFields Cmnd → CeilingFields Cmnd → Kept → Option ℕ → Status
 from_complete f c k None = Waiting
-from_complete f c k (Some complete) = window (max k.request.from complete) (end_of k.request.until (revocation f c k))
+from_complete f c k (Some complete) =
+    window (max k.request.from complete) (end_of k.request.until (revocation f c k))
 
 abbrev pub unless_refused : Bool → Status → Status
 unless_refused refused status = if refused then Refused else status
 
 abbrev pub admitted_status : RosterFields Cmnd → CeilingFields Cmnd → Kept → Status
 admitted_status f c k =
-    unless_refused (is_refused (has_counting f c kinds.Refuse k.request.by) (completion f c k) k.refusals) (from_complete f c k (completion f c k))
+    unless_refused (is_refused (has_counting f c kinds.Refuse k.request.by)
+    (completion f c k) k.refusals) (from_complete f c k (completion f c k))

@@ -1,6 +1,7 @@
 -- The value that a message's text reads as. For private clauses.
 use Rattle.std.specs.Prelude.{◌≡◌, ℕ, List, [], ◌∷◌, Some, IsUtf8, map, codes}
-use Rattle.serde_json.specs.Data.{Data, number, unsigned, string, array, object, Items, no_items, item, no_members, member}
+use Rattle.serde_json.specs.Data.{Data, number, unsigned, string, array, object}
+use Rattle.serde_json.specs.Data.{Items, no_items, item, no_members, member}
 use Rattle.serde_json.specs.Read.{read}
 use Rattle.sudo_words.specs.Command.{cmnd_text}
 use Rattle.messages.specs.Fields.{RequestFields, VerdictFields}

@@ -18,8 +18,10 @@ use Rattle.outcomes.specs.private.InTurn.{Give}
 abbrev pub rules_left : Option ℕ → List ℕ → RequestFields → Status → List Rule
 rules_left after host q status = filter (stays after) (rules_for host q status)
 
--- After the text stand the lines that are left of the summaries' requests in turn: each is of a rule of a grant, and they are not too many.
-pub record AreBehind (f : RosterFields Cmnd) (messages : List Message) (host : List ℕ) (after : Option ℕ) (summaries : List Kept) (old new : List ℕ) : Type 0 where
+-- After the text stand the lines that are left of the summaries' requests in turn: each is of a
+-- rule of a grant, and they are not too many.
+pub record AreBehind (f : RosterFields Cmnd) (messages : List Message) (host : List ℕ)
+    (after : Option ℕ) (summaries : List Kept) (old new : List ℕ) : Type 0 where
   pub rules : List Rule
   pub given : Give f messages (rules_left after host) summaries rules
   pub grants : AllByRecursion IsGrantRule rules

@@ -1,5 +1,6 @@
 -- What is known of a set of messages, in two maps by name.
-use Rattle.std.specs.Prelude.{◌≡◌, ◌↔◌, List, [], ◌∷◌, ◌++◌, Contains, Option, Some, None, MatchOption, Vec}
+use Rattle.std.specs.Prelude.{◌≡◌, ◌↔◌, List, [], ◌∷◌, ◌++◌, Contains}
+use Rattle.std.specs.Prelude.{Option, Some, None, MatchOption, Vec}
 use Rattle.std.specs.declared.alloc.Global.{Global}
 use Rattle.std.specs.BTreeMap.{BTreeMap, IsOrdered, get}
 use Rattle.messages.specs.Fields.{VerdictFields}
@@ -26,7 +27,8 @@ pub record IsSummaryOf (messages : List Message) (name : RequestName) (k : Kept)
 -- at each name the map has a summary of the set's messages about it, and nothing where nobody asks
 pub record Gathers (messages : List Message) (summaries : BTreeMap RequestName Kept) : Type 0 where
   pub ordered : IsOrdered name_cmp summaries
-  pub each : (name : RequestName) → MatchOption (at_name summaries name) (NobodyAsks messages name) (IsSummaryOf messages name)
+  pub each : (name : RequestName)
+      → MatchOption (at_name summaries name) (NobodyAsks messages name) (IsSummaryOf messages name)
 
 -- ---- summaries of requests alone
 
@@ -40,16 +42,20 @@ AreAlone summaries = (messages : List Message) × HasNoVerdict messages × Gathe
 
 -- the row is of a request of the set
 abbrev pub IsRowOf : List Message → NameRow → Type 0
-IsRowOf messages row = Contains messages (Request row.request) × IsMarked (λ m. Contains messages m) row.request row.is_disputed
+IsRowOf messages row = Contains messages (Request row.request)
+    × IsMarked (λ m. Contains messages m) row.request row.is_disputed
 
 -- no row is of the name
 abbrev pub NoRowOf : List NameRow → RequestName → Type 0
 NoRowOf rows name = (row : NameRow) → Contains rows row → ¬ IsNamed row.request name
 
--- at each name of a row the map has a summary of the set's messages about it, and nothing at the others
-pub record GathersRows (messages : List Message) (rows : List NameRow) (summaries : BTreeMap RequestName Kept) : Type 0 where
+-- at each name of a row the map has a summary of the set's messages about it, and nothing at the
+-- others
+pub record GathersRows (messages : List Message) (rows : List NameRow)
+    (summaries : BTreeMap RequestName Kept) : Type 0 where
   pub ordered : IsOrdered name_cmp summaries
-  pub each : (name : RequestName) → MatchOption (at_name summaries name) (NoRowOf rows name) (IsSummaryOf messages name)
+  pub each : (name : RequestName)
+      → MatchOption (at_name summaries name) (NoRowOf rows name) (IsSummaryOf messages name)
 
 -- ---- verdicts that wait
 
@@ -58,7 +64,8 @@ listed None = []
 listed (Some verdicts) = verdicts.items
 
 -- those that wait at a name
-abbrev pub verdicts_at : BTreeMap RequestName (Vec VerdictFields Global) → RequestName → List VerdictFields
+abbrev pub verdicts_at : BTreeMap RequestName (Vec VerdictFields Global)
+    → RequestName → List VerdictFields
 verdicts_at waiting name = listed (at_name waiting name)
 
 -- lists of verdicts, one after another
@@ -67,16 +74,20 @@ in_turn [] = []
 in_turn (l ∷ more) = l.items ++ in_turn more
 
 -- at each name the map has the set's verdicts about it, and nothing where somebody asks
-pub record Waits (messages : List Message) (waiting : BTreeMap RequestName (Vec VerdictFields Global)) : Type 0 where
+pub record Waits (messages : List Message)
+    (waiting : BTreeMap RequestName (Vec VerdictFields Global)) : Type 0 where
   pub ordered : IsOrdered name_cmp waiting
-  pub each : (name : RequestName) (v : VerdictFields) → Contains (verdicts_at waiting name) v ↔ ((name_meant v ≡ name) × IsParked messages v)
+  pub each : (name : RequestName) (v : VerdictFields)
+      → Contains (verdicts_at waiting name) v ↔ ((name_meant v ≡ name) × IsParked messages v)
 
 -- ---- both
 
-pub record AreByName (messages : List Message) (asked : BTreeMap RequestName Kept) (waited : BTreeMap RequestName (Vec VerdictFields Global)) : Type 0 where
+pub record AreByName (messages : List Message) (asked : BTreeMap RequestName Kept)
+    (waited : BTreeMap RequestName (Vec VerdictFields Global)) : Type 0 where
   pub summaries : Gathers messages asked
   pub waiting : Waits messages waited
 
 -- It is what is known of some set.
-abbrev pub IsByName : BTreeMap RequestName Kept → BTreeMap RequestName (Vec VerdictFields Global) → Type 0
+abbrev pub IsByName : BTreeMap RequestName Kept
+    → BTreeMap RequestName (Vec VerdictFields Global) → Type 0
 IsByName summaries waiting = (messages : List Message) × AreByName messages summaries waiting

@@ -11,15 +11,18 @@ use Rattle.grants.specs.declared.outcome.Status.{Status}
 use Rattle.grants.specs.declared.outcome.Window.{Window}
 use Rattle.outcomes.specs.Outcomes.{LiveGrant}
 
-module _ {X : Type 0} (f : RosterFields Cmnd) (messages : List Message) (give : RequestFields → Status → List X) where
+module _ {X : Type 0} (f : RosterFields Cmnd) (messages : List Message) (give : RequestFields
+    → Status → List X) where
   -- one more summary
   abbrev pub Adds : Kept → (old new : List X) → Type 0
-  Adds k old new = (status : Status) × IsStatus f messages (name_of k.request) status × (new ≡ old ++ give k.request status)
+  Adds k old new = (status : Status) × IsStatus f messages (name_of k.request) status
+      × (new ≡ old ++ give k.request status)
 
   abbrev pub Give : List Kept → List X → Type 0
   Give [] xs = xs ≡ []
   Give (k ∷ ks) xs =
-      (more : List X) × (status : Status) × Give ks more × IsStatus f messages (name_of k.request) status × (xs ≡ give k.request status ++ more)
+      (more : List X) × (status : Status) × Give ks more
+      × IsStatus f messages (name_of k.request) status × (xs ≡ give k.request status ++ more)
 
 -- ---- grants in force
 

@@ -1,4 +1,5 @@
--- What a report has of the names that somebody asks under, part by part; only private clauses cite it.
+-- What a report has of the names that somebody asks under, part by part; only private clauses cite
+-- it.
 use Rattle.std.specs.Prelude.{ℕ, List, [], string_bytes}
 use Rattle.sudo_words.specs.declared.cmnd.Cmnd.{Cmnd}
 use Rattle.sudo_policy.specs.declared.entry.Entry.{Entry}
@@ -11,7 +12,8 @@ use Rattle.review.specs.Report.{AreBarred, AreBroadLines, AreInForce, IsLiveLine
 use Rattle.review.specs.private.Reporting.{AddsLines, kept_name}
 
 -- a summary's lines under LIVE, under BARRED and under BROAD
-abbrev pub AreLiveOf : RosterFields Cmnd → List Entry → List Message → (at : ℕ) → Kept → List (List ℕ) → Type 0
+abbrev pub AreLiveOf : RosterFields Cmnd → List Entry
+    → List Message → (at : ℕ) → Kept → List (List ℕ) → Type 0
 AreLiveOf f base messages at k = AreInForce f messages at (IsLiveLine base) (kept_name k)
 
 abbrev pub AreBarredOf : RosterFields Cmnd → List Message → Kept → List (List ℕ) → Type 0
@@ -21,13 +23,18 @@ abbrev pub AreBroadOf : RosterFields Cmnd → List Message → (at : ℕ) → Ke
 AreBroadOf f messages at k = AreInForce f messages at AreBroadLines (kept_name k)
 
 -- Each part has the summary's lines more.
-pub record AddsName (f : RosterFields Cmnd) (base : List Entry) (messages : List Message) (at : ℕ) (k : Kept) (old new : Parts) : Type 0 where
-  pub live : AddsLines (AreLiveOf f base messages at k) (string_bytes old.live) (string_bytes new.live)
-  pub barred : AddsLines (AreBarredOf f messages k) (string_bytes old.barred) (string_bytes new.barred)
-  pub broad : AddsLines (AreBroadOf f messages at k) (string_bytes old.broad) (string_bytes new.broad)
+pub record AddsName (f : RosterFields Cmnd) (base : List Entry)
+    (messages : List Message) (at : ℕ) (k : Kept) (old new : Parts) : Type 0 where
+  pub live :
+      AddsLines (AreLiveOf f base messages at k) (string_bytes old.live) (string_bytes new.live)
+  pub barred :
+      AddsLines (AreBarredOf f messages k) (string_bytes old.barred) (string_bytes new.barred)
+  pub broad :
+      AddsLines (AreBroadOf f messages at k) (string_bytes old.broad) (string_bytes new.broad)
 
 -- Each part has the lines of the summaries, in their order, and no others.
-pub record HaveNames (f : RosterFields Cmnd) (base : List Entry) (messages : List Message) (at : ℕ) (kept : List Kept) (parts : Parts) : Type 0 where
+pub record HaveNames (f : RosterFields Cmnd) (base : List Entry)
+    (messages : List Message) (at : ℕ) (kept : List Kept) (parts : Parts) : Type 0 where
   pub live : AddsLines (AreParts (AreLiveOf f base messages at) kept) [] (string_bytes parts.live)
   pub barred : AddsLines (AreParts (AreBarredOf f messages) kept) [] (string_bytes parts.barred)
   pub broad : AddsLines (AreParts (AreBroadOf f messages at) kept) [] (string_bytes parts.broad)

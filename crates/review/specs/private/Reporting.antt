@@ -30,21 +30,27 @@ abbrev pub IsSpan : Window → Type 0
 IsSpan w = IsMoment w.start × IsMoment w.end
 
 -- The summary stands for the set, and the status is what the set's messages about its name come to.
-pub record IsOutcome (f : RosterFields Cmnd) (messages : List Message) (k : Kept) (status : Status) : Type 0 where
+pub record IsOutcome (f : RosterFields Cmnd) (messages : List Message)
+    (k : Kept) (status : Status) : Type 0 where
   pub stands : StandsFor messages k
   pub status_is : IsStatus f messages (kept_name k) status
 
 -- a summary's request and its window, where it is granted and the window holds the moment
 abbrev pub IsInForceOf : RosterFields Cmnd → List Message → ℕ → Kept → Option InForce → Type 0
-IsInForceOf f messages at k None = (status : Status) × IsStatus f messages (kept_name k) status × (window_at at status ≡ None)
+IsInForceOf f messages at k None =
+    (status : Status) × IsStatus f messages (kept_name k) status × (window_at at status ≡ None)
 IsInForceOf f messages at k (Some grant) =
-    (status : Status) × IsStatus f messages (kept_name k) status × (window_at at status ≡ Some grant.window) × IsOnlyRequest messages (kept_name k) grant.request.now
+    (status : Status) × IsStatus f messages (kept_name k) status
+    × (window_at at status ≡ Some grant.window)
+    × IsOnlyRequest messages (kept_name k) grant.request.now
 
 -- a summary's request and its ceiling, where the name is neither disputed nor lapsed
 abbrev pub IsOpenOf : RosterFields Cmnd → List Message → Kept → Option OpenRequest → Type 0
-IsOpenOf f messages k None = (status : Status) × IsStatus f messages (kept_name k) status × (is_open status ≡ false)
+IsOpenOf f messages k None =
+    (status : Status) × IsStatus f messages (kept_name k) status × (is_open status ≡ false)
 IsOpenOf f messages k (Some o) =
-    (status : Status) × IsStatus f messages (kept_name k) status × (is_open status ≡ true) × IsOnlyRequest messages (kept_name k) o.request.now
+    (status : Status) × IsStatus f messages (kept_name k) status
+    × (is_open status ≡ true) × IsOnlyRequest messages (kept_name k) o.request.now
     × (o.request.now ≡ k.request) × (ceiling_at f o.request.now.ceiling ≡ Some o.ceiling.now)
 
 -- what a grant is over two lists of hosts

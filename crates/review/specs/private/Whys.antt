@@ -1,4 +1,5 @@
--- Why none of a person's approvals counts, person by person, as the list of the approvals is gone through; only private clauses cite it.
+-- Why none of a person's approvals counts, person by person, as the list of the approvals is gone
+-- through; only private clauses cite it.
 use Rattle.std.specs.Prelude.{ℕ, List, [], ◌∷◌, ◌++◌, Option, Some, None, if◌then◌else◌}
 use Rattle.std.specs.List.{flat_map}
 use Rattle.std.specs.Str.{bytes_eq}
@@ -14,13 +15,17 @@ both None later = None
 both (Some why) None = None
 both (Some why) (Some other) = Some why
 
--- a person's approval before those of people: one more of the first of them, or one of somebody else
-abbrev pub joined : (person : List ℕ) → Option Reason → List (List ℕ × Option Reason) → List (List ℕ × Option Reason)
+-- a person's approval before those of people: one more of the first of them, or one of somebody
+-- else
+abbrev pub joined : (person : List ℕ) → Option Reason
+    → List (List ℕ × Option Reason) → List (List ℕ × Option Reason)
 joined person why [] = (person, why) ∷ []
-joined person why (w ∷ ws) = if bytes_eq w.0 person then (person, both why w.1) ∷ ws else (person, why) ∷ w ∷ ws
+joined person why (w ∷ ws) =
+    if bytes_eq w.0 person then (person, both why w.1) ∷ ws else (person, why) ∷ w ∷ ws
 
 -- the people of a list of approvals, each with why none of the approvals counts
-abbrev pub whys : (reason_at : (person : List ℕ) → (at : ℕ) → Option Reason) → List (List ℕ × ℕ) → List (List ℕ × Option Reason)
+abbrev pub whys : (reason_at : (person : List ℕ) → (at : ℕ) → Option Reason)
+    → List (List ℕ × ℕ) → List (List ℕ × Option Reason)
 whys reason_at [] = []
 whys reason_at (a ∷ others) = joined a.0 (reason_at a.0 a.1) (whys reason_at others)
 

@@ -1,4 +1,5 @@
--- The orders in which a roster's commands, pairs and names are looked up by halving. For private clauses.
+-- The orders in which a roster's commands, pairs and names are looked up by halving. For private
+-- clauses.
 use Rattle.std.specs.Prelude.{ℕ, Bool, List, []}
 use Rattle.std.specs.List.Sorted.{IsPermutation, IsSorted, IsStrictlySortedBy}
 use Rattle.std.specs.Cmp.Lexicographic.{slice_cmp}
@@ -49,7 +50,8 @@ abbrev pub args_order : List (List ℕ) → List (List ℕ) → Ordering
 args_order = slice_cmp text_order
 
 abbrev pub place_order : Place → Place → Ordering
-place_order p q = ordering_then (nat_cmp (rank p.kind) (rank q.kind)) (ordering_then (text_order p.path q.path) (args_order p.args q.args))
+place_order p q = ordering_then (nat_cmp (rank p.kind) (rank q.kind))
+    (ordering_then (text_order p.path q.path) (args_order p.args q.args))
 
 abbrev pub cmnd_order : Cmnd → Cmnd → Ordering
 cmnd_order c d = place_order (place c) (place d)

@@ -1,5 +1,6 @@
 -- How the stages of reading answer. For private clauses.
-use Rattle.std.specs.Prelude.{◌≡◌, ◌≢◌, ℕ, List, Option, Some, None, Result, Ok, Err, Bool, true, false}
+use Rattle.std.specs.Prelude.{◌≡◌, ◌≢◌, ℕ, List, Option, Some, None}
+use Rattle.std.specs.Prelude.{Result, Ok, Err, Bool, true, false}
 use Rattle.toml.specs.Data.{Members}
 use Rattle.toml.specs.Parse.{parse_document}
 use Rattle.roster.specs.Document.{has_known_keys, fields_of}
@@ -13,13 +14,16 @@ abbrev pub Reads : {X : Type 0} → RosterFault → Option X → Result X Roster
 Reads fault there (Ok x) = there ≡ Some x
 Reads fault there (Err e) = e ≢ NoMemory → (e ≡ fault) × (there ≡ None)
 
--- What is answered is this value where the test holds, and this fault where it does not, unless memory runs out.
+-- What is answered is this value where the test holds, and this fault where it does not, unless
+-- memory runs out.
 abbrev pub Checks : {X : Type 0} → RosterFault → Bool → X → Result X RosterFault → Type 0
 Checks fault test x (Ok y) = (test ≡ true) × (y ≡ x)
 Checks fault test x (Err e) = e ≢ NoMemory → (e ≡ fault) × (test ≡ false)
 
--- What is answered stands so to what was asked, or it is this fault where the fact does not hold, unless memory runs out.
-abbrev pub Meets : {X : Type 0} → RosterFault → Type 0 → (X → Type 0) → Result X RosterFault → Type 0
+-- What is answered stands so to what was asked, or it is this fault where the fact does not hold,
+-- unless memory runs out.
+abbrev pub Meets : {X : Type 0} → RosterFault → Type 0
+    → (X → Type 0) → Result X RosterFault → Type 0
 Meets fault fact Stands (Ok y) = fact × Stands y
 Meets fault fact Stands (Err e) = e ≢ NoMemory → (e ≡ fault) × ¬ fact
 
@@ -30,7 +34,8 @@ pub record IsDraftOf (text : List ℕ) (t : RosterFields (List ℕ)) : Type 0 wh
   pub keys : has_known_keys document ≡ true
   pub types : fields_of document ≡ Some t
 
--- What it says names what is listed, no duty conflicts with itself, and each number and count is in range.
+-- What it says names what is listed, no duty conflicts with itself, and each number and count is in
+-- range.
 pub record KeepsRules (text : List ℕ) (t : RosterFields (List ℕ)) : Type 0 where
   pub known : are_known t ≡ true
   pub apart : has_self_conflict t ≡ false

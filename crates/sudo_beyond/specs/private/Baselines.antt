@@ -21,8 +21,9 @@ pub record IsSize (es : List Entry) (s : Size) : Type 0 where
   pub listings_are : s.listings ≡ length (listings (commands es))
   pub turns_are : s.turns ≡ length (turns (rules_in es))
 
--- Where the names are fixed, at most so many cases are made of so many commands, lists of arguments and moments: for each command no more than
--- each list and two more, and one elsewhere; for each moment one, and one more.
+-- Where the names are fixed, at most so many cases are made of so many commands, lists of arguments
+-- and moments: for each command no more than each list and two more, and one elsewhere; for each
+-- moment one, and one more.
 abbrev pub most_of : (commands listings turns : ℕ) → ℕ
 most_of commands listings turns = (commands * (listings + 2) + 1) * (turns + 1)
 

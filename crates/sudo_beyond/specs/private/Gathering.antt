@@ -1,5 +1,7 @@
--- What the functions that gather the cases are given, and what they add to a list; only their own clauses cite it.
-use Rattle.std.specs.Prelude.{◌≡◌, ℕ, ◌<◌, ◌≤◌, ◌^◌, Bool, true, if◌then◌else◌, List, [], ◌∷◌, ◌++◌, length, map}
+-- What the functions that gather the cases are given, and what they add to a list; only their own
+-- clauses cite it.
+use Rattle.std.specs.Prelude.{◌≡◌, ℕ, ◌<◌, ◌≤◌, ◌^◌, Bool, true}
+use Rattle.std.specs.Prelude.{if◌then◌else◌, List, [], ◌∷◌, ◌++◌, length, map}
 use Rattle.std.specs.List.{flat_map}
 use Rattle.std.specs.Ordering.{ordering_then}
 use Rattle.std.specs.declared.cmp.Ordering.{Ordering}
@@ -20,12 +22,15 @@ IsFormOfOthers form = (k : ℕ) → k < 2 ^ 64 → form (other k) ≡ true
 abbrev pub IsLawfulDir : List ℕ → Type 0
 IsLawfulDir dir = (is_dir_path dir ≡ true) × (length dir ≤ most_path_bytes)
 
--- the first other file of a directory that is none of these, and the first other argument that is none of these lists
+-- the first other file of a directory that is none of these, and the first other argument that is
+-- none of these lists
 abbrev pub IsFreeFile : List (List ℕ) → List ℕ → List ℕ → Type 0
-IsFreeFile taken dir path = (name : List ℕ) × (path ≡ dir ++ name) × IsFirstOther (λ word. has taken (dir ++ word)) name
+IsFreeFile taken dir path =
+    (name : List ℕ) × (path ≡ dir ++ name) × IsFirstOther (λ word. has taken (dir ++ word)) name
 
 abbrev pub IsFreeArgs : List (List (List ℕ)) → List (List ℕ) → Type 0
-IsFreeArgs lists args = (arg : List ℕ) × (args ≡ arg ∷ []) × IsFirstOther (λ word. has_args lists (word ∷ [])) arg
+IsFreeArgs lists args =
+    (arg : List ℕ) × (args ≡ arg ∷ []) × IsFirstOther (λ word. has_args lists (word ∷ [])) arg
 
 -- a part of this kind is added after the old list
 abbrev pub Adds : {Y : Type 0} → (List Y → Type 0) → List Y → List Y → Type 0

@@ -15,16 +15,21 @@ use Rattle.sudo_compiled.specs.declared.known.Known.{Known}
 use Rattle.sudo_compiled.specs.declared.kind.Written.{Written}
 use Rattle.sudo_compiled.specs.declared.kind.Written.TheVariants as written
 use Rattle.sudo_compiled.specs.declared.plain.PlainRule.{PlainRule}
-use Rattle.sudo_compiled.specs.Compiled.{plain_answer, match_answer, takes_part, is_about, cmnds_say}
+use Rattle.sudo_compiled.specs.Compiled.{plain_answer, match_answer}
+use Rattle.sudo_compiled.specs.Compiled.{takes_part, is_about, cmnds_say}
 
 -- what is written of an item: itself, or the alias that it is
-abbrev pub written_says : {X : Type 0} → (X → Option Bool) → (List ℕ → Option Bool) → Written X → Option Bool
+abbrev pub written_says : {X : Type 0} → (X → Option Bool)
+    → (List ℕ → Option Bool) → Written X → Option Bool
 written_says plain alias_says (written.Own x) = plain x
 written_says plain alias_says (written.Alias name) = alias_says name.now
 
--- what is added at the end of a list answers this, whatever is asked: so the list answers it too, and where it is silent what it answered before
-abbrev pub Adds : {X : Type 0} → (Invocation → X → Option Bool) → List (Signed X) → List (Signed X) → (Invocation → Option Bool) → Type 0
-Adds plain old new says = (i : Invocation) → defined.list_answer (plain i) new ≡ option_or (says i) (defined.list_answer (plain i) old)
+-- what is added at the end of a list answers this, whatever is asked: so the list answers it too,
+-- and where it is silent what it answered before
+abbrev pub Adds : {X : Type 0} → (Invocation → X → Option Bool)
+    → List (Signed X) → List (Signed X) → (Invocation → Option Bool) → Type 0
+Adds plain old new says = (i : Invocation)
+    → defined.list_answer (plain i) new ≡ option_or (says i) (defined.list_answer (plain i) old)
 
 -- ---- what aliases stand for
 
@@ -40,20 +45,30 @@ found_says plain (Some list) = defined.list_answer plain list
 abbrev pub known_says : {X : Type 0} → (X → Option Bool) → Known X → List ℕ → Option Bool
 known_says plain known name = found_says plain (list_at known name)
 
--- what is kept stands for the aliases of these definitions: of whatever is asked it says what they say
-abbrev pub Stands : {X Y : Type 0} → (Invocation → X → Option Bool) → (Invocation → (List ℕ → Option Bool) → Y → Option Bool) → List (Definition Y) → Known X → Type 0
-Stands plain says defs known = (i : Invocation) (name : List ℕ) → known_says (plain i) known name ≡ aliases_say (says i) defs name
+-- what is kept stands for the aliases of these definitions: of whatever is asked it says what they
+-- say
+abbrev pub Stands : {X Y : Type 0} → (Invocation → X → Option Bool)
+    → (Invocation → (List ℕ → Option Bool) → Y → Option Bool)
+    → List (Definition Y) → Known X → Type 0
+Stands plain says defs known = (i : Invocation) (name : List ℕ)
+    → known_says (plain i) known name ≡ aliases_say (says i) defs name
 
--- so it is of the aliases of each kind that entries define, which are listed from the last to the first
+-- so it is of the aliases of each kind that entries define, which are listed from the last to the
+-- first
 pub record AreKnown (above : List Entry) (known : Aliases) : Type 0 where
-  pub users : Stands (λ i x. plain_answer i.user x) (λ i alias_says item. defined.item_answer alias_says i.user item) (user_defs above) known.users
-  pub runas : Stands (λ i x. plain_answer i.runas x) (λ i alias_says item. defined.item_answer alias_says i.runas item) (runas_defs above) known.runas
-  pub hosts : Stands (λ i x. plain_answer i.host x) (λ i alias_says item. defined.item_answer alias_says i.host item) (host_defs above) known.hosts
-  pub cmnds : Stands (λ i x. match_answer i.path i.args x) (λ i alias_says item. defined.cmnd_answer alias_says i.path i.args item) (cmnd_defs above) known.cmnds
+  pub users : Stands (λ i x. plain_answer i.user x) (λ i alias_says item.
+      defined.item_answer alias_says i.user item) (user_defs above) known.users
+  pub runas : Stands (λ i x. plain_answer i.runas x) (λ i alias_says item.
+      defined.item_answer alias_says i.runas item) (runas_defs above) known.runas
+  pub hosts : Stands (λ i x. plain_answer i.host x) (λ i alias_says item.
+      defined.item_answer alias_says i.host item) (host_defs above) known.hosts
+  pub cmnds : Stands (λ i x. match_answer i.path i.args x) (λ i alias_says item.
+      defined.cmnd_answer alias_says i.path i.args item) (cmnd_defs above) known.cmnds
 
 -- ---- rules
 
--- a rule is written out where it says, of whatever is asked, what the rule says by the entries' definitions, and decides what it decides
+-- a rule is written out where it says, of whatever is asked, what the rule says by the entries'
+-- definitions, and decides what it decides
 pub record IsWritten (defined_by : List Entry) (r : Rule) (w : PlainRule) : Type 0 where
   pub dates : (at : ℕ) → takes_part w at ≡ defined.takes_part r at
   pub about : (i : Invocation) → is_about w i ≡ defined.is_about defined_by r i

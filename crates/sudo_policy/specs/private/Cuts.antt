@@ -21,5 +21,6 @@ pub record IsCut (p : ℕ → Bool) (bytes front rest : List ℕ) : Type 0 where
 -- The readings of the bytes are those of the rest, with the token before them.
 pub record IsFirst (bytes : List ℕ) (t : Tok) (rest : List ℕ) : Type 0 where
   pub adds : (ts : List Tok) → Lexes rest ts → Lexes bytes (t ∷ ts)
-  pub only : (ts : List Tok) → Lexes bytes ts → (more : List Tok) × (ts ≡ t ∷ more) × Lexes rest more
+  pub only : (ts : List Tok) → Lexes bytes ts
+      → (more : List Tok) × (ts ≡ t ∷ more) × Lexes rest more
   pub shorter : length rest < length bytes

@@ -7,7 +7,8 @@ use Rattle.sudo_words.specs.Command.{arg_text}
 use Rattle.sudo_words.specs.declared.cmnd.ArgRule.{ArgRule}
 use Rattle.sudo_words.specs.declared.cmnd.ArgRule.TheVariants as rules
 use Rattle.sudo_policy.specs.Lex.{Tok, word, mark}
-use Rattle.sudo_policy.specs.Grammar.{Date, GivesBound, Bounds, SpellsDates, SpellsTags, tag_word, last_tag, begins_spaced, Listed}
+use Rattle.sudo_policy.specs.Grammar.{Date, GivesBound, Bounds, SpellsDates, SpellsTags}
+use Rattle.sudo_policy.specs.Grammar.{tag_word, last_tag, begins_spaced, Listed}
 
 abbrev pub NoWord : List Tok → Type 0
 NoWord [] = Unit {0}
@@ -32,7 +33,8 @@ NoArg ts = (text : List ℕ) (next : List Tok) → ts ≢ word true 0 text ∷ n
 
 -- what begins with no word, `=` and word without blanks between
 abbrev pub NoDate : List Tok → Type 0
-NoDate ts = (a : Bool) (name time : List ℕ) (next : List Tok) → ts ≢ word a 0 name ∷ mark false equals ∷ word false 0 time ∷ next
+NoDate ts = (a : Bool) (name time : List ℕ) (next : List Tok)
+    → ts ≢ word a 0 name ∷ mark false equals ∷ word false 0 time ∷ next
 
 -- what begins with no word and this mark
 abbrev pub NoHead : ℕ → List Tok → Type 0
@@ -40,7 +42,8 @@ NoHead m ts = (a b : Bool) (name : List ℕ) (next : List Tok) → ts ≢ word a
 
 -- what begins with no tag
 abbrev pub NoTag : List Tok → Type 0
-NoTag ts = (a b : Bool) (tag : Bool) (next : List Tok) → ts ≢ word a 0 (tag_word tag) ∷ mark b colon ∷ next
+NoTag ts =
+    (a b : Bool) (tag : Bool) (next : List Tok) → ts ≢ word a 0 (tag_word tag) ∷ mark b colon ∷ next
 
 -- arguments, each after blanks
 abbrev pub arg_toks : List (List ℕ) → List Tok
@@ -57,12 +60,15 @@ begins_upper [] = false
 begins_upper (b ∷ bs) = is_upper b
 
 -- an option of this word and time gives the bounds
-abbrev pub AddsBound : (before after : Option ℕ) → (name time : List ℕ) → (new_before new_after : Option ℕ) → Type 0
+abbrev pub AddsBound : (before after : Option ℕ)
+    → (name time : List ℕ) → (new_before new_after : Option ℕ) → Type 0
 AddsBound before after name time new_before new_after =
-    (moment : ℕ) × moments.Spells time moment × GivesBound before after (record { word = name; moment = moment }) new_before new_after
+    (moment : ℕ) × moments.Spells time moment
+    × GivesBound before after (record { word = name; moment = moment }) new_before new_after
 
 -- options that give these bounds, after options that gave others
-abbrev pub Dated : (before after : Option ℕ) → List Tok → (new_before new_after : Option ℕ) → List Tok → Type 0
+abbrev pub Dated : (before after : Option ℕ) → List Tok
+    → (new_before new_after : Option ℕ) → List Tok → Type 0
 Dated before after ts new_before new_after rest =
     (dates : List Date) × SpellsDates ts dates rest × Bounds before after dates new_before new_after
 
@@ -75,6 +81,8 @@ abbrev pub NoKind : List ℕ → List Tok → Type 0
 NoKind kind ts = (a : Bool) (next : List Tok) → ts ≢ word a 0 kind ∷ next
 
 -- the word of a kind, and after blanks definitions with `:` between
-abbrev pub Defines : {X : Type 0} → List ℕ → (List Tok → X → List Tok → Type 0) → List Tok → List X → Type 0
+abbrev pub Defines : {X : Type 0} → List ℕ
+    → (List Tok → X → List Tok → Type 0) → List Tok → List X → Type 0
 Defines kind Is ts defs =
-    (a : Bool) × (next : List Tok) × (ts ≡ word a 0 kind ∷ next) × (begins_spaced next ≡ true) × Listed colon Is next defs []
+    (a : Bool) × (next : List Tok) × (ts ≡ word a 0 kind ∷ next)
+    × (begins_spaced next ≡ true) × Listed colon Is next defs []

@@ -1,4 +1,5 @@
--- Lines of a text of which those before are read, and the front that they left where the last of them goes on. For private clauses.
+-- Lines of a text of which those before are read, and the front that they left where the last of
+-- them goes on. For private clauses.
 use Rattle.std.specs.Prelude.{◌≡◌, ◌≢◌, ◌<◌, ◌⊎◌, List, [], ◌∷◌, ◌++◌, length}
 use Rattle.sudo_policy.specs.declared.entry.Entry.{Entry}
 use Rattle.sudo_policy.specs.declared.fault.FaultKind.{FaultKind}
@@ -10,16 +11,20 @@ use Rattle.sudo_policy.specs.Spelling.{SpellsLines}
 -- The lines are these when joined, where a front that is not empty stands before the first.
 abbrev pub JoinedAfter : Text → List Text → List Text → Type 0
 JoinedAfter front lines joined =
-    ((front ≡ []) × Joined lines joined)
-    ⊎ ((0 < length front) × (body : Text) × (more : List Text) × (joined ≡ (front ++ body) ∷ more) × Joined lines (body ∷ more))
+    ((front ≡ []) × Joined lines joined) ⊎ ((0 < length front) × (body : Text)
+    × (more : List Text) × (joined ≡ (front ++ body) ∷ more) × Joined lines (body ∷ more))
 
 abbrev pub SpellsAfter : Text → List Text → List Entry → Type 0
-SpellsAfter front lines es = (joined : List Text) × JoinedAfter front lines joined × SpellsLines joined es
+SpellsAfter front lines es =
+    (joined : List Text) × JoinedAfter front lines joined × SpellsLines joined es
 
--- The entries of the lines after the front are those of the rest after its own, with these before them.
-pub record Leads (front : Text) (lines : List Text) (here : List Entry) (next : Text) (rest : List Text) : Type 0 where
+-- The entries of the lines after the front are those of the rest after its own, with these before
+-- them.
+pub record Leads (front : Text) (lines : List Text)
+    (here : List Entry) (next : Text) (rest : List Text) : Type 0 where
   pub adds : (es : List Entry) → SpellsAfter next rest es → SpellsAfter front lines (here ++ es)
-  pub only : (es : List Entry) → SpellsAfter front lines es → (more : List Entry) × (es ≡ here ++ more) × SpellsAfter next rest more
+  pub only : (es : List Entry) → SpellsAfter front lines es
+      → (more : List Entry) × (es ≡ here ++ more) × SpellsAfter next rest more
 
 -- the lines, joined where they go on, spell these entries
 abbrev pub SpellsBy : List Text → List Entry → Type 0

@@ -6,5 +6,9 @@ returns-in_ok-gather-in-None-clause-still_known g c = λ up.
     let K = g.K.Keeper in
     let old = c.args.keeper.now in
     let new = c.gather.new.self in
-    let k = c.in_ok-gather-in-None.ensures.known up in
-    (k.0, lists_still (K.holds old) (K.holds new) k.0 (g.met.K.Keeper.stays_set old new (c.gather.ensures.same up) (c.requires.desk (c.gather.ensures.served.was_up up))) k.1, k.2)
+    let k = c.in_ok-gather-in-None.ensures.known up in (
+      k.0,
+      lists_still (K.holds old) (K.holds new) k.0
+          (g.met.K.Keeper.stays_set old new (c.gather.ensures.same up) (c.requires.desk (c.gather.ensures.served.was_up up))) k.1,
+      k.2,
+    )

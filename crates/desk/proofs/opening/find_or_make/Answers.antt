@@ -22,12 +22,14 @@ pub returns-in_err-look-clause-fits : goal.returns-in_err-look-clause-fits
 returns-in_err-look-clause-fits g c = told_no_base c.in_err-look.field-0.0 c.from_residual.result c.from_residual.ensures.1
 
 pub returns-in_err-look-clause-served : goal.returns-in_err-look-clause-served
-returns-in_err-look-clause-served g c = handed_on c.in_err-look.field-0.0 c.look.result c.from_residual.result c.in_err-look.was c.from_residual.ensures.1 c.look.ensures.served
+returns-in_err-look-clause-served g c =
+    handed_on c.in_err-look.field-0.0 c.look.result c.from_residual.result c.in_err-look.was c.from_residual.ensures.1 c.look.ensures.served
 
 -- ---- nothing of a desk's
 
 pub returns-in_ok-make-in-Empty-clause-served : goal.returns-in_ok-make-in-Empty-clause-served
-returns-in_ok-make-in-Empty-clause-served g c = served_at_ok _ _ (λ is. ok_no_err _ _ is) (served_after c.in_ok-look.ensures.served c.in_ok-make-in-Empty.ensures.served)
+returns-in_ok-make-in-Empty-clause-served g c =
+    served_at_ok _ _ (λ is. ok_no_err _ _ is) (served_after c.in_ok-look.ensures.served c.in_ok-make-in-Empty.ensures.served)
 
 pub returns-in_err-make-in-Empty-clause-served : goal.returns-in_err-make-in-Empty-clause-served
 returns-in_err-make-in-Empty-clause-served g c =
@@ -39,7 +41,8 @@ pub returns-in_ok-make-in-Empty-clause-opens : goal.returns-in_ok-make-in-Empty-
 returns-in_ok-make-in-Empty-clause-opens g c up =
     let K = g.K.Keeper in
     let k = c.args.keeper.now in
-    let told = told_empty (K.is_empty k) (K.is_desk k) (K.is_old k) (K.roster k) c.in_ok-look.field-0 c.in-Empty.is (c.in_ok-look.ensures.found (c.make.ensures.served.was_up up)) in
+    let told = told_empty (K.is_empty k) (K.is_desk k) (K.is_old k) (K.roster k) c.in_ok-look.field-0 c.in-Empty.is
+    (c.in_ok-look.ensures.found (c.make.ensures.served.was_up up)) in
     inl (told.0, told.1, told.2, c.in_ok-make-in-Empty.ensures.nothing up)
 
 pub returns-in_ok-make-in-Empty-clause-crash : goal.returns-in_ok-make-in-Empty-clause-crash
@@ -48,7 +51,8 @@ returns-in_ok-make-in-Empty-clause-crash g c up clean left may =
     let k = c.args.keeper.now in
     let between = not_err (c.in_ok-look.ensures.served.up up (c.make.ensures.served.was_clean clean)) in
     let told = told_empty (K.is_empty k) (K.is_desk k) (K.is_old k) (K.roster k) c.in_ok-look.field-0 c.in-Empty.is (c.in_ok-look.ensures.found between) in
-    made_by_opening (K.is_empty k) (K.is_desk k) (K.is_old k) (K.roster k) c.args.text.now (K.holds k) left told.1 told.2 (c.make.ensures.crash between clean left may)
+    made_by_opening (K.is_empty k) (K.is_desk k) (K.is_old k) (K.roster k) c.args.text.now
+    (K.holds k) left told.1 told.2 (c.make.ensures.crash between clean left may)
 
 pub returns-in_err-make-in-Empty-clause-crash : goal.returns-in_err-make-in-Empty-clause-crash
 returns-in_err-make-in-Empty-clause-crash g c up clean left may =
@@ -56,13 +60,16 @@ returns-in_err-make-in-Empty-clause-crash g c up clean left may =
     let k = c.args.keeper.now in
     let between = not_err (c.in_ok-look.ensures.served.up up (c.make.ensures.served.was_clean clean)) in
     let told = told_empty (K.is_empty k) (K.is_desk k) (K.is_old k) (K.roster k) c.in_ok-look.field-0 c.in-Empty.is (c.in_ok-look.ensures.found between) in
-    made_by_opening (K.is_empty k) (K.is_desk k) (K.is_old k) (K.roster k) c.args.text.now (K.holds k) left told.1 told.2 (c.make.ensures.crash between clean left may)
+    made_by_opening (K.is_empty k) (K.is_desk k) (K.is_old k) (K.roster k) c.args.text.now
+    (K.holds k) left told.1 told.2 (c.make.ensures.crash between clean left may)
 
 pub returns-in_err-make-in-Empty-clause-refused : goal.returns-in_err-make-in-Empty-clause-refused
-returns-in_err-make-in-Empty-clause-refused g c up = told_want c.in_err-make-in-Empty.field-0.0 c.from_residual-in_err-make-in-Empty.result _ c.from_residual-in_err-make-in-Empty.ensures.1
+returns-in_err-make-in-Empty-clause-refused g c up =
+    told_want c.in_err-make-in-Empty.field-0.0 c.from_residual-in_err-make-in-Empty.result _ c.from_residual-in_err-make-in-Empty.ensures.1
 
 pub returns-in_err-make-in-Empty-clause-fits : goal.returns-in_err-make-in-Empty-clause-fits
-returns-in_err-make-in-Empty-clause-fits g c = told_no_base c.in_err-make-in-Empty.field-0.0 c.from_residual-in_err-make-in-Empty.result c.from_residual-in_err-make-in-Empty.ensures.1
+returns-in_err-make-in-Empty-clause-fits g c =
+    told_no_base c.in_err-make-in-Empty.field-0.0 c.from_residual-in_err-make-in-Empty.result c.from_residual-in_err-make-in-Empty.ensures.1
 
 -- ---- something of a desk's
 
@@ -115,7 +122,8 @@ returns-in-Desk-clause-durable g c up =
     let old = c.args.keeper.now in
     let new = c.look.new.self in
     let same = c.look.ensures.same up in
-    let told = told_desk (K.is_empty old) (K.is_desk old) (K.is_old old) (K.roster old) c.in_ok-look.field-0 c.in-Desk.recorded c.in-Desk.is (c.in_ok-look.ensures.found up) in
+    let told = told_desk (K.is_empty old) (K.is_desk old) (K.is_old old)
+    (K.roster old) c.in_ok-look.field-0 c.in-Desk.recorded c.in-Desk.is (c.in_ok-look.ensures.found up) in
     leaves_same (K.may_leave new) (K.roster new) (K.roster old) (K.holds new) (K.holds old) (sym (laws.stays_roster old new same told.0))
     (laws.stays_set new old (laws.same_back old new same) (laws.stays_desk old new same told.0))
     (λ left may. (c.look.ensures.crash (c.look.ensures.served.was_up up) (laws.up_is_clean new up) left may).desk told.0)
@@ -123,13 +131,15 @@ returns-in-Desk-clause-durable g c up =
 pub returns-in-Desk-clause-roster : goal.returns-in-Desk-clause-roster
 returns-in-Desk-clause-roster g c = λ up.
     let laws = g.met.K.Keeper in
-    let told = told_desk (g.K.Keeper.is_empty c.args.keeper.now) (g.K.Keeper.is_desk c.args.keeper.now) (g.K.Keeper.is_old c.args.keeper.now) (g.K.Keeper.roster c.args.keeper.now) c.in_ok-look.field-0 c.in-Desk.recorded c.in-Desk.is (c.in_ok-look.ensures.found up) in
+    let told = told_desk (g.K.Keeper.is_empty c.args.keeper.now) (g.K.Keeper.is_desk c.args.keeper.now) (g.K.Keeper.is_old c.args.keeper.now)
+    (g.K.Keeper.roster c.args.keeper.now) c.in_ok-look.field-0 c.in-Desk.recorded c.in-Desk.is (c.in_ok-look.ensures.found up) in
     let text : string_bytes c.in-Desk.recorded ≡ c.args.text.now = search rules in
     laws.stays_roster c.args.keeper.now c.look.new.self (c.look.ensures.same up) told.0 ∙ sym told.3 ∙ text
 
 pub returns-in-Desk-clause-opens : goal.returns-in-Desk-clause-opens
 returns-in-Desk-clause-opens g c = λ up.
     let laws = g.met.K.Keeper in
-    let told = told_desk (g.K.Keeper.is_empty c.args.keeper.now) (g.K.Keeper.is_desk c.args.keeper.now) (g.K.Keeper.is_old c.args.keeper.now) (g.K.Keeper.roster c.args.keeper.now) c.in_ok-look.field-0 c.in-Desk.recorded c.in-Desk.is (c.in_ok-look.ensures.found up) in
+    let told = told_desk (g.K.Keeper.is_empty c.args.keeper.now) (g.K.Keeper.is_desk c.args.keeper.now) (g.K.Keeper.is_old c.args.keeper.now)
+    (g.K.Keeper.roster c.args.keeper.now) c.in_ok-look.field-0 c.in-Desk.recorded c.in-Desk.is (c.in_ok-look.ensures.found up) in
     let text : string_bytes c.in-Desk.recorded ≡ c.args.text.now = search rules in
     inr (told.0, told.1, told.2, sym told.3 ∙ text, laws.stays_set c.args.keeper.now c.look.new.self (c.look.ensures.same up) told.0)

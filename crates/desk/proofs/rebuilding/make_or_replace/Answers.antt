@@ -26,12 +26,14 @@ pub returns-in_err-look-clause-fits : goal.returns-in_err-look-clause-fits
 returns-in_err-look-clause-fits g c = told_no_base c.in_err-look.field-0.0 c.from_residual.result c.from_residual.ensures.1
 
 pub returns-in_err-look-clause-served : goal.returns-in_err-look-clause-served
-returns-in_err-look-clause-served g c = handed_on c.in_err-look.field-0.0 c.look.result c.from_residual.result c.in_err-look.was c.from_residual.ensures.1 c.look.ensures.served
+returns-in_err-look-clause-served g c =
+    handed_on c.in_err-look.field-0.0 c.look.result c.from_residual.result c.in_err-look.was c.from_residual.ensures.1 c.look.ensures.served
 
 -- ---- nothing of a desk's
 
 pub returns-in_ok-make-in-Empty-clause-served : goal.returns-in_ok-make-in-Empty-clause-served
-returns-in_ok-make-in-Empty-clause-served g c = served_at_ok _ _ (λ is. ok_no_err _ _ is) (served_after c.in_ok-look.ensures.served c.in_ok-make-in-Empty.ensures.served)
+returns-in_ok-make-in-Empty-clause-served g c =
+    served_at_ok _ _ (λ is. ok_no_err _ _ is) (served_after c.in_ok-look.ensures.served c.in_ok-make-in-Empty.ensures.served)
 
 pub returns-in_err-make-in-Empty-clause-served : goal.returns-in_err-make-in-Empty-clause-served
 returns-in_err-make-in-Empty-clause-served g c =
@@ -43,7 +45,8 @@ pub returns-in_ok-make-in-Empty-clause-keeps : goal.returns-in_ok-make-in-Empty-
 returns-in_ok-make-in-Empty-clause-keeps g c up =
     let K = g.K.Keeper in
     let k = c.args.keeper.now in
-    let told = told_empty (K.is_empty k) (K.is_desk k) (K.is_old k) (K.roster k) c.in_ok-look.field-0 c.in-Empty.is (c.in_ok-look.ensures.found (c.make.ensures.served.was_up up)) in
+    let told = told_empty (K.is_empty k) (K.is_desk k) (K.is_old k) (K.roster k) c.in_ok-look.field-0 c.in-Empty.is
+    (c.in_ok-look.ensures.found (c.make.ensures.served.was_up up)) in
     inl (told.0, told.1, told.2, c.in_ok-make-in-Empty.ensures.nothing up)
 
 pub returns-in_ok-make-in-Empty-clause-crash : goal.returns-in_ok-make-in-Empty-clause-crash
@@ -52,7 +55,8 @@ returns-in_ok-make-in-Empty-clause-crash g c up clean left may =
     let k = c.args.keeper.now in
     let between = not_err (c.in_ok-look.ensures.served.up up (c.make.ensures.served.was_clean clean)) in
     let told = told_empty (K.is_empty k) (K.is_desk k) (K.is_old k) (K.roster k) c.in_ok-look.field-0 c.in-Empty.is (c.in_ok-look.ensures.found between) in
-    made_by_rebuilding (K.is_empty k) (K.is_desk k) (K.is_old k) (K.roster k) c.args.text.now (K.holds k) left told.1 told.2 (c.make.ensures.crash between clean left may)
+    made_by_rebuilding (K.is_empty k) (K.is_desk k) (K.is_old k) (K.roster k) c.args.text.now
+    (K.holds k) left told.1 told.2 (c.make.ensures.crash between clean left may)
 
 pub returns-in_err-make-in-Empty-clause-crash : goal.returns-in_err-make-in-Empty-clause-crash
 returns-in_err-make-in-Empty-clause-crash g c up clean left may =
@@ -60,16 +64,20 @@ returns-in_err-make-in-Empty-clause-crash g c up clean left may =
     let k = c.args.keeper.now in
     let between = not_err (c.in_ok-look.ensures.served.up up (c.make.ensures.served.was_clean clean)) in
     let told = told_empty (K.is_empty k) (K.is_desk k) (K.is_old k) (K.roster k) c.in_ok-look.field-0 c.in-Empty.is (c.in_ok-look.ensures.found between) in
-    made_by_rebuilding (K.is_empty k) (K.is_desk k) (K.is_old k) (K.roster k) c.args.text.now (K.holds k) left told.1 told.2 (c.make.ensures.crash between clean left may)
+    made_by_rebuilding (K.is_empty k) (K.is_desk k) (K.is_old k) (K.roster k) c.args.text.now
+    (K.holds k) left told.1 told.2 (c.make.ensures.crash between clean left may)
 
 pub returns-in_err-make-in-Empty-clause-refused : goal.returns-in_err-make-in-Empty-clause-refused
-returns-in_err-make-in-Empty-clause-refused g c up = told_want c.in_err-make-in-Empty.field-0.0 c.from_residual-in_err-make-in-Empty.result _ c.from_residual-in_err-make-in-Empty.ensures.1
+returns-in_err-make-in-Empty-clause-refused g c up =
+    told_want c.in_err-make-in-Empty.field-0.0 c.from_residual-in_err-make-in-Empty.result _ c.from_residual-in_err-make-in-Empty.ensures.1
 
 pub returns-in_err-make-in-Empty-clause-err : goal.returns-in_err-make-in-Empty-clause-err
-returns-in_err-make-in-Empty-clause-err g c = told_want c.in_err-make-in-Empty.field-0.0 c.from_residual-in_err-make-in-Empty.result _ c.from_residual-in_err-make-in-Empty.ensures.1
+returns-in_err-make-in-Empty-clause-err g c =
+    told_want c.in_err-make-in-Empty.field-0.0 c.from_residual-in_err-make-in-Empty.result _ c.from_residual-in_err-make-in-Empty.ensures.1
 
 pub returns-in_err-make-in-Empty-clause-fits : goal.returns-in_err-make-in-Empty-clause-fits
-returns-in_err-make-in-Empty-clause-fits g c = told_no_base c.in_err-make-in-Empty.field-0.0 c.from_residual-in_err-make-in-Empty.result c.from_residual-in_err-make-in-Empty.ensures.1
+returns-in_err-make-in-Empty-clause-fits g c =
+    told_no_base c.in_err-make-in-Empty.field-0.0 c.from_residual-in_err-make-in-Empty.result c.from_residual-in_err-make-in-Empty.ensures.1
 
 -- ---- something of a desk's
 
@@ -89,7 +97,8 @@ returns-in-NotADesk-clause-crash g c up clean left may =
 -- ---- a desk
 
 pub returns-in_ok-replace-in-Desk-clause-served : goal.returns-in_ok-replace-in-Desk-clause-served
-returns-in_ok-replace-in-Desk-clause-served g c = served_at_ok _ _ (λ is. ok_no_err _ _ is) (served_after c.in_ok-look.ensures.served c.in_ok-replace-in-Desk.ensures.served)
+returns-in_ok-replace-in-Desk-clause-served g c =
+    served_at_ok _ _ (λ is. ok_no_err _ _ is) (served_after c.in_ok-look.ensures.served c.in_ok-replace-in-Desk.ensures.served)
 
 pub returns-in_err-replace-in-Desk-clause-served : goal.returns-in_err-replace-in-Desk-clause-served
 returns-in_err-replace-in-Desk-clause-served g c =
@@ -101,7 +110,8 @@ pub replace-requires : goal.replace-requires
 replace-requires g c up =
     let K = g.K.Keeper in
     let k = c.args.keeper.now in
-    let told = told_desk (K.is_empty k) (K.is_desk k) (K.is_old k) (K.roster k) c.in_ok-look.field-0 c.in-Desk.recorded c.in-Desk.is (c.in_ok-look.ensures.found up) in
+    let told =
+    told_desk (K.is_empty k) (K.is_desk k) (K.is_old k) (K.roster k) c.in_ok-look.field-0 c.in-Desk.recorded c.in-Desk.is (c.in_ok-look.ensures.found up) in
     inl (g.met.K.Keeper.stays_desk k c.look.new.self (c.look.ensures.same up) told.0)
 
 pub returns-in_ok-replace-in-Desk-clause-keeps : goal.returns-in_ok-replace-in-Desk-clause-keeps
@@ -111,7 +121,8 @@ returns-in_ok-replace-in-Desk-clause-keeps g c up =
     let mid = c.look.new.self in
     let new = c.replace.new.self in
     let still = c.replace.ensures.served.was_up up in
-    let told = told_desk (K.is_empty k) (K.is_desk k) (K.is_old k) (K.roster k) c.in_ok-look.field-0 c.in-Desk.recorded c.in-Desk.is (c.in_ok-look.ensures.found still) in
+    let told = told_desk (K.is_empty k) (K.is_desk k) (K.is_old k)
+    (K.roster k) c.in_ok-look.field-0 c.in-Desk.recorded c.in-Desk.is (c.in_ok-look.ensures.found still) in
     let same : SameSet (K.holds k) (K.holds mid) = g.met.K.Keeper.stays_set k mid (c.look.ensures.same still) told.0 in
     inr (inl told.0, told.1, same_sets (K.holds k) (K.holds mid) (K.holds new) same (c.in_ok-replace-in-Desk.ensures.held up))
 
@@ -123,11 +134,11 @@ returns-in_ok-replace-in-Desk-clause-crash g c up clean left may =
     let mid = c.look.new.self in
     let between = not_err (c.in_ok-look.ensures.served.up up (c.replace.ensures.served.was_clean clean)) in
     let same = c.look.ensures.same between in
-    let told = told_desk (K.is_empty k) (K.is_desk k) (K.is_old k) (K.roster k) c.in_ok-look.field-0 c.in-Desk.recorded c.in-Desk.is (c.in_ok-look.ensures.found between) in
-    replaced_by_rebuilding (K.is_empty k) (K.is_desk k) (K.is_old k) (K.is_desk mid) (K.is_old mid) (K.roster k) (K.roster mid) c.args.text.now (K.holds k) (K.holds mid) left told.1
-    (λ desk. (laws.stays_desk k mid same desk, laws.stays_roster k mid same desk, laws.stays_set k mid same desk))
-    (λ old. laws.stays_old k mid same old)
-    (c.replace.ensures.crash between clean left may)
+    let told = told_desk (K.is_empty k) (K.is_desk k) (K.is_old k)
+    (K.roster k) c.in_ok-look.field-0 c.in-Desk.recorded c.in-Desk.is (c.in_ok-look.ensures.found between) in
+    replaced_by_rebuilding (K.is_empty k) (K.is_desk k) (K.is_old k) (K.is_desk mid) (K.is_old mid) (K.roster k) (K.roster mid) c.args.text.now
+    (K.holds k) (K.holds mid) left told.1 (λ desk. (laws.stays_desk k mid same desk, laws.stays_roster k mid same desk, laws.stays_set k mid same desk))
+    (λ old. laws.stays_old k mid same old) (c.replace.ensures.crash between clean left may)
 
 pub returns-in_err-replace-in-Desk-clause-crash : goal.returns-in_err-replace-in-Desk-clause-crash
 returns-in_err-replace-in-Desk-clause-crash g c up clean left may =
@@ -137,31 +148,36 @@ returns-in_err-replace-in-Desk-clause-crash g c up clean left may =
     let mid = c.look.new.self in
     let between = not_err (c.in_ok-look.ensures.served.up up (c.replace.ensures.served.was_clean clean)) in
     let same = c.look.ensures.same between in
-    let told = told_desk (K.is_empty k) (K.is_desk k) (K.is_old k) (K.roster k) c.in_ok-look.field-0 c.in-Desk.recorded c.in-Desk.is (c.in_ok-look.ensures.found between) in
-    replaced_by_rebuilding (K.is_empty k) (K.is_desk k) (K.is_old k) (K.is_desk mid) (K.is_old mid) (K.roster k) (K.roster mid) c.args.text.now (K.holds k) (K.holds mid) left told.1
-    (λ desk. (laws.stays_desk k mid same desk, laws.stays_roster k mid same desk, laws.stays_set k mid same desk))
-    (λ old. laws.stays_old k mid same old)
-    (c.replace.ensures.crash between clean left may)
+    let told = told_desk (K.is_empty k) (K.is_desk k) (K.is_old k)
+    (K.roster k) c.in_ok-look.field-0 c.in-Desk.recorded c.in-Desk.is (c.in_ok-look.ensures.found between) in
+    replaced_by_rebuilding (K.is_empty k) (K.is_desk k) (K.is_old k) (K.is_desk mid) (K.is_old mid) (K.roster k) (K.roster mid) c.args.text.now
+    (K.holds k) (K.holds mid) left told.1 (λ desk. (laws.stays_desk k mid same desk, laws.stays_roster k mid same desk, laws.stays_set k mid same desk))
+    (λ old. laws.stays_old k mid same old) (c.replace.ensures.crash between clean left may)
 
 pub returns-in_err-replace-in-Desk-clause-refused : goal.returns-in_err-replace-in-Desk-clause-refused
-returns-in_err-replace-in-Desk-clause-refused g c up = told_want c.in_err-replace-in-Desk.field-0.0 c.from_residual-in_err-replace-in-Desk.result _ c.from_residual-in_err-replace-in-Desk.ensures.1
+returns-in_err-replace-in-Desk-clause-refused g c up =
+    told_want c.in_err-replace-in-Desk.field-0.0 c.from_residual-in_err-replace-in-Desk.result _ c.from_residual-in_err-replace-in-Desk.ensures.1
 
 pub returns-in_err-replace-in-Desk-clause-err : goal.returns-in_err-replace-in-Desk-clause-err
-returns-in_err-replace-in-Desk-clause-err g c = told_want c.in_err-replace-in-Desk.field-0.0 c.from_residual-in_err-replace-in-Desk.result _ c.from_residual-in_err-replace-in-Desk.ensures.1
+returns-in_err-replace-in-Desk-clause-err g c =
+    told_want c.in_err-replace-in-Desk.field-0.0 c.from_residual-in_err-replace-in-Desk.result _ c.from_residual-in_err-replace-in-Desk.ensures.1
 
 pub returns-in_err-replace-in-Desk-clause-fits : goal.returns-in_err-replace-in-Desk-clause-fits
-returns-in_err-replace-in-Desk-clause-fits g c = told_no_base c.in_err-replace-in-Desk.field-0.0 c.from_residual-in_err-replace-in-Desk.result c.from_residual-in_err-replace-in-Desk.ensures.1
+returns-in_err-replace-in-Desk-clause-fits g c =
+    told_no_base c.in_err-replace-in-Desk.field-0.0 c.from_residual-in_err-replace-in-Desk.result c.from_residual-in_err-replace-in-Desk.ensures.1
 
 -- ---- a desk of an older form
 
 pub returns-in_ok-replace-in-OldDesk-clause-served : goal.returns-in_ok-replace-in-OldDesk-clause-served
-returns-in_ok-replace-in-OldDesk-clause-served g c = served_at_ok _ _ (λ is. ok_no_err _ _ is) (served_after c.in_ok-look.ensures.served c.in_ok-replace-in-OldDesk.ensures.served)
+returns-in_ok-replace-in-OldDesk-clause-served g c =
+    served_at_ok _ _ (λ is. ok_no_err _ _ is) (served_after c.in_ok-look.ensures.served c.in_ok-replace-in-OldDesk.ensures.served)
 
 pub returns-in_err-replace-in-OldDesk-clause-served : goal.returns-in_err-replace-in-OldDesk-clause-served
 returns-in_err-replace-in-OldDesk-clause-served g c =
     let err = c.in_err-replace-in-OldDesk in
     let told = c.from_residual-in_err-replace-in-OldDesk in
-    served_after c.in_ok-look.ensures.served (handed_on err.field-0.0 c.replace-in-OldDesk.result told.result err.was told.ensures.1 c.replace-in-OldDesk.ensures.served)
+    served_after c.in_ok-look.ensures.served
+    (handed_on err.field-0.0 c.replace-in-OldDesk.result told.result err.was told.ensures.1 c.replace-in-OldDesk.ensures.served)
 
 pub replace-requires-in-OldDesk : goal.replace-requires-in-OldDesk
 replace-requires-in-OldDesk g c up =
@@ -190,10 +206,9 @@ returns-in_ok-replace-in-OldDesk-clause-crash g c up clean left may =
     let between = not_err (c.in_ok-look.ensures.served.up up (c.replace-in-OldDesk.ensures.served.was_clean clean)) in
     let same = c.look.ensures.same between in
     let told = told_old (K.is_empty k) (K.is_desk k) (K.is_old k) (K.roster k) c.in_ok-look.field-0 c.in-OldDesk.is (c.in_ok-look.ensures.found between) in
-    replaced_by_rebuilding (K.is_empty k) (K.is_desk k) (K.is_old k) (K.is_desk mid) (K.is_old mid) (K.roster k) (K.roster mid) c.args.text.now (K.holds k) (K.holds mid) left told.1
-    (λ desk. (laws.stays_desk k mid same desk, laws.stays_roster k mid same desk, laws.stays_set k mid same desk))
-    (λ old. laws.stays_old k mid same old)
-    (c.replace-in-OldDesk.ensures.crash between clean left may)
+    replaced_by_rebuilding (K.is_empty k) (K.is_desk k) (K.is_old k) (K.is_desk mid) (K.is_old mid) (K.roster k) (K.roster mid) c.args.text.now
+    (K.holds k) (K.holds mid) left told.1 (λ desk. (laws.stays_desk k mid same desk, laws.stays_roster k mid same desk, laws.stays_set k mid same desk))
+    (λ old. laws.stays_old k mid same old) (c.replace-in-OldDesk.ensures.crash between clean left may)
 
 pub returns-in_err-replace-in-OldDesk-clause-crash : goal.returns-in_err-replace-in-OldDesk-clause-crash
 returns-in_err-replace-in-OldDesk-clause-crash g c up clean left may =
@@ -204,16 +219,18 @@ returns-in_err-replace-in-OldDesk-clause-crash g c up clean left may =
     let between = not_err (c.in_ok-look.ensures.served.up up (c.replace-in-OldDesk.ensures.served.was_clean clean)) in
     let same = c.look.ensures.same between in
     let told = told_old (K.is_empty k) (K.is_desk k) (K.is_old k) (K.roster k) c.in_ok-look.field-0 c.in-OldDesk.is (c.in_ok-look.ensures.found between) in
-    replaced_by_rebuilding (K.is_empty k) (K.is_desk k) (K.is_old k) (K.is_desk mid) (K.is_old mid) (K.roster k) (K.roster mid) c.args.text.now (K.holds k) (K.holds mid) left told.1
-    (λ desk. (laws.stays_desk k mid same desk, laws.stays_roster k mid same desk, laws.stays_set k mid same desk))
-    (λ old. laws.stays_old k mid same old)
-    (c.replace-in-OldDesk.ensures.crash between clean left may)
+    replaced_by_rebuilding (K.is_empty k) (K.is_desk k) (K.is_old k) (K.is_desk mid) (K.is_old mid) (K.roster k) (K.roster mid) c.args.text.now
+    (K.holds k) (K.holds mid) left told.1 (λ desk. (laws.stays_desk k mid same desk, laws.stays_roster k mid same desk, laws.stays_set k mid same desk))
+    (λ old. laws.stays_old k mid same old) (c.replace-in-OldDesk.ensures.crash between clean left may)
 
 pub returns-in_err-replace-in-OldDesk-clause-refused : goal.returns-in_err-replace-in-OldDesk-clause-refused
-returns-in_err-replace-in-OldDesk-clause-refused g c up = told_want c.in_err-replace-in-OldDesk.field-0.0 c.from_residual-in_err-replace-in-OldDesk.result _ c.from_residual-in_err-replace-in-OldDesk.ensures.1
+returns-in_err-replace-in-OldDesk-clause-refused g c up =
+    told_want c.in_err-replace-in-OldDesk.field-0.0 c.from_residual-in_err-replace-in-OldDesk.result _ c.from_residual-in_err-replace-in-OldDesk.ensures.1
 
 pub returns-in_err-replace-in-OldDesk-clause-err : goal.returns-in_err-replace-in-OldDesk-clause-err
-returns-in_err-replace-in-OldDesk-clause-err g c = told_want c.in_err-replace-in-OldDesk.field-0.0 c.from_residual-in_err-replace-in-OldDesk.result _ c.from_residual-in_err-replace-in-OldDesk.ensures.1
+returns-in_err-replace-in-OldDesk-clause-err g c =
+    told_want c.in_err-replace-in-OldDesk.field-0.0 c.from_residual-in_err-replace-in-OldDesk.result _ c.from_residual-in_err-replace-in-OldDesk.ensures.1
 
 pub returns-in_err-replace-in-OldDesk-clause-fits : goal.returns-in_err-replace-in-OldDesk-clause-fits
-returns-in_err-replace-in-OldDesk-clause-fits g c = told_no_base c.in_err-replace-in-OldDesk.field-0.0 c.from_residual-in_err-replace-in-OldDesk.result c.from_residual-in_err-replace-in-OldDesk.ensures.1
+returns-in_err-replace-in-OldDesk-clause-fits g c =
+    told_no_base c.in_err-replace-in-OldDesk.field-0.0 c.from_residual-in_err-replace-in-OldDesk.result c.from_residual-in_err-replace-in-OldDesk.ensures.1

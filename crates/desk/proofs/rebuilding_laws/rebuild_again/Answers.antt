@@ -43,14 +43,9 @@ returns-clause-unchanged g c =
     let K = g.K.Keeper in
     let old = c.args.desk.keeper in
     let k = c.into_keeper.result in
-    of_refused c.rebuild.result
-    (λ r. K.is_up r.1 → K.is_same k r.1)
-    (λ r. K.is_up r.1 → K.is_up k)
-    (λ r. K.is_up r.1 → SameSet (K.holds old) (K.holds r.1))
-    (λ d. K.is_up d.keeper → K.is_up k)
-    (λ r same was up. set_of_same k old c.into_keeper.ensures.same K.holds (K.holds r.1) (g.met.K.Keeper.stays_set k r.1 (same up) (c.into_keeper.ensures.desk (was up))))
-    c.rebuild.ensures.unchanged
-    (was_up_of _ _ _ _ _ c.rebuild.result c.rebuild.ensures.served)
+    of_refused c.rebuild.result (λ r. K.is_up r.1 → K.is_same k r.1) (λ r. K.is_up r.1 → K.is_up k) (λ r. K.is_up r.1 → SameSet (K.holds old) (K.holds r.1))
+    (λ d. K.is_up d.keeper → K.is_up k) (λ r same was up. set_of_same k old c.into_keeper.ensures.same K.holds (K.holds r.1) (g.met.K.Keeper.stays_set k r.1
+    (same up) (c.into_keeper.ensures.desk (was up)))) c.rebuild.ensures.unchanged (was_up_of _ _ _ _ _ c.rebuild.result c.rebuild.ensures.served)
 
 pub returns-clause-refused : goal.returns-clause-refused
 returns-clause-refused g c =

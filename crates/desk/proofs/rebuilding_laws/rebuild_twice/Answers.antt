@@ -22,9 +22,8 @@ returns-in-Ok-clause-keeps g c =
     (λ r. K.is_up r.1 → K.is_up k)
     (λ d keeps was up.
     let there : K.is_up between = subst K.is_up c.into_keeper.ensures.same (was up) in
-    rebuilt_twice (K.is_empty before) (K.is_desk before) (K.is_old before) (K.is_empty k) (K.is_desk k) (K.is_old k) (K.holds before) (K.holds between) (K.holds k) (K.holds d.keeper)
-    (c.into_keeper.ensures.desk (was up)) (c.in-Ok.ensures.keeps there) same (keeps up))
-    c.rebuild-in-Ok.ensures.keeps
+    rebuilt_twice (K.is_empty before) (K.is_desk before) (K.is_old before) (K.is_empty k) (K.is_desk k) (K.is_old k) (K.holds before) (K.holds between)
+    (K.holds k) (K.holds d.keeper) (c.into_keeper.ensures.desk (was up)) (c.in-Ok.ensures.keeps there) same (keeps up)) c.rebuild-in-Ok.ensures.keeps
     (was_up_of _ _ _ _ _ c.rebuild-in-Ok.result c.rebuild-in-Ok.ensures.served)
 
 pub returns-in-Ok-clause-refused : goal.returns-in-Ok-clause-refused
@@ -61,12 +60,14 @@ returns-in-Ok-clause-unchanged g c =
     (λ r same was up.
     let there : K.is_up between = subst K.is_up c.into_keeper.ensures.same (was up) in
     let desk = c.into_keeper.ensures.desk (was up) in
-    let of_k : SameSet (K.holds between) (K.holds r.1) = set_of_same k between c.into_keeper.ensures.same K.holds (K.holds r.1) (laws.stays_set k r.1 (same up) desk) in
+    let of_k : SameSet (K.holds between) (K.holds r.1) =
+    set_of_same k between c.into_keeper.ensures.same K.holds (K.holds r.1) (laws.stays_set k r.1 (same up) desk) in
     inr (
       c.in-Ok.ensures.fits,
       laws.stays_desk k r.1 (same up) desk,
       laws.stays_roster k r.1 (same up) desk ∙ c.into_keeper.ensures.roster (was up) ∙ ap (λ x. x.text) c.in-Ok.ensures.handed_in.0,
-      rebuilt_still (K.is_empty before) (K.is_desk before) (K.is_old before) (K.holds before) (K.holds between) (K.holds r.1) (c.in-Ok.ensures.keeps there) of_k,
+      rebuilt_still (K.is_empty before) (K.is_desk before) (K.is_old before)
+          (K.holds before) (K.holds between) (K.holds r.1) (c.in-Ok.ensures.keeps there) of_k,
     ))
     c.rebuild-in-Ok.ensures.unchanged
     (was_up_of _ _ _ _ _ c.rebuild-in-Ok.result c.rebuild-in-Ok.ensures.served)

@@ -22,17 +22,13 @@ returns-clause-held g c =
     let k = state S c.renewed.result.conn in
     let same : SameSet (HoldsText old) (HoldsText k.now) =
     set_of_same given c.args.desk.keeper c.into_keeper-keeper.ensures.same (λ x. HoldsText (state S x.conn).now) (HoldsText k.now) c.renewed.ensures.set in
-    of_opened c.open.result
-    (λ d. IsUp (state S d.keeper.conn)
-    → Opens (IsVacant k.now.schema) (IsKept k.now) (IsOldDesk k.now) (content_of k.now).roster c.args.roster.text (HoldsText k.now) (HoldsText (state S d.keeper.conn).now))
-    (λ d. IsUp (state S d.keeper.conn) → IsUp k)
-    (λ d. IsUp (state S d.keeper.conn) → SameSet (HoldsText old) (HoldsText (state S d.keeper.conn).now))
-    (λ r. IsUp (state S r.1.conn) → IsUp k)
-    (λ d opens was up.
+    of_opened c.open.result (λ d. IsUp (state S d.keeper.conn) → Opens (IsVacant k.now.schema) (IsKept k.now)
+    (IsOldDesk k.now) (content_of k.now).roster c.args.roster.text (HoldsText k.now) (HoldsText (state S d.keeper.conn).now))
+    (λ d. IsUp (state S d.keeper.conn) → IsUp k) (λ d. IsUp (state S d.keeper.conn) → SameSet (HoldsText old) (HoldsText (state S d.keeper.conn).now))
+    (λ r. IsUp (state S r.1.conn) → IsUp k) (λ d opens was up.
     let desk = c.renewed.ensures.desk.1 (c.into_keeper-keeper.ensures.desk (c.renewed.ensures.up.0 (was up))) in
-    held_again (IsVacant k.now.schema) (IsKept k.now) (IsOldDesk k.now) (content_of k.now).roster c.args.roster.text (HoldsText old) (HoldsText k.now) (HoldsText (state S d.keeper.conn).now) desk same (opens up))
-    c.open.ensures.opens
-    (was_up_of _ _ _ _ _ c.open.result c.open.ensures.served)
+    held_again (IsVacant k.now.schema) (IsKept k.now) (IsOldDesk k.now) (content_of k.now).roster c.args.roster.text (HoldsText old) (HoldsText k.now)
+    (HoldsText (state S d.keeper.conn).now) desk same (opens up)) c.open.ensures.opens (was_up_of _ _ _ _ _ c.open.result c.open.ensures.served)
 
 pub returns-clause-alike : goal.returns-clause-alike
 returns-clause-alike g c =
@@ -49,19 +45,14 @@ pub returns-clause-roster : goal.returns-clause-roster
 returns-clause-roster g c =
     let S = g.S.Store in
     let k = state S c.renewed.result.conn in
-    of_opened c.open.result
-    (λ d. IsUp (state S d.keeper.conn)
-    → Opens (IsVacant k.now.schema) (IsKept k.now) (IsOldDesk k.now) (content_of k.now).roster c.args.roster.text (HoldsText k.now) (HoldsText (state S d.keeper.conn).now))
-    (λ d. IsUp (state S d.keeper.conn) → IsUp k)
-    (λ d. IsUp (state S d.keeper.conn) → c.args.desk.roster.text ≡ c.args.roster.text)
-    (λ r. IsUp (state S r.1.conn) → IsUp k)
-    (λ d opens was up.
+    of_opened c.open.result (λ d. IsUp (state S d.keeper.conn) → Opens (IsVacant k.now.schema) (IsKept k.now) (IsOldDesk k.now)
+    (content_of k.now).roster c.args.roster.text (HoldsText k.now) (HoldsText (state S d.keeper.conn).now)) (λ d. IsUp (state S d.keeper.conn) → IsUp k)
+    (λ d. IsUp (state S d.keeper.conn) → c.args.desk.roster.text ≡ c.args.roster.text) (λ r. IsUp (state S r.1.conn) → IsUp k) (λ d opens was up.
     let given = c.renewed.ensures.up.0 (was up) in
     let desk = c.renewed.ensures.desk.1 (c.into_keeper-keeper.ensures.desk given) in
     sym (c.into_keeper-keeper.ensures.roster given) ∙ sym c.renewed.ensures.roster
-    ∙ recorded_text (IsVacant k.now.schema) (IsKept k.now) (IsOldDesk k.now) (content_of k.now).roster c.args.roster.text (HoldsText k.now) (HoldsText (state S d.keeper.conn).now) desk (opens up))
-    c.open.ensures.opens
-    (was_up_of _ _ _ _ _ c.open.result c.open.ensures.served)
+    ∙ recorded_text (IsVacant k.now.schema) (IsKept k.now) (IsOldDesk k.now) (content_of k.now).roster c.args.roster.text (HoldsText k.now)
+    (HoldsText (state S d.keeper.conn).now) desk (opens up)) c.open.ensures.opens (was_up_of _ _ _ _ _ c.open.result c.open.ensures.served)
 
 pub returns-clause-unchanged : goal.returns-clause-unchanged
 returns-clause-unchanged g c =

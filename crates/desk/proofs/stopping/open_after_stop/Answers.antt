@@ -23,9 +23,8 @@ returns-clause-held g c = λ list may.
     (λ r. K.is_up r.1 → K.is_up k)
     (λ d opens was up.
     let left = c.requires (was up) in
-    held_whole (K.is_empty k) (K.is_desk k) (K.is_old k) (K.roster k) (K.holds k) text (K.holds d.keeper) (opens up) text (λ m. Contains list m) left.0 (may left.0 left.1) left.2)
-    c.open.ensures.opens
-    (was_up_of _ _ _ _ _ c.open.result c.open.ensures.served)
+    held_whole (K.is_empty k) (K.is_desk k) (K.is_old k) (K.roster k) (K.holds k) text (K.holds d.keeper) (opens up) text
+    (λ m. Contains list m) left.0 (may left.0 left.1) left.2) c.open.ensures.opens (was_up_of _ _ _ _ _ c.open.result c.open.ensures.served)
 
 pub returns-clause-alike : goal.returns-clause-alike
 returns-clause-alike g c = λ list may.
@@ -40,9 +39,8 @@ returns-clause-alike g c = λ list may.
     (λ d opens was up.
     let left = c.requires (was up) in
     same_answers c.args.roster.says (λ m. Contains list m) (K.holds d.keeper)
-    (held_whole (K.is_empty k) (K.is_desk k) (K.is_old k) (K.roster k) (K.holds k) text (K.holds d.keeper) (opens up) text (λ m. Contains list m) left.0 (may left.0 left.1) left.2))
-    c.open.ensures.opens
-    (was_up_of _ _ _ _ _ c.open.result c.open.ensures.served)
+    (held_whole (K.is_empty k) (K.is_desk k) (K.is_old k) (K.roster k) (K.holds k) text (K.holds d.keeper) (opens up) text
+    (λ m. Contains list m) left.0 (may left.0 left.1) left.2)) c.open.ensures.opens (was_up_of _ _ _ _ _ c.open.result c.open.ensures.served)
 
 pub returns-clause-delivery : goal.returns-clause-delivery
 returns-clause-delivery g c = λ list delivery may.
@@ -57,9 +55,8 @@ returns-clause-delivery g c = λ list delivery may.
     (λ r. K.is_up r.1 → K.is_up k)
     (λ d opens was up.
     let left = c.requires (was up) in
-    held_of_delivery (K.is_empty k) (K.is_desk k) (K.is_old k) (K.roster k) (K.holds k) text (K.holds d.keeper) (opens up) c.args.roster.says text (λ m. Contains list m) delivery left.0 (may left.0 left.1) left.2)
-    c.open.ensures.opens
-    (was_up_of _ _ _ _ _ c.open.result c.open.ensures.served)
+    held_of_delivery (K.is_empty k) (K.is_desk k) (K.is_old k) (K.roster k) (K.holds k) text (K.holds d.keeper) (opens up) c.args.roster.says text
+    (λ m. Contains list m) delivery left.0 (may left.0 left.1) left.2) c.open.ensures.opens (was_up_of _ _ _ _ _ c.open.result c.open.ensures.served)
 
 pub returns-clause-making : goal.returns-clause-making
 returns-clause-making g c = λ may.
@@ -89,9 +86,8 @@ returns-clause-rebuilding g c = λ list recorded may.
     (λ r. K.is_up r.1 → K.is_up k)
     (λ d opens was up.
     let left = c.requires (was up) in
-    held_either (K.is_empty k) (K.is_desk k) (K.is_old k) (K.roster k) (K.holds k) text (K.holds d.keeper) (opens up) recorded text (λ m. Contains list m) left.0 (may left.0 left.1) left.2)
-    c.open.ensures.opens
-    (was_up_of _ _ _ _ _ c.open.result c.open.ensures.served)
+    held_either (K.is_empty k) (K.is_desk k) (K.is_old k) (K.roster k) (K.holds k) text (K.holds d.keeper) (opens up) recorded text
+    (λ m. Contains list m) left.0 (may left.0 left.1) left.2) c.open.ensures.opens (was_up_of _ _ _ _ _ c.open.result c.open.ensures.served)
 
 pub returns-clause-refused : goal.returns-clause-refused
 returns-clause-refused g c = λ list may.
@@ -106,6 +102,5 @@ returns-clause-refused g c = λ list may.
     (λ d. K.is_up d.keeper → K.is_up k)
     (λ r refused was up.
     let left = c.requires (was up) in
-    base_alone (K.is_empty k) (K.is_desk k) (K.is_old k) (K.roster k) (K.holds k) Fits text (λ m. Contains list m) left.0 r.0 (may left.0 left.1) left.2 (refused up))
-    c.open.ensures.refused
-    (was_up_of _ _ _ _ _ c.open.result c.open.ensures.served)
+    base_alone (K.is_empty k) (K.is_desk k) (K.is_old k) (K.roster k) (K.holds k) Fits text (λ m. Contains list m) left.0 r.0
+    (may left.0 left.1) left.2 (refused up)) c.open.ensures.refused (was_up_of _ _ _ _ _ c.open.result c.open.ensures.served)

@@ -19,5 +19,6 @@ pub returns-in-Err-clause-only : goal.returns-in-Err-clause-only
 returns-in-Err-clause-only c = λ e.
     let app = c.in_ok-command.ensures.0 in
     let has = c.in-Err.ensures.kinds (ap is_simple_and_free app ∙ desk_free) in
-    let at : HasKind [] c.in-Err.error = subst (λ (ks : Kinds). HasKind ks c.in-Err.error) (ap (λ (a : App). fault_of a (map string_bytes c.args.words.now)) app ∙ e) has in
+    let at : HasKind [] c.in-Err.error =
+    subst (λ (ks : Kinds). HasKind ks c.in-Err.error) (ap (λ (a : App). fault_of a (map string_bytes c.args.words.now)) app ∙ e) has in
     elim at [ inl oom ↦ c.fault_of_error.ensures.memory oom | inr among ↦ absurd among ]

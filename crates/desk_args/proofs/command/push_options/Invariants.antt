@@ -6,4 +6,5 @@ use Rattle.desk_args.proofs.command.push_options.Given as goal
 
 -- The options so far are added.
 abbrev pub invariant-loop-id : goal.invariant-loop-id
-invariant-loop-id l = (rules : List Rule) → HasRules l.initial.args.items rules → HasRules l.args.items (rules ++ map (λ o. line.optional o.0.now o.1.now) (take l.id-index l.options))
+invariant-loop-id l = (rules : List Rule) → HasRules l.initial.args.items rules
+    → HasRules l.args.items (rules ++ map (λ o. line.optional o.0.now o.1.now) (take l.id-index l.options))

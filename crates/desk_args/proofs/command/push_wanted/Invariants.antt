@@ -6,4 +6,5 @@ use Rattle.desk_args.proofs.command.push_wanted.Given as goal
 
 -- The arguments of the names so far are added.
 abbrev pub invariant-loop-id : goal.invariant-loop-id
-invariant-loop-id l = (rules : List Rule) → HasRules l.initial.args.items rules → HasRules l.args.items (rules ++ map (λ n. line.wanted n.0.now) (take l.id-index l.names))
+invariant-loop-id l =
+    (rules : List Rule) → HasRules l.initial.args.items rules → HasRules l.args.items (rules ++ map (λ n. line.wanted n.0.now) (take l.id-index l.names))

@@ -17,7 +17,8 @@ pub returns-in-Some-count_of-clause-found : goal.returns-in-Some-count_of-clause
 returns-in-Some-count_of-clause-found c =
     let is = first_rows c.args.matches.now c.args.id.now ∙ sym c.in-Some.ensures in
     let found = c.in-Some-count_of.ensures.found in
-    counts c.args.id.now (rows_of (found_of c.args.matches.now)) c.in-Some.text.now c.as_bytes.result.now c.in-Some-count_of.n is c.as_bytes.ensures.value found.0 found.1
+    counts c.args.id.now
+    (rows_of (found_of c.args.matches.now)) c.in-Some.text.now c.as_bytes.result.now c.in-Some-count_of.n is c.as_bytes.ensures.value found.0 found.1
 
 pub returns-in-Some-count_of-clause-only : goal.returns-in-Some-count_of-clause-only
 returns-in-Some-count_of-clause-only c = λ n has.
@@ -29,7 +30,8 @@ pub returns-in-None-count_of-clause-only : goal.returns-in-None-count_of-clause-
 returns-in-None-count_of-clause-only c = λ n has.
     let is = first_rows c.args.matches.now c.args.id.now ∙ sym c.in-Some.ensures in
     let good : is_count c.in-Some.text.now ≡ true = (counted c.args.id.now (rows_of (found_of c.args.matches.now)) c.in-Some.text.now is n has).1 in
-    let bad : is_count c.in-Some.text.now ≡ false = not_counted c.in-Some.text.now c.as_bytes.result.now c.as_bytes.ensures.value c.in-None-count_of.ensures.only in
+    let bad : is_count c.in-Some.text.now ≡ false =
+    not_counted c.in-Some.text.now c.as_bytes.result.now c.as_bytes.ensures.value c.in-None-count_of.ensures.only in
     let wrong : true ≡ false = sym good ∙ bad in
     cc
 

@@ -46,7 +46,8 @@ loop-name-preserved g c =
           let still = lists_same (K.holds old.keeper) (K.holds mid.keeper) set (law.stays_set old.keeper mid.keeper same first_desk) lists in
           let P : Entry → Type 0 = λ e. ComesTo old.roster.says set e.name e.status in
           let F : Reading → Type 0 = λ r. ComesTo r.says set entry.name entry.status in
-          one_status_more P entries c.push.new.self.items entry c.in_ok-push.ensures.items (kept.told set was_up was_desk lists) (subst F kept.roster (subst (λ (n : RequestName). ComesTo mid.roster.says set n entry.status) (sym done.same.0) (done.status set up still)));
+          one_status_more P entries c.push.new.self.items entry c.in_ok-push.ensures.items (kept.told set was_up was_desk lists)
+          (subst F kept.roster (subst (λ (n : RequestName). ComesTo mid.roster.says set n entry.status) (sym done.same.0) (done.status set up still)));
       same = λ up. law.same_on old.keeper mid.keeper new.keeper (kept.same (done.served.was_up up)) (done.unchanged up);
       roster = done.roster ∙ kept.roster;
       base = done.base ∙ kept.base;
@@ -93,8 +94,8 @@ pub returns : goal.returns
 returns g c =
     let kept = c.loop-name.invariant in
     record {
-      audit = λ set up is_desk lists gathers.
-          is_audit c.args.desk.now.roster.says set c.args.all gathers c.loop-name.entries.items (split_ends c.loop-name.entries.items c.loop-name.name-iterator c.args.all.entries c.in-None.ensures.steps.0 kept.split) (kept.told set up is_desk lists);
+      audit = λ set up is_desk lists gathers. is_audit c.args.desk.now.roster.says set c.args.all gathers c.loop-name.entries.items (split_ends
+          c.loop-name.entries.items c.loop-name.name-iterator c.args.all.entries c.in-None.ensures.steps.0 kept.split) (kept.told set up is_desk lists);
       err = search rules;
       unchanged = kept.same;
       roster = kept.roster;

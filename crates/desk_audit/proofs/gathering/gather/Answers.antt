@@ -31,4 +31,5 @@ returns-in_err-message-clause-refused c = λ set messages are.
 pub returns-clause-gathers : goal.returns-clause-gathers
 returns-clause-gathers c = λ set messages are.
     let l = c.loop-text in
-    all_read set messages (map string_bytes c.args.texts.now) are c.args.texts.now l.text-index l.all refl (take_all l.text-index c.args.texts.now c.loop-text-test.false) l.invariant
+    all_read set messages (map string_bytes c.args.texts.now) are c.args.texts.now l.text-index l.all refl
+    (take_all l.text-index c.args.texts.now c.loop-text-test.false) l.invariant

@@ -9,16 +9,15 @@ pub returns-in-len2-up-clause-outcome : goal.returns-in-len2-up-clause-outcome
 returns-in-len2-up-clause-outcome g c places err =
     let K = g.K.Keeper in
     of_two (λ f. f.items) c.args.files.now c.roster-item.result c.base-item.result c.as_slice.result.now c.as_slice-in-len2-up.result.now
-    (λ files. IsOutcome (Deliver places c.args.relay.now) files (kept K.is_up K.is_empty K.is_desk K.is_old K.roster K.holds K.failures c.args.keeper c.deliver_over.result.1)
-    (g.R.Read.remaining c.args.input.now) c.deliver_over.result.0 err err)
-    (omega (arith, c.in-len2-up.len_at_least)) c.roster-item.is c.base-item.is c.as_slice.ensures.value c.as_slice-in-len2-up.ensures.value
-    (λ more. c.deliver_over.ensures.outcome places more err)
+    (λ files. IsOutcome (Deliver places c.args.relay.now) files (kept K.is_up K.is_empty K.is_desk K.is_old K.roster K.holds K.failures c.args.keeper
+    c.deliver_over.result.1) (g.R.Read.remaining c.args.input.now) c.deliver_over.result.0 err err) (omega (arith, c.in-len2-up.len_at_least))
+    c.roster-item.is c.base-item.is c.as_slice.ensures.value c.as_slice-in-len2-up.ensures.value (λ more. c.deliver_over.ensures.outcome places more err)
 
 pub returns-in-len2-up-clause-left : goal.returns-in-len2-up-clause-left
 returns-in-len2-up-clause-left g c places err =
     let K = g.K.Keeper in
     of_two (λ f. f.items) c.args.files.now c.roster-item.result c.base-item.result c.as_slice.result.now c.as_slice-in-len2-up.result.now
-    (λ files. IfErr c.deliver_over.result.0 (λ _. IsLeft (Deliver places c.args.relay.now) files (kept K.is_up K.is_empty K.is_desk K.is_old K.roster K.holds K.failures c.args.keeper c.deliver_over.result.1)
-    (K.is_same c.args.keeper c.deliver_over.result.1) (g.R.Read.remaining c.args.input.now) err err))
+    (λ files. IfErr c.deliver_over.result.0 (λ _. IsLeft (Deliver places c.args.relay.now) files (kept K.is_up K.is_empty K.is_desk K.is_old K.roster K.holds
+    K.failures c.args.keeper c.deliver_over.result.1) (K.is_same c.args.keeper c.deliver_over.result.1) (g.R.Read.remaining c.args.input.now) err err))
     (omega (arith, c.in-len2-up.len_at_least)) c.roster-item.is c.base-item.is c.as_slice.ensures.value c.as_slice-in-len2-up.ensures.value
     (λ more. c.deliver_over.ensures.left places more err)

@@ -17,8 +17,8 @@ returns-in_err-text_of-clause-left g c = λ up.
 pub returns-in_err-answers-clause-served : goal.returns-in_err-answers-clause-served
 returns-in_err-answers-clause-served g c =
     let told = c.from_residual-in_err-answers in
-    served_as ⊥ _ (λ none. absurd none) (λ _. shown_refused told.result (wanting_as (Desk c.in_err-answers.field-0.0) told.result told.ensures.1 (inl c.in_err-answers.ensures.err)))
-    c.deliver_all.ensures.served
+    served_as ⊥ _ (λ none. absurd none) (λ _. shown_refused told.result
+    (wanting_as (Desk c.in_err-answers.field-0.0) told.result told.ensures.1 (inl c.in_err-answers.ensures.err))) c.deliver_all.ensures.served
 
 pub returns-in_err-text_of-clause-served : goal.returns-in_err-text_of-clause-served
 returns-in_err-text_of-clause-served g c =

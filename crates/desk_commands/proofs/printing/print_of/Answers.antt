@@ -60,9 +60,9 @@ returns-in-Err-clause-cause g c =
     subst (λ (r : Reading). EndsFile r.says c.args.store.now c.args.host.now c.args.after (K.holds old.keeper) (K.is_up new.keeper)
     (HasFailed (K.failures old.keeper) (K.failures new.keeper)) input (reasons.Desk c.in-Err.refusal)) same_roster
     (ends_file mid.roster.says mid.base c.args.store.now input (K.holds old.keeper) (K.holds mid.keeper) (K.holds new.keeper)
-    (K.is_up new.keeper) (K.is_up new.keeper) (K.is_up mid.keeper) taking.0 taking.1 taken held c.args.host.now c.args.after (HasFailed (K.failures old.keeper) (K.failures new.keeper))
-    c.file_of.result c.in-Err.refusal c.file_of.ensures.served.was_up c.in-Err.is c.file_of.ensures.unknown
-    (λ set lines up lists are few. c.in-Err.ensures.few set lines up lists are few) c.in-Err.ensures.err
+    (K.is_up new.keeper) (K.is_up new.keeper) (K.is_up mid.keeper) taking.0 taking.1 taken held c.args.host.now c.args.after
+    (HasFailed (K.failures old.keeper) (K.failures new.keeper)) c.file_of.result c.in-Err.refusal c.file_of.ensures.served.was_up c.in-Err.is
+    c.file_of.ensures.unknown (λ set lines up lists are few. c.in-Err.ensures.few set lines up lists are few) c.in-Err.ensures.err
     (λ storage. failed_later _ _ _ c.take_input.ensures.served.counts (c.file_of.ensures.served.cause (c.in-Err.is ∙ ap Err storage))))
 
 pub returns-in-Ok-clause-left : goal.returns-in-Ok-clause-left
@@ -99,7 +99,8 @@ returns-in-Err-clause-said g c =
 
 pub returns-in_err-take_input-clause-served : goal.returns-in_err-take_input-clause-served
 returns-in_err-take_input-clause-served g c =
-    served_as ⊥ _ (λ none. none) (wanting_still c.in_err-take_input.field-0.0 c.take_input.result c.from_residual.result c.in_err-take_input.was c.from_residual.ensures.1) c.take_input.ensures.served
+    served_as ⊥ _ (λ none. none) (wanting_still c.in_err-take_input.field-0.0 c.take_input.result
+    c.from_residual.result c.in_err-take_input.was c.from_residual.ensures.1) c.take_input.ensures.served
 
 pub returns-in-Ok-clause-served : goal.returns-in-Ok-clause-served
 returns-in-Ok-clause-served g c =

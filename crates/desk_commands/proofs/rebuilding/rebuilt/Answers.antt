@@ -16,9 +16,9 @@ returns-in-Ok-rebuild_over-clause-outcome g c places more input err =
       c.into_keeper.ensures.roster up ∙ c.in-Ok-rebuild_over.ensures.recorded,
     )) in
     subst (λ y. IsOutcome (Rebuild places) (c.args.roster.now ∷ c.args.base.now ∷ more)
-    (kept K.is_up K.is_empty K.is_desk K.is_old K.roster K.holds K.failures c.args.keeper y) input (Ok c.in-Ok.answer) err err) (sym same)
-    (rebuilt K.is_up K.is_empty K.is_desk K.is_old K.roster K.holds K.failures c.args.keeper desk.keeper c.args.roster.now c.args.base.now
-    desk.roster.says desk.base c.in-Ok-rebuild_over.ensures.found keeps c.in-Ok-rebuild_over.ensures.keeps more input places c.in-Ok.answer err c.in-Ok.ensures.0 c.in-Ok.ensures.1)
+    (kept K.is_up K.is_empty K.is_desk K.is_old K.roster K.holds K.failures c.args.keeper y) input (Ok c.in-Ok.answer) err err) (sym same) (rebuilt K.is_up
+    K.is_empty K.is_desk K.is_old K.roster K.holds K.failures c.args.keeper desk.keeper c.args.roster.now c.args.base.now desk.roster.says desk.base
+    c.in-Ok-rebuild_over.ensures.found keeps c.in-Ok-rebuild_over.ensures.keeps more input places c.in-Ok.answer err c.in-Ok.ensures.0 c.in-Ok.ensures.1)
 
 pub returns-in-Ok-rebuild_over-clause-served : goal.returns-in-Ok-rebuild_over-clause-served
 returns-in-Ok-rebuild_over-clause-served g c =

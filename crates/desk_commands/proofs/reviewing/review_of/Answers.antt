@@ -44,8 +44,8 @@ returns-in-Ok-clause-found g c =
 
 pub returns-in-Err-clause-cause : goal.returns-in-Err-clause-cause
 returns-in-Err-clause-cause g c =
-    wants_end_report c.args.store.now (HasFailed (g.K.Keeper.failures c.args.desk.now.keeper) (g.K.Keeper.failures c.report.new.desk.keeper)) c.in-Err.refusal c.in-Err.ensures.err
-    (λ storage. failed_later _ _ _ c.take_input.ensures.served.counts (c.report.ensures.served.cause (c.in-Err.is ∙ ap Err storage)))
+    wants_end_report c.args.store.now (HasFailed (g.K.Keeper.failures c.args.desk.now.keeper) (g.K.Keeper.failures c.report.new.desk.keeper)) c.in-Err.refusal
+    c.in-Err.ensures.err (λ storage. failed_later _ _ _ c.take_input.ensures.served.counts (c.report.ensures.served.cause (c.in-Err.is ∙ ap Err storage)))
 
 pub returns-in-Ok-clause-left : goal.returns-in-Ok-clause-left
 returns-in-Ok-clause-left g c = λ up desk.
@@ -81,7 +81,8 @@ returns-in-Err-clause-said g c =
 
 pub returns-in_err-take_input-clause-served : goal.returns-in_err-take_input-clause-served
 returns-in_err-take_input-clause-served g c =
-    served_as ⊥ _ (λ none. none) (wanting_still c.in_err-take_input.field-0.0 c.take_input.result c.from_residual.result c.in_err-take_input.was c.from_residual.ensures.1) c.take_input.ensures.served
+    served_as ⊥ _ (λ none. none) (wanting_still c.in_err-take_input.field-0.0 c.take_input.result
+    c.from_residual.result c.in_err-take_input.was c.from_residual.ensures.1) c.take_input.ensures.served
 
 pub returns-in-Ok-clause-served : goal.returns-in-Ok-clause-served
 returns-in-Ok-clause-served g c =

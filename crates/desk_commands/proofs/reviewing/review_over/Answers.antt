@@ -22,8 +22,8 @@ returns-in-Ok-clause-outcome g c more =
       c.into_keeper.ensures.desk up,
       c.into_keeper.ensures.roster up ∙ ap (λ r. r.text) asked.ensures.roster ∙ c.in-Ok.ensures.recorded,
     )) in
-    subst (λ y. IsOutcome (Review c.args.places.now c.args.at) (c.args.roster.now ∷ c.args.base.now ∷ more)
-    (kept K.is_up K.is_empty K.is_desk K.is_old K.roster K.holds K.failures c.args.keeper y) input asked.result (g.E.Write.contents c.args.err.now) (g.E.Write.contents asked.new.err)) (sym same)
+    subst (λ y. IsOutcome (Review c.args.places.now c.args.at) (c.args.roster.now ∷ c.args.base.now ∷ more) (kept K.is_up K.is_empty K.is_desk K.is_old
+    K.roster K.holds K.failures c.args.keeper y) input asked.result (g.E.Write.contents c.args.err.now) (g.E.Write.contents asked.new.err)) (sym same)
     (reviewed K.is_up K.is_empty K.is_desk K.is_old K.roster K.holds K.failures c.args.keeper desk.keeper after c.args.roster.now c.args.base.now
     desk.roster.says desk.base c.in-Ok.ensures.found keeps asked.ensures.served.was_up c.in-Ok.ensures.opens c.in-Ok.ensures.served.counts more input
     c.args.places.now c.args.at asked.result (g.E.Write.contents c.args.err.now) (g.E.Write.contents asked.new.err) asked.ensures.found asked.ensures.cause)
@@ -37,7 +37,8 @@ returns-in-Ok-clause-served g c =
 
 pub returns-in-Err-clause-outcome : goal.returns-in-Err-clause-outcome
 returns-in-Err-clause-outcome g c more =
-    unreviewed c.args.roster.now c.args.base.now _ more (g.R.Read.remaining c.args.input.now) (g.E.Write.contents c.args.err.now) c.in-Err.refusal c.args.places.now c.args.at c.in-Err.ensures.err
+    unreviewed c.args.roster.now c.args.base.now _ more (g.R.Read.remaining c.args.input.now)
+    (g.E.Write.contents c.args.err.now) c.in-Err.refusal c.args.places.now c.args.at c.in-Err.ensures.err
 
 pub returns-in-Ok-clause-left : goal.returns-in-Ok-clause-left
 returns-in-Ok-clause-left g c more =
@@ -51,8 +52,10 @@ returns-in-Ok-clause-left g c more =
       c.into_keeper.ensures.desk up,
       c.into_keeper.ensures.roster up ∙ ap (λ r. r.text) asked.ensures.roster ∙ c.in-Ok.ensures.recorded,
     )) in
-    subst (λ y. IfErr asked.result (λ _. IsLeft (Review c.args.places.now c.args.at) (c.args.roster.now ∷ c.args.base.now ∷ more)
-    (kept K.is_up K.is_empty K.is_desk K.is_old K.roster K.holds K.failures c.args.keeper y) (K.is_same c.args.keeper y) input (g.E.Write.contents c.args.err.now) (g.E.Write.contents asked.new.err))) (sym same)
+    subst (λ y. IfErr asked.result
+    (λ _. IsLeft (Review c.args.places.now c.args.at) (c.args.roster.now ∷ c.args.base.now ∷ more) (kept K.is_up K.is_empty K.is_desk K.is_old K.roster
+    K.holds K.failures c.args.keeper y) (K.is_same c.args.keeper y) input (g.E.Write.contents c.args.err.now) (g.E.Write.contents asked.new.err))) (sym same)
     (left_reviewed K.is_up K.is_empty K.is_desk K.is_old K.roster K.holds K.failures c.args.keeper desk.keeper after c.args.roster.now c.args.base.now
     desk.roster.says desk.base c.in-Ok.ensures.found is_kept asked.ensures.served.was_up c.in-Ok.ensures.opens c.in-Ok.ensures.was more input
-    (K.is_same c.args.keeper after) c.args.places.now c.args.at asked.result (g.E.Write.contents c.args.err.now) (g.E.Write.contents asked.new.err) asked.ensures.left asked.ensures.said)
+    (K.is_same c.args.keeper after) c.args.places.now c.args.at asked.result (g.E.Write.contents c.args.err.now)
+    (g.E.Write.contents asked.new.err) asked.ensures.left asked.ensures.said)

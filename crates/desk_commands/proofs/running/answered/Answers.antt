@@ -10,35 +10,38 @@ use Rattle.desk_commands.proofs.running.answered.Goals as goal
 
 pub returns-in-Check-clause-outcome : goal.returns-in-Check-clause-outcome
 returns-in-Check-clause-outcome g c =
-    quietly c.check_first.result c.args.job.now _ (map (λ f. f.items) c.args.files.now) _ (g.R.Read.remaining c.args.input.now) (g.E.Write.contents c.args.err.now) c.in-Check.is
+    quietly c.check_first.result c.args.job.now _ (map (λ f. f.items) c.args.files.now) _
+    (g.R.Read.remaining c.args.input.now) (g.E.Write.contents c.args.err.now) c.in-Check.is
     (IfOk-weaker c.check_first.result _ _ (λ a is. (is, refl)) c.check_first.ensures.found) c.check_first.ensures.cause
 
 pub returns-in-Decide-clause-outcome : goal.returns-in-Decide-clause-outcome
 returns-in-Decide-clause-outcome g c =
-    quietly c.decide_by_first.result c.args.job.now _ (map (λ f. f.items) c.args.files.now) _ (g.R.Read.remaining c.args.input.now) (g.E.Write.contents c.args.err.now) c.in-Decide.is
+    quietly c.decide_by_first.result c.args.job.now _ (map (λ f. f.items) c.args.files.now) _
+    (g.R.Read.remaining c.args.input.now) (g.E.Write.contents c.args.err.now) c.in-Decide.is
     (IfOk-weaker c.decide_by_first.result _ _ (λ a is. (is, refl)) c.decide_by_first.ensures.found) c.decide_by_first.ensures.cause
 
 pub returns-in-Beyond-clause-outcome : goal.returns-in-Beyond-clause-outcome
 returns-in-Beyond-clause-outcome g c =
-    quietly c.compared.result c.args.job.now _ (map (λ f. f.items) c.args.files.now) _ (g.R.Read.remaining c.args.input.now) (g.E.Write.contents c.args.err.now) c.in-Beyond.is
-    (IfOk-weaker c.compared.result _ _ (λ a is. (is, refl)) c.compared.ensures.found) c.compared.ensures.cause
+    quietly c.compared.result c.args.job.now _ (map (λ f. f.items) c.args.files.now) _ (g.R.Read.remaining c.args.input.now) (g.E.Write.contents c.args.err.now)
+    c.in-Beyond.is (IfOk-weaker c.compared.result _ _ (λ a is. (is, refl)) c.compared.ensures.found) c.compared.ensures.cause
 
 pub returns-in-Deliver-clause-outcome : goal.returns-in-Deliver-clause-outcome
 returns-in-Deliver-clause-outcome g c =
     let places = c.in-Deliver.places in
     let err = g.E.Write.contents c.args.err.now in
     let is : c.args.job.now ≡ Deliver places c.as_str.result.now = c.in-Deliver.is ∙ ap (Deliver places) (sym c.as_str.ensures) in
-    of_job c.deliver_lines.result.0 c.args.job.now _ (map (λ f. f.items) c.args.files.now) _ (g.R.Read.remaining c.args.input.now) err err is (c.deliver_lines.ensures.outcome places err)
+    of_job c.deliver_lines.result.0 c.args.job.now _ (map (λ f. f.items) c.args.files.now) _
+    (g.R.Read.remaining c.args.input.now) err err is (c.deliver_lines.ensures.outcome places err)
 
 pub returns-in-Print-clause-outcome : goal.returns-in-Print-clause-outcome
 returns-in-Print-clause-outcome g c =
-    of_job c.print_host.result.0 c.args.job.now _ (map (λ f. f.items) c.args.files.now) _ (g.R.Read.remaining c.args.input.now) (g.E.Write.contents c.args.err.now)
-    (g.E.Write.contents c.print_host.new.err) c.in-Print.is c.print_host.ensures.outcome
+    of_job c.print_host.result.0 c.args.job.now _ (map (λ f. f.items) c.args.files.now) _ (g.R.Read.remaining c.args.input.now)
+    (g.E.Write.contents c.args.err.now) (g.E.Write.contents c.print_host.new.err) c.in-Print.is c.print_host.ensures.outcome
 
 pub returns-in-Review-clause-outcome : goal.returns-in-Review-clause-outcome
 returns-in-Review-clause-outcome g c =
-    of_job c.review_desk.result.0 c.args.job.now _ (map (λ f. f.items) c.args.files.now) _ (g.R.Read.remaining c.args.input.now) (g.E.Write.contents c.args.err.now)
-    (g.E.Write.contents c.review_desk.new.err) c.in-Review.is c.review_desk.ensures.outcome
+    of_job c.review_desk.result.0 c.args.job.now _ (map (λ f. f.items) c.args.files.now) _ (g.R.Read.remaining c.args.input.now)
+    (g.E.Write.contents c.args.err.now) (g.E.Write.contents c.review_desk.new.err) c.in-Review.is c.review_desk.ensures.outcome
 
 pub returns-in-Rebuild-clause-outcome : goal.returns-in-Rebuild-clause-outcome
 returns-in-Rebuild-clause-outcome g c =
@@ -75,8 +78,8 @@ returns-in-Check-clause-left g c =
 
 pub returns-in-Decide-clause-left : goal.returns-in-Decide-clause-left
 returns-in-Decide-clause-left g c =
-    if_err c.decide_by_first.result (same_job (map (λ f. f.items) c.args.files.now) _ _ (g.R.Read.remaining c.args.input.now) (g.E.Write.contents c.args.err.now)
-    (λ _. g.met.K.Keeper.same_itself c.args.keeper) c.args.job.now)
+    if_err c.decide_by_first.result (same_job (map (λ f. f.items) c.args.files.now) _ _ (g.R.Read.remaining c.args.input.now)
+    (g.E.Write.contents c.args.err.now) (λ _. g.met.K.Keeper.same_itself c.args.keeper) c.args.job.now)
 
 pub returns-in-Beyond-clause-left : goal.returns-in-Beyond-clause-left
 returns-in-Beyond-clause-left g c =
@@ -98,13 +101,13 @@ returns-in-Deliver-clause-left g c =
 
 pub returns-in-Print-clause-left : goal.returns-in-Print-clause-left
 returns-in-Print-clause-left g c =
-    left_of_job c.print_host.result.0 c.args.job.now _ (map (λ f. f.items) c.args.files.now) _ _ (g.R.Read.remaining c.args.input.now) (g.E.Write.contents c.args.err.now)
-    (g.E.Write.contents c.print_host.new.err) c.in-Print.is c.print_host.ensures.left
+    left_of_job c.print_host.result.0 c.args.job.now _ (map (λ f. f.items) c.args.files.now) _ _ (g.R.Read.remaining c.args.input.now)
+    (g.E.Write.contents c.args.err.now) (g.E.Write.contents c.print_host.new.err) c.in-Print.is c.print_host.ensures.left
 
 pub returns-in-Review-clause-left : goal.returns-in-Review-clause-left
 returns-in-Review-clause-left g c =
-    left_of_job c.review_desk.result.0 c.args.job.now _ (map (λ f. f.items) c.args.files.now) _ _ (g.R.Read.remaining c.args.input.now) (g.E.Write.contents c.args.err.now)
-    (g.E.Write.contents c.review_desk.new.err) c.in-Review.is c.review_desk.ensures.left
+    left_of_job c.review_desk.result.0 c.args.job.now _ (map (λ f. f.items) c.args.files.now) _ _ (g.R.Read.remaining c.args.input.now)
+    (g.E.Write.contents c.args.err.now) (g.E.Write.contents c.review_desk.new.err) c.in-Review.is c.review_desk.ensures.left
 
 pub returns-in-Rebuild-clause-left : goal.returns-in-Rebuild-clause-left
 returns-in-Rebuild-clause-left g c =

@@ -18,7 +18,8 @@ pub returns-clause-taken : goal.returns-clause-taken
 returns-clause-taken g c =
     let K = g.K.Keeper in
     let is = taken c.args.desk.now.roster.says c.as_str.result.now (g.R.Read.remaining c.args.input.now) (map delivery_of c.in_ok-lines.lines.items) _
-    c.in_ok-answers.answers.items c.as_slice-2.result.now (K.is_up c.deliver_all.new.self.keeper) (K.holds c.args.desk.now.keeper) (K.holds c.deliver_all.new.self.keeper) (string_bytes c.in_ok-said.said)
+    c.in_ok-answers.answers.items c.as_slice-2.result.now (K.is_up c.deliver_all.new.self.keeper)
+    (K.holds c.args.desk.now.keeper) (K.holds c.deliver_all.new.self.keeper) (string_bytes c.in_ok-said.said)
     c.as_str-2.result.now (rw (c.as_str.ensures.value, ← c.roster.ensures) c.first_relay.ensures) c.in_ok-lines.ensures.read
     (ap (map delivery_of) c.as_slice.ensures.value) c.as_slice-2.ensures.value c.in_ok-answers.ensures.answers c.in_ok-answers.ensures.held
     c.in_ok-said.ensures.memory c.in_ok-said.ensures.said c.as_str-2.ensures.value in
@@ -37,7 +38,8 @@ pub returns-clause-said : goal.returns-clause-said
 returns-clause-said g c =
     let K = g.K.Keeper in
     let is = taken c.args.desk.now.roster.says c.as_str.result.now (g.R.Read.remaining c.args.input.now) (map delivery_of c.in_ok-lines.lines.items) _
-    c.in_ok-answers.answers.items c.as_slice-2.result.now (K.is_up c.deliver_all.new.self.keeper) (K.holds c.args.desk.now.keeper) (K.holds c.deliver_all.new.self.keeper) (string_bytes c.in_ok-said.said)
+    c.in_ok-answers.answers.items c.as_slice-2.result.now (K.is_up c.deliver_all.new.self.keeper)
+    (K.holds c.args.desk.now.keeper) (K.holds c.deliver_all.new.self.keeper) (string_bytes c.in_ok-said.said)
     c.as_str-2.result.now (rw (c.as_str.ensures.value, ← c.roster.ensures) c.first_relay.ensures) c.in_ok-lines.ensures.read
     (ap (map delivery_of) c.as_slice.ensures.value) c.as_slice-2.ensures.value c.in_ok-answers.ensures.answers c.in_ok-answers.ensures.held
     c.in_ok-said.ensures.memory c.in_ok-said.ensures.said c.as_str-2.ensures.value in
@@ -72,12 +74,14 @@ returns-clause-left g c = λ up.
 pub returns-in_err-answers-clause-served : goal.returns-in_err-answers-clause-served
 returns-in_err-answers-clause-served g c =
     let told = c.from_residual-in_err-answers in
-    served_as ⊥ _ (λ none. absurd none) (λ _. wanting_as (Desk c.in_err-answers.field-0.0) told.result told.ensures.1 (inl c.in_err-answers.ensures.err)) c.deliver_all.ensures.served
+    served_as ⊥ _ (λ none. absurd none)
+    (λ _. wanting_as (Desk c.in_err-answers.field-0.0) told.result told.ensures.1 (inl c.in_err-answers.ensures.err)) c.deliver_all.ensures.served
 
 pub returns-in_err-said-clause-served : goal.returns-in_err-said-clause-served
 returns-in_err-said-clause-served g c =
     let told = c.from_residual-in_err-said in
-    served_as ⊥ _ (λ none. absurd none) (λ _. wanting_as c.in_err-said.field-0.0 told.result told.ensures.1 c.in_err-said.ensures.wanting) c.deliver_all.ensures.served
+    served_as ⊥ _ (λ none. absurd none)
+    (λ _. wanting_as c.in_err-said.field-0.0 told.result told.ensures.1 c.in_err-said.ensures.wanting) c.deliver_all.ensures.served
 
 -- there is something to say: nothing was wanting at any line
 pub returns-clause-served : goal.returns-clause-served

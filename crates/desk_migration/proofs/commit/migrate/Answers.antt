@@ -24,24 +24,30 @@ returns g c =
     let may : IsMigratable old.now.schema = c.can_migrate.ensures.0 can in
     let mode = λ (clean : HasCleanDisk last). (moved clean).mode in
     let does = λ (up : IsUp old) (clean : HasCleanDisk last). (moved clean).migrates (c.requires.desk up) may (c.requires.listed up) in
-    let ok = λ (clean : HasCleanDisk end). let it = c.in_ok-commit.ensures.ok clean in let both : IsTrue last.in_transaction × Shows last end last.now last.now false = (it.0, it.1) in both in
-    let ends = commit_ends (Migrates roster old.now) (migrates_again roster old.now) old last end c.requires.rests step _ c.commit.ensures.survives mode does ok in
-    let whole = commit_does (Migrates roster old.now) (migrates_again roster old.now) old last end c.requires.rests step _ c.commit.ensures.survives mode does ok in
+    let ok = λ (clean : HasCleanDisk end). let it = c.in_ok-commit.ensures.ok clean in
+    let both : IsTrue last.in_transaction × Shows last end last.now last.now false = (it.0, it.1) in
+    both in
+    let ends =
+    commit_ends (Migrates roster old.now) (migrates_again roster old.now) old last end c.requires.rests step _ c.commit.ensures.survives mode does ok in
+    let whole =
+    commit_does (Migrates roster old.now) (migrates_again roster old.now) old last end c.requires.rests step _ c.commit.ensures.survives mode does ok in
     let same : c.commit.new.self.0 ≡ c.conn-2-1.given.0 = search rules in
     let all = subst (λ h. Ends old (state g.S.Store h)) same ends in
     record {
       rests = all.rests;
       was_up = all.was_up;
       was_clean = all.was_clean;
-      up = λ before. subst (λ h. HasCleanDisk (state g.S.Store h) → IsUp (state g.S.Store h)) same (commit_up (Migrates roster old.now) (migrates_again roster old.now) old last end c.requires.rests step _ c.commit.ensures.survives mode does ok);
+      up = λ before. subst (λ h. HasCleanDisk (state g.S.Store h) → IsUp (state g.S.Store h)) same
+          (commit_up (Migrates roster old.now) (migrates_again roster old.now) old last end c.requires.rests step _ c.commit.ensures.survives mode does ok);
       kept = subst (λ h. IsUp (state g.S.Store h) → IsKept (state g.S.Store h).now) same (λ up. (whole up).kept);
-      migrated = subst (λ h. IsUp (state g.S.Store h) → content_of (state g.S.Store h).now ≡ with_roster roster (content_of old.now)) same (λ up. (whole up).content);
+      migrated =
+          subst (λ h. IsUp (state g.S.Store h) → content_of (state g.S.Store h).now ≡ with_roster roster (content_of old.now)) same (λ up. (whole up).content);
       grown = subst (λ h. IsUp (state g.S.Store h) → GainsVerdicts old.now (state g.S.Store h).now) same (λ up. (whole up).grown);
       others = subst (λ h. IsUp (state g.S.Store h) → KeepsOthers old.now (state g.S.Store h).now) same (λ up. (whole up).others);
       refused = λ unfit. absurd (unfit may);
       unchanged = λ up. tt;
-      survives = λ up. subst (λ h. Survives old (state g.S.Store h) (MigratesAt roster old.now)) same
-          (whole_survives (Migrates roster old.now) (migrates_again roster old.now) old last end c.requires.rests step _ c.commit.ensures.survives mode does (λ db is. is) up);
+      survives = λ up. subst (λ h. Survives old (state g.S.Store h) (MigratesAt roster old.now)) same (whole_survives (Migrates roster old.now)
+          (migrates_again roster old.now) old last end c.requires.rests step _ c.commit.ensures.survives mode does (λ db is. is) up);
     }
 
 pub returns-in_err-commit-clause-survives : goal.returns-in_err-commit-clause-survives
@@ -58,5 +64,5 @@ returns-in_err-commit-clause-survives g c up =
     let mode = λ (clean : HasCleanDisk last). (moved clean).mode in
     let does = λ (is_up : IsUp old) (clean : HasCleanDisk last). (moved clean).migrates (c.requires.desk is_up) may (c.requires.listed is_up) in
     let same : c.commit.new.self.0 ≡ c.conn-2-1.given.0 = search rules in
-    subst (λ h. Survives old (state g.S.Store h) (MigratesAt roster old.now)) same
-    (whole_survives (Migrates roster old.now) (migrates_again roster old.now) old last end c.requires.rests step _ c.commit.ensures.survives mode does (λ db is. is) up)
+    subst (λ h. Survives old (state g.S.Store h) (MigratesAt roster old.now)) same (whole_survives (Migrates roster old.now)
+    (migrates_again roster old.now) old last end c.requires.rests step _ c.commit.ensures.survives mode does (λ db is. is) up)

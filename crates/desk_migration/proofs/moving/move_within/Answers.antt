@@ -13,4 +13,5 @@ returns-clause-moved g c clean inside =
     let clean1 = clean_before s1 s2 _ c.put_roster.ensures.survives clean2 in
     let one = c.in_ok-prepare.ensures.prepared clean1 inside in
     let two = c.in_ok-put_roster.ensures.marked clean2 one.mode in
-    on_ok c.refill_rows.result _ _ (moved c.args.roster.now c.args.messages.now s0 s1 s2 s3 c.utf8.roster one two) (c.refill_rows.ensures.refilled clean two.inside.mode)
+    on_ok c.refill_rows.result _ _ (moved c.args.roster.now c.args.messages.now s0 s1 s2 s3 c.utf8.roster one two)
+    (c.refill_rows.ensures.refilled clean two.inside.mode)

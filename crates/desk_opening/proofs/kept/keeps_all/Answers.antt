@@ -15,22 +15,26 @@ keeps_part-requires-2-clause-rests g c = c.in_ok-names.ensures.reads.rests
 
 pub keeps_part-requires-2-clause-found : goal.keeps_part-requires-2-clause-found
 keeps_part-requires-2-clause-found g c =
-    still (state g.S.Store c.args.conn.now) (state g.S.Store c.keeps_part.new.conn) (λ (d : Database). FindsPart d.schema part.Verdicts) c.in_ok-names.ensures.reads c.requires.verdicts
+    still (state g.S.Store c.args.conn.now) (state g.S.Store c.keeps_part.new.conn)
+    (λ (d : Database). FindsPart d.schema part.Verdicts) c.in_ok-names.ensures.reads c.requires.verdicts
 
 pub keeps_part-requires-3-clause-rests : goal.keeps_part-requires-3-clause-rests
 keeps_part-requires-3-clause-rests g c = c.in_ok-verdicts.ensures.reads.rests
 
 pub keeps_part-requires-3-clause-found : goal.keeps_part-requires-3-clause-found
 keeps_part-requires-3-clause-found g c =
-    let both = then_reads (state g.S.Store c.args.conn.now) (state g.S.Store c.keeps_part.new.conn) (state g.S.Store c.keeps_part-2.new.conn) c.keeps_part.ensures.reads c.in_ok-names.ensures.up c.keeps_part-2.ensures.reads in
-    still (state g.S.Store c.args.conn.now) (state g.S.Store c.keeps_part-2.new.conn) (λ (d : Database). FindsPart d.schema part.Parked) both (λ up. (c.requires.common up).parked)
+    let both = then_reads (state g.S.Store c.args.conn.now) (state g.S.Store c.keeps_part.new.conn)
+    (state g.S.Store c.keeps_part-2.new.conn) c.keeps_part.ensures.reads c.in_ok-names.ensures.up c.keeps_part-2.ensures.reads in
+    still (state g.S.Store c.args.conn.now) (state g.S.Store c.keeps_part-2.new.conn)
+    (λ (d : Database). FindsPart d.schema part.Parked) both (λ up. (c.requires.common up).parked)
 
 pub returns-in_err-names-clause-reads : goal.returns-in_err-names-clause-reads
 returns-in_err-names-clause-reads g c = c.keeps_part.ensures.reads
 
 pub returns-in_err-verdicts-clause-reads : goal.returns-in_err-verdicts-clause-reads
 returns-in_err-verdicts-clause-reads g c =
-    then_reads (state g.S.Store c.args.conn.now) (state g.S.Store c.keeps_part.new.conn) (state g.S.Store c.keeps_part-2.new.conn) c.keeps_part.ensures.reads c.in_ok-names.ensures.up c.keeps_part-2.ensures.reads
+    then_reads (state g.S.Store c.args.conn.now) (state g.S.Store c.keeps_part.new.conn)
+    (state g.S.Store c.keeps_part-2.new.conn) c.keeps_part.ensures.reads c.in_ok-names.ensures.up c.keeps_part-2.ensures.reads
 
 pub returns-in_err-parked-clause-reads : goal.returns-in_err-parked-clause-reads
 returns-in_err-parked-clause-reads g c =
@@ -38,7 +42,8 @@ returns-in_err-parked-clause-reads g c =
     let b = state g.S.Store c.keeps_part.new.conn in
     let mid = state g.S.Store c.keeps_part-2.new.conn in
     let both = then_reads a b mid c.keeps_part.ensures.reads c.in_ok-names.ensures.up c.keeps_part-2.ensures.reads in
-    then_reads a mid (state g.S.Store c.keeps_part-3.new.conn) both (λ up clean. c.in_ok-verdicts.ensures.up (c.in_ok-names.ensures.up up (c.keeps_part-2.ensures.reads.was_clean clean)) clean) c.keeps_part-3.ensures.reads
+    then_reads a mid (state g.S.Store c.keeps_part-3.new.conn) both
+    (λ up clean. c.in_ok-verdicts.ensures.up (c.in_ok-names.ensures.up up (c.keeps_part-2.ensures.reads.was_clean clean)) clean) c.keeps_part-3.ensures.reads
 
 pub returns-clause-reads : goal.returns-clause-reads
 returns-clause-reads g c =
@@ -46,7 +51,8 @@ returns-clause-reads g c =
     let b = state g.S.Store c.keeps_part.new.conn in
     let mid = state g.S.Store c.keeps_part-2.new.conn in
     let both = then_reads a b mid c.keeps_part.ensures.reads c.in_ok-names.ensures.up c.keeps_part-2.ensures.reads in
-    then_reads a mid (state g.S.Store c.keeps_part-3.new.conn) both (λ up clean. c.in_ok-verdicts.ensures.up (c.in_ok-names.ensures.up up (c.keeps_part-2.ensures.reads.was_clean clean)) clean) c.keeps_part-3.ensures.reads
+    then_reads a mid (state g.S.Store c.keeps_part-3.new.conn) both
+    (λ up clean. c.in_ok-verdicts.ensures.up (c.in_ok-names.ensures.up up (c.keeps_part-2.ensures.reads.was_clean clean)) clean) c.keeps_part-3.ensures.reads
 
 pub returns-clause-up : goal.returns-clause-up
 returns-clause-up g c up clean =

@@ -6,5 +6,6 @@ use Rattle.desk_opening.proofs.once.are_once.Goals as goal
 
 pub returns-then-is_each_once : goal.returns-then-is_each_once
 returns-then-is_each_once c =
-    let few : (asker : List ℕ) (number : ℤ) → count_by (name_is asker number) c.args.rows.now ≤ 1 = λ asker number. subst (λ n. n ≤ 1) (c.in_ok-names.ensures asker number) (c.are_apart.ensures c.if-are_apart.true asker number) in
+    let few : (asker : List ℕ) (number : ℤ) → count_by (name_is asker number) c.args.rows.now ≤ 1 =
+    λ asker number. subst (λ n. n ≤ 1) (c.in_ok-names.ensures asker number) (c.are_apart.ensures c.if-are_apart.true asker number) in
     sym (once_apart c.args.rows.now few (sym c.is_each_once.ensures ∙ c.if-is_each_once.true))

@@ -8,6 +8,7 @@ use Rattle.desk_opening.proofs.reading.all_stored.Goals as goal
 pub loop-row-preserved : goal.loop-row-preserved
 loop-row-preserved c =
     let both : (column c.row-item.result 0 ≡ body c.in-Some.one) × IsKeepable c.in-Some.one = search rules in
-    let more = bodies_more c.args.rows.now c.loop-row.all.items c.loop-row.row-index c.row-item.result c.in-Some.one c.loop-row.invariant c.loop-row-test.true c.row-item.is both in
+    let more = bodies_more c.args.rows.now c.loop-row.all.items c.loop-row.row-index c.row-item.result
+    c.in-Some.one c.loop-row.invariant c.loop-row-test.true c.row-item.is both in
     let P : List Message → Type 0 = λ ms. AreBodies (take (c.loop-row.row-index + 1) c.args.rows.now) ms in
     rw c.in_ok-push.ensures.items more

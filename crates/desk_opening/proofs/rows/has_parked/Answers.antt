@@ -9,4 +9,5 @@ returns-then-shows_parked c =
     let rows = c.args.parked.now.rows.now in
     let r = c.in-Some.row.now in
     let there : Contains rows r = search rules in
-    sym (some_from (λ (r : Row). compare.shows_parked r c.args.stored.now) rows r (has_contained rows r there) (sym c.shows_parked.ensures ∙ c.if-shows_parked.true))
+    sym (some_from (λ (r : Row). compare.shows_parked r c.args.stored.now) rows r
+    (has_contained rows r there) (sym c.shows_parked.ensures ∙ c.if-shows_parked.true))

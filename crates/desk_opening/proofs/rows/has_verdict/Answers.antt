@@ -9,4 +9,5 @@ returns-then-shows_verdict c =
     let rows = c.args.verdicts.now.rows.now in
     let r = c.in-Some.row.now in
     let there : Contains rows r = search rules in
-    sym (some_from (λ (r : Row). compare.shows_verdict r c.args.stored.now) rows r (has_contained rows r there) (sym c.shows_verdict.ensures ∙ c.if-shows_verdict.true))
+    sym (some_from (λ (r : Row). compare.shows_verdict r c.args.stored.now) rows r
+    (has_contained rows r there) (sym c.shows_verdict.ensures ∙ c.if-shows_verdict.true))

@@ -10,4 +10,5 @@ returns-then-waits c =
     let ms = c.args.known.now.all.now in
     let m = c.in-Some.stored.now in
     let there : Contains ms m = search rules in
-    sym (some_from (λ (x : Message). compare.shows_parked c.args.row.now x && compare.waits ms x) ms m (has_contained ms m there) (and_from _ _ (sym c.shows_parked.ensures ∙ c.if-shows_parked.true) (sym c.waits.ensures ∙ c.if-waits.true)))
+    sym (some_from (λ (x : Message). compare.shows_parked c.args.row.now x && compare.waits ms x) ms m (has_contained ms m there)
+    (and_from _ _ (sym c.shows_parked.ensures ∙ c.if-shows_parked.true) (sym c.waits.ensures ∙ c.if-waits.true)))

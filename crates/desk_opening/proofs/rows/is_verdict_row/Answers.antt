@@ -10,4 +10,5 @@ returns-then-counts c =
     let ms = c.args.known.now.all.now in
     let m = c.in-Some.stored.now in
     let there : Contains ms m = search rules in
-    sym (some_from (λ (x : Message). compare.shows_verdict c.args.row.now x && compare.counts ms x) ms m (has_contained ms m there) (and_from _ _ (sym c.shows_verdict.ensures ∙ c.if-shows_verdict.true) (sym c.counts.ensures ∙ c.if-counts.true)))
+    sym (some_from (λ (x : Message). compare.shows_verdict c.args.row.now x && compare.counts ms x) ms m (has_contained ms m there)
+    (and_from _ _ (sym c.shows_verdict.ensures ∙ c.if-shows_verdict.true) (sym c.counts.ensures ∙ c.if-counts.true)))

@@ -15,5 +15,5 @@ returns-in-Request c = λ shown is.
     λ i. record { request = q i; is_disputed = d i }
 
 pub returns : goal.returns
-returns c = λ shown is stray.
-    not_both c.in_ok-message.message c.in-Verdict.field-0 shown.request c.in-Verdict.is (c.in_ok-message.ensures (Request shown.request) is.keepable (ap (λ (r : Row). column r 3) is.is))
+returns c = λ shown is stray. not_both c.in_ok-message.message c.in-Verdict.field-0 shown.request c.in-Verdict.is
+    (c.in_ok-message.ensures (Request shown.request) is.keepable (ap (λ (r : Row). column r 3) is.is))

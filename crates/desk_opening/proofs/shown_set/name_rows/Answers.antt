@@ -16,7 +16,8 @@ pub loop-row-preserved : goal.loop-row-preserved
 loop-row-preserved c = λ shown are.
     let i = c.loop-row.row-index in
     let it = shown_at ShowsName c.args.rows.now shown i c.row-item.result are c.loop-row-test.true c.row-item.is in
-    c.in_ok-push.ensures.items ∙ ap (λ (l : List NameRow). l ++ c.in_ok-shown.shown ∷ []) (c.loop-row.invariant shown are) ∙ ap (λ (x : NameRow). take i shown ++ x ∷ []) (c.in_ok-shown.ensures it.0 it.1) ∙ sym it.2
+    c.in_ok-push.ensures.items ∙ ap (λ (l : List NameRow). l ++ c.in_ok-shown.shown ∷ []) (c.loop-row.invariant shown are)
+    ∙ ap (λ (x : NameRow). take i shown ++ x ∷ []) (c.in_ok-shown.ensures it.0 it.1) ∙ sym it.2
 
 pub returns : goal.returns
 returns c = λ shown are.

@@ -19,5 +19,5 @@ returns-in-Verdict c = λ shown is.
     cc
 
 pub returns : goal.returns
-returns c = λ shown is stray.
-    not_both c.in_ok-message.message shown c.in-Request.field-0 (c.in_ok-message.ensures (Verdict shown) is.keepable (ap (λ (r : Row). column r 1) is.is)) c.in-Request.is
+returns c = λ shown is stray. not_both c.in_ok-message.message shown c.in-Request.field-0
+    (c.in_ok-message.ensures (Verdict shown) is.keepable (ap (λ (r : Row). column r 1) is.is)) c.in-Request.is

@@ -17,8 +17,10 @@ loop-row-preserved c = λ shown are.
     let i = c.loop-row.row-index in
     let old = c.args.verdicts.now.items in
     let it = shown_at ShowsVerdict c.args.rows.now shown i c.row-item.result are c.loop-row-test.true c.row-item.is in
-    c.in_ok-push.ensures.items ∙ ap (λ (l : List VerdictFields). l ++ c.in_ok-shown.shown ∷ []) (c.loop-row.invariant shown are) ∙ append_assoc old (take i shown) (c.in_ok-shown.shown ∷ []) ∙ ap (λ (x : VerdictFields). old ++ (take i shown ++ x ∷ [])) (c.in_ok-shown.ensures it.0 it.1) ∙ ap (λ (l : List VerdictFields). old ++ l) (sym it.2)
+    c.in_ok-push.ensures.items ∙ ap (λ (l : List VerdictFields). l ++ c.in_ok-shown.shown ∷ []) (c.loop-row.invariant shown are)
+    ∙ append_assoc old (take i shown) (c.in_ok-shown.shown ∷ [])
+    ∙ ap (λ (x : VerdictFields). old ++ (take i shown ++ x ∷ [])) (c.in_ok-shown.ensures it.0 it.1) ∙ ap (λ (l : List VerdictFields). old ++ l) (sym it.2)
 
 pub returns : goal.returns
-returns c = λ shown are.
-    c.loop-row.invariant shown are ∙ ap (λ (l : List VerdictFields). c.args.verdicts.now.items ++ l) (all_taken ShowsVerdict c.args.rows.now shown c.loop-row.row-index are c.loop-row-test.false)
+returns c = λ shown are. c.loop-row.invariant shown are ∙ ap (λ (l : List VerdictFields). c.args.verdicts.now.items ++ l)
+    (all_taken ShowsVerdict c.args.rows.now shown c.loop-row.row-index are c.loop-row-test.false)

@@ -22,13 +22,15 @@ pub returns-clause-whole : goal.returns-clause-whole
 returns-clause-whole g c up kept =
     let r = c.in_ok-rows.rows in
     let t = tells (state g.S.Store c.args.conn.now).now kept r.names.items r.verdicts.items r.parked.items (c.in_ok-rows.ensures.shows up) in
-    never_stray (λ s. (s.names.items ≡ t.names) × (s.verdicts.items ≡ t.counted ++ t.waiting)) c.shown_in.result (c.shown_in.ensures t.names t.counted t.waiting t.names_shown t.counted_shown t.waiting_shown)
+    never_stray (λ s. (s.names.items ≡ t.names) × (s.verdicts.items ≡ t.counted ++ t.waiting)) c.shown_in.result
+    (c.shown_in.ensures t.names t.counted t.waiting t.names_shown t.counted_shown t.waiting_shown)
 
 pub returns-clause-shown : goal.returns-clause-shown
 returns-clause-shown g c up kept =
     let db = (state g.S.Store c.args.conn.now).now in
     let r = c.in_ok-rows.rows in
     let t = tells db kept r.names.items r.verdicts.items r.parked.items (c.in_ok-rows.ensures.shows up) in
-    known_ok (λ s. (s.names.items ≡ t.names) × (s.verdicts.items ≡ t.counted ++ t.waiting)) (λ s. ShowSet (HoldsText db) s.names.items s.verdicts.items) c.shown_in.result
-    (λ s is. subst (λ (ns : List NameRow). ShowSet (HoldsText db) ns s.verdicts.items) (sym is.0) (subst (λ (vs : List VerdictFields). ShowSet (HoldsText db) t.names vs) (sym is.1) t.set))
+    known_ok (λ s. (s.names.items ≡ t.names) × (s.verdicts.items ≡ t.counted ++ t.waiting)) (λ s. ShowSet (HoldsText db) s.names.items s.verdicts.items)
+    c.shown_in.result (λ s is. subst (λ (ns : List NameRow). ShowSet (HoldsText db) ns s.verdicts.items)
+    (sym is.0) (subst (λ (vs : List VerdictFields). ShowSet (HoldsText db) t.names vs) (sym is.1) t.set))
     (c.shown_in.ensures t.names t.counted t.waiting t.names_shown t.counted_shown t.waiting_shown)

@@ -14,22 +14,26 @@ rows_of-requires-2-clause-rests g c = c.in_ok-names.ensures.reads.rests
 
 pub rows_of-requires-2-clause-found : goal.rows_of-requires-2-clause-found
 rows_of-requires-2-clause-found g c =
-    still (state g.S.Store c.args.conn.now) (state g.S.Store c.rows_of.new.conn) (λ (d : Database). FindsPart d.schema part.Verdicts) c.in_ok-names.ensures.reads c.requires.verdicts
+    still (state g.S.Store c.args.conn.now) (state g.S.Store c.rows_of.new.conn)
+    (λ (d : Database). FindsPart d.schema part.Verdicts) c.in_ok-names.ensures.reads c.requires.verdicts
 
 pub rows_of-requires-3-clause-rests : goal.rows_of-requires-3-clause-rests
 rows_of-requires-3-clause-rests g c = c.in_ok-verdicts.ensures.reads.rests
 
 pub rows_of-requires-3-clause-found : goal.rows_of-requires-3-clause-found
 rows_of-requires-3-clause-found g c =
-    let both = then_reads (state g.S.Store c.args.conn.now) (state g.S.Store c.rows_of.new.conn) (state g.S.Store c.rows_of-2.new.conn) c.rows_of.ensures.reads c.in_ok-names.ensures.up c.rows_of-2.ensures.reads in
-    still (state g.S.Store c.args.conn.now) (state g.S.Store c.rows_of-2.new.conn) (λ (d : Database). FindsPart d.schema part.Parked) both (λ up. (c.requires.common up).parked)
+    let both = then_reads (state g.S.Store c.args.conn.now) (state g.S.Store c.rows_of.new.conn)
+    (state g.S.Store c.rows_of-2.new.conn) c.rows_of.ensures.reads c.in_ok-names.ensures.up c.rows_of-2.ensures.reads in
+    still (state g.S.Store c.args.conn.now) (state g.S.Store c.rows_of-2.new.conn)
+    (λ (d : Database). FindsPart d.schema part.Parked) both (λ up. (c.requires.common up).parked)
 
 pub returns-in_err-names-clause-reads : goal.returns-in_err-names-clause-reads
 returns-in_err-names-clause-reads g c = c.rows_of.ensures.reads
 
 pub returns-in_err-verdicts-clause-reads : goal.returns-in_err-verdicts-clause-reads
 returns-in_err-verdicts-clause-reads g c =
-    then_reads (state g.S.Store c.args.conn.now) (state g.S.Store c.rows_of.new.conn) (state g.S.Store c.rows_of-2.new.conn) c.rows_of.ensures.reads c.in_ok-names.ensures.up c.rows_of-2.ensures.reads
+    then_reads (state g.S.Store c.args.conn.now) (state g.S.Store c.rows_of.new.conn)
+    (state g.S.Store c.rows_of-2.new.conn) c.rows_of.ensures.reads c.in_ok-names.ensures.up c.rows_of-2.ensures.reads
 
 pub returns-in_err-parked-clause-reads : goal.returns-in_err-parked-clause-reads
 returns-in_err-parked-clause-reads g c =
@@ -37,7 +41,8 @@ returns-in_err-parked-clause-reads g c =
     let b = state g.S.Store c.rows_of.new.conn in
     let mid = state g.S.Store c.rows_of-2.new.conn in
     let both = then_reads a b mid c.rows_of.ensures.reads c.in_ok-names.ensures.up c.rows_of-2.ensures.reads in
-    then_reads a mid (state g.S.Store c.rows_of-3.new.conn) both (λ up clean. c.in_ok-verdicts.ensures.up (c.in_ok-names.ensures.up up (c.rows_of-2.ensures.reads.was_clean clean)) clean) c.rows_of-3.ensures.reads
+    then_reads a mid (state g.S.Store c.rows_of-3.new.conn) both
+    (λ up clean. c.in_ok-verdicts.ensures.up (c.in_ok-names.ensures.up up (c.rows_of-2.ensures.reads.was_clean clean)) clean) c.rows_of-3.ensures.reads
 
 pub returns-clause-reads : goal.returns-clause-reads
 returns-clause-reads g c =
@@ -45,7 +50,8 @@ returns-clause-reads g c =
     let b = state g.S.Store c.rows_of.new.conn in
     let mid = state g.S.Store c.rows_of-2.new.conn in
     let both = then_reads a b mid c.rows_of.ensures.reads c.in_ok-names.ensures.up c.rows_of-2.ensures.reads in
-    then_reads a mid (state g.S.Store c.rows_of-3.new.conn) both (λ up clean. c.in_ok-verdicts.ensures.up (c.in_ok-names.ensures.up up (c.rows_of-2.ensures.reads.was_clean clean)) clean) c.rows_of-3.ensures.reads
+    then_reads a mid (state g.S.Store c.rows_of-3.new.conn) both
+    (λ up clean. c.in_ok-verdicts.ensures.up (c.in_ok-names.ensures.up up (c.rows_of-2.ensures.reads.was_clean clean)) clean) c.rows_of-3.ensures.reads
 
 pub returns-clause-up : goal.returns-clause-up
 returns-clause-up g c up clean =
@@ -62,6 +68,7 @@ returns-clause-shows g c up =
     let one = c.rows_of-2.ensures.reads.was_up two in
     record {
       names_are = c.in_ok-names.ensures.shows one;
-      verdicts_are = before a b (λ (d : Database). ShowsPart part.Verdicts d c.in_ok-verdicts.verdicts.items) c.rows_of.ensures.reads one (c.in_ok-verdicts.ensures.shows two);
+      verdicts_are = before a b (λ (d : Database). ShowsPart part.Verdicts d c.in_ok-verdicts.verdicts.items) c.rows_of.ensures.reads one
+          (c.in_ok-verdicts.ensures.shows two);
       parked_are = before a mid (λ (d : Database). ShowsPart part.Parked d c.in_ok-parked.parked.items) both two (c.in_ok-parked.ensures.shows up);
     }

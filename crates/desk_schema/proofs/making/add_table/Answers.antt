@@ -13,4 +13,5 @@ step part old new (Err e) h = tt
 
 pub returns-clause-added : goal.returns-clause-added
 returns-clause-added g c clean inside =
-    step c.args.part (state g.S.Store c.args.tx.now.conn.now) (state g.S.Store c.execute.new.self.conn.now) c.execute.result (rw c.text_of.ensures at (c.execute.ensures.runs clean inside))
+    step c.args.part (state g.S.Store c.args.tx.now.conn.now) (state g.S.Store c.execute.new.self.conn.now) c.execute.result
+    (rw c.text_of.ensures at (c.execute.ensures.runs clean inside))

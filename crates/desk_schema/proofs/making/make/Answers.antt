@@ -18,4 +18,5 @@ returns-clause-survives g c up =
     let filled = λ (clean : HasCleanDisk last). (rw begun at c.in_ok-fill.ensures.filled) clean refl in
     let same : c.commit.new.self.0 ≡ c.conn-2-1.given.0 = search rules in
     subst (λ h. Survives old (state g.S.Store h) (FoundsAt roster old.now)) same
-    (whole_survives (Founds roster old.now) (founds_again roster old.now) old last end c.requires.rests step _ c.commit.ensures.survives (λ clean. (filled clean).mode) (λ is_up clean. (filled clean).founds (c.requires.ready is_up)) (λ db is. is) up)
+    (whole_survives (Founds roster old.now) (founds_again roster old.now) old last end c.requires.rests step _ c.commit.ensures.survives
+    (λ clean. (filled clean).mode) (λ is_up clean. (filled clean).founds (c.requires.ready is_up)) (λ db is. is) up)

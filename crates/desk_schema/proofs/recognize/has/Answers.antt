@@ -9,16 +9,20 @@ pub returns-then-is_table-clause-only : goal.returns-then-is_table-clause-only
 returns-then-is_table-clause-only c finds =
     let part = c.args.part in
     let named : table_named c.args.schema.now (name_of part) ≡ Some c.in-Some.at = search rules in
-    let is = first_part part c.args.schema.now c.as_slice-tables.result.now c.in-Some.at c.get.result c.in-Some-get.table c.first_at.result c.as_slice-tables.ensures finds named c.get.ensures.lookup c.in-Some-get.is c.first_at.ensures in
-    let same : c.in-Some-first_at.first.now ≡ c.in-Some-get.table.now = one_table c.in-Some-first_at.first.now c.in-Some-get.table.now (sym (ap option_copied c.in-Some-first_at.is) ∙ is.0) in
+    let is = first_part part c.args.schema.now c.as_slice-tables.result.now c.in-Some.at c.get.result c.in-Some-get.table
+    c.first_at.result c.as_slice-tables.ensures finds named c.get.ensures.lookup c.in-Some-get.is c.first_at.ensures in
+    let same : c.in-Some-first_at.first.now ≡ c.in-Some-get.table.now =
+    one_table c.in-Some-first_at.first.now c.in-Some-get.table.now (sym (ap option_copied c.in-Some-first_at.is) ∙ is.0) in
     rw same (same_number c.in-Some-get.table.now.tree)
 
 pub returns-else-is_table-clause-only : goal.returns-else-is_table-clause-only
 returns-else-is_table-clause-only c finds =
     let part = c.args.part in
     let named : table_named c.args.schema.now (name_of part) ≡ Some c.in-Some.at = search rules in
-    let is = first_part part c.args.schema.now c.as_slice-tables.result.now c.in-Some.at c.get.result c.in-Some-get.table c.first_at.result c.as_slice-tables.ensures finds named c.get.ensures.lookup c.in-Some-get.is c.first_at.ensures in
-    let same : c.in-Some-first_at.first.now ≡ c.in-Some-get.table.now = one_table c.in-Some-first_at.first.now c.in-Some-get.table.now (sym (ap option_copied c.in-Some-first_at.is) ∙ is.0) in
+    let is = first_part part c.args.schema.now c.as_slice-tables.result.now c.in-Some.at c.get.result c.in-Some-get.table
+    c.first_at.result c.as_slice-tables.ensures finds named c.get.ensures.lookup c.in-Some-get.is c.first_at.ensures in
+    let same : c.in-Some-first_at.first.now ≡ c.in-Some-get.table.now =
+    one_table c.in-Some-first_at.first.now c.in-Some-get.table.now (sym (ap option_copied c.in-Some-first_at.is) ∙ is.0) in
     let P : Table → Type 0 = λ x. x ≡ table_at part x.tree in
     c.is_table-in-Some-first_at.ensures.1 (subst P (sym same) is.1)
 
@@ -26,7 +30,8 @@ pub returns-in-None-clause-only : goal.returns-in-None-clause-only
 returns-in-None-clause-only c finds =
     let part = c.args.part in
     let named : table_named c.args.schema.now (name_of part) ≡ Some c.in-Some.at = search rules in
-    let is = first_part part c.args.schema.now c.as_slice-tables.result.now c.in-Some.at c.get.result c.in-Some-get.table c.first_at.result c.as_slice-tables.ensures finds named c.get.ensures.lookup c.in-Some-get.is c.first_at.ensures in
+    let is = first_part part c.args.schema.now c.as_slice-tables.result.now c.in-Some.at c.get.result c.in-Some-get.table
+    c.first_at.result c.as_slice-tables.ensures finds named c.get.ensures.lookup c.in-Some-get.is c.first_at.ensures in
     no_table (option_copied c.first_at.result) c.in-Some-get.table.now (ap option_copied c.in-None.is) is.0
 
 pub returns-then-is_table-clause-found : goal.returns-then-is_table-clause-found
@@ -38,5 +43,5 @@ returns-then-is_table-clause-found c trees =
     let is : table.now ≡ table_at part table.now.tree = search rules in
     let stored : nat_le (2 ^ 31) table.now.tree ≡ false = search rules in
     let first_is : first.now ≡ table_at part first.now.tree = search rules in
-    found_by_both (name_of part) (table_at part) (tree_is part) c.args.schema.now c.as_slice-tables.result.now c.in-Some.at c.get.result table c.first_at.result first c.as_slice-tables.ensures named c.get.ensures.lookup c.in-Some-get.is
-    is stored c.first_at.ensures c.in-Some-first_at.is first_is trees
+    found_by_both (name_of part) (table_at part) (tree_is part) c.args.schema.now c.as_slice-tables.result.now c.in-Some.at c.get.result table c.first_at.result
+    first c.as_slice-tables.ensures named c.get.ensures.lookup c.in-Some-get.is is stored c.first_at.ensures c.in-Some-first_at.is first_is trees

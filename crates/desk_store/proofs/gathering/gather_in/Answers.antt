@@ -22,6 +22,8 @@ returns-clause-known g c up =
     let db = (state g.S.Store c.args.conn.now).now in
     let kept = c.requires.kept (c.shown_of.ensures.reads.was_up up) in
     let listed = set_listed db (record { texts = kept.desk.texts; only = kept.desk.only }) in
-    let show = shown_too (HoldsText db) (λ m. Contains listed.0 m) listed.1 c.in_ok-shown.shown.names.items c.in_ok-shown.shown.verdicts.items (c.in_ok-shown.ensures.shown up kept) in
-    let given : ShowSet (λ m. Contains listed.0 m) c.as_slice-names.result.now c.as_slice-verdicts.result.now = rw (c.as_slice-names.ensures.value, c.as_slice-verdicts.ensures.value) show in
+    let show = shown_too (HoldsText db) (λ m. Contains listed.0 m) listed.1 c.in_ok-shown.shown.names.items c.in_ok-shown.shown.verdicts.items
+    (c.in_ok-shown.ensures.shown up kept) in
+    let given : ShowSet (λ m. Contains listed.0 m) c.as_slice-names.result.now c.as_slice-verdicts.result.now =
+    rw (c.as_slice-names.ensures.value, c.as_slice-verdicts.ensures.value) show in
     (listed.0, listed.1, c.in_ok-of_rows.ensures listed.0 given)

@@ -12,7 +12,8 @@ replace_today-requires-clause-rests g c = c.look.ensures.reads.rests
 
 pub replace_today-requires-clause-desk : goal.replace_today-requires-clause-desk
 replace_today-requires-clause-desk g c up =
-    subst IsKept (sym (c.look.ensures.reads.same up)) (found_today (state g.S.Store c.args.conn.now).now c.in_ok-found.found c.in-Desk.contents c.in-Desk.is (c.in_ok-found.ensures.found up)).0
+    subst IsKept (sym (c.look.ensures.reads.same up))
+    (found_today (state g.S.Store c.args.conn.now).now c.in_ok-found.found c.in-Desk.contents c.in-Desk.is (c.in_ok-found.ensures.found up)).0
 
 pub replace_today-requires-clause-listed : goal.replace_today-requires-clause-listed
 replace_today-requires-clause-listed g c up =
@@ -20,27 +21,30 @@ replace_today-requires-clause-listed g c up =
     (found_today (state g.S.Store c.args.conn.now).now c.in_ok-found.found c.in-Desk.contents c.in-Desk.is (c.in_ok-found.ensures.found up)).2
 
 pub returns-in_err-found : goal.returns-in_err-found
-returns-in_err-found g c = read_only c.args.roster.now (state g.S.Store c.args.conn.now) (state g.S.Store c.look.new.conn) c.look.ensures.reads c.from_residual.result c.from_residual.ensures.0
+returns-in_err-found g c = read_only c.args.roster.now (state g.S.Store c.args.conn.now)
+    (state g.S.Store c.look.new.conn) c.look.ensures.reads c.from_residual.result c.from_residual.ensures.0
 
 pub returns-in-Desk : goal.returns-in-Desk
 returns-in-Desk g c =
-    then_replaces c.args.roster.now (state g.S.Store c.args.conn.now) (state g.S.Store c.look.new.conn) c.look.ensures.reads (state g.S.Store c.replace_today.new.conn) c.replace_today.result
-    c.in_ok-found.ensures.up c.replace_today.ensures
+    then_replaces c.args.roster.now (state g.S.Store c.args.conn.now) (state g.S.Store c.look.new.conn) c.look.ensures.reads
+    (state g.S.Store c.replace_today.new.conn) c.replace_today.result c.in_ok-found.ensures.up c.replace_today.ensures
 
 pub replace_older-requires-clause-rests : goal.replace_older-requires-clause-rests
 replace_older-requires-clause-rests g c = c.look.ensures.reads.rests
 
 pub replace_older-requires-clause-desk : goal.replace_older-requires-clause-desk
-replace_older-requires-clause-desk g c up = subst IsOldDesk (sym (c.look.ensures.reads.same up)) (found_older (state g.S.Store c.args.conn.now).now c.in_ok-found.found c.in-Old.contents c.in-Old.is (c.in_ok-found.ensures.found up)).0
+replace_older-requires-clause-desk g c up = subst IsOldDesk (sym (c.look.ensures.reads.same up))
+    (found_older (state g.S.Store c.args.conn.now).now c.in_ok-found.found c.in-Old.contents c.in-Old.is (c.in_ok-found.ensures.found up)).0
 
 pub replace_older-requires-clause-listed : goal.replace_older-requires-clause-listed
 replace_older-requires-clause-listed g c up =
-    subst (λ (d : Database). Lists (HoldsText d) c.in-Old.contents.messages.items) (sym (c.look.ensures.reads.same up)) (found_older (state g.S.Store c.args.conn.now).now c.in_ok-found.found c.in-Old.contents c.in-Old.is (c.in_ok-found.ensures.found up)).2
+    subst (λ (d : Database). Lists (HoldsText d) c.in-Old.contents.messages.items) (sym (c.look.ensures.reads.same up))
+    (found_older (state g.S.Store c.args.conn.now).now c.in_ok-found.found c.in-Old.contents c.in-Old.is (c.in_ok-found.ensures.found up)).2
 
 pub returns-in-Old : goal.returns-in-Old
 returns-in-Old g c =
-    then_replaces c.args.roster.now (state g.S.Store c.args.conn.now) (state g.S.Store c.look.new.conn) c.look.ensures.reads (state g.S.Store c.replace_older.new.conn) c.replace_older.result
-    c.in_ok-found.ensures.up c.replace_older.ensures
+    then_replaces c.args.roster.now (state g.S.Store c.args.conn.now) (state g.S.Store c.look.new.conn) c.look.ensures.reads
+    (state g.S.Store c.replace_older.new.conn) c.replace_older.result c.in_ok-found.ensures.up c.replace_older.ensures
 
 pub returns-in-Empty : goal.returns-in-Empty
 returns-in-Empty g c = read_refused c.args.roster.now (state g.S.Store c.args.conn.now) (state g.S.Store c.look.new.conn) c.look.ensures.reads _

@@ -11,8 +11,8 @@ use Rattle.desk_store.proofs.replacing.replace_older.Goals as goal
 pub migrate-requires-clause-listed : goal.migrate-requires-clause-listed
 migrate-requires-clause-listed g c up =
     let db = (state g.S.Store c.args.conn.now).now in
-    subst (λ (l : List Message). Lists (HoldsText db) l) (sym c.as_slice-2.ensures.value)
-    (lists_same (HoldsText db) c.args.contents.now.messages.items c.in_ok-messages.messages (c.requires.listed up) (rw c.as_slice.ensures.value at c.in_ok-messages.ensures))
+    subst (λ (l : List Message). Lists (HoldsText db) l) (sym c.as_slice-2.ensures.value) (lists_same (HoldsText db)
+    c.args.contents.now.messages.items c.in_ok-messages.messages (c.requires.listed up) (rw c.as_slice.ensures.value at c.in_ok-messages.ensures))
 
 pub returns-then-not-is_autocommit : goal.returns-then-not-is_autocommit
 returns-then-not-is_autocommit g c = nothing_done c.args.roster.now (state g.S.Store c.args.conn.now) _ c.requires.rests
@@ -30,7 +30,8 @@ returns g c =
       was_clean = c.migrate.ensures.was_clean;
       up = c.migrate.ensures.up;
       becomes = λ up. older_becomes c.args.roster.now old new c.migrate.result (c.migrate.ensures.kept up) (c.migrate.ensures.migrated up);
-      beside = λ up. older_beside c.args.roster.now old new c.migrate.result (c.requires.desk (c.migrate.ensures.was_up up)) (c.migrate.ensures.kept up) (c.migrate.ensures.grown up) (c.migrate.ensures.others up);
+      beside = λ up. older_beside c.args.roster.now old new c.migrate.result (c.requires.desk (c.migrate.ensures.was_up up))
+          (c.migrate.ensures.kept up) (c.migrate.ensures.grown up) (c.migrate.ensures.others up);
       unchanged = c.migrate.ensures.unchanged;
       survives = λ up clean. older_survives c.args.roster.now old new c.migrate.result (c.migrate.ensures.survives up);
     }

@@ -14,8 +14,8 @@ replace-requires-clause-desk g c up = (c.requires.desk up).desk
 pub replace-requires-clause-listed : goal.replace-requires-clause-listed
 replace-requires-clause-listed g c up =
     let db = (state g.S.Store c.args.conn.now).now in
-    subst (λ (l : List Message). Lists (HoldsText db) l) (sym c.as_slice-2.ensures.value)
-    (lists_same (HoldsText db) c.args.contents.now.messages.items c.in_ok-messages.messages (c.requires.listed up) (rw c.as_slice.ensures.value at c.in_ok-messages.ensures))
+    subst (λ (l : List Message). Lists (HoldsText db) l) (sym c.as_slice-2.ensures.value) (lists_same (HoldsText db)
+    c.args.contents.now.messages.items c.in_ok-messages.messages (c.requires.listed up) (rw c.as_slice.ensures.value at c.in_ok-messages.ensures))
 
 pub returns-then-not-is_autocommit : goal.returns-then-not-is_autocommit
 returns-then-not-is_autocommit g c = nothing_done c.args.roster.now (state g.S.Store c.args.conn.now) _ c.requires.rests
@@ -32,8 +32,10 @@ returns g c =
       was_up = c.replace.ensures.was_up;
       was_clean = c.replace.ensures.was_clean;
       up = c.replace.ensures.up;
-      becomes = λ up. today_becomes c.args.roster.now old new c.replace.result c.requires.desk c.replace.ensures.was_up up (c.replace.ensures.desk up) (c.replace.ensures.replaced up) (c.replace.ensures.others up);
+      becomes = λ up. today_becomes c.args.roster.now old new c.replace.result c.requires.desk c.replace.ensures.was_up up
+          (c.replace.ensures.desk up) (c.replace.ensures.replaced up) (c.replace.ensures.others up);
       beside = λ up. today_beside c.args.roster.now old new c.replace.result c.requires.desk c.replace.ensures.was_up up (c.replace.ensures.others up);
       unchanged = c.replace.ensures.unchanged;
-      survives = λ up clean. today_survives c.args.roster.now old new c.replace.result c.requires.desk c.replace.ensures.was_up up (c.replace.ensures.survives up);
+      survives =
+          λ up clean. today_survives c.args.roster.now old new c.replace.result c.requires.desk c.replace.ensures.was_up up (c.replace.ensures.survives up);
     }

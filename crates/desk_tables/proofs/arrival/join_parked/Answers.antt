@@ -18,7 +18,10 @@ returns-clause-joined g c clean inside =
     let d = state g.S.Store c.take_parked.new.tx.conn.now in
     let clean_c = clean_before mid d _ c.take_parked.ensures.survives clean in
     let clean_b = clean_before b mid _ c.join.ensures.step.survives clean_c in
-    let finds = subst (λ n. FindsParked n c.in_ok-rows.rows.items a b) (name_is q _ _ (c.as_str.ensures.value ∙ c.by.ensures.value) c.no.ensures.value) (c.in_ok-rows.ensures.finds clean_b inside) in
-    let joined = subst (λ rs. Turned Stays (Rowwise (JoinsAll rs)) Stays b mid) c.as_slice.ensures.value (c.in_ok-join.ensures.turned clean_c finds.begun.mode) in
-    let lost = subst (λ n. Wrote (codes "parked") (Loses (OfName 1 n)) mid d) (name_is q _ _ (c.as_str-2.ensures.value ∙ c.by-2.ensures.value) c.no-2.ensures.value) (c.in_ok-take_parked.ensures.wrote clean joined.mode) in
+    let finds = subst (λ n. FindsParked n c.in_ok-rows.rows.items a b)
+    (name_is q _ _ (c.as_str.ensures.value ∙ c.by.ensures.value) c.no.ensures.value) (c.in_ok-rows.ensures.finds clean_b inside) in
+    let joined =
+    subst (λ rs. Turned Stays (Rowwise (JoinsAll rs)) Stays b mid) c.as_slice.ensures.value (c.in_ok-join.ensures.turned clean_c finds.begun.mode) in
+    let lost = subst (λ n. Wrote (codes "parked") (Loses (OfName 1 n)) mid d)
+    (name_is q _ _ (c.as_str-2.ensures.value ∙ c.by-2.ensures.value) c.no-2.ensures.value) (c.in_ok-take_parked.ensures.wrote clean joined.mode) in
     joins_parked (name_of q) c.in_ok-rows.rows.items a b mid d finds joined lost

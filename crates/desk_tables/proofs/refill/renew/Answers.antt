@@ -13,4 +13,5 @@ returns-clause-renewed g c clean inside =
 
 pub returns-clause-step : goal.returns-clause-step
 returns-clause-step g c =
-    then_step (state g.S.Store c.args.tx.now.conn.now) (state g.S.Store c.clear.new.tx.conn.now) (state g.S.Store c.refill_rows.new.tx.conn.now) c.clear.ensures.step (λ clean inside. (c.in_ok-clear.ensures.turned clean inside).mode) c.refill_rows.ensures.step
+    then_step (state g.S.Store c.args.tx.now.conn.now) (state g.S.Store c.clear.new.tx.conn.now) (state g.S.Store c.refill_rows.new.tx.conn.now)
+    c.clear.ensures.step (λ clean inside. (c.in_ok-clear.ensures.turned clean inside).mode) c.refill_rows.ensures.step

@@ -13,4 +13,5 @@ returns-clause-replaced g c clean inside =
 
 pub returns-clause-step : goal.returns-clause-step
 returns-clause-step g c =
-    then_step (state g.S.Store c.args.tx.now.conn.now) (state g.S.Store c.record.new.tx.conn.now) (state g.S.Store c.renew.new.tx.conn.now) c.record.ensures.step (λ clean inside. (c.in_ok-record.ensures.recorded clean inside).mode) c.renew.ensures.step
+    then_step (state g.S.Store c.args.tx.now.conn.now) (state g.S.Store c.record.new.tx.conn.now)
+    (state g.S.Store c.renew.new.tx.conn.now) c.record.ensures.step (λ clean inside. (c.in_ok-record.ensures.recorded clean inside).mode) c.renew.ensures.step

@@ -13,4 +13,5 @@ step old new (Ok count) h = record { inside = h.1; marks = λ tidy keyed. desk_e
 step old new (Err e) h = tt
 
 pub returns-clause-marked : goal.returns-clause-marked
-returns-clause-marked g c clean inside = step (state g.S.Store c.args.tx.now.conn.now) (state g.S.Store c.execute.new.self.conn.now) c.execute.result (c.execute.ensures.runs clean inside)
+returns-clause-marked g c clean inside =
+    step (state g.S.Store c.args.tx.now.conn.now) (state g.S.Store c.execute.new.self.conn.now) c.execute.result (c.execute.ensures.runs clean inside)

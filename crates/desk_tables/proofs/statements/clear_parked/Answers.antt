@@ -13,4 +13,5 @@ step old new (Ok count) h = record { inside = h.1; alters = λ tidy. parked_empt
 step old new (Err e) h = tt
 
 pub returns-clause-wrote : goal.returns-clause-wrote
-returns-clause-wrote g c clean inside = step (state g.S.Store c.args.tx.now.conn.now) (state g.S.Store c.execute.new.self.conn.now) c.execute.result (c.execute.ensures.runs clean inside)
+returns-clause-wrote g c clean inside =
+    step (state g.S.Store c.args.tx.now.conn.now) (state g.S.Store c.execute.new.self.conn.now) c.execute.result (c.execute.ensures.runs clean inside)

@@ -12,7 +12,8 @@ use Rattle.desk_tables.proofs.StepLemmas.{parked_shown}
 use Rattle.desk_tables.proofs.Where.{parked_select}
 use Rattle.desk_tables.proofs.statements.parked_of.Goals as goal
 
-step : (name : RequestName) (old new : State) (r : Result (Vec Row Global) Error) → IsTrue old.in_transaction → IfOk r (λ rows. Shown parked_select (Text name.by ∷ Int (pos name.no) ∷ []) old new rows.items) → IfOk r (λ rows. FindsParked name rows.items old new)
+step : (name : RequestName) (old new : State) (r : Result (Vec Row Global) Error) → IsTrue old.in_transaction
+    → IfOk r (λ rows. Shown parked_select (Text name.by ∷ Int (pos name.no) ∷ []) old new rows.items) → IfOk r (λ rows. FindsParked name rows.items old new)
 step name old new (Ok rows) inside shown = record {
   begun = asks_inside parked_select _ old new rows.items inside shown;
   same = λ tidy. (shown_same parked_select _ old new rows.items (parked_plain old tidy) shown).0.now_is;
@@ -22,8 +23,9 @@ step name old new (Err e) inside shown = tt
 
 pub returns-clause-finds : goal.returns-clause-finds
 returns-clause-finds g c clean inside =
-    step (record { by = c.args.asker.now; no = c.args.number }) (state g.S.Store c.args.tx.now.conn.now) (state g.S.Store c.query_all.new.self.conn.now) c.query_all.result inside
-    (rw (c.params-to_sql.ensures, c.params-to_sql-2.ensures) at (c.query_all.ensures.ok clean))
+    step (record { by = c.args.asker.now; no = c.args.number }) (state g.S.Store c.args.tx.now.conn.now) (state g.S.Store c.query_all.new.self.conn.now)
+    c.query_all.result inside (rw (c.params-to_sql.ensures, c.params-to_sql-2.ensures) at (c.query_all.ensures.ok clean))
 
 pub returns-clause-kept : goal.returns-clause-kept
-returns-clause-kept g c clean inside = keeps_query _ _ (state g.S.Store c.args.tx.now.conn.now) (state g.S.Store c.query_all.new.self.conn.now) c.query_all.result inside (c.query_all.ensures.ok clean) (c.query_all.ensures.err clean)
+returns-clause-kept g c clean inside = keeps_query _ _ (state g.S.Store c.args.tx.now.conn.now)
+    (state g.S.Store c.query_all.new.self.conn.now) c.query_all.result inside (c.query_all.ensures.ok clean) (c.query_all.ensures.err clean)

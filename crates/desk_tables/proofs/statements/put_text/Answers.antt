@@ -14,4 +14,5 @@ step text old new (Err e) h = tt
 
 pub returns-clause-wrote : goal.returns-clause-wrote
 returns-clause-wrote g c clean inside =
-    step c.args.text.now (state g.S.Store c.args.tx.now.conn.now) (state g.S.Store c.execute.new.self.conn.now) c.execute.result (rw c.params-to_sql.ensures at (c.execute.ensures.runs clean inside))
+    step c.args.text.now (state g.S.Store c.args.tx.now.conn.now) (state g.S.Store c.execute.new.self.conn.now) c.execute.result
+    (rw c.params-to_sql.ensures at (c.execute.ensures.runs clean inside))

@@ -23,7 +23,8 @@ returns-then-is_too_long c =
     let inside : IsWithin c.args.request.now c.in_ok-ceiling.ceiling.now =
     within c.args.roster.now.says c.args.request.now c.in_ok-ceiling.ceiling.now (sym c.if-not-hosts_inside.ensures) (sym c.if-not-target_inside.ensures)
     (sym c.if-not-commands_inside.ensures.value) in
-    too_long c.args.roster.now.says c.args.request.now c.in_ok-ceiling.ceiling.now c.in_ok-ceiling.ensures inside (c.is_too_long.ensures.0 c.if-is_too_long.true)
+    too_long c.args.roster.now.says c.args.request.now c.in_ok-ceiling.ceiling.now c.in_ok-ceiling.ensures inside
+    (c.is_too_long.ensures.0 c.if-is_too_long.true)
 
 pub returns-then-is_backwards : goal.returns-then-is_backwards
 returns-then-is_backwards c =

@@ -15,7 +15,8 @@ returns-then-may_have-clause-ok c = λ set s.
     let old = string_bytes c.args.text.now in
     let new = string_bytes c.push_left.new.text in
     let is = subst (λ (x : Kept). IsRequest x.request) c.s.view_is c.may_have.ensures.request in
-    let added = subst (λ (x : Kept). IfOk c.push_left.result (λ count. AreAdded (rules_left c.args.after host x.request status) old new count)) c.s.view_is c.push_left.ensures.ok in
+    let added = subst (λ (x : Kept). IfOk c.push_left.result (λ count. AreAdded (rules_left c.args.after host x.request status) old new count))
+    c.s.view_is c.push_left.ensures.ok in
     IfOk-weaker c.push_left.result _ _ (written c.args.roster.now.says set c.args.s.now s is host c.args.after status (c.status.ensures set s) old new) added
 
 pub returns-else-may_have-clause-ok : goal.returns-else-may_have-clause-ok

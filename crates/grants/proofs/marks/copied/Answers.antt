@@ -6,4 +6,5 @@ use Rattle.grants.proofs.marks.copied.Goals as goal
 
 pub returns : goal.returns
 returns c =
-    MatchResult-weaker c.clone.result c.clone.ensures.cases (λ copy is. same_from_all_zip (λ (x y : Mark). y ≡ x) c.args.marks.now.keys copy.keys is (λ x y e. e)) (λ e _. tt)
+    MatchResult-weaker c.clone.result c.clone.ensures.cases
+    (λ copy is. same_from_all_zip (λ (x y : Mark). y ≡ x) c.args.marks.now.keys copy.keys is (λ x y e. e)) (λ e _. tt)

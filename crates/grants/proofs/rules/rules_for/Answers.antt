@@ -15,4 +15,5 @@ returns-in-Granted-clause-grants c = λ ends.
     let among : list_any (λ h. bytes_eq h host) q.hosts ≡ true =
     ap (λ (hs : List (List ℕ)). list_any (λ h. bytes_eq h host) hs) (sym c.hosts.ensures.value) ∙ sym c.contains.ensures.value ∙ c.if-contains.true in
     let inside = subst (λ (x : Status). EndsInTime q x) c.in-Granted.is ends in
-    IfOk-weaker c.grant_rules.result _ _ (λ v e. request_grants host q c.hosts.ensures.request w.start w.end inside.0 inside.1 among v.items e) c.grant_rules.ensures
+    IfOk-weaker c.grant_rules.result _ _
+    (λ v e. request_grants host q c.hosts.ensures.request w.start w.end inside.0 inside.1 among v.items e) c.grant_rules.ensures

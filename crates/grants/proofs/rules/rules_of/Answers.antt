@@ -11,7 +11,8 @@ returns-clause-rules c = λ set s.
     let host = c.args.host.now in
     let status = c.status.result in
     let same = ap (λ (x : Kept). rules_for host x.request status) c.s.view_is in
-    IfOk-weaker c.rules_for.result _ _ (λ v e. are_rules_for c.args.roster.now.says set c.args.s.now s host status v.items (c.status.ensures set s) (e ∙ same)) c.rules_for.ensures.rules
+    IfOk-weaker c.rules_for.result _ _
+    (λ v e. are_rules_for c.args.roster.now.says set c.args.s.now s host status v.items (c.status.ensures set s) (e ∙ same)) c.rules_for.ensures.rules
 
 pub returns-clause-given : goal.returns-clause-given
 returns-clause-given c = λ set s.

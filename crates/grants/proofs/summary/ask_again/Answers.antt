@@ -7,7 +7,13 @@ use Rattle.grants.proofs.summary.ask_again.Goals as goal
 
 pub returns-then-not-is_same-clause-stands : goal.returns-then-not-is_same-clause-stands
 returns-then-not-is_same-clause-stands c = λ set s.
-    let k : Kept = record { request = c.s.inside.request; is_disputed = c.s.inside.is_disputed; approvals = c.s.inside.approvals.keys; refusals = c.s.inside.refusals.keys; revocations = c.s.inside.revocations.keys } in
+    let k : Kept = record {
+      request = c.s.inside.request;
+      is_disputed = c.s.inside.is_disputed;
+      approvals = c.s.inside.approvals.keys;
+      refusals = c.s.inside.refusals.keys;
+      revocations = c.s.inside.revocations.keys;
+    } in
     let q = c.args.request.now in
     let named = subst (λ (x : Kept). SameName q x.request) (sym c.s.view_is) c.requires in
     let stands = subst (λ (x : Kept). StandsFor set x) (sym c.s.view_is) s in

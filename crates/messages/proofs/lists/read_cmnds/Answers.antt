@@ -18,13 +18,17 @@ returns-in_err-cmnd-clause-only c = λ cs each same.
 
 pub loop-item-preserved : goal.loop-item-preserved
 loop-item-preserved c = record {
-  found = All-same IsLawful _ _ c.in_ok-push.ensures.items (All-push IsLawful c.loop-item.cmnds.items c.in_ok-cmnd.cmnd c.loop-item.invariant.found c.in_ok-cmnd.ensures.found);
-  texts = one_more_text c.args.items.now (map cmnd_text c.loop-item.cmnds.items) _ c.item-item.result (cmnd_text c.in_ok-cmnd.cmnd) c.loop-item.item-index c.loop-item-test.true c.item-item.is c.in_ok-cmnd.ensures.text (ap (map cmnd_text) c.in_ok-push.ensures.items ∙ map_push cmnd_text c.loop-item.cmnds.items c.in_ok-cmnd.cmnd) c.loop-item.invariant.texts;
+  found = All-same IsLawful _ _ c.in_ok-push.ensures.items
+      (All-push IsLawful c.loop-item.cmnds.items c.in_ok-cmnd.cmnd c.loop-item.invariant.found c.in_ok-cmnd.ensures.found);
+  texts = one_more_text c.args.items.now (map cmnd_text c.loop-item.cmnds.items) _ c.item-item.result
+      (cmnd_text c.in_ok-cmnd.cmnd) c.loop-item.item-index c.loop-item-test.true c.item-item.is c.in_ok-cmnd.ensures.text
+      (ap (map cmnd_text) c.in_ok-push.ensures.items ∙ map_push cmnd_text c.loop-item.cmnds.items c.in_ok-cmnd.cmnd) c.loop-item.invariant.texts;
   only = λ cs each same.
       let i = c.loop-item.item-index in
       let here = view-cmnd_at c.args.items.now cs i c.item-item.result commands.All same c.loop-item-test.true c.item-item.is in
       let lawful = All-get_or IsLawful cs i commands.All here.0 each in
-      read_more _ c.loop-item.cmnds.items c.in_ok-cmnd.cmnd commands.All cs i c.in_ok-push.ensures.items (c.loop-item.invariant.only cs each same) here.0 (c.in_ok-cmnd.ensures.only (get_or cs i commands.All) lawful here.1);
+      read_more _ c.loop-item.cmnds.items c.in_ok-cmnd.cmnd commands.All cs i c.in_ok-push.ensures.items
+      (c.loop-item.invariant.only cs each same) here.0 (c.in_ok-cmnd.ensures.only (get_or cs i commands.All) lawful here.1);
 }
 
 pub returns-clause-only : goal.returns-clause-only

@@ -16,13 +16,16 @@ returns-in_err-host-clause-only c = λ hs each same.
 
 pub loop-item-preserved : goal.loop-item-preserved
 loop-item-preserved c = record {
-  found = All-same (λ (h : List ℕ). is_host_name h ≡ true) _ _ c.in_ok-push.ensures.items (All-push (λ (h : List ℕ). is_host_name h ≡ true) c.loop-item.hosts.items c.in_ok-host.host c.loop-item.invariant.found c.in_ok-host.ensures.found);
-  texts = one_more_text c.args.items.now c.loop-item.hosts.items _ c.item-item.result c.in_ok-host.host c.loop-item.item-index c.loop-item-test.true c.item-item.is c.in_ok-host.ensures.text c.in_ok-push.ensures.items c.loop-item.invariant.texts;
+  found = All-same (λ (h : List ℕ). is_host_name h ≡ true) _ _ c.in_ok-push.ensures.items
+      (All-push (λ (h : List ℕ). is_host_name h ≡ true) c.loop-item.hosts.items c.in_ok-host.host c.loop-item.invariant.found c.in_ok-host.ensures.found);
+  texts = one_more_text c.args.items.now c.loop-item.hosts.items _ c.item-item.result c.in_ok-host.host c.loop-item.item-index
+      c.loop-item-test.true c.item-item.is c.in_ok-host.ensures.text c.in_ok-push.ensures.items c.loop-item.invariant.texts;
   only = λ hs each same.
       let i = c.loop-item.item-index in
       let here = view-at c.args.items.now hs i c.item-item.result same c.loop-item-test.true c.item-item.is in
       let host = All-get_or (λ (h : List ℕ). is_host_name h ≡ true) hs i [] here.0 each in
-      read_more _ c.loop-item.hosts.items c.in_ok-host.host [] hs i c.in_ok-push.ensures.items (c.loop-item.invariant.only hs each same) here.0 (c.in_ok-host.ensures.only (get_or hs i []) host here.1);
+      read_more _ c.loop-item.hosts.items c.in_ok-host.host [] hs i c.in_ok-push.ensures.items
+      (c.loop-item.invariant.only hs each same) here.0 (c.in_ok-host.ensures.only (get_or hs i []) host here.1);
 }
 
 pub returns-clause-only : goal.returns-clause-only

@@ -9,7 +9,8 @@ pub returns-then-lt : goal.returns-then-lt
 returns-then-lt t c = λ ws e.
     let f = first_text c.args.items.now c.item-item.result ws c.in-len1-up.len_at_least c.item-item.is e in
     let same = as_text c.as_str.result c.item-item.result c.in-Some.text f.first c.as_str.ensures c.in-Some.is f.view_is in
-    goes_on c.args.low.now c.in-Some.text.now f.first f.more ws c.rise_from.result f.texts_are same (sym c.lt.ensures ∙ c.if-lt.true) (c.rise_from.ensures f.more f.rest)
+    goes_on c.args.low.now c.in-Some.text.now f.first f.more ws c.rise_from.result f.texts_are same
+    (sym c.lt.ensures ∙ c.if-lt.true) (c.rise_from.ensures f.more f.rest)
 
 pub returns-else-lt : goal.returns-else-lt
 returns-else-lt t c = λ ws e.

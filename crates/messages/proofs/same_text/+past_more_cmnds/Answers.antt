@@ -6,7 +6,8 @@ use Rattle.messages.proofs.Passing.{past_same, past_both, none_in, first_in, res
 use Rattle.messages.proofs.same_text.+past_more_cmnds.Goals as goal
 
 pub returns-in-empty : goal.returns-in-empty
-returns-in-empty t c = past_same c.past.ensures (rest_none ∙ ap (λ (cs : List Cmnd). rest_text (map cmnd_text cs)) (none_in c.args.cmnds.now c.in-empty.len_below))
+returns-in-empty t c =
+    past_same c.past.ensures (rest_none ∙ ap (λ (cs : List Cmnd). rest_text (map cmnd_text cs)) (none_in c.args.cmnds.now c.in-empty.len_below))
 
 pub returns-in-len1-up : goal.returns-in-len1-up
 returns-in-len1-up t c =

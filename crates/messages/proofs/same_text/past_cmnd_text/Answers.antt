@@ -10,5 +10,5 @@ returns-in-All c = past_same c.past.ensures (all_text ∙ ap (λ (d : Cmnd). esc
 
 pub returns-in-Path : goal.returns-in-Path
 returns-in-Path c =
-    past_same (past_both c.past_escaped.ensures c.past_rule.ensures)
-    (path_text c.as_bytes.result.now c.in-Path.file c.in-Path.rule (c.as_bytes.ensures.value ∙ c.as_str.ensures.value) ∙ ap (λ (d : Cmnd). escaped (cmnd_text d)) (sym c.in-Path.is))
+    past_same (past_both c.past_escaped.ensures c.past_rule.ensures) (path_text c.as_bytes.result.now c.in-Path.file c.in-Path.rule
+    (c.as_bytes.ensures.value ∙ c.as_str.ensures.value) ∙ ap (λ (d : Cmnd). escaped (cmnd_text d)) (sym c.in-Path.is))

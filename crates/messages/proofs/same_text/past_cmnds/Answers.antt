@@ -6,7 +6,8 @@ use Rattle.messages.proofs.Passing.{past_same, past_both, none_in, first_in, lis
 use Rattle.messages.proofs.same_text.past_cmnds.Goals as goal
 
 pub returns-in-empty : goal.returns-in-empty
-returns-in-empty c = past_same c.past.ensures (list_none ∙ ap (λ (cs : List Cmnd). list_text (map cmnd_text cs)) (none_in c.args.cmnds.now c.in-empty.len_below))
+returns-in-empty c =
+    past_same c.past.ensures (list_none ∙ ap (λ (cs : List Cmnd). list_text (map cmnd_text cs)) (none_in c.args.cmnds.now c.in-empty.len_below))
 
 pub returns-in-len1-up : goal.returns-in-len1-up
 returns-in-len1-up c =

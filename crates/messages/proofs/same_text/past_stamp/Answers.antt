@@ -6,7 +6,8 @@ use Rattle.messages.proofs.same_text.past_stamp.Goals as goal
 pub returns-in_err-stamp : goal.returns-in_err-stamp
 returns-in_err-stamp c = λ moment.
     let s = c.in_ok-rest.field-0 in
-    rw (c.in_ok-rest.was, c.from_residual-in_err-stamp.ensures) (past_front s None (λ rest e. stamp_missing s.now rest c.args.moment c.in_err-stamp.ensures.cases e))
+    rw (c.in_ok-rest.was, c.from_residual-in_err-stamp.ensures)
+    (past_front s None (λ rest e. stamp_missing s.now rest c.args.moment c.in_err-stamp.ensures.cases e))
 
 pub returns-then-is_stamp : goal.returns-then-is_stamp
 returns-then-is_stamp c = λ moment.

@@ -11,11 +11,13 @@ approval : wire (Verdict bob_approves) ≡ codes "{\"at\":\"20260105083000Z\",\"
 unfolding moment_text quoted escaped digits date_of date_from_year date_from_month
 approval = refl
 
-request : wire (Request (ann_asks_for (ls ∷ []))) ≡ codes "{\"at\":\"20260105060000Z\",\"by\":\"ann\",\"ceiling\":\"db-root\",\"cmnds\":[\"/bin/ls\"],\"from\":\"20260105090000Z\",\"hosts\":[\"db1\"],\"kind\":\"request\",\"no\":7,\"runas\":\"root\",\"until\":\"20260105110000Z\"}"
+request : wire (Request (ann_asks_for (ls ∷ [])))
+    ≡ codes "{\"at\":\"20260105060000Z\",\"by\":\"ann\",\"ceiling\":\"db-root\",\"cmnds\":[\"/bin/ls\"],\"from\":\"20260105090000Z\",\"hosts\":[\"db1\"],\"kind\":\"request\",\"no\":7,\"runas\":\"root\",\"until\":\"20260105110000Z\"}"
 unfolding moment_text quoted escaped list_text rest_text digits date_of date_from_year date_from_month
 request = refl
 
-two_commands : wire (Request (ann_asks_for (ls ∷ id ∷ []))) ≡ codes "{\"at\":\"20260105060000Z\",\"by\":\"ann\",\"ceiling\":\"db-root\",\"cmnds\":[\"/bin/ls\",\"/usr/bin/id\"],\"from\":\"20260105090000Z\",\"hosts\":[\"db1\"],\"kind\":\"request\",\"no\":7,\"runas\":\"root\",\"until\":\"20260105110000Z\"}"
+two_commands : wire (Request (ann_asks_for (ls ∷ id ∷ [])))
+    ≡ codes "{\"at\":\"20260105060000Z\",\"by\":\"ann\",\"ceiling\":\"db-root\",\"cmnds\":[\"/bin/ls\",\"/usr/bin/id\"],\"from\":\"20260105090000Z\",\"hosts\":[\"db1\"],\"kind\":\"request\",\"no\":7,\"runas\":\"root\",\"until\":\"20260105110000Z\"}"
 unfolding moment_text quoted escaped list_text rest_text digits date_of date_from_year date_from_month
 two_commands = refl
 

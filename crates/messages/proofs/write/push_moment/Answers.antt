@@ -10,4 +10,5 @@ returns c =
     let front = string_bytes c.args.out.now ++ c.args.head.now in
     let opened = c.in_ok-push_str-2.ensures.bytes ∙ ap quote c.in_ok-push_str.ensures.bytes in
     let stamped = c.in_ok-push_stamp.ensures ∙ ap (λ (s : List ℕ). s ++ moment_text c.args.moment) opened in
-    last_pushed c.push_str-3.result _ (string_bytes c.push_stamp.new.out) (codes "\"") _ c.push_str-3.ensures.bytes (ap quote stamped ∙ between_quotes front (moment_text c.args.moment) (escaped_moment c.args.moment c.requires))
+    last_pushed c.push_str-3.result _ (string_bytes c.push_stamp.new.out) (codes "\"") _ c.push_str-3.ensures.bytes
+    (ap quote stamped ∙ between_quotes front (moment_text c.args.moment) (escaped_moment c.args.moment c.requires))

@@ -45,10 +45,13 @@ returns c = λ set by.
     let name_is = c.requires.named in
     let k = c.in_ok-summary.summary in
     let bare : at_name old (name_of q) ≡ None = subst (λ (n : RequestName). at_name old n ≡ None) name_is c.requires.first in
-    let sets : SetsAt old new (name_of q) k = subst (λ (n : RequestName). SetsAt old new n k) name_is (sets_from old new c.args.name k c.in_ok-insert.ensures.updates) in
+    let sets : SetsAt old new (name_of q) k =
+    subst (λ (n : RequestName). SetsAt old new n k) name_is (sets_from old new c.args.name k c.in_ok-insert.ensures.updates) in
     let stands : StandsFor (Request q ∷ map of_verdict (verdicts_at waiting (name_of q))) k =
-    subst (λ (vs : List VerdictFields). StandsFor (Request q ∷ map of_verdict vs) k) (c.waited.ensures ∙ ap (verdicts_at waiting) name_is) c.in_ok-summary.ensures.stands in
+    subst (λ (vs : List VerdictFields). StandsFor (Request q ∷ map of_verdict vs) k)
+    (c.waited.ensures ∙ ap (verdicts_at waiting) name_is) c.in_ok-summary.ensures.stands in
     let settled_is = c.in_ok-settled.ensures.cases ∙ name_is in
     let gone : at_name taken (name_of q) ≡ None = subst (λ (n : RequestName). at_name taken n ≡ None) settled_is c.remove-part_of_it.ensures.updates.1 in
     let others = others_from waiting taken c.in_ok-settled.settled None c.remove-part_of_it.ensures.updates in
-    request_first set q old new waiting taken k bare sets c.in_ok-insert.ensures.ordered c.in_ok-summary.ensures.same_request stands c.remove-part_of_it.ensures.ordered gone (λ other differ. others other (λ same. differ (sym settled_is ∙ same))) by
+    request_first set q old new waiting taken k bare sets c.in_ok-insert.ensures.ordered c.in_ok-summary.ensures.same_request
+    stands c.remove-part_of_it.ensures.ordered gone (λ other differ. others other (λ same. differ (sym settled_is ∙ same))) by

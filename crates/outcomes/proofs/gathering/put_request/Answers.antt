@@ -25,7 +25,8 @@ returns-in-Some c = λ set by.
     let after = c.ask_again.new.s in
     let new = c.get_mut.follows.lender after in
     let holds = c.get_mut.follows.holds after in
-    let sets : SetsAt old new (name_of q) after = subst (λ (n : RequestName). SetsAt old new n after) c.in_ok-name.ensures (sets_from old new c.in_ok-name.name after (holds.3 (search rules))) in
+    let sets : SetsAt old new (name_of q) after =
+    subst (λ (n : RequestName). SetsAt old new n after) c.in_ok-name.ensures (sets_from old new c.in_ok-name.name after (holds.3 (search rules))) in
     let there = subst (λ (n : RequestName). at_name old n ≡ Some before) c.in_ok-name.ensures (sym c.in-Some.ensures.value) in
     request_again set q old new c.args.waiting.now before after there sets holds.4 c.ask_again.ensures.same_request c.ask_again.ensures.stands by
 

@@ -15,13 +15,16 @@ returns-in-Some-clause-rows c = λ set rows bare is g.
 sets : (c : Joined-branch-4) → SetsAt c.args.summaries.now c.insert.new.self (name_of c.args.row.now.request) c.in_ok-summary-in-None.summary
 sets c =
     let k = c.in_ok-summary-in-None.summary in
-    subst (λ (n : RequestName). SetsAt c.args.summaries.now c.insert.new.self n k) c.in_ok-name.ensures (sets_from c.args.summaries.now c.insert.new.self c.in_ok-name.name k c.in_ok-insert-in-None.ensures.updates)
+    subst (λ (n : RequestName). SetsAt c.args.summaries.now c.insert.new.self n k) c.in_ok-name.ensures
+    (sets_from c.args.summaries.now c.insert.new.self c.in_ok-name.name k c.in_ok-insert-in-None.ensures.updates)
 
 pub returns-in_ok-insert-in-None-clause-alone : goal.returns-in_ok-insert-in-None-clause-alone
 returns-in_ok-insert-in-None-clause-alone c = λ alone.
     let bare = subst (λ (n : RequestName). at_name c.args.summaries.now n ≡ None) c.in_ok-name.ensures (sym c.in-None.ensures.value) in
-    alone_first c.args.row.now c.args.summaries.now c.insert.new.self c.in_ok-summary-in-None.summary bare (sets c) c.in_ok-insert-in-None.ensures.ordered c.in_ok-summary-in-None.ensures.same_request c.in_ok-summary-in-None.ensures.stands alone
+    alone_first c.args.row.now c.args.summaries.now c.insert.new.self c.in_ok-summary-in-None.summary bare
+    (sets c) c.in_ok-insert-in-None.ensures.ordered c.in_ok-summary-in-None.ensures.same_request c.in_ok-summary-in-None.ensures.stands alone
 
 pub returns-in_ok-insert-in-None-clause-rows : goal.returns-in_ok-insert-in-None-clause-rows
-returns-in_ok-insert-in-None-clause-rows c = λ set rows bare is g.
-    rows_first set rows c.args.row.now c.args.summaries.now c.insert.new.self c.in_ok-summary-in-None.summary (sets c) c.in_ok-insert-in-None.ensures.ordered c.in_ok-summary-in-None.ensures.same_request (c.in_ok-summary-in-None.ensures.stands set bare is) g
+returns-in_ok-insert-in-None-clause-rows c =
+    λ set rows bare is g. rows_first set rows c.args.row.now c.args.summaries.now c.insert.new.self c.in_ok-summary-in-None.summary
+    (sets c) c.in_ok-insert-in-None.ensures.ordered c.in_ok-summary-in-None.ensures.same_request (c.in_ok-summary-in-None.ensures.stands set bare is) g

@@ -27,9 +27,11 @@ returns-in-Some c = λ set by.
     let after = c.apply.new.s in
     let new = c.get_mut.follows.lender after in
     let holds = c.get_mut.follows.holds after in
-    let sets : SetsAt old new (name_meant v) after = subst (λ (n : RequestName). SetsAt old new n after) c.in_ok-name.ensures (sets_from old new c.in_ok-name.name after (holds.3 (search rules))) in
+    let sets : SetsAt old new (name_meant v) after =
+    subst (λ (n : RequestName). SetsAt old new n after) c.in_ok-name.ensures (sets_from old new c.in_ok-name.name after (holds.3 (search rules))) in
     let there = subst (λ (n : RequestName). at_name old n ≡ Some before) c.in_ok-name.ensures (sym c.in-Some.ensures.value) in
-    verdict_heard set v c.apply.result old new c.args.waiting.now before after there sets holds.4 c.apply.ensures.same_request c.apply.ensures.ok c.apply.ensures.err by
+    verdict_heard set v c.apply.result old new c.args.waiting.now before after there
+    sets holds.4 c.apply.ensures.same_request c.apply.ensures.ok c.apply.ensures.err by
 
 pub returns-in-None : goal.returns-in-None
 returns-in-None c = λ set by.
@@ -39,5 +41,7 @@ returns-in-None c = λ set by.
     let summaries = c.args.summaries.now in
     let name_is = c.in_ok-name.ensures in
     let bare : at_name summaries (name_meant v) ≡ None = subst (λ (n : RequestName). at_name summaries n ≡ None) name_is (sym c.in-None.ensures.value) in
-    let waits = verdict_waits set v c.wait.result summaries old new bare c.wait.ensures.ordered (rw (← name_is) c.wait.ensures.waits) (λ other differ. c.wait.ensures.others other (λ same. differ (sym name_is ∙ same))) (rw (← name_is) c.wait.ensures.err) by in
-    subst (λ (m : Summaries). MatchResult c.wait.result (λ _. AreByName (set ++ Verdict v ∷ []) m new) (λ _. AreByName set m new)) (sym c.get_mut.follows.holds-at-none) waits
+    let waits = verdict_waits set v c.wait.result summaries old new bare c.wait.ensures.ordered (rw (← name_is) c.wait.ensures.waits)
+    (λ other differ. c.wait.ensures.others other (λ same. differ (sym name_is ∙ same))) (rw (← name_is) c.wait.ensures.err) by in
+    subst (λ (m : Summaries). MatchResult c.wait.result (λ _. AreByName (set ++ Verdict v ∷ []) m new) (λ _. AreByName set m new))
+    (sym c.get_mut.follows.holds-at-none) waits

@@ -9,8 +9,10 @@ use Rattle.outcomes.proofs.RowLemmas.{no_rows, none_alone, rows_gathered, shown_
 use Rattle.outcomes.proofs.gathering.summaries_of.Goals as goal
 
 pub loop-row-init : goal.loop-row-init
-loop-row-init c =
-    (none_alone c.new-summaries.result c.new-summaries.ensures.ordered c.new-summaries.ensures.empty, λ set show. no_rows set c.new-summaries.result c.new-summaries.ensures.ordered c.new-summaries.ensures.empty)
+loop-row-init c = (
+  none_alone c.new-summaries.result c.new-summaries.ensures.ordered c.new-summaries.ensures.empty,
+  λ set show. no_rows set c.new-summaries.result c.new-summaries.ensures.ordered c.new-summaries.ensures.empty,
+)
 
 pub loop-row-preserved : goal.loop-row-preserved
 loop-row-preserved c = (
@@ -30,5 +32,6 @@ returns-clause-alone c = c.loop-row.invariant.0
 pub returns-clause-known : goal.returns-clause-known
 returns-clause-known c = λ set show.
     let rows = c.args.rows.now in
-    let all = subst (λ (seen : List NameRow). GathersRows set seen c.loop-row.summaries) (take_all c.loop-row.row-index rows c.loop-row-test.false) (c.loop-row.invariant.1 set show) in
+    let all = subst (λ (seen : List NameRow). GathersRows set seen c.loop-row.summaries)
+    (take_all c.loop-row.row-index rows c.loop-row-test.false) (c.loop-row.invariant.1 set show) in
     rows_gathered set rows c.loop-row.summaries show all

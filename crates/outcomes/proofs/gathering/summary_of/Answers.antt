@@ -8,8 +8,8 @@ returns-then-not-row-clause-stands c = λ set bare is.
     row_single set c.args.row.now bare is c.in_ok-summary.summary c.in_ok-summary.ensures c.if-not-row.true
 
 pub returns-clause-stands : goal.returns-clause-stands
-returns-clause-stands c = λ set bare is.
-    row_double set c.args.row.now bare is c.in_ok-summary.summary c.dispute.new.s c.in_ok-summary.ensures c.dispute.ensures.same_request c.dispute.ensures.stands c.if-not-row.false
+returns-clause-stands c = λ set bare is. row_double set c.args.row.now bare is c.in_ok-summary.summary
+    c.dispute.new.s c.in_ok-summary.ensures c.dispute.ensures.same_request c.dispute.ensures.stands c.if-not-row.false
 
 pub returns-clause-same_request : goal.returns-clause-same_request
 returns-clause-same_request c =

@@ -17,5 +17,5 @@ returns-in_ok-push-in-Some-clause-others c = λ other differ.
     ap listed ((sets_from c.args.waiting.now (c.get_mut.follows.lender after) c.args.name after (holds.3 (search rules))).elsewhere other differ)
 
 pub returns-in_ok-insert-in-None-clause-others : goal.returns-in_ok-insert-in-None-clause-others
-returns-in_ok-insert-in-None-clause-others c = λ other differ.
-    ap listed (others_from c.get_mut.follows.lender-at-none c.insert.new.self c.args.name _ c.in_ok-insert-in-None.ensures.updates other differ ∙ ap (λ (m : Waiting). at_name m other) c.get_mut.follows.holds-at-none)
+returns-in_ok-insert-in-None-clause-others c = λ other differ. ap listed (others_from c.get_mut.follows.lender-at-none c.insert.new.self
+    c.args.name _ c.in_ok-insert-in-None.ensures.updates other differ ∙ ap (λ (m : Waiting). at_name m other) c.get_mut.follows.holds-at-none)

@@ -22,7 +22,8 @@ returns-clause-file c = λ set known.
     let g = opened set m inside.waiting c.args.gathered.now c.gathered.view_is c.gathered.invariant known in
     let behind = c.in_ok-push_all.ensures.ok set g.summaries in
     is_file_left c.args.roster.now.says c.args.base.now set c.args.host.now c.args.after m (string_bytes c.push_all.new.text) c.requires g.summaries
-    (subst (λ (t : List ℕ). AreBehind c.args.roster.now.says set c.args.host.now c.args.after (values m) t (string_bytes c.push_all.new.text)) c.in_ok-text.ensures.text behind)
+    (subst (λ (t : List ℕ). AreBehind c.args.roster.now.says set c.args.host.now c.args.after (values m) t (string_bytes c.push_all.new.text))
+    c.in_ok-text.ensures.text behind)
 
 pub returns-clause-many : goal.returns-clause-many
 returns-clause-many c = λ set ls known are past.

@@ -20,7 +20,8 @@ loop-summary-preserved c =
     record {
       seen = seen ++ k ∷ [];
       split = split;
-      behind = λ set g. one_behind c.args.roster.now.says set c.args.host.now c.args.after.now seen k (string_bytes c.args.text.now) (string_bytes l.text) (string_bytes c.push_lines.new.text) l.count c.in_ok-more.more (l.invariant.behind set g) (c.in_ok-more.ensures.ok set (kept_stands set m g k among));
+      behind = λ set g. one_behind c.args.roster.now.says set c.args.host.now c.args.after.now seen k (string_bytes c.args.text.now) (string_bytes l.text)
+          (string_bytes c.push_lines.new.text) l.count c.in_ok-more.more (l.invariant.behind set g) (c.in_ok-more.ensures.ok set (kept_stands set m g k among));
       few = search rules;
     }
 
@@ -34,9 +35,18 @@ returns-then-more-count-clause-err c = λ set g.
     let seen = l.invariant.seen in
     let split = turn_split seen l.summary-iterator c.next.new.self (values m) k l.invariant.split c.in-Some.ensures.steps in
     let among = turn_among seen l.summary-iterator c.next.new.self (values m) k l.invariant.split c.in-Some.ensures.steps in
-    let b = one_behind f set host c.args.after.now seen k (string_bytes c.args.text.now) (string_bytes l.text) (string_bytes c.push_lines.new.text) l.count c.in_ok-more.more (l.invariant.behind set g) (c.in_ok-more.ensures.ok set (kept_stands set m g k among)) in
+    let b = one_behind f set host c.args.after.now seen k (string_bytes c.args.text.now) (string_bytes l.text)
+    (string_bytes c.push_lines.new.text) l.count c.in_ok-more.more (l.invariant.behind set g) (c.in_ok-more.ensures.ok set (kept_stands set m g k among)) in
     let past : 8_192 < l.count + c.in_ok-more.more = omega (arith, c.if-more-count.true, l.invariant.few) in
-    inr (refl, λ lines are. omega (arith, past, b.4, some_lines f set host (values m) (is_roll set m g) c.args.after.now (seen ++ k ∷ []) c.next.new.self b.0 lines split b.1 are))
+    inr (
+      refl,
+      λ lines are. omega (
+        arith,
+        past,
+        b.4,
+        some_lines f set host (values m) (is_roll set m g) c.args.after.now (seen ++ k ∷ []) c.next.new.self b.0 lines split b.1 are,
+      ),
+    )
 
 pub returns-clause-ok : goal.returns-clause-ok
 returns-clause-ok c = λ set g.

@@ -12,5 +12,7 @@ loop-summary-preserved c =
     let before = l.invariant in (
       before.0 ++ k ∷ [],
       turn_split before.0 l.summary-iterator c.next.new.self (values m) k before.1 c.in-Some.ensures.steps,
-      λ set g. one_given c.args.roster.now.says set (live_for c.args.at) before.0 k l.list.items c.push_live.new.list.items (before.2 set g) (c.in_ok-push_live.ensures set (kept_stands set m g k (turn_among before.0 l.summary-iterator c.next.new.self (values m) k before.1 c.in-Some.ensures.steps))),
+      λ set g. one_given c.args.roster.now.says set (live_for c.args.at) before.0 k l.list.items c.push_live.new.list.items
+          (before.2 set g) (c.in_ok-push_live.ensures set
+          (kept_stands set m g k (turn_among before.0 l.summary-iterator c.next.new.self (values m) k before.1 c.in-Some.ensures.steps))),
     )

@@ -15,5 +15,7 @@ returns-in_ok-push-in-Some-request c = λ set s.
     let status = c.status.result in (
       status,
       c.status.ensures set s,
-      pushed c.args.summary.now.request c.in-Some-request.request.now c.args.at status c.in-Some.window c.args.list.now.items c.push.new.self.items c.in_ok-grant-in-Some-request.field-0 (sym c.window_at.ensures ∙ c.in-Some.is) c.in-Some-request.ensures.value c.in_ok-grant-in-Some-request.ensures c.in_ok-push-in-Some-request.ensures.items,
+      pushed c.args.summary.now.request c.in-Some-request.request.now c.args.at status c.in-Some.window
+          c.args.list.now.items c.push.new.self.items c.in_ok-grant-in-Some-request.field-0 (sym c.window_at.ensures
+          ∙ c.in-Some.is) c.in-Some-request.ensures.value c.in_ok-grant-in-Some-request.ensures c.in_ok-push-in-Some-request.ensures.items,
     )

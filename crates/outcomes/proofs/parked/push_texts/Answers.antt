@@ -14,9 +14,10 @@ loop-verdict-preserved c =
     let vs = c.args.verdicts.now in
     let i = c.loop-verdict.verdict-index in
     let item = c.verdict-item.result in
-    one_text_more vs i item c.loop-verdict-test.true c.verdict-item.is (map string_bytes c.args.texts.now.items) c.loop-verdict.texts.items c.push.new.self.items c.in_ok-verdict_text.field-0 c.loop-verdict.invariant c.in_ok-verdict_text.ensures c.in_ok-push.ensures.items
+    one_text_more vs i item c.loop-verdict-test.true c.verdict-item.is (map string_bytes c.args.texts.now.items) c.loop-verdict.texts.items
+    c.push.new.self.items c.in_ok-verdict_text.field-0 c.loop-verdict.invariant c.in_ok-verdict_text.ensures c.in_ok-push.ensures.items
 
 pub returns : goal.returns
 returns c =
-    c.loop-verdict.invariant
-    ∙ ap (λ (vs : List VerdictFields). map string_bytes c.args.texts.now.items ++ map verdict_text vs) (take_all c.loop-verdict.verdict-index c.args.verdicts.now c.loop-verdict-test.false)
+    c.loop-verdict.invariant ∙ ap (λ (vs : List VerdictFields). map string_bytes c.args.texts.now.items ++ map verdict_text vs)
+    (take_all c.loop-verdict.verdict-index c.args.verdicts.now c.loop-verdict-test.false)

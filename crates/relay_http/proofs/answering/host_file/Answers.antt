@@ -14,9 +14,10 @@ returns-in-Ok-clause-answered g c =
     let found = c.in-Ok.ensures.found in
     let name : is_host_name c.in-Ok.host ≡ true = subst (λ (h : List ℕ). is_host_name h ≡ true) (sym found.0) found.1 in
     record {
-      right = λ set up lists. subst (λ (h : List ℕ). IsReply f base set (host_file h) (to_question c.host_file.result) ⊎ IsWanting (to_question c.host_file.result)) found.0
-          (file_right (λ lines. lines) f base set c.in-Ok.host c.host_file.result name
-          (left_whole f base set c.in-Ok.host c.host_file.result (done.file set up lists)) (λ ls. done.few set ls up lists) (λ ls. done.many set ls up lists) done.unknown done.err);
+      right =
+          λ set up lists. subst (λ (h : List ℕ). IsReply f base set (host_file h) (to_question c.host_file.result) ⊎ IsWanting (to_question c.host_file.result))
+          found.0 (file_right (λ lines. lines) f base set c.in-Ok.host c.host_file.result name (left_whole f base set c.in-Ok.host c.host_file.result
+          (done.file set up lists)) (λ ls. done.few set ls up lists) (λ ls. done.many set ls up lists) done.unknown done.err);
       leaves = done.unchanged;
       served = text_served c.host_file.result done.served;
     }

@@ -22,7 +22,7 @@ returns-clause-head c =
     let o5 = onto _ _ _ _ _ c.put-at-5.ensures.put o4 refl in
     let o6 = onto _ _ _ _ _ c.put_decimal-at.ensures.put o5 refl in
     let o7 = onto _ _ _ _ _ c.put.ensures.put o6 refl in
-    o7
-    ∙ joined (codes "HTTP/1.1 ") (status_text c.args.status) (line_end ++ (codes "Content-Type: text/plain" ++ line_end)) (allow_line c.args.status)
+    o7 ∙ joined (codes "HTTP/1.1 ") (status_text c.args.status) (line_end ++ (codes "Content-Type: text/plain" ++ line_end)) (allow_line c.args.status)
     (codes "Content-Length: ") (decimal c.args.size) (line_end ++ (codes "Connection: close" ++ (line_end ++ line_end)))
-    ∙ sym (apart (codes "HTTP/1.1 ") (status_text c.args.status) line_end (codes "Content-Type: text/plain") (allow_line c.args.status) (codes "Content-Length: ") (decimal c.args.size) (codes "Connection: close"))
+    ∙ sym (apart (codes "HTTP/1.1 ") (status_text c.args.status) line_end (codes "Content-Type: text/plain")
+    (allow_line c.args.status) (codes "Content-Length: ") (decimal c.args.size) (codes "Connection: close"))

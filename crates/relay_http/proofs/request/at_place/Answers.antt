@@ -10,8 +10,8 @@ use Rattle.relay_http.specs.declared.place.Place.{Place}
 use Rattle.relay_http.proofs.request.at_place.Goals as goal
 
 -- what is asked of a moment by a method that the place has
-asked_at : (question : List ℕ → Asked (List ℕ)) (is_allowed : Bool) (text at : List ℕ) (asked : Asked ℕ) → is_allowed ≡ true → text ≡ at → Dates (question at) asked
-    → Dates (cond is_allowed (question text) (refused (BadMethod GetOrHead))) asked
+asked_at : (question : List ℕ → Asked (List ℕ)) (is_allowed : Bool) (text at : List ℕ) (asked : Asked ℕ) → is_allowed ≡ true
+    → text ≡ at → Dates (question at) asked → Dates (cond is_allowed (question text) (refused (BadMethod GetOrHead))) asked
 asked_at question is_allowed text at asked allowed same dates =
     subst (λ (b : Bool). Dates (cond b (question text) (refused (BadMethod GetOrHead))) asked) (sym allowed)
     (subst (λ (t : List ℕ). Dates (question t) asked) (sym same) dates)
@@ -51,7 +51,6 @@ returns-in-HostFileAfter c =
     ∙ ap (λ (m : Methods). allow m method) (sym c.methods.ensures)
     ∙ sym c.if-not-allow.ensures in
     subst (λ (p : Place). (named : List ℕ → List ℕ) → named (parameter p) ≡ c.args.taken.now → named (moment_parameter p) ≡ c.args.moment.now
-    → Dates (at_place p method named (map (header_bytes c.args.buf.now) c.args.headers.now) c.args.rest.now) asked)
-    (sym c.in-HostFileAfter.is)
-    (λ named takes dates. asked_at (λ at. host_file_after (named (codes "host")) at) (allow GetOrHead method) (named (codes "at")) c.args.moment.now asked allowed dates
-    (subst (λ (host : List ℕ). Dates (host_file_after host c.args.moment.now) asked) (sym takes) c.host_file_after.ensures))
+    → Dates (at_place p method named (map (header_bytes c.args.buf.now) c.args.headers.now) c.args.rest.now) asked) (sym c.in-HostFileAfter.is)
+    (λ named takes dates. asked_at (λ at. host_file_after (named (codes "host")) at) (allow GetOrHead method) (named (codes "at")) c.args.moment.now
+    asked allowed dates (subst (λ (host : List ℕ). Dates (host_file_after host c.args.moment.now) asked) (sym takes) c.host_file_after.ensures))

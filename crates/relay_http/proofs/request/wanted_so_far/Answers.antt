@@ -26,7 +26,10 @@ returns-in-Err c = record {
         refl,
       );
   settled =
-      λ _ more. inr (overflow_more c.args.bytes.now more (take c.min.result c.args.bytes.now) (take_front c.args.bytes.now _ c.min.ensures) c.in-Err.ensures.no_room, refl);
+      λ _ more. inr (
+        overflow_more c.args.bytes.now more (take c.min.result c.args.bytes.now) (take_front c.args.bytes.now _ c.min.ensures) c.in-Err.ensures.no_room,
+        refl,
+      );
 }
 
 found : (c : goal.After-more_after-more) → AsksByHead c.args.bytes.now (request_of c.wanted_by-wanted.result)
@@ -40,7 +43,8 @@ found c =
     asks_at buf found headers head at.0 (request_of c.wanted_by-wanted.result) (take_front buf _ c.min.ensures) c.parse_request.auto.headers at.1 (
     subst (λ (r : Request (List ℕ)). DatesRequest r (request_of c.wanted_by-wanted.result)) (
     ap (λ (m : List ℕ). request_by m c.in-Ok.target.now head.version fields (take (length buf - head.len) (drop head.len buf))) c.of-in-Ok.ensures
-    ∙ ap (λ (t : List ℕ). request_by (span_bytes found head.method) t head.version fields (take (length buf - head.len) (drop head.len buf))) (c.in-Ok.ensures.cases.0 ∙ c.of.ensures)
+    ∙ ap (λ (t : List ℕ). request_by (span_bytes found head.method) t head.version fields (take (length buf - head.len) (drop head.len buf)))
+    (c.in-Ok.ensures.cases.0 ∙ c.of.ensures)
     ∙ ap (λ (r : List ℕ). request_by (span_bytes found head.method) (span_bytes found head.path) head.version fields r) (take_rest buf head.len)
     ) c.wanted_by-wanted.ensures)
 

@@ -26,7 +26,8 @@ returns-clause-no_host c =
 pub returns-clause-two_hosts : goal.returns-clause-two_hosts
 unfolding is_token_byte print_request trim_ows scan param_step seek part routes
 returns-clause-two_hosts c =
-    worked (spelled (codes "HEAD") (codes "/v1/parked") 0 ((codes "Host", codes "desk") ∷ (codes "hOST", codes "desk") ∷ [])) [] _ _ refl refl refl refl (refl, refl)
+    worked (spelled (codes "HEAD") (codes "/v1/parked") 0 ((codes "Host", codes "desk") ∷ (codes "hOST", codes "desk") ∷ [])) [] _ _ refl refl refl refl
+    (refl, refl)
 
 pub returns-clause-query : goal.returns-clause-query
 unfolding is_token_byte print_request trim_ows scan param_step seek part routes
@@ -51,17 +52,20 @@ returns-clause-gets c =
 pub returns-clause-moment : goal.returns-clause-moment
 unfolding is_token_byte print_request trim_ows scan param_step seek part routes
 returns-clause-moment c =
-    worked (spelled (codes "GET") (codes "/v1/grants/2026010509Z") 1 ((codes "Host", codes "desk") ∷ [])) [] _ _ refl refl refl refl (refl, inr (no_moment, refl))
+    worked (spelled (codes "GET") (codes "/v1/grants/2026010509Z") 1 ((codes "Host", codes "desk") ∷ [])) [] _ _ refl refl refl refl
+    (refl, inr (no_moment, refl))
 
 pub returns-clause-moment_with_offset : goal.returns-clause-moment_with_offset
 unfolding is_token_byte print_request trim_ows scan param_step seek part routes
 returns-clause-moment_with_offset c =
-    worked (spelled (codes "GET") (codes "/v1/grants/2026010504-0500") 1 ((codes "Host", codes "desk") ∷ [])) [] _ _ refl refl refl refl (refl, inr (no_offset, refl))
+    worked (spelled (codes "GET") (codes "/v1/grants/2026010504-0500") 1 ((codes "Host", codes "desk") ∷ [])) [] _ _ refl refl refl refl
+    (refl, inr (no_offset, refl))
 
 pub returns-clause-file_after_day : goal.returns-clause-file_after_day
 unfolding is_token_byte print_request trim_ows scan param_step seek part routes
 returns-clause-file_after_day c =
-    worked (spelled (codes "GET") (codes "/v1/hosts/db9/sudoers/20260105") 1 ((codes "Host", codes "desk") ∷ [])) [] _ _ refl refl refl refl (refl, inr (no_day, refl))
+    worked (spelled (codes "GET") (codes "/v1/hosts/db9/sudoers/20260105") 1 ((codes "Host", codes "desk") ∷ [])) [] _ _ refl refl refl refl
+    (refl, inr (no_day, refl))
 
 pub returns-clause-report_by_day : goal.returns-clause-report_by_day
 unfolding is_token_byte print_request trim_ows scan param_step seek part routes

@@ -11,8 +11,10 @@ pub returns-in_err-ceiling : goal.returns-in_err-ceiling
 returns-in_err-ceiling c = λ set is.
     let f = c.args.roster.now.says in
     let k = c.args.summary.now in
-    let none : ceiling_at f c.in_ok-request.request.now.ceiling ≡ None = subst (λ (l : List ℕ). ceiling_at f l ≡ None) c.ceiling.ensures.value (sym c.in_err-ceiling.ensures.value) in
-    absurd (open_ceiling f set (kept_name k) c.in_ok-request.request.now c.args.status.now is.status_is (sym c.is_open.ensures ∙ c.if-not-is_open.false) (own_request set k.request c.in_ok-request.request.now c.in_ok-request.ensures.value (c.in_ok-request.ensures.alone set is.stands)) none)
+    let none : ceiling_at f c.in_ok-request.request.now.ceiling ≡ None =
+    subst (λ (l : List ℕ). ceiling_at f l ≡ None) c.ceiling.ensures.value (sym c.in_err-ceiling.ensures.value) in
+    absurd (open_ceiling f set (kept_name k) c.in_ok-request.request.now c.args.status.now is.status_is (sym c.is_open.ensures ∙ c.if-not-is_open.false)
+    (own_request set k.request c.in_ok-request.request.now c.in_ok-request.ensures.value (c.in_ok-request.ensures.alone set is.stands)) none)
 
 pub returns : goal.returns
 returns c = λ set is.

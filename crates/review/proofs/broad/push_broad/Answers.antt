@@ -19,6 +19,5 @@ returns c = λ f set is.
     let q = c.in-Some.grant.request.now in
     let old = string_bytes c.args.out.now in
     let new = string_bytes c.push_broad_lines.new.out in
-    on_ok_weaker {Q = AddsLines (AreInForce f set c.args.at AreBroadLines name) old new} c.push_broad_lines.result
-    (λ adds. one_in_force f set name old new c.args.at AreBroadLines found.0 c.in-Some.grant.window q (flat_map (broad_for q) q.cmnds) found.1 found.2 found.3 refl adds)
-    c.push_broad_lines.ensures
+    on_ok_weaker {Q = AddsLines (AreInForce f set c.args.at AreBroadLines name) old new} c.push_broad_lines.result (λ adds. one_in_force f set name old new
+    c.args.at AreBroadLines found.0 c.in-Some.grant.window q (flat_map (broad_for q) q.cmnds) found.1 found.2 found.3 refl adds) c.push_broad_lines.ensures

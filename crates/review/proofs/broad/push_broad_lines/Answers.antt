@@ -9,7 +9,8 @@ use Rattle.review.proofs.broad.push_broad_lines.Goals as goal
 
 pub loop-cmnd-preserved : goal.loop-cmnd-preserved
 loop-cmnd-preserved c =
-    flat_more (broad_for c.args.request.now) c.cmnds-cmnd-items.result.now c.loop-cmnd.cmnd-index c.cmnd-item.result (string_bytes c.args.out.now) (string_bytes c.loop-cmnd.out) (string_bytes c.push_broad_line.new.out)
+    flat_more (broad_for c.args.request.now) c.cmnds-cmnd-items.result.now c.loop-cmnd.cmnd-index c.cmnd-item.result
+    (string_bytes c.args.out.now) (string_bytes c.loop-cmnd.out) (string_bytes c.push_broad_line.new.out)
     c.loop-cmnd-test.true c.cmnd-item.is c.loop-cmnd.invariant c.in_ok-push_broad_line.ensures
 
 pub returns : goal.returns

@@ -6,11 +6,11 @@ use Rattle.review.proofs.conflicts.push_conflict.Goals as goal
 
 pub returns-then-not-holds_both : goal.returns-then-not-holds_both
 returns-then-not-holds_both c =
-    no_line_where (holds_both c.args.roster.now.says c.args.at c.args.person.now c.args.pair.now) (conflict_line c.args.person.now c.args.pair.now) (string_bytes c.args.out.now)
-    (sym c.holds_both.ensures ∙ c.if-not-holds_both.true)
+    no_line_where (holds_both c.args.roster.now.says c.args.at c.args.person.now c.args.pair.now)
+    (conflict_line c.args.person.now c.args.pair.now) (string_bytes c.args.out.now) (sym c.holds_both.ensures ∙ c.if-not-holds_both.true)
 
 pub returns : goal.returns
 returns c =
     on_ok_weaker c.push_pair.result
-    (line_where (holds_both c.args.roster.now.says c.args.at c.args.person.now c.args.pair.now) (conflict_line c.args.person.now c.args.pair.now) (string_bytes c.args.out.now) (string_bytes c.push_pair.new.out) (sym c.holds_both.ensures ∙ c.if-not-holds_both.false))
-    c.push_pair.ensures
+    (line_where (holds_both c.args.roster.now.says c.args.at c.args.person.now c.args.pair.now) (conflict_line c.args.person.now c.args.pair.now)
+    (string_bytes c.args.out.now) (string_bytes c.push_pair.new.out) (sym c.holds_both.ensures ∙ c.if-not-holds_both.false)) c.push_pair.ensures

@@ -6,12 +6,12 @@ use Rattle.review.proofs.ReportParts.{own_request}
 use Rattle.review.proofs.live.in_force.Goals as goal
 
 pub returns-in_err-window-clause-given : goal.returns-in_err-window-clause-given
-returns-in_err-window-clause-given c = λ f set is.
-    subst (λ (r : Option InForce). IsInForceOf f set c.args.at c.args.summary.now r) (sym c.from_residual.ensures) (c.args.status.now, is.status_is, sym c.in_err-window.ensures)
+returns-in_err-window-clause-given c = λ f set is. subst (λ (r : Option InForce). IsInForceOf f set c.args.at c.args.summary.now r)
+    (sym c.from_residual.ensures) (c.args.status.now, is.status_is, sym c.in_err-window.ensures)
 
 pub returns-in_err-request-clause-given : goal.returns-in_err-request-clause-given
-returns-in_err-request-clause-given c = λ f set is.
-    subst (λ (r : Option InForce). IsInForceOf f set c.args.at c.args.summary.now r) (sym c.from_residual-in_err-request.ensures) (Disputed, c.in_err-request.ensures.disputed set is.stands, refl)
+returns-in_err-request-clause-given c = λ f set is. subst (λ (r : Option InForce). IsInForceOf f set c.args.at c.args.summary.now r)
+    (sym c.from_residual-in_err-request.ensures) (Disputed, c.in_err-request.ensures.disputed set is.stands, refl)
 
 pub returns-clause-given : goal.returns-clause-given
 returns-clause-given c = λ f set is.

@@ -23,6 +23,6 @@ returns c = λ f set is.
     let new = string_bytes c.push_live_line.new.out in
     let need = c.in_ok-need.need in
     let line = live_line q w need in
-    on_ok_weaker {P = new ≡ old ++ line ++ codes "\n"} {Q = AddsLines (AreInForce f set c.args.at (IsLiveLine c.args.base.now) name) old new} c.push_live_line.result
-    (λ adds. one_in_force f set name old new c.args.at (IsLiveLine c.args.base.now) found.0 w q (line ∷ []) found.1 found.2 found.3 (need, c.in_ok-need.ensures, refl) (one_line old line new adds))
-    c.push_live_line.ensures
+    on_ok_weaker {P = new ≡ old ++ line ++ codes "\n"} {Q = AddsLines (AreInForce f set c.args.at (IsLiveLine c.args.base.now) name) old new}
+    c.push_live_line.result (λ adds. one_in_force f set name old new c.args.at (IsLiveLine c.args.base.now) found.0 w q
+    (line ∷ []) found.1 found.2 found.3 (need, c.in_ok-need.ensures, refl) (one_line old line new adds)) c.push_live_line.ensures

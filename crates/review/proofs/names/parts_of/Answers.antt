@@ -22,11 +22,10 @@ loop-summary-preserved c = λ set all.
     let l = c.loop-summary in
     let kept = c.args.summaries.now in
     let k = c.summary-item.result in
-    one_more_name c.args.roster.now.says c.args.base.now set c.args.at kept l.summary-index k l.parts c.push_parts.new.parts c.loop-summary-test.true c.summary-item.is (l.invariant set all)
-    (subst (λ (base : List Entry). AddsName c.args.roster.now.says base set c.args.at k l.parts c.push_parts.new.parts) c.in_ok-baseline.ensures
-    (c.in_ok-push_parts.ensures set (at_place (StandsFor set) kept l.summary-index k c.loop-summary-test.true c.summary-item.is all)))
+    one_more_name c.args.roster.now.says c.args.base.now set c.args.at kept l.summary-index k l.parts c.push_parts.new.parts c.loop-summary-test.true
+    c.summary-item.is (l.invariant set all) (subst (λ (base : List Entry). AddsName c.args.roster.now.says base set c.args.at k l.parts c.push_parts.new.parts)
+    c.in_ok-baseline.ensures (c.in_ok-push_parts.ensures set (at_place (StandsFor set) kept l.summary-index k c.loop-summary-test.true c.summary-item.is all)))
 
 pub returns : goal.returns
-returns c = λ set all.
-    whole_list (λ (ks : List Kept). HaveNames c.args.roster.now.says c.args.base.now set c.args.at ks c.loop-summary.parts) c.args.summaries.now c.loop-summary.summary-index c.loop-summary-test.false
-    (c.loop-summary.invariant set all)
+returns c = λ set all. whole_list (λ (ks : List Kept). HaveNames c.args.roster.now.says c.args.base.now set c.args.at ks c.loop-summary.parts)
+    c.args.summaries.now c.loop-summary.summary-index c.loop-summary-test.false (c.loop-summary.invariant set all)

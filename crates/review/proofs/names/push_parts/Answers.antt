@@ -14,6 +14,6 @@ returns c = λ set s.
     let old = c.args.parts.now in
     let new : Parts = record { live = c.push_live.new.out; barred = c.push_barred.new.out; broad = c.push_broad.new.out } in
     let is : IsOutcome f set k c.status-status.result = record { stands = s; status_is = c.status-status.ensures set s } in
-    on_ok_weaker {P = AddsLines (AreBroadOf f set at k) (string_bytes old.broad) (string_bytes new.broad)} {Q = AddsName f base set at k old new} c.push_broad.result
-    (λ broad. record { live = c.in_ok-push_live.ensures f set is; barred = c.in_ok-push_barred.ensures set is; broad = broad })
-    (c.push_broad.ensures f set is)
+    on_ok_weaker {P = AddsLines (AreBroadOf f set at k) (string_bytes old.broad) (string_bytes new.broad)}
+    {Q = AddsName f base set at k old new} c.push_broad.result
+    (λ broad. record { live = c.in_ok-push_live.ensures f set is; barred = c.in_ok-push_barred.ensures set is; broad = broad }) (c.push_broad.ensures f set is)

@@ -21,4 +21,5 @@ returns-in-Needed c =
 
 pub returns : goal.returns
 returns c =
-    whole_list (λ (hosts : List (List ℕ)). IsNeedOver (IsNeedOn c.args.base.now c.args.request.now c.args.window.now) hosts c.loop-host.need) c.args.hosts.now c.loop-host.host-index c.loop-host-test.false c.loop-host.invariant
+    whole_list (λ (hosts : List (List ℕ)). IsNeedOver (IsNeedOn c.args.base.now c.args.request.now c.args.window.now) hosts c.loop-host.need)
+    c.args.hosts.now c.loop-host.host-index c.loop-host-test.false c.loop-host.invariant

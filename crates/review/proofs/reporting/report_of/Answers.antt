@@ -29,11 +29,16 @@ returns c = λ set s waiting.
     c.in_ok-push_str-3.ensures.bytes ∙ ap (λ (t : List ℕ). string_bytes c.push_str-2.new.self ++ t) (c.as_str-2.ensures.value ∙ barred.1) in
     let fourth_text : string_bytes c.push_str-6.new.self ≡ string_bytes c.push_str-5.new.self ++ lines_text broad.0 =
     c.in_ok-push_str-6.ensures.bytes ∙ ap (λ (t : List ℕ). string_bytes c.push_str-5.new.self ++ t) (c.as_str-3.ensures.value ∙ broad.1) in
-    let first = first_section head live.0 begun (string_bytes c.push_str.new.self) (c.in_ok-push_head.ensures ∙ ap (λ (t : List ℕ). t ++ (head ++ codes "\nLIVE\n")) c.new-out.ensures.bytes) first_text in
+    let first = first_section head live.0 begun (string_bytes c.push_str.new.self)
+    (c.in_ok-push_head.ensures ∙ ap (λ (t : List ℕ). t ++ (head ++ codes "\nLIVE\n")) c.new-out.ensures.bytes) first_text in
     let lines = head ∷ codes "LIVE" ∷ live.0 in
-    let second = next_section lines (codes "BARRED") barred.0 (string_bytes c.push_str.new.self) (string_bytes c.push_str-2.new.self) (string_bytes c.push_str-3.new.self) first c.in_ok-push_str-2.ensures.bytes second_text in
-    let third = next_section (lines ++ codes "BARRED" ∷ barred.0) (codes "CONFLICTS") held (string_bytes c.push_str-3.new.self) (string_bytes c.push_str-4.new.self) (string_bytes c.push_all_conflicts.new.out) second c.in_ok-push_str-4.ensures.bytes conflicts.2 in
-    let fourth = next_section (lines ++ codes "BARRED" ∷ barred.0 ++ codes "CONFLICTS" ∷ held) (codes "BROAD") broad.0 (string_bytes c.push_all_conflicts.new.out) (string_bytes c.push_str-5.new.self) (string_bytes c.push_str-6.new.self) third c.in_ok-push_str-5.ensures.bytes fourth_text in
+    let second = next_section lines (codes "BARRED") barred.0 (string_bytes c.push_str.new.self) (string_bytes c.push_str-2.new.self)
+    (string_bytes c.push_str-3.new.self) first c.in_ok-push_str-2.ensures.bytes second_text in
+    let third = next_section (lines ++ codes "BARRED" ∷ barred.0) (codes "CONFLICTS") held (string_bytes c.push_str-3.new.self)
+    (string_bytes c.push_str-4.new.self) (string_bytes c.push_all_conflicts.new.out) second c.in_ok-push_str-4.ensures.bytes conflicts.2 in
+    let fourth =
+    next_section (lines ++ codes "BARRED" ∷ barred.0 ++ codes "CONFLICTS" ∷ held) (codes "BROAD") broad.0 (string_bytes c.push_all_conflicts.new.out)
+    (string_bytes c.push_str-5.new.self) (string_bytes c.push_str-6.new.self) third c.in_ok-push_str-5.ensures.bytes fourth_text in
     record {
       names = map kept_name kept;
       pairs = conflicts.0;
@@ -47,5 +52,7 @@ returns c = λ set s waiting.
       barred_are = parts_mapped (AreBarred f set) kept_name kept barred.0 barred.2;
       broad_are = parts_mapped (AreInForce f set at AreBroadLines) kept_name kept broad.0 broad.2;
       parked_are = waiting;
-      text_is = next_section (lines ++ codes "BARRED" ∷ barred.0 ++ codes "CONFLICTS" ∷ held ++ codes "BROAD" ∷ broad.0) (codes "PARKED") parked (string_bytes c.push_str-6.new.self) (string_bytes c.push_str-7.new.self) (string_bytes c.push_texts.new.out) fourth c.in_ok-push_str-7.ensures.bytes c.in_ok-push_texts.ensures;
+      text_is = next_section (lines ++ codes "BARRED" ∷ barred.0 ++ codes "CONFLICTS" ∷ held ++ codes "BROAD" ∷ broad.0) (codes "PARKED") parked
+          (string_bytes c.push_str-6.new.self) (string_bytes c.push_str-7.new.self)
+          (string_bytes c.push_texts.new.out) fourth c.in_ok-push_str-7.ensures.bytes c.in_ok-push_texts.ensures;
     }

@@ -7,4 +7,5 @@ use Rattle.roster.proofs.keys.has_only.Given as goal
 
 abbrev pub invariant-loop-key : goal.invariant-loop-key
 invariant-loop-key l =
-    each_key (λ k. list_any (λ w. bytes_eq w.now k) l.keys) (members_view l.key-iterator) ≡ each_key (λ k. list_any (λ w. bytes_eq w.now k) l.keys) (members_view l.table.entries)
+    each_key (λ k. list_any (λ w. bytes_eq w.now k) l.keys) (members_view l.key-iterator)
+    ≡ each_key (λ k. list_any (λ w. bytes_eq w.now k) l.keys) (members_view l.table.entries)

@@ -23,10 +23,10 @@ list_of text = array (item (string text) no_items)
 
 abbrev document : (from until : List ℕ) → Members
 document from until =
-    member (codes "ceilings") (table no_members) (member (codes "conflicts") (array no_items) (member (codes "duties") (list_of (codes "d"))
-    (member (codes "hosts") (list_of (codes "h")) (member (codes "people")
-    (table (member (codes "a") (array (item (table (member (codes "duty") (string (codes "d")) (member (codes "from") (string from) (member (codes "until") (string until) no_members)))) no_items)) no_members))
-    (member (codes "relays") (list_of (codes "r")) no_members)))))
+    member (codes "ceilings") (table no_members)
+    (member (codes "conflicts") (array no_items) (member (codes "duties") (list_of (codes "d")) (member (codes "hosts") (list_of (codes "h"))
+    (member (codes "people") (table (member (codes "a") (array (item (table (member (codes "duty") (string (codes "d")) (member (codes "from") (string from)
+    (member (codes "until") (string until) no_members)))) no_items)) no_members)) (member (codes "relays") (list_of (codes "r")) no_members)))))
 
 keys : (from until : List ℕ) → has_known_keys (document from until) ≡ true
 unfolding has_known_keys
@@ -36,8 +36,8 @@ types : (from until : List ℕ) → fields_of (document from until) ≡ Some (in
 unfolding fields_of duty_entry
 types from until = refl
 
-draft : (from until : List ℕ) (first last : ℕ) → parse_document (text_with_days from until) ≡ Some (document from until) → day_spelled from ≡ first → day_spelled until ≡ last
-    → IsDraftOf (text_with_days from until) (in_texts (with_days (Between first last)))
+draft : (from until : List ℕ) (first last : ℕ) → parse_document (text_with_days from until) ≡ Some (document from until)
+    → day_spelled from ≡ first → day_spelled until ≡ last → IsDraftOf (text_with_days from until) (in_texts (with_days (Between first last)))
 draft from until first last toml low high = record {
   document = document from until;
   toml = toml;
@@ -104,7 +104,8 @@ backward_out = refl
 
 pub returns-clause-backward : goal.returns-clause-backward
 returns-clause-backward c =
-    of_out_of_range _ (in_texts (with_days (Between 1 0))) (draft (codes "19700102") (codes "19700101") 1 0 backward second_day first_day) (good _) (known _) (apart _) backward_out
+    of_out_of_range _ (in_texts (with_days (Between 1 0)))
+    (draft (codes "19700102") (codes "19700101") 1 0 backward second_day first_day) (good _) (known _) (apart _) backward_out
 
 until_no_day : parse_document (text_with_days (codes "19700101") (codes "19700100")) ≡ Some (document (codes "19700101") (codes "19700100"))
 unfolding toml_on_literals
@@ -116,9 +117,11 @@ no_day_out = refl
 
 pub returns-clause-no_day : goal.returns-clause-no_day
 returns-clause-no_day c =
-    of_out_of_range _ (in_texts (with_days (Between 0 47_482))) (draft (codes "19700101") (codes "19700100") 0 47_482 until_no_day first_day no_day) (good _) (known _) (apart _) no_day_out
+    of_out_of_range _ (in_texts (with_days (Between 0 47_482)))
+    (draft (codes "19700101") (codes "19700100") 0 47_482 until_no_day first_day no_day) (good _) (known _) (apart _) no_day_out
 
-other_key : parse_document (codes "people={a=[{by='d'}]}") ≡ Some (member (codes "people") (table (member (codes "a") (array (item (table (member (codes "by") (string (codes "d")) no_members)) no_items)) no_members)) no_members)
+other_key : parse_document (codes "people={a=[{by='d'}]}") ≡ Some (member (codes "people")
+    (table (member (codes "a") (array (item (table (member (codes "by") (string (codes "d")) no_members)) no_items)) no_members)) no_members)
 unfolding toml_on_literals
 other_key = refl
 

@@ -25,9 +25,9 @@ pairs_listed (p ∷ ps) = item (array (item (string p.0) (item (string p.1) no_i
 
 abbrev document : (hosts : List (List ℕ)) (pairs : List (List ℕ × List ℕ)) (duty : List ℕ) → Members
 document hosts pairs duty =
-    member (codes "ceilings") (table no_members) (member (codes "conflicts") (array (pairs_listed pairs)) (member (codes "duties") (array (item (string (codes "d")) no_items))
-    (member (codes "hosts") (array (hosts_listed hosts)) (member (codes "people") (table (member (codes "a") (array (item (string duty) no_items)) no_members))
-    (member (codes "relays") (array (item (string (codes "r")) no_items)) no_members)))))
+    member (codes "ceilings") (table no_members) (member (codes "conflicts") (array (pairs_listed pairs))
+    (member (codes "duties") (array (item (string (codes "d")) no_items)) (member (codes "hosts") (array (hosts_listed hosts)) (member (codes "people") (table
+    (member (codes "a") (array (item (string duty) no_items)) no_members)) (member (codes "relays") (array (item (string (codes "r")) no_items)) no_members)))))
 
 abbrev content : (hosts : List (List ℕ)) (pairs : List (List ℕ × List ℕ)) (duty : List ℕ) → RosterFields (List ℕ)
 content hosts pairs duty = record {

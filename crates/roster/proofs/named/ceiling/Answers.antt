@@ -13,23 +13,31 @@ Entry = List ℕ × CeilingFields (List ℕ)
 
 pub returns-in_err-hosts : goal.returns-in_err-hosts
 returns-in_err-hosts c =
-    rw (is_err c.from_residual-in_err-hosts.result c.from_residual-in_err-hosts.ensures.1)
-    (λ n. let h = c.in_err-hosts.ensures n in (h.0, λ w. true≢false (sym w.hosts ∙ sym (ap (λ (e : Entry). list_all is_host_name e.1.hosts) c.draft.view_is) ∙ sym (ap (list_all is_host_name) c.as_slice.ensures) ∙ h.1)))
+    rw (is_err c.from_residual-in_err-hosts.result c.from_residual-in_err-hosts.ensures.1) (λ n. let h = c.in_err-hosts.ensures n in (
+      h.0,
+      λ w. true≢false
+          (sym w.hosts ∙ sym (ap (λ (e : Entry). list_all is_host_name e.1.hosts) c.draft.view_is) ∙ sym (ap (list_all is_host_name) c.as_slice.ensures) ∙ h.1),
+    ))
 
 pub returns-in_err-runas : goal.returns-in_err-runas
 returns-in_err-runas c =
-    rw (is_err c.from_residual-in_err-runas.result c.from_residual-in_err-runas.ensures.1)
-    (λ n. let h = c.in_err-runas.ensures n in (h.0, λ w. true≢false (sym w.runas ∙ sym (ap (λ (e : Entry). list_all is_name e.1.runas) c.draft.view_is) ∙ sym (ap (list_all is_name) c.as_slice-2.ensures) ∙ h.1)))
+    rw (is_err c.from_residual-in_err-runas.result c.from_residual-in_err-runas.ensures.1) (λ n. let h = c.in_err-runas.ensures n in (
+      h.0,
+      λ w. true≢false
+          (sym w.runas ∙ sym (ap (λ (e : Entry). list_all is_name e.1.runas) c.draft.view_is) ∙ sym (ap (list_all is_name) c.as_slice-2.ensures) ∙ h.1),
+    ))
 
 pub returns-in_err-ask : goal.returns-in_err-ask
 returns-in_err-ask c =
-    rw (is_err c.from_residual-in_err-ask.result c.from_residual-in_err-ask.ensures.1)
-    (λ n. let h = c.in_err-ask.ensures n in (h.0, λ w. true≢false (sym (ap₂ (λ a b. a && b) w.ask w.approve) ∙ sym (ap (λ (e : Entry). is_named_pair (e.1.ask, e.1.approve)) c.draft.view_is) ∙ h.1)))
+    rw (is_err c.from_residual-in_err-ask.result c.from_residual-in_err-ask.ensures.1) (λ n. let h = c.in_err-ask.ensures n in (
+      h.0,
+      λ w. true≢false (sym (ap₂ (λ a b. a && b) w.ask w.approve) ∙ sym (ap (λ (e : Entry). is_named_pair (e.1.ask, e.1.approve)) c.draft.view_is) ∙ h.1),
+    ))
 
 pub returns-in_err-commands : goal.returns-in_err-commands
 returns-in_err-commands c =
-    rw (is_err c.from_residual-in_err-commands.result c.from_residual-in_err-commands.ensures.1)
-    (λ n. let h = c.in_err-commands.ensures n in (h.0, λ w. h.1 (rw c.as_slice-3.ensures (subst (λ (e : Entry). All IsCmndText e.1.commands) (sym c.draft.view_is) w.commands))))
+    rw (is_err c.from_residual-in_err-commands.result c.from_residual-in_err-commands.ensures.1) (λ n. let h = c.in_err-commands.ensures n in
+    (h.0, λ w. h.1 (rw c.as_slice-3.ensures (subst (λ (e : Entry). All IsCmndText e.1.commands) (sym c.draft.view_is) w.commands))))
 
 pub returns : goal.returns
 returns c =

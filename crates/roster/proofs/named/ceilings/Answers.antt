@@ -10,8 +10,10 @@ use Rattle.roster.proofs.named.ceilings.Goals as goal
 
 pub returns-in_err-ceiling : goal.returns-in_err-ceiling
 returns-in_err-ceiling c =
-    rw (is_err c.from_residual.result c.from_residual.ensures.1)
-    (λ n. let h = c.in_err-ceiling.ensures n in (h.0, λ all. h.1 (rw c.text-item.is (All-get_or (IsNamedCeiling IsCmndText) c.args.texts.now c.loop-text.text-index c.text-item.result (omega arith) all))))
+    rw (is_err c.from_residual.result c.from_residual.ensures.1) (λ n. let h = c.in_err-ceiling.ensures n in (
+      h.0,
+      λ all. h.1 (rw c.text-item.is (All-get_or (IsNamedCeiling IsCmndText) c.args.texts.now c.loop-text.text-index c.text-item.result (omega arith) all)),
+    ))
 
 pub loop-text-preserved : goal.loop-text-preserved
 loop-text-preserved c =
@@ -24,8 +26,10 @@ loop-text-preserved c =
     let front = take i xs in
     let at : take (i + 1) xs ≡ front ++ x ∷ [] = take_more xs i x (omega arith) ∙ ap (λ y. front ++ y ∷ []) (sym c.text-item.is) in
     record {
-      lawful = All-same (IsNamedCeiling IsLawful) _ _ c.in_ok-push.ensures.items (All-push (IsNamedCeiling IsLawful) l.ceilings.items one l.invariant.lawful found.1.0);
-      same = ap (map entry_in_texts) c.in_ok-push.ensures.items ∙ map_push entry_in_texts l.ceilings.items one ∙ ap (λ ts. ts ++ entry_in_texts one ∷ []) l.invariant.same ∙ ap (λ y. front ++ y ∷ []) found.1.1 ∙ sym at;
+      lawful = All-same (IsNamedCeiling IsLawful) _ _ c.in_ok-push.ensures.items
+          (All-push (IsNamedCeiling IsLawful) l.ceilings.items one l.invariant.lawful found.1.0);
+      same = ap (map entry_in_texts) c.in_ok-push.ensures.items ∙ map_push entry_in_texts l.ceilings.items one
+          ∙ ap (λ ts. ts ++ entry_in_texts one ∷ []) l.invariant.same ∙ ap (λ y. front ++ y ∷ []) found.1.1 ∙ sym at;
       named = All-same (IsNamedCeiling IsCmndText) _ _ at (All-push (IsNamedCeiling IsCmndText) front x l.invariant.named found.0);
     }
 

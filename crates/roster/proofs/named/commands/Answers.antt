@@ -11,8 +11,8 @@ use Rattle.roster.proofs.named.commands.Goals as goal
 
 pub returns-in_err-command : goal.returns-in_err-command
 returns-in_err-command c =
-    rw (is_err c.from_residual.result c.from_residual.ensures.1)
-    (λ n. let h = c.in_err-command.ensures n in (h.0, λ all. h.1 (rw c.text-item.is (All-get_or IsCmndText c.args.texts.now c.loop-text.text-index c.text-item.result (omega arith) all))))
+    rw (is_err c.from_residual.result c.from_residual.ensures.1) (λ n. let h = c.in_err-command.ensures n in
+    (h.0, λ all. h.1 (rw c.text-item.is (All-get_or IsCmndText c.args.texts.now c.loop-text.text-index c.text-item.result (omega arith) all))))
 
 pub loop-text-preserved : goal.loop-text-preserved
 loop-text-preserved c =
@@ -26,7 +26,8 @@ loop-text-preserved c =
     let at : take (i + 1) xs ≡ front ++ x ∷ [] = take_more xs i x (omega arith) ∙ ap (λ y. front ++ y ∷ []) (sym c.text-item.is) in
     record {
       lawful = All-same IsLawful _ _ c.in_ok-push.ensures.items (All-push IsLawful l.commands.items one l.invariant.lawful found.1.0);
-      same = ap (map cmnd_text) c.in_ok-push.ensures.items ∙ map_push cmnd_text l.commands.items one ∙ ap (λ ts. ts ++ cmnd_text one ∷ []) l.invariant.same ∙ ap (λ y. front ++ y ∷ []) (sym found.1.1) ∙ sym at;
+      same = ap (map cmnd_text) c.in_ok-push.ensures.items ∙ map_push cmnd_text l.commands.items one
+          ∙ ap (λ ts. ts ++ cmnd_text one ∷ []) l.invariant.same ∙ ap (λ y. front ++ y ∷ []) (sym found.1.1) ∙ sym at;
       named = All-same IsCmndText _ _ at (All-push IsCmndText front x l.invariant.named found.0);
     }
 

@@ -11,33 +11,50 @@ use Rattle.roster.proofs.named.content_of.Goals as goal
 
 pub returns-in_err-relays : goal.returns-in_err-relays
 returns-in_err-relays c =
-    rw (is_err c.from_residual.result c.from_residual.ensures.1)
-    (λ n. let h = c.in_err-relays.ensures n in (h.0, λ w. true≢false (sym (by_place c.args.draft.now w.names).relays ∙ sym (ap (λ (f : RosterFields (List ℕ)). list_all is_label f.relays) c.draft.view_is) ∙ sym (ap (list_all is_label) c.as_slice.ensures) ∙ h.1)))
+    rw (is_err c.from_residual.result c.from_residual.ensures.1) (λ n. let h = c.in_err-relays.ensures n in (
+      h.0,
+      λ w. true≢false (sym (by_place c.args.draft.now w.names).relays
+          ∙ sym (ap (λ (f : RosterFields (List ℕ)). list_all is_label f.relays) c.draft.view_is) ∙ sym (ap (list_all is_label) c.as_slice.ensures) ∙ h.1),
+    ))
 
 pub returns-in_err-hosts : goal.returns-in_err-hosts
 returns-in_err-hosts c =
-    rw (is_err c.from_residual-in_err-hosts.result c.from_residual-in_err-hosts.ensures.1)
-    (λ n. let h = c.in_err-hosts.ensures n in (h.0, λ w. true≢false (sym (by_place c.args.draft.now w.names).hosts ∙ sym (ap (λ (f : RosterFields (List ℕ)). list_all is_host_name f.hosts) c.draft.view_is) ∙ sym (ap (list_all is_host_name) c.as_slice-2.ensures) ∙ h.1)))
+    rw (is_err c.from_residual-in_err-hosts.result c.from_residual-in_err-hosts.ensures.1) (λ n. let h = c.in_err-hosts.ensures n in (
+      h.0,
+      λ w. true≢false (sym (by_place c.args.draft.now w.names).hosts ∙ sym (ap (λ (f : RosterFields (List ℕ)). list_all is_host_name f.hosts) c.draft.view_is)
+          ∙ sym (ap (list_all is_host_name) c.as_slice-2.ensures) ∙ h.1),
+    ))
 
 pub returns-in_err-duties : goal.returns-in_err-duties
 returns-in_err-duties c =
-    rw (is_err c.from_residual-in_err-duties.result c.from_residual-in_err-duties.ensures.1)
-    (λ n. let h = c.in_err-duties.ensures n in (h.0, λ w. true≢false (sym (by_place c.args.draft.now w.names).duties ∙ sym (ap (λ (f : RosterFields (List ℕ)). list_all is_label f.duties) c.draft.view_is) ∙ sym (ap (list_all is_label) c.as_slice-3.ensures) ∙ h.1)))
+    rw (is_err c.from_residual-in_err-duties.result c.from_residual-in_err-duties.ensures.1) (λ n. let h = c.in_err-duties.ensures n in (
+      h.0,
+      λ w. true≢false (sym (by_place c.args.draft.now w.names).duties
+          ∙ sym (ap (λ (f : RosterFields (List ℕ)). list_all is_label f.duties) c.draft.view_is) ∙ sym (ap (list_all is_label) c.as_slice-3.ensures) ∙ h.1),
+    ))
 
 pub returns-in_err-people : goal.returns-in_err-people
 returns-in_err-people c =
-    rw (is_err c.from_residual-in_err-people.result c.from_residual-in_err-people.ensures.1)
-    (λ n. let h = c.in_err-people.ensures n in (h.0, λ w. true≢false (sym (by_place c.args.draft.now w.names).people ∙ sym (ap (λ (f : RosterFields (List ℕ)). list_all is_named_person f.people) c.draft.view_is) ∙ sym (ap (list_all is_named_person) c.as_slice-4.ensures) ∙ h.1)))
+    rw (is_err c.from_residual-in_err-people.result c.from_residual-in_err-people.ensures.1) (λ n. let h = c.in_err-people.ensures n in (
+      h.0,
+      λ w. true≢false (sym (by_place c.args.draft.now w.names).people ∙ sym (ap (λ (f : RosterFields (List ℕ)). list_all is_named_person f.people)
+          c.draft.view_is) ∙ sym (ap (list_all is_named_person) c.as_slice-4.ensures) ∙ h.1),
+    ))
 
 pub returns-in_err-conflicts : goal.returns-in_err-conflicts
 returns-in_err-conflicts c =
-    rw (is_err c.from_residual-in_err-conflicts.result c.from_residual-in_err-conflicts.ensures.1)
-    (λ n. let h = c.in_err-conflicts.ensures n in (h.0, λ w. true≢false (sym (by_place c.args.draft.now w.names).conflicts ∙ sym (ap (λ (f : RosterFields (List ℕ)). list_all is_named_pair f.conflicts) c.draft.view_is) ∙ sym (ap (list_all is_named_pair) c.as_slice-5.ensures) ∙ h.1)))
+    rw (is_err c.from_residual-in_err-conflicts.result c.from_residual-in_err-conflicts.ensures.1) (λ n. let h = c.in_err-conflicts.ensures n in (
+      h.0,
+      λ w. true≢false (sym (by_place c.args.draft.now w.names).conflicts ∙ sym (ap (λ (f : RosterFields (List ℕ)). list_all is_named_pair f.conflicts)
+          c.draft.view_is) ∙ sym (ap (list_all is_named_pair) c.as_slice-5.ensures) ∙ h.1),
+    ))
 
 pub returns-in_err-ceilings : goal.returns-in_err-ceilings
 returns-in_err-ceilings c =
-    rw (is_err c.from_residual-in_err-ceilings.result c.from_residual-in_err-ceilings.ensures.1)
-    (λ n. let h = c.in_err-ceilings.ensures n in (h.0, λ w. h.1 (rw c.as_slice-6.ensures (subst (λ (f : RosterFields (List ℕ)). All (IsNamedCeiling IsCmndText) f.ceilings) (sym c.draft.view_is) w.ceilings))))
+    rw (is_err c.from_residual-in_err-ceilings.result c.from_residual-in_err-ceilings.ensures.1) (λ n. let h = c.in_err-ceilings.ensures n in (
+      h.0,
+      λ w. h.1 (rw c.as_slice-6.ensures (subst (λ (f : RosterFields (List ℕ)). All (IsNamedCeiling IsCmndText) f.ceilings) (sym c.draft.view_is) w.ceilings)),
+    ))
 
 pub returns : goal.returns
 returns c =

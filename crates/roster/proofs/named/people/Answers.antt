@@ -5,8 +5,8 @@ use Rattle.roster.proofs.named.people.Goals as goal
 
 pub returns-in_err-person : goal.returns-in_err-person
 returns-in_err-person c =
-    rw (is_err c.from_residual.result c.from_residual.ensures.1)
-    (λ n. let h = c.in_err-person.ensures n in (h.0, one_wrong is_named_person c.args.texts.now c.loop-text.text-index c.text-item.result c.loop-text-test.true c.text-item.is h.1))
+    rw (is_err c.from_residual.result c.from_residual.ensures.1) (λ n. let h = c.in_err-person.ensures n in
+    (h.0, one_wrong is_named_person c.args.texts.now c.loop-text.text-index c.text-item.result c.loop-text-test.true c.text-item.is h.1))
 
 pub loop-text-preserved : goal.loop-text-preserved
 loop-text-preserved c =
@@ -14,4 +14,5 @@ loop-text-preserved c =
     c.loop-text-test.true c.text-item.is c.in_ok-person.ensures c.in_ok-push.ensures.items c.loop-text.invariant
 
 pub returns : goal.returns
-returns c = rw c.new.ensures (all_kept is_named_person c.args.texts.now c.loop-text.text-index c.loop-text.people.items c.loop-text-test.false c.loop-text.invariant)
+returns c =
+    rw c.new.ensures (all_kept is_named_person c.args.texts.now c.loop-text.text-index c.loop-text.people.items c.loop-text-test.false c.loop-text.invariant)

@@ -14,8 +14,10 @@ if_passed (Err e) x A P f passed = search
 pub returns-clause-found : goal.returns-clause-found
 returns-clause-found c =
     let content = c.in_ok-content.ensures.1 in
-    rw c.and.ensures (if_passed c.tested.result c.in_ok-content.content _ (IsRosterText c.args.text.now) (roster_text c.args.text.now c.args.draft.now c.in_ok-content.content c.requires.draft content.0 content.1) c.tested.ensures.kept)
+    rw c.and.ensures (if_passed c.tested.result c.in_ok-content.content _ (IsRosterText c.args.text.now)
+    (roster_text c.args.text.now c.args.draft.now c.in_ok-content.content c.requires.draft content.0 content.1) c.tested.ensures.kept)
 
 pub returns-clause-ordered : goal.returns-clause-ordered
 returns-clause-ordered c =
-    rw c.and.ensures (if_passed c.tested.result c.in_ok-content.content _ IsOrdered (λ _. ordered_in_texts c.in_ok-content.content c.args.draft.now c.in_ok-content.ensures.1.1 c.requires.ordered) c.tested.ensures.kept)
+    rw c.and.ensures (if_passed c.tested.result c.in_ok-content.content _ IsOrdered
+    (λ _. ordered_in_texts c.in_ok-content.content c.args.draft.now c.in_ok-content.ensures.1.1 c.requires.ordered) c.tested.ensures.kept)

@@ -27,9 +27,11 @@ halves-preserved g c =
 pub returns-in-Equal : goal.returns-in-Equal
 returns-in-Equal g c =
     let m = c.halves.low + (c.halves.high - c.halves.low) / 2 in
-    sym (found c.args.entries.now c.requires c.args.name.now m _ (omega (arith, c.halves.invariant.within)) c.index-entries-middle.is (sym c.cmp.ensures ∙ c.in-Equal.is))
+    sym (found c.args.entries.now c.requires c.args.name.now m _
+    (omega (arith, c.halves.invariant.within)) c.index-entries-middle.is (sym c.cmp.ensures ∙ c.in-Equal.is))
 
 pub returns : goal.returns
 returns g c =
     let i = c.halves.invariant in
-    sym (not_found c.args.entries.now c.args.name.now c.halves.low i.below (λ k d from to within. i.above k d (omega (arith, from, c.halves-test.false, i.ends)) to within))
+    sym (not_found c.args.entries.now c.args.name.now c.halves.low i.below
+    (λ k d from to within. i.above k d (omega (arith, from, c.halves-test.false, i.ends)) to within))

@@ -14,7 +14,8 @@ same_until day early = rw (le-leb day 4 early, le-leb day 6 (omega (arith, early
 pub returns-clause-until : goal.returns-clause-until
 returns-clause-until c =
     changed_agree office longer_office 431_999 (codes "eve") (codes "approve") (Between 3 4) (Between 3 6)
-    ((codes "ann", (codes "approve", Always) ∷ (codes "operate", Always) ∷ []) ∷ (codes "bob", (codes "approve", Always) ∷ []) ∷ (codes "carol", (codes "approve", Always) ∷ (codes "audit", Always) ∷ []) ∷ [])
+    ((codes "ann", (codes "approve", Always) ∷ (codes "operate", Always) ∷ []) ∷ (codes "bob", (codes "approve", Always) ∷ [])
+    ∷ (codes "carol", (codes "approve", Always) ∷ (codes "audit", Always) ∷ []) ∷ [])
     ((codes "fay", (codes "approve", Always) ∷ (codes "audit", Between 0 3) ∷ []) ∷ []) [] [] refl refl refl refl same_until
 
 pub returns-clause-no_longer : goal.returns-clause-no_longer

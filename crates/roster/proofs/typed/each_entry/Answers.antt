@@ -6,8 +6,11 @@ use Rattle.roster.proofs.typed.each_entry.Goals as goal
 
 pub returns-in_err-entry : goal.returns-in_err-entry
 returns-in_err-entry c =
-    rw (is_err c.from_residual.result c.from_residual.ensures.1)
-    (λ n. let h = c.in_err-entry.ensures n in (h.0, items_wrong duty_entry c.args.values.now c.loop-value.value-index c.value-item.result c.loop-value.entries.items _ c.loop-value-test.true c.value-item.is h.1 c.loop-value.invariant))
+    rw (is_err c.from_residual.result c.from_residual.ensures.1) (λ n. let h = c.in_err-entry.ensures n in (
+      h.0,
+      items_wrong duty_entry c.args.values.now c.loop-value.value-index c.value-item.result
+          c.loop-value.entries.items _ c.loop-value-test.true c.value-item.is h.1 c.loop-value.invariant,
+    ))
 
 pub loop-value-preserved : goal.loop-value-preserved
 loop-value-preserved c =
@@ -16,4 +19,5 @@ loop-value-preserved c =
 
 pub returns : goal.returns
 returns c =
-    items_read duty_entry c.args.values.now c.loop-value.value-index c.loop-value.entries.items _ c.loop-value-test.false c.loop-value.invariant ∙ ap Some (sym c.new.ensures)
+    items_read duty_entry c.args.values.now c.loop-value.value-index c.loop-value.entries.items _ c.loop-value-test.false c.loop-value.invariant
+    ∙ ap Some (sym c.new.ensures)

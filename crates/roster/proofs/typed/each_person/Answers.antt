@@ -7,12 +7,16 @@ use Rattle.roster.proofs.typed.each_person.Goals as goal
 
 pub returns-in_err-entries-clause-reads : goal.returns-in_err-entries-clause-reads
 returns-in_err-entries-clause-reads c =
-    rw (is_err c.from_residual.result c.from_residual.ensures.1)
-    (λ n. let h = c.in_err-entries.ensures n in (h.0, members_wrong duty_entries c.loop-key.key-iterator c.next.new.self (c.in-Some.key.now, c.in-Some.value.now) c.loop-key.people.items _ c.in-Some.ensures.steps h.1 c.loop-key.invariant))
+    rw (is_err c.from_residual.result c.from_residual.ensures.1) (λ n. let h = c.in_err-entries.ensures n in (
+      h.0,
+      members_wrong duty_entries c.loop-key.key-iterator c.next.new.self
+          (c.in-Some.key.now, c.in-Some.value.now) c.loop-key.people.items _ c.in-Some.ensures.steps h.1 c.loop-key.invariant,
+    ))
 
 pub loop-key-preserved : goal.loop-key-preserved
 loop-key-preserved c =
-    members_more duty_entries c.loop-key.key-iterator c.next.new.self (c.in-Some.key.now, c.in-Some.value.now) c.in_ok-name.name c.in_ok-entries.entries c.loop-key.people.items c.push.new.self.items _
+    members_more duty_entries c.loop-key.key-iterator c.next.new.self
+    (c.in-Some.key.now, c.in-Some.value.now) c.in_ok-name.name c.in_ok-entries.entries c.loop-key.people.items c.push.new.self.items _
     c.in-Some.ensures.steps (c.in_ok-name.ensures ∙ c.as_str.ensures.value) c.in_ok-entries.ensures c.in_ok-push.ensures.items c.loop-key.invariant
 
 pub returns-clause-reads : goal.returns-clause-reads

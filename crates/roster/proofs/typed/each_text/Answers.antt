@@ -6,8 +6,11 @@ use Rattle.roster.proofs.typed.each_text.Goals as goal
 
 pub returns-in_err-text : goal.returns-in_err-text
 returns-in_err-text c =
-    rw (is_err c.from_residual.result c.from_residual.ensures.1)
-    (λ n. let h = c.in_err-text.ensures n in (h.0, items_wrong as_str c.args.values.now c.loop-value.value-index c.value-item.result c.loop-value.texts.items _ c.loop-value-test.true c.value-item.is h.1 c.loop-value.invariant))
+    rw (is_err c.from_residual.result c.from_residual.ensures.1) (λ n. let h = c.in_err-text.ensures n in (
+      h.0,
+      items_wrong as_str c.args.values.now c.loop-value.value-index c.value-item.result
+          c.loop-value.texts.items _ c.loop-value-test.true c.value-item.is h.1 c.loop-value.invariant,
+    ))
 
 pub loop-value-preserved : goal.loop-value-preserved
 loop-value-preserved c =
@@ -16,4 +19,5 @@ loop-value-preserved c =
 
 pub returns : goal.returns
 returns c =
-    items_read as_str c.args.values.now c.loop-value.value-index c.loop-value.texts.items _ c.loop-value-test.false c.loop-value.invariant ∙ ap Some (sym c.new.ensures)
+    items_read as_str c.args.values.now c.loop-value.value-index c.loop-value.texts.items _ c.loop-value-test.false c.loop-value.invariant
+    ∙ ap Some (sym c.new.ensures)

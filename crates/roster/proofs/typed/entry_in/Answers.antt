@@ -16,8 +16,10 @@ returns-in_err-from c =
 pub returns-in_err-until : goal.returns-in_err-until
 unfolding duty_entry
 returns-in_err-until c =
-    rw (is_err c.from_residual-in_err-until.result c.from_residual-in_err-until.ensures.1)
-    (λ n. let h = c.in_err-until.ensures n in (h.0, wrong_behind (member_of as_str (codes "duty") (table_view c.args.table.now)) _ (λ _. then_read _ _ _ _ c.in_ok-from.ensures (then_wrong _ _ h.1))))
+    rw (is_err c.from_residual-in_err-until.result c.from_residual-in_err-until.ensures.1) (λ n. let h = c.in_err-until.ensures n in (
+      h.0,
+      wrong_behind (member_of as_str (codes "duty") (table_view c.args.table.now)) _ (λ _. then_read _ _ _ _ c.in_ok-from.ensures (then_wrong _ _ h.1)),
+    ))
 
 pub returns-in_err-duty : goal.returns-in_err-duty
 unfolding duty_entry

@@ -12,5 +12,5 @@ returns-then-branch-clause-told c =
 
 pub returns-clause-told : goal.returns-clause-told
 returns-clause-told c =
-    subst (λ (b : List Entry). IfOk c.is_found.result (λ (yes : Bool). AreFew c.args.scope.now c.args.a.now b × Decides yes (SomethingBeyond c.args.scope.now c.args.a.now b)))
-    c.policy.ensures c.is_found.ensures.told
+    subst (λ (b : List Entry). IfOk c.is_found.result (λ (yes : Bool). AreFew c.args.scope.now c.args.a.now b
+    × Decides yes (SomethingBeyond c.args.scope.now c.args.a.now b))) c.policy.ensures c.is_found.ensures.told

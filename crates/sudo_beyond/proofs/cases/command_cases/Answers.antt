@@ -12,7 +12,8 @@ pub run_cases-requires : goal.run_cases-requires
 run_cases-requires c =
     let a = c.args.a.now in
     let b = c.args.b.now in
-    let with_a : c.push_commands.new.cmnds.items ≡ commands a = c.in_ok-push_commands.ensures.commands ∙ ap (λ (xs : List Cmnd). xs ++ commands a) c.new-cmnds.ensures.items in
+    let with_a : c.push_commands.new.cmnds.items ≡ commands a =
+    c.in_ok-push_commands.ensures.commands ∙ ap (λ (xs : List Cmnd). xs ++ commands a) c.new-cmnds.ensures.items in
     let whole : c.deref.result.now ≡ commands a ++ commands b =
     c.deref.ensures.value ∙ c.in_ok-push_commands-2.ensures.commands ∙ ap (λ (xs : List Cmnd). xs ++ commands b) with_a in
     subst (λ (xs : List Cmnd). All IsLawfulDir (dirs xs)) (sym whole)
@@ -23,7 +24,8 @@ pub returns-clause-cases : goal.returns-clause-cases
 returns-clause-cases c =
     let a = c.args.a.now in
     let b = c.args.b.now in
-    let with_a : c.push_commands.new.cmnds.items ≡ commands a = c.in_ok-push_commands.ensures.commands ∙ ap (λ (xs : List Cmnd). xs ++ commands a) c.new-cmnds.ensures.items in
+    let with_a : c.push_commands.new.cmnds.items ≡ commands a =
+    c.in_ok-push_commands.ensures.commands ∙ ap (λ (xs : List Cmnd). xs ++ commands a) c.new-cmnds.ensures.items in
     let whole : c.deref.result.now ≡ commands a ++ commands b =
     c.deref.ensures.value ∙ c.in_ok-push_commands-2.ensures.commands ∙ ap (λ (xs : List Cmnd). xs ++ commands b) with_a in
     subst (λ (xs : List Cmnd). IfOk c.run_cases.result (AreCommandCases xs)) whole c.run_cases.ensures

@@ -11,6 +11,5 @@ returns g c =
     let words : List (List ℕ) = c.args.standing.now in
     let short : length words < 2 ^ 64 = omega arith in
     IfOk-weaker c.other-2.result (λ w. w ≡ other (length words)) (λ w. IsFirstOther (has words) w)
-    (λ w is.
-    subst (λ (v : List ℕ). IsFirstOther (has words) v) (sym is)
-    (last_free bytes_eq bytes_eq-Decides (λ v. v) (λ v u same. same) words (length words) (omega arith) short (λ k below. c.loop-number.invariant k (omega arith)))) c.other-2.ensures
+    (λ w is. subst (λ (v : List ℕ). IsFirstOther (has words) v) (sym is) (last_free bytes_eq bytes_eq-Decides (λ v. v)
+    (λ v u same. same) words (length words) (omega arith) short (λ k below. c.loop-number.invariant k (omega arith)))) c.other-2.ensures

@@ -13,8 +13,10 @@ returns c =
     let j : ℕ = c.partition_point-2.result in
     let rest : List Run = c.split_at.result.1.now in
     let back : rest ≡ drop i listed = c.split_at.ensures.back in
-    let point = IsPartitionPoint-from_clause (is_before path) listed i c.partition_point.ensures.partitioned (before_first path listed c.requires) (λ a r q k. search rules) in
-    let parted = subst (λ (runs : List Run). IsPartitionedBy (is_own path) runs) (sym back) (own_first path listed c.requires i c.partition_point.ensures.bound point) in
+    let point = IsPartitionPoint-from_clause (is_before path) listed i c.partition_point.ensures.partitioned
+    (before_first path listed c.requires) (λ a r q k. search rules) in
+    let parted =
+    subst (λ (runs : List Run). IsPartitionedBy (is_own path) runs) (sym back) (own_first path listed c.requires i c.partition_point.ensures.bound point) in
     let end = IsPartitionPoint-from_clause (is_own path) rest j c.partition_point-2.ensures.partitioned parted (λ a r q k. search rules) in
     let own = subst (λ (runs : List Run). IsPartitionPoint (λ (run : Run). is_own path run ≡ true) (λ (run : Run). is_own path run ≡ false) runs j) back end in
     let within = subst (λ (runs : List Run). j ≤ length runs) back c.partition_point-2.ensures.bound in

@@ -27,6 +27,5 @@ returns c = λ cmnds table.
     let one : c.push_run.new.runs.items ≡ old ++ run_of path [] ∷ [] =
     c.in_ok-push_run.ensures ∙ ap (λ (args : List (List ℕ)). old ++ run_of path args ∷ []) (c.new-2.ensures ∙ c.new.ensures.items) in
     on_ok_weaker {P = c.push_run-2.new.runs.items ≡ c.push_each.new.runs.items ++ run_of path c.in_ok-others.others ∷ []}
-    {Q = Adds (ArePathCases cmnds path) old c.push_run-2.new.runs.items} c.push_run-2.result
-    (path_cases cmnds path lists c.in_ok-others.others old c.push_run.new.runs.items c.push_each.new.runs.items c.push_run-2.new.runs.items once free one c.in_ok-push_each.ensures)
-    c.push_run-2.ensures
+    {Q = Adds (ArePathCases cmnds path) old c.push_run-2.new.runs.items} c.push_run-2.result (path_cases cmnds path lists c.in_ok-others.others old
+    c.push_run.new.runs.items c.push_each.new.runs.items c.push_run-2.new.runs.items once free one c.in_ok-push_each.ensures) c.push_run-2.ensures

@@ -19,18 +19,21 @@ push_paths-requires c = subst (λ (runs : List Run). IsStrictlySortedBy run_orde
 
 pub push_directories-requires-clause-lawful : goal.push_directories-requires-clause-lawful
 push_directories-requires-clause-lawful c =
-    let once = subst (λ (xs : List (List ℕ)). IsEachOnce text_order xs c.in_order-directories.result.items) c.in_ok-dirs.ensures c.in_order-directories.ensures in
+    let once =
+    subst (λ (xs : List (List ℕ)). IsEachOnce text_order xs c.in_order-directories.result.items) c.in_ok-dirs.ensures c.in_order-directories.ensures in
     subst (λ (xs : List (List ℕ)). All IsLawfulDir xs) (sym c.deref-3.ensures.value)
     (all_listed IsLawfulDir text_order (dirs c.args.cmnds.now) c.in_order-directories.result.items once c.requires)
 
 pub push_directories-requires-clause-sorted : goal.push_directories-requires-clause-sorted
-push_directories-requires-clause-sorted c = subst (λ (xs : List (List ℕ)). IsStrictlySortedBy text_order xs) (sym c.deref-4.ensures.value) c.in_order-files.ensures.in_order
+push_directories-requires-clause-sorted c =
+    subst (λ (xs : List (List ℕ)). IsStrictlySortedBy text_order xs) (sym c.deref-4.ensures.value) c.in_order-files.ensures.in_order
 
 pub push_fresh-requires-clause-form : goal.push_fresh-requires-clause-form
 push_fresh-requires-clause-form c = files_in_root
 
 pub push_fresh-requires-clause-sorted : goal.push_fresh-requires-clause-sorted
-push_fresh-requires-clause-sorted c = subst (λ (xs : List (List ℕ)). IsStrictlySortedBy text_order xs) (sym c.deref-5.ensures.value) c.in_order-files.ensures.in_order
+push_fresh-requires-clause-sorted c =
+    subst (λ (xs : List (List ℕ)). IsStrictlySortedBy text_order xs) (sym c.deref-5.ensures.value) c.in_order-files.ensures.in_order
 
 pub returns : goal.returns
 returns c =
@@ -44,7 +47,8 @@ returns c =
     let one : List Run = c.push_paths.new.runs.items in
     let two : List Run = c.push_directories.new.runs.items in
     let three : List Run = c.push_fresh.new.runs.items in
-    let first = subst (λ (xs : List (List ℕ)). Adds (AreParts (ArePathCases cmnds) xs) c.new-runs.result.items one) c.deref.ensures.value (c.in_ok-push_paths.ensures cmnds table) in
+    let first = subst (λ (xs : List (List ℕ)). Adds (AreParts (ArePathCases cmnds) xs) c.new-runs.result.items one) c.deref.ensures.value
+    (c.in_ok-push_paths.ensures cmnds table) in
     let second = subst (λ (xs : List (List ℕ)). Adds (AreParts (IsFreshFile files) xs) one two) c.deref-3.ensures.value
     (subst (λ (xs : List (List ℕ)). Adds (AreParts (IsFreshFile xs) c.deref-3.result.now) one two) c.deref-4.ensures.value c.in_ok-push_directories.ensures) in
     let third = subst (λ (xs : List (List ℕ)). Adds (IsFreshFile xs (codes "/")) two three) c.deref-5.ensures.value c.in_ok-push_fresh.ensures in

@@ -8,7 +8,8 @@ use Rattle.sudo_beyond.proofs.search.first_of_compiled.Goals as goal
 
 pub returns-in-Some : goal.returns-in-Some
 returns-in-Some c =
-    subst (λ (xs : List (List ℕ)). IsFirst (IsAnsweredGap c.args.a.now c.args.b.now) (flat_map (of_user c.args.cases.now) xs) c.in-Some.i) c.as_slice-user-items.ensures
-    (gap_here (IsAnsweredGap c.args.a.now c.args.b.now) (of_user c.args.cases.now) c.as_slice-user-items.result.now c.loop-user.user-index c.user-item.result c.in-Some.i c.loop-user-test.true c.user-item.is
-    (subst (λ (xs : List (List ℕ)). NoGap (IsAnsweredGap c.args.a.now c.args.b.now) (flat_map (of_user c.args.cases.now) (take c.loop-user.user-index xs))) (sym c.as_slice-user-items.ensures) c.loop-user.invariant)
-    (rw c.in-Some.is at c.in_ok-i.ensures))
+    subst (λ (xs : List (List ℕ)). IsFirst (IsAnsweredGap c.args.a.now c.args.b.now) (flat_map (of_user c.args.cases.now) xs) c.in-Some.i)
+    c.as_slice-user-items.ensures (gap_here (IsAnsweredGap c.args.a.now c.args.b.now)
+    (of_user c.args.cases.now) c.as_slice-user-items.result.now c.loop-user.user-index c.user-item.result c.in-Some.i c.loop-user-test.true c.user-item.is
+    (subst (λ (xs : List (List ℕ)). NoGap (IsAnsweredGap c.args.a.now c.args.b.now) (flat_map (of_user c.args.cases.now) (take c.loop-user.user-index xs)))
+    (sym c.as_slice-user-items.ensures) c.loop-user.invariant) (rw c.in-Some.is at c.in_ok-i.ensures))

@@ -24,10 +24,7 @@ returns c =
     let i : Invocation = c.in_ok-i.i in
     let by_a : AnswerAlike a x i = subst (λ (rules : List PlainRule). AnswerAlike rules x i) c.rules.ensures c.bearing_on-allowing.ensures in
     let by_b : AnswerAlike b y i = subst (λ (rules : List PlainRule). AnswerAlike rules y i) c.rules-2.ensures c.bearing_on-refusing.ensures in
-    if_ok c.try_runs.result
-    (λ found first.
-    subst (λ (is : List Invocation). FirstOf (IsAnsweredGap a b) is found) (ap (λ (j : Invocation). of_target c.args.cases.now j.user j.host j.runas) c.in_ok-i.ensures)
-    (first_of_same_on (SameNames i) (IsAnsweredGap x y) (IsAnsweredGap a b) (of_target c.args.cases.now i.user i.host i.runas) found
-    (λ j. gap_of_those a b x y i j by_a by_b) (λ j. gap_of_all a b x y i j by_a by_b)
-    (same_names_runs i c.args.cases.now c.args.cases.now.runs) first))
-    c.try_runs.ensures
+    if_ok c.try_runs.result (λ found first. subst (λ (is : List Invocation). FirstOf (IsAnsweredGap a b) is found)
+    (ap (λ (j : Invocation). of_target c.args.cases.now j.user j.host j.runas) c.in_ok-i.ensures) (first_of_same_on (SameNames i)
+    (IsAnsweredGap x y) (IsAnsweredGap a b) (of_target c.args.cases.now i.user i.host i.runas) found (λ j. gap_of_those a b x y i j by_a by_b)
+    (λ j. gap_of_all a b x y i j by_a by_b) (same_names_runs i c.args.cases.now c.args.cases.now.runs) first)) c.try_runs.ensures

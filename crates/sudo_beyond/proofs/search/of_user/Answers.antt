@@ -8,7 +8,8 @@ use Rattle.sudo_beyond.proofs.search.of_user.Goals as goal
 
 pub returns-in-Some : goal.returns-in-Some
 returns-in-Some c =
-    subst (λ (xs : List (List ℕ)). IsFirst (IsAnsweredGap c.args.a.now c.args.b.now) (flat_map (of_host c.args.cases.now c.args.user.now) xs) c.in-Some.i) c.as_slice-host-items.ensures
-    (gap_here (IsAnsweredGap c.args.a.now c.args.b.now) (of_host c.args.cases.now c.args.user.now) c.as_slice-host-items.result.now c.loop-host.host-index c.host-item.result c.in-Some.i c.loop-host-test.true c.host-item.is
-    (subst (λ (xs : List (List ℕ)). NoGap (IsAnsweredGap c.args.a.now c.args.b.now) (flat_map (of_host c.args.cases.now c.args.user.now) (take c.loop-host.host-index xs))) (sym c.as_slice-host-items.ensures) c.loop-host.invariant)
-    (rw c.in-Some.is at c.in_ok-i.ensures))
+    subst (λ (xs : List (List ℕ)). IsFirst (IsAnsweredGap c.args.a.now c.args.b.now) (flat_map (of_host c.args.cases.now c.args.user.now) xs) c.in-Some.i)
+    c.as_slice-host-items.ensures (gap_here (IsAnsweredGap c.args.a.now c.args.b.now) (of_host c.args.cases.now c.args.user.now)
+    c.as_slice-host-items.result.now c.loop-host.host-index c.host-item.result c.in-Some.i c.loop-host-test.true c.host-item.is (subst (λ (xs : List (List ℕ)).
+    NoGap (IsAnsweredGap c.args.a.now c.args.b.now) (flat_map (of_host c.args.cases.now c.args.user.now) (take c.loop-host.host-index xs)))
+    (sym c.as_slice-host-items.ensures) c.loop-host.invariant) (rw c.in-Some.is at c.in_ok-i.ensures))

@@ -22,10 +22,10 @@ returns-then-is_gap-clause-found c =
     let at : ℕ → Invocation = invocation_of c.args.i.now.user c.args.i.now.host c.args.i.now.runas c.args.run.now in
     let one : ℕ → List Invocation = λ t. at t ∷ [] in
     let moments : List ℕ = c.as_slice-at-items.result.now in
-    subst (λ (is : List Invocation). IsFirst P is (at_moment c.at-item.result c.loop-at.i)) (flat_map_single at moments ∙ ap (λ (ts : List ℕ). map at ts) c.as_slice-at-items.ensures)
+    subst (λ (is : List Invocation). IsFirst P is (at_moment c.at-item.result c.loop-at.i))
+    (flat_map_single at moments ∙ ap (λ (ts : List ℕ). map at ts) c.as_slice-at-items.ensures)
     (gap_here P one moments c.loop-at.at-index c.at-item.result (at_moment c.at-item.result c.loop-at.i) c.loop-at-test.true c.at-item.is
-    (subst (λ (ts : List ℕ). NoGap P (flat_map one (take c.loop-at.at-index ts))) (sym c.as_slice-at-items.ensures) c.loop-at.invariant.none)
-    (record {
+    (subst (λ (ts : List ℕ). NoGap P (flat_map one (take c.loop-at.at-index ts))) (sym c.as_slice-at-items.ensures) c.loop-at.invariant.none) (record {
       before = [];
       after = [];
       list_is = ap (λ (i : Invocation). i ∷ []) (moved c.at-item.result c.loop-at.invariant.parts);
@@ -42,7 +42,10 @@ loop-at-preserved c =
     record {
       none = subst (λ (ts : List ℕ). NoGap P (flat_map one (take (c.loop-at.at-index + 1) ts))) c.as_slice-at-items.ensures
           (gaps_more P one moments c.loop-at.at-index c.at-item.result c.loop-at-test.true c.at-item.is
-          (subst (λ (ts : List ℕ). NoGap P (flat_map one (take c.loop-at.at-index ts))) (sym c.as_slice-at-items.ensures) c.loop-at.invariant.none)
-          (λ gap. false≢true (sym c.if-is_gap.false ∙ c.is_gap.ensures.1 (subst (λ (i : Invocation). P i) (moved c.at-item.result c.loop-at.invariant.parts) gap)), tt));
+          (subst (λ (ts : List ℕ). NoGap P (flat_map one (take c.loop-at.at-index ts))) (sym c.as_slice-at-items.ensures) c.loop-at.invariant.none) (
+            λ gap. false≢true
+                (sym c.if-is_gap.false ∙ c.is_gap.ensures.1 (subst (λ (i : Invocation). P i) (moved c.at-item.result c.loop-at.invariant.parts) gap)),
+            tt,
+          ));
       parts = moved c.at-item.result c.loop-at.invariant.parts;
     }

@@ -14,7 +14,8 @@ returns-then-branch c =
     let f : Run → List Invocation = of_run c.args.cases.now c.args.first.user c.args.first.host c.args.first.runas in
     let runs : List Run = c.as_slice-run-items.result.now in
     let gap : FirstOf P (of_run c.args.cases.now c.loop-run.i.user c.loop-run.i.host c.loop-run.i.runas c.run-item.result) (Some c.try_run.new.i) =
-    subst (λ (b : Bool). FirstOf P (of_run c.args.cases.now c.loop-run.i.user c.loop-run.i.host c.loop-run.i.runas c.run-item.result) (if b then Some c.try_run.new.i else None)) c.if-branch.true c.in_ok-try_run.ensures.found in
+    subst (λ (b : Bool). FirstOf P (of_run c.args.cases.now c.loop-run.i.user c.loop-run.i.host c.loop-run.i.runas c.run-item.result)
+    (if b then Some c.try_run.new.i else None)) c.if-branch.true c.in_ok-try_run.ensures.found in
     let names : of_run c.args.cases.now c.loop-run.i.user c.loop-run.i.host c.loop-run.i.runas c.run-item.result ≡ f c.run-item.result =
     ap (λ (u : List ℕ). of_run c.args.cases.now u c.loop-run.i.host c.loop-run.i.runas c.run-item.result) c.loop-run.invariant.user_is
     ∙ ap (λ (h : List ℕ). of_run c.args.cases.now c.args.first.user h c.loop-run.i.runas c.run-item.result) c.loop-run.invariant.host_is

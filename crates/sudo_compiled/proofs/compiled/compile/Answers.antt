@@ -9,8 +9,8 @@ use Rattle.sudo_compiled.specs.private.Writing.{AreKnown}
 use Rattle.sudo_compiled.proofs.compiled.compile.Goals as goal
 
 pub loop-entry-init : goal.loop-entry-init
-loop-entry-init c = λ i.
-    subst (λ (rules : List PlainRule). DecidesBy (reverse c.args.p.now) [] i (answer rules i)) (sym c.in_ok-rules.ensures.items) (inr (record { silent = tt; decision = refl }))
+loop-entry-init c = λ i. subst (λ (rules : List PlainRule). DecidesBy (reverse c.args.p.now) [] i (answer rules i))
+    (sym c.in_ok-rules.ensures.items) (inr (record { silent = tt; decision = refl }))
 
 pub loop-entry-preserved : goal.loop-entry-preserved
 loop-entry-preserved c = λ i.

@@ -16,8 +16,8 @@ pub loop-entry-preserved : goal.loop-entry-preserved
 loop-entry-preserved c = λ defined i known.
     let all = reverse c.reverse.new.self.items in
     subst (λ (rest : List Entry). Taken defined all rest c.take_rule.new.rules.items i) (sym c.give_back.ensures)
-    (one_taken defined all c.loop-entry.rest.items c.pop.new.self.items c.in-Some.entry c.loop-entry.rules.items c.take_rule.new.rules.items i c.in-Some.ensures.items
-    (λ es. c.in_ok-take_rule.ensures defined es i known) (c.loop-entry.invariant defined i known))
+    (one_taken defined all c.loop-entry.rest.items c.pop.new.self.items c.in-Some.entry c.loop-entry.rules.items c.take_rule.new.rules.items
+    i c.in-Some.ensures.items (λ es. c.in_ok-take_rule.ensures defined es i known) (c.loop-entry.invariant defined i known))
 
 pub returns : goal.returns
 returns c = λ defined i known.
@@ -26,5 +26,5 @@ returns c = λ defined i known.
     let none : old ≡ [] = nil_from_length old empty in
     let entries : reverse c.reverse.new.self.items ≡ c.args.entries.items = ap reverse c.reverse.ensures.items ∙ reverse-reverse c.args.entries.items in
     subst (λ (all : List Entry). DecidesBy defined all i (answer c.loop-entry.rules.items i)) entries
-    (all_taken defined (reverse c.reverse.new.self.items) c.loop-entry.rules.items i
-    (subst (λ (rest : List Entry). Taken defined (reverse c.reverse.new.self.items) rest c.loop-entry.rules.items i) none (c.loop-entry.invariant defined i known)))
+    (all_taken defined (reverse c.reverse.new.self.items) c.loop-entry.rules.items i (subst
+    (λ (rest : List Entry). Taken defined (reverse c.reverse.new.self.items) rest c.loop-entry.rules.items i) none (c.loop-entry.invariant defined i known)))

@@ -6,7 +6,8 @@ use Rattle.sudo_compiled.proofs.Taking.{Taken}
 use Rattle.sudo_compiled.proofs.compiled.rules_of.Given as goal
 
 abbrev pub invariant-loop-entry : goal.invariant-loop-entry
-invariant-loop-entry l = (defined : List Entry) (i : Invocation) → AreKnown defined l.known → Taken defined (reverse l.initial.rest.items) l.rest.items l.rules.items i
+invariant-loop-entry l =
+    (defined : List Entry) (i : Invocation) → AreKnown defined l.known → Taken defined (reverse l.initial.rest.items) l.rest.items l.rules.items i
 
 abbrev pub decreases-loop-entry : goal.decreases-loop-entry
 decreases-loop-entry l = length l.rest.items

@@ -10,9 +10,8 @@ returns-in-Some g c =
     let plain = g.K.Kind.plain in
     let of_list : Invocation → Option Bool = λ i. signed_answer c.args.negated (list_answer (plain i) c.as_slice.result.now) in
     let of_alias : Invocation → Option Bool = λ i. signed_answer c.args.negated (known_says (plain i) c.args.known.now c.args.name.now) in
-    on_ok c.push_copies.result
-    (adds_as plain c.args.out.now.items c.push_copies.new.out.items of_list of_alias
-    (λ i. ap (signed_answer c.args.negated) (ap (list_answer (plain i)) (c.as_slice.ensures.value ∙ ap (λ (v : _). v.items) c.as_ref.ensures) ∙ ap (found_says (plain i)) c.in-Some.ensures)))
+    on_ok c.push_copies.result (adds_as plain c.args.out.now.items c.push_copies.new.out.items of_list of_alias (λ i. ap (signed_answer c.args.negated)
+    (ap (list_answer (plain i)) (c.as_slice.ensures.value ∙ ap (λ (v : _). v.items) c.as_ref.ensures) ∙ ap (found_says (plain i)) c.in-Some.ensures)))
     c.push_copies.ensures
 
 pub returns-in-None : goal.returns-in-None

@@ -12,6 +12,5 @@ returns-in-Own g c = λ i.
 
 pub returns-in-Alias : goal.returns-in-Alias
 returns-in-Alias g c =
-    if_ok c.shared.result
-    (λ w answers i. answers i ∙ ap (signed_answer c.args.only.now.negated) ((rw c.in-Alias.is at c.in_ok-item.ensures) i (known_says (g.K.Kind.plain i) c.args.known.now)))
-    c.shared.ensures
+    if_ok c.shared.result (λ w answers i. answers i ∙ ap (signed_answer c.args.only.now.negated)
+    ((rw c.in-Alias.is at c.in_ok-item.ensures) i (known_says (g.K.Kind.plain i) c.args.known.now))) c.shared.ensures

@@ -14,16 +14,19 @@ pub alias_answer-returns-then-place-below : goal.alias_answer-returns-then-place
 alias_answer-returns-then-place-below g t c =
     let new = g.met.K.Kind.once c.args.p.now c.requires in
     let own =
-    alias_says_its_list (g.K.Kind.says c.args.i.now) g.K.Kind.def c.args.p.now c.in_ok-place.place c.args.below c.args.name.now c.in_ok-place.list.now new c.in_ok-place.ensures c.if-place-below.true in
+    alias_says_its_list (g.K.Kind.says c.args.i.now) g.K.Kind.def c.args.p.now c.in_ok-place.place
+    c.args.below c.args.name.now c.in_ok-place.list.now new c.in_ok-place.ensures c.if-place-below.true in
     cc
 
 pub alias_answer-returns-else-place-below : goal.alias_answer-returns-else-place-below
 alias_answer-returns-else-place-below g t c =
     let new = g.met.K.Kind.once c.args.p.now c.requires in
-    sym (alias_below_is_silent (g.K.Kind.says c.args.i.now) g.K.Kind.def c.args.p.now c.in_ok-place.place c.args.below c.args.name.now c.in_ok-place.list.now new c.in_ok-place.ensures c.if-place-below.false)
+    sym (alias_below_is_silent (g.K.Kind.says c.args.i.now) g.K.Kind.def c.args.p.now c.in_ok-place.place
+    c.args.below c.args.name.now c.in_ok-place.list.now new c.in_ok-place.ensures c.if-place-below.false)
 
 pub list_answer-loop-x-preserved : goal.list_answer-loop-x-preserved
 list_answer-loop-x-preserved g t c =
     let more =
-    list_answer-take_more (item_says_by (g.K.Kind.says c.args.i.now) (flat_map g.K.Kind.def (reverse (take c.args.below c.args.p.now)))) c.args.list.now c.loop-x.x-index c.x-item.result c.loop-x-test.true c.x-item.is in
+    list_answer-take_more (item_says_by (g.K.Kind.says c.args.i.now) (flat_map g.K.Kind.def (reverse (take c.args.below c.args.p.now))))
+    c.args.list.now c.loop-x.x-index c.x-item.result c.loop-x-test.true c.x-item.is in
     cc

@@ -10,7 +10,8 @@ use Rattle.sudo_policy.proofs.PolicyFronts.{policy_front}
 use Rattle.sudo_policy.proofs.extending.add_base.Goals as goal
 
 -- the entries so far, and a copy of the next one
-copied_more : (es seen : List Entry) (i : ℕ) (item copy : Entry) → i < length es → item ≡ get_or es i item → copy ≡ item → seen ≡ take i es → take (i + 1) es ≡ seen ++ copy ∷ []
+copied_more : (es seen : List Entry) (i : ℕ) (item copy : Entry) → i < length es
+    → item ≡ get_or es i item → copy ≡ item → seen ≡ take i es → take (i + 1) es ≡ seen ++ copy ∷ []
 copied_more es seen i item copy within is same seen_is =
     take_more es i item within
     ∙ ap (λ (e : Entry). take i es ++ e ∷ []) (sym is ∙ sym same)

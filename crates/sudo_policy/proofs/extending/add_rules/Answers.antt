@@ -15,7 +15,8 @@ use Rattle.sudo_policy.proofs.PolicyFronts.{all_rest, policy_front}
 use Rattle.sudo_policy.proofs.extending.add_rules.Goals as goal
 
 -- what a loop over a vector has taken, and what is left
-taken : {X Z : Type 0} (s : IntoIter X Z) (xs : List X) (t : IntoIter X Z) → Yields (into_iter_steps {X = X} {Z = Z}) s xs t → into_iter_items s ≡ xs ++ into_iter_items t
+taken : {X Z : Type 0} (s : IntoIter X Z) (xs : List X) (t : IntoIter X Z)
+    → Yields (into_iter_steps {X = X} {Z = Z}) s xs t → into_iter_items s ≡ xs ++ into_iter_items t
 taken {X} {Z} s [] t y = ap (into_iter_items {X = X} {Z = Z}) y
 taken s (x ∷ xs) t y = y.1.0 ∙ ap (λ ys. x ∷ ys) (taken y.0 xs t y.2)
 
@@ -47,8 +48,8 @@ pub add-requires-clause-entry : goal.add-requires-clause-entry
 add-requires-clause-entry c =
     let rest = c.in-Some.rule ∷ into_iter_items c.next.new.self in
     let all : c.args.rules.items ≡ c.loop-rule.yielded ++ rest =
-    sym c.into_iter-rule-iterator.ensures.into_iter_gives.0 ∙ taken c.into_iter-rule-iterator.result c.loop-rule.yielded c.loop-rule.rule-iterator c.loop-rule.yielded_by
-    ∙ ap (λ (rs : List Rule). c.loop-rule.yielded ++ rs) c.in-Some.ensures.steps.0 in
+    sym c.into_iter-rule-iterator.ensures.into_iter_gives.0 ∙ taken c.into_iter-rule-iterator.result c.loop-rule.yielded
+    c.loop-rule.rule-iterator c.loop-rule.yielded_by ∙ ap (λ (rs : List Rule). c.loop-rule.yielded ++ rs) c.in-Some.ensures.steps.0 in
     (all_rest IsRule c.loop-rule.yielded rest (subst (AllByRecursion IsRule) all c.requires.rules)).0
 
 pub loop-rule-preserved : goal.loop-rule-preserved

@@ -21,4 +21,5 @@ returns-in-len1-up g c =
     let text = signed_text g.T.Lengthy.text in
     let first : c.signed_len.result ≡ stopped (length (text (get_or c.args.items.now 0 c.first-item.result))) =
     c.signed_len.ensures ∙ ap (λ (s : Signed g.row.T.Denot). stopped (length (text s))) c.first-item.is in
-    c.plus.ensures ∙ list_longer text c.args.items.now c.first-item.result c.signed_len.result c.tail_len.result c.in-len1-up.len_at_least first c.tail_len.ensures
+    c.plus.ensures
+    ∙ list_longer text c.args.items.now c.first-item.result c.signed_len.result c.tail_len.result c.in-len1-up.len_at_least first c.tail_len.ensures

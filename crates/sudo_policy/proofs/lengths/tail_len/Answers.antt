@@ -15,6 +15,5 @@ loop-item-preserved g c =
     let items = c.args.items.now in
     let more : c.signed_len.result ≡ stopped (length (signed_text g.T.Lengthy.text (get_or items c.loop-item.item-index c.item-item.result))) =
     c.signed_len.ensures ∙ ap (λ s. stopped (length (signed_text g.T.Lengthy.text s))) c.item-item.is in
-    c.plus-len.ensures
-    ∙ ap (λ (n : ℕ). stopped (n + c.signed_len.result)) c.plus.ensures
-    ∙ tail_longer (signed_text g.T.Lengthy.text) items c.loop-item.item-index c.item-item.result c.loop-item.len c.signed_len.result c.loop-item-test.true c.loop-item.invariant more
+    c.plus-len.ensures ∙ ap (λ (n : ℕ). stopped (n + c.signed_len.result)) c.plus.ensures ∙ tail_longer (signed_text g.T.Lengthy.text)
+    items c.loop-item.item-index c.item-item.result c.loop-item.len c.signed_len.result c.loop-item-test.true c.loop-item.invariant more

@@ -6,6 +6,5 @@ use Rattle.sudo_policy.proofs.printing.print_owned.Goals as goal
 
 pub returns-clause-read_back : goal.returns-clause-read_back
 returns-clause-read_back c =
-    IfOk-weaker c.printed_in_halves.result _ _
-    (λ s e. subst (λ (t : List ℕ). Spells t c.args.policy) (sym (rw c.into_entries.ensures.value at e)) (canon_spells c.args.policy c.into_entries.ensures.policy))
-    c.printed_in_halves.ensures
+    IfOk-weaker c.printed_in_halves.result _ _ (λ s e. subst (λ (t : List ℕ). Spells t c.args.policy)
+    (sym (rw c.into_entries.ensures.value at e)) (canon_spells c.args.policy c.into_entries.ensures.policy)) c.printed_in_halves.ensures

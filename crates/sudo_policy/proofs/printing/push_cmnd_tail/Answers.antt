@@ -16,7 +16,7 @@ pub loop-item-preserved : goal.loop-item-preserved
 loop-item-preserved c =
     let items = c.args.items.now in
     let before = string_bytes c.args.out.now ++ tail_text (signed_text cmnd_item_text) (take c.loop-item.item-index items) in
-    c.in_ok-push_cmnd.ensures
-    ∙ ap (λ (t : List ℕ). t ++ signed_text cmnd_item_text c.item-item.result) (c.in_ok-push_str.ensures.bytes ∙ ap (λ (t : List ℕ). t ++ codes ", ") c.loop-item.invariant)
+    c.in_ok-push_cmnd.ensures ∙ ap (λ (t : List ℕ). t ++ signed_text cmnd_item_text c.item-item.result)
+    (c.in_ok-push_str.ensures.bytes ∙ ap (λ (t : List ℕ). t ++ codes ", ") c.loop-item.invariant)
     ∙ ap (λ (t : List ℕ). (before ++ codes ", ") ++ t) (ap (signed_text cmnd_item_text) c.item-item.is)
     ∙ tail_more (signed_text cmnd_item_text) items c.loop-item.item-index c.item-item.result (string_bytes c.args.out.now) c.loop-item-test.true

@@ -9,7 +9,8 @@ use Rattle.sudo_syntax.proofs.commands.args_at.Goals as goal
 pub returns-in_err-push_arg-clause-only : goal.returns-in_err-push_arg-clause-only
 returns-in_err-push_arg-clause-only c = λ args r each few stops h.
     let fit : Fit args r = record { each = each; few = few; stops = stops } in
-    let n = next_arg c.loop-text.args.items (toks c.loop-text.read.1.now) c.in-Some.text.now (toks c.in-Some.after.now) c.in-Some.ensures.found args r fit (c.loop-text.invariant.leads.on args r fit h) in
+    let n = next_arg c.loop-text.args.items (toks c.loop-text.read.1.now) c.in-Some.text.now
+    (toks c.in-Some.after.now) c.in-Some.ensures.found args r fit (c.loop-text.invariant.leads.on args r fit h) in
     let p = err_from_is_err_and c.from_residual.result c.from_residual.ensures.1 in
     rw (p.1, p.2) (c.in_err-push_arg.ensures.only n.arg n.is n.text_is)
 
@@ -30,4 +31,5 @@ loop-text-preserved c =
 pub returns-clause-only : goal.returns-clause-only
 returns-clause-only c = λ args r each few stops h.
     let fit : Fit args r = record { each = each; few = few; stops = stops } in
-    rw c.new.ensures (args_end c.loop-text.args.items (toks c.loop-text.read.1.now) c.in_default.ensures.found args r (c.loop-text.invariant.leads.on args r fit h))
+    rw c.new.ensures
+    (args_end c.loop-text.args.items (toks c.loop-text.read.1.now) c.in_default.ensures.found args r (c.loop-text.invariant.leads.on args r fit h))

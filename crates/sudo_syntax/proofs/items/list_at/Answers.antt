@@ -13,7 +13,8 @@ returns-in_err-first-clause-only g c = λ xs r f n h.
 
 pub loop-others-init : goal.loop-others-init
 loop-others-init g c = record {
-  leads = rw (c.in_ok-push.ensures.items, c.in_ok-items.ensures.items) (first_read (mark_byte c.args.mark) g.T.Spelled.spells g.T.Spelled.follows c.requires (toks c.args.tokens.now) c.in_ok-first.first (toks c.in_ok-first.rest.now) c.in_ok-first.ensures.found c.in_ok-first.ensures.only);
+  leads = rw (c.in_ok-push.ensures.items, c.in_ok-items.ensures.items) (first_read (mark_byte c.args.mark) g.T.Spelled.spells g.T.Spelled.follows c.requires
+      (toks c.args.tokens.now) c.in_ok-first.first (toks c.in_ok-first.rest.now) c.in_ok-first.ensures.found c.in_ok-first.ensures.only);
   shorter = c.in_ok-first.ensures.shorter;
 }
 
@@ -21,22 +22,28 @@ pub returns-in_err-item-clause-only : goal.returns-in_err-item-clause-only
 returns-in_err-item-clause-only g c = λ xs r f n h.
     let m = c.in-Some.ensures.found in
     let left = c.loop-others.invariant.leads.on xs r (f, n) h in
-    let y = next_of_list (mark_byte c.args.mark) g.T.Spelled.spells g.T.Spelled.follows c.requires c.loop-others.items.items (toks c.loop-others.rest.now) m.0 (toks c.in-Some.others.now) m.1 xs r (f, n) left in
+    let y = next_of_list (mark_byte c.args.mark) g.T.Spelled.spells g.T.Spelled.follows c.requires c.loop-others.items.items
+    (toks c.loop-others.rest.now) m.0 (toks c.in-Some.others.now) m.1 xs r (f, n) left in
     let p = err_from_is_err_and c.from_residual-in_err-item.result c.from_residual-in_err-item.ensures.1 in
     rw (p.1, p.2) (c.in_err-item.ensures.only y.item y.mid y.follows y.is)
 
 pub loop-others-preserved : goal.loop-others-preserved
 loop-others-preserved g c =
     let m = c.in-Some.ensures.found in record {
-      leads = rw c.in_ok-push-2.ensures.items (next_read (mark_byte c.args.mark) g.T.Spelled.spells g.T.Spelled.follows c.requires (Listed (mark_byte c.args.mark) g.T.Spelled.spells (toks c.args.tokens.now)) c.loop-others.items.items (toks c.loop-others.rest.now) m.0 (toks c.in-Some.others.now) c.in_ok-item.item (toks c.in_ok-item.after.now) c.loop-others.invariant.leads m.1 c.in_ok-item.ensures.found c.in_ok-item.ensures.only);
+      leads =
+          rw c.in_ok-push-2.ensures.items (next_read (mark_byte c.args.mark) g.T.Spelled.spells g.T.Spelled.follows c.requires (Listed (mark_byte c.args.mark)
+          g.T.Spelled.spells (toks c.args.tokens.now)) c.loop-others.items.items (toks c.loop-others.rest.now) m.0 (toks c.in-Some.others.now) c.in_ok-item.item
+          (toks c.in_ok-item.after.now) c.loop-others.invariant.leads m.1 c.in_ok-item.ensures.found c.in_ok-item.ensures.only);
       shorter = omega (arith, c.loop-others.invariant.shorter, c.in-Some.ensures.shorter, c.in_ok-item.ensures.shorter);
     }
 
 pub returns-clause-found : goal.returns-clause-found
 returns-clause-found g c =
-    rw c.new.ensures (list_ends (mark_byte c.args.mark) g.T.Spelled.spells g.T.Spelled.follows (Listed (mark_byte c.args.mark) g.T.Spelled.spells (toks c.args.tokens.now)) c.loop-others.items.items (toks c.loop-others.rest.now) c.loop-others.invariant.leads)
+    rw c.new.ensures (list_ends (mark_byte c.args.mark) g.T.Spelled.spells g.T.Spelled.follows (Listed (mark_byte c.args.mark) g.T.Spelled.spells
+    (toks c.args.tokens.now)) c.loop-others.items.items (toks c.loop-others.rest.now) c.loop-others.invariant.leads)
 
 pub returns-clause-only : goal.returns-clause-only
 returns-clause-only g c = λ xs r f n h.
     let left = c.loop-others.invariant.leads.on xs r (f, n) h in
-    rw c.new.ensures (list_is (mark_byte c.args.mark) g.T.Spelled.spells c.loop-others.items.items (toks c.loop-others.rest.now) c.in_default.ensures.found xs r left.0 left.1 left.2)
+    rw c.new.ensures (list_is (mark_byte c.args.mark) g.T.Spelled.spells c.loop-others.items.items
+    (toks c.loop-others.rest.now) c.in_default.ensures.found xs r left.0 left.1 left.2)

@@ -9,7 +9,8 @@ use Rattle.sudo_syntax.proofs.line_entries.add_cmnds.Given as goal
 abbrev pub invariant-loop-def : goal.invariant-loop-def
 invariant-loop-def l = record {
   draft : IsDraft l.draft;
-  whole : l.draft.entries.items ++ map (λ d. entries.CmndAlias d.name d.list) (into_iter_items l.def-iterator) ≡ l.fn.draft.entries.items ++ map (λ d. entries.CmndAlias d.name d.list) l.fn.defs.items;
+  whole : l.draft.entries.items ++ map (λ d. entries.CmndAlias d.name d.list) (into_iter_items l.def-iterator)
+      ≡ l.fn.draft.entries.items ++ map (λ d. entries.CmndAlias d.name d.list) l.fn.defs.items;
   are : AllByRecursion IsEntry (map (λ d. entries.CmndAlias d.name d.list) (into_iter_items l.def-iterator));
   rest : into_iter_len l.def-iterator ≡ length (into_iter_items l.def-iterator);
 }

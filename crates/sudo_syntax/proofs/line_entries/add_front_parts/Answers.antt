@@ -25,7 +25,8 @@ loop-part-preserved c =
     let added = c.in_ok-add_part.ensures.found in
     record {
       draft = added.draft;
-      whole = rw added.entries (append_assoc l.draft.entries.items _ _ ∙ parts_next c.args.users.now l.draft.entries.items c.in-Some.part others _ (rw next at l.invariant.whole));
+      whole = rw added.entries
+          (append_assoc l.draft.entries.items _ _ ∙ parts_next c.args.users.now l.draft.entries.items c.in-Some.part others _ (rw next at l.invariant.whole));
       are = (parts_are c.args.users.now c.in-Some.part others (rw next at l.invariant.are)).1;
       rest =
           let was = l.invariant.rest in

@@ -11,7 +11,8 @@ returns-in_err-add-clause-only c = λ all.
     let p = err_from_is_err_and c.from_residual.result c.from_residual.ensures.1 in
     let next : into_iter_items l.def-iterator ≡ c.in-Some.def ∷ into_iter_items c.next.new.self = c.in-Some.ensures.steps.0 in
     let one = entries.RunasAlias c.in-Some.def.name c.in-Some.def.list ∷ [] in
-    rw (p.1, p.2) (c.in_err-add.ensures.only (front_is l.draft.entries.items one (map (λ d. entries.RunasAlias d.name d.list) (into_iter_items c.next.new.self)) _ (rw next at l.invariant.whole) all))
+    rw (p.1, p.2) (c.in_err-add.ensures.only
+    (front_is l.draft.entries.items one (map (λ d. entries.RunasAlias d.name d.list) (into_iter_items c.next.new.self)) _ (rw next at l.invariant.whole) all))
 
 pub loop-def-preserved : goal.loop-def-preserved
 loop-def-preserved c =

@@ -21,16 +21,19 @@ returns-in_err-held-clause-only c = λ all.
 pub add_last-requires-clause-entries : goal.add_last-requires-clause-entries
 add_last-requires-clause-entries c =
     let cut = rules_last c.args.users c.args.hosts first_settings c.pop.new.self.items c.args.specs.items c.in-Some.last c.in-Some.ensures.items in
-    rw c.in_ok-held.ensures.after (all_rest IsEntry (rules_of c.args.users c.args.hosts first_settings c.pop.new.self.items) _ (subst (AllByRecursion IsEntry) cut c.requires.entries))
+    rw c.in_ok-held.ensures.after
+    (all_rest IsEntry (rules_of c.args.users c.args.hosts first_settings c.pop.new.self.items) _ (subst (AllByRecursion IsEntry) cut c.requires.entries))
 
 pub returns-clause-found : goal.returns-clause-found
 returns-clause-found c =
     let front = c.in_ok-held.ensures in
-    let all = rules_behind c.args.users c.args.hosts c.args.draft.now.entries.items _ first_settings c.in_ok-held.held c.pop.new.self.items c.args.specs.items c.in-Some.last c.in-Some.ensures.items front.after front.found.entries in
+    let all = rules_behind c.args.users c.args.hosts c.args.draft.now.entries.items _ first_settings c.in_ok-held.held
+    c.pop.new.self.items c.args.specs.items c.in-Some.last c.in-Some.ensures.items front.after front.found.entries in
     on_ok_weaker c.add_last.result (λ adds. record { draft = adds.draft; entries = adds.entries ∙ all }) c.add_last.ensures.found
 
 pub returns-clause-only : goal.returns-clause-only
 returns-clause-only c = λ policy.
     let front = c.in_ok-held.ensures in
-    let all = rules_behind c.args.users c.args.hosts c.args.draft.now.entries.items _ first_settings c.in_ok-held.held c.pop.new.self.items c.args.specs.items c.in-Some.last c.in-Some.ensures.items front.after front.found.entries in
+    let all = rules_behind c.args.users c.args.hosts c.args.draft.now.entries.items _ first_settings c.in_ok-held.held
+    c.pop.new.self.items c.args.specs.items c.in-Some.last c.in-Some.ensures.items front.after front.found.entries in
     c.add_last.ensures.only (subst IsPolicy (sym all) policy)

@@ -5,7 +5,8 @@ use Rattle.sudo_syntax.proofs.TokenLemmas.{first_is}
 use Rattle.sudo_syntax.proofs.CutLemmas.{cut_all}
 use Rattle.sudo_policy.proofs.LineTexts.{hash_bad, hash_no_front}
 use Rattle.sudo_syntax.proofs.pieces.piece_of.Goals as goal
-use Rattle.sudo_syntax.proofs.pieces.piece_of.Goals.{else-is_before_comment-via-then-is_before_comment+else-is_comment, else-is_before_comment-via-else-is_before_comment}
+use Rattle.sudo_syntax.proofs.pieces.piece_of.Goals.{else-is_before_comment-via-then-is_before_comment+else-is_comment}
+use Rattle.sudo_syntax.proofs.pieces.piece_of.Goals.{else-is_before_comment-via-else-is_before_comment}
 
 pub returns-in_default-clause-body : goal.returns-in_default-clause-body
 returns-in_default-clause-body c = λ body h.

@@ -12,14 +12,20 @@ use Rattle.sudo_syntax.proofs.read.add_lines.Goals as goal
 pub returns-in-Err-clause-only : goal.returns-in-Err-clause-only
 returns-in-Err-clause-only c = λ es h policy.
     let all = lines_of c.args.text.now in
-    let at = rw (← c.loop-line.invariant.place) at (YieldsList-turn (YieldsList-at c.into_iter-line-iterator.ensures.into_iter_gives (YieldsList-from_slice_split _ (λ b. eqb b newline) c.args.text.now c.split-line-items.ensures.rest c.split-line-items.ensures.done c.split-line-items.ensures.closure (λ x b q k. search rules))) c.loop-line.yielded _ c.loop-line.yielded_by _ _ c.in-Some.line c.in-Some.is c.next.ensures.steps) in
+    let at =
+    rw (← c.loop-line.invariant.place) at (YieldsList-turn (YieldsList-at c.into_iter-line-iterator.ensures.into_iter_gives (YieldsList-from_slice_split _
+    (λ b. eqb b newline) c.args.text.now c.split-line-items.ensures.rest c.split-line-items.ensures.done c.split-line-items.ensures.closure
+    (λ x b q k. search rules))) c.loop-line.yielded _ c.loop-line.yielded_by _ _ c.in-Some.line c.in-Some.is c.next.ensures.steps) in
     let here = at_line all c.loop-line.here c.in-Some.line.now at in
-    c.kind_of.ensures.memory
-    (leads_stuck all c.loop-line.draft.entries.items c.loop-line.pending.items _ (c.in-Err.fault ≡ OutOfMemory) (rw here at c.loop-line.invariant.leads) (c.in-Err.ensures.only (drop (c.loop-line.here + 1) all)) es h policy)
+    c.kind_of.ensures.memory (leads_stuck all c.loop-line.draft.entries.items c.loop-line.pending.items _
+    (c.in-Err.fault ≡ OutOfMemory) (rw here at c.loop-line.invariant.leads) (c.in-Err.ensures.only (drop (c.loop-line.here + 1) all)) es h policy)
 
 pub returns-in-Err-clause-line : goal.returns-in-Err-clause-line
 returns-in-Err-clause-line c =
-    let at = rw (← c.loop-line.invariant.place) at (YieldsList-turn (YieldsList-at c.into_iter-line-iterator.ensures.into_iter_gives (YieldsList-from_slice_split _ (λ b. eqb b newline) c.args.text.now c.split-line-items.ensures.rest c.split-line-items.ensures.done c.split-line-items.ensures.closure (λ x b q k. search rules))) c.loop-line.yielded _ c.loop-line.yielded_by _ _ c.in-Some.line c.in-Some.is c.next.ensures.steps) in
+    let at =
+    rw (← c.loop-line.invariant.place) at (YieldsList-turn (YieldsList-at c.into_iter-line-iterator.ensures.into_iter_gives (YieldsList-from_slice_split _
+    (λ b. eqb b newline) c.args.text.now c.split-line-items.ensures.rest c.split-line-items.ensures.done c.split-line-items.ensures.closure
+    (λ x b q k. search rules))) c.loop-line.yielded _ c.loop-line.yielded_by _ _ c.in-Some.line c.in-Some.is c.next.ensures.steps) in
     let within = at.0 in
     let some : 1 ≤ c.fault_line.result = first_of (search rules, grind (arith, common_steps)) in
     line_in c.args.text.now c.fault_line.result some (first_of (search rules, grind (arith, common_steps)))
@@ -27,14 +33,18 @@ returns-in-Err-clause-line c =
 pub loop-line-preserved : goal.loop-line-preserved
 loop-line-preserved c =
     let all = lines_of c.args.text.now in
-    let at = rw (← c.loop-line.invariant.place) at (YieldsList-turn (YieldsList-at c.into_iter-line-iterator.ensures.into_iter_gives (YieldsList-from_slice_split _ (λ b. eqb b newline) c.args.text.now c.split-line-items.ensures.rest c.split-line-items.ensures.done c.split-line-items.ensures.closure (λ x b q k. search rules))) c.loop-line.yielded _ c.loop-line.yielded_by _ _ c.in-Some.line c.in-Some.is c.next.ensures.steps) in
+    let at =
+    rw (← c.loop-line.invariant.place) at (YieldsList-turn (YieldsList-at c.into_iter-line-iterator.ensures.into_iter_gives (YieldsList-from_slice_split _
+    (λ b. eqb b newline) c.args.text.now c.split-line-items.ensures.rest c.split-line-items.ensures.done c.split-line-items.ensures.closure
+    (λ x b q k. search rules))) c.loop-line.yielded _ c.loop-line.yielded_by _ _ c.in-Some.line c.in-Some.is c.next.ensures.steps) in
     let here = at_line all c.loop-line.here c.in-Some.line.now at in
     let rest = drop (c.loop-line.here + 1) all in
     let o = c.in_default.ensures.found in
     record {
       draft = o.1.draft;
       place = let place = c.loop-line.invariant.place in omega (arith, length_push c.loop-line.yielded c.in-Some.line);
-      leads = rw o.1.entries (leads_more [] all c.loop-line.draft.entries.items c.loop-line.pending.items _ o.0 c.add_piece.new.pending.items rest (rw here at c.loop-line.invariant.leads) (o.2 rest));
+      leads = rw o.1.entries (leads_more [] all c.loop-line.draft.entries.items c.loop-line.pending.items _ o.0 c.add_piece.new.pending.items rest
+          (rw here at c.loop-line.invariant.leads) (o.2 rest));
       begun = first_of (search rules, grind (arith, common_steps));
       within = first_of (search rules, grind (arith, common_steps));
     }
@@ -42,7 +52,9 @@ loop-line-preserved c =
 pub returns-then-not-is_empty-clause-only : goal.returns-then-not-is_empty-clause-only
 returns-then-not-is_empty-clause-only c = λ es h policy.
     let all = lines_of c.args.text.now in
-    let read = (YieldsList-end (YieldsList-at c.into_iter-line-iterator.ensures.into_iter_gives (YieldsList-from_slice_split _ (λ b. eqb b newline) c.args.text.now c.split-line-items.ensures.rest c.split-line-items.ensures.done c.split-line-items.ensures.closure (λ x b q k. search rules))) c.loop-line.yielded _ c.loop-line.yielded_by _ _ c.in-None.is c.next.ensures.steps).1 in
+    let read = (YieldsList-end (YieldsList-at c.into_iter-line-iterator.ensures.into_iter_gives (YieldsList-from_slice_split _ (λ b. eqb b newline)
+    c.args.text.now c.split-line-items.ensures.rest c.split-line-items.ensures.done c.split-line-items.ensures.closure (λ x b q k. search rules)))
+    c.loop-line.yielded _ c.loop-line.yielded_by _ _ c.in-None.is c.next.ensures.steps).1 in
     let place = c.loop-line.invariant.place in
     let none = drop_all c.loop-line.here all (omega arith) in
     let some : 0 < length c.loop-line.pending.items = first_of (search rules, grind (arith, common_steps)) in
@@ -50,7 +62,9 @@ returns-then-not-is_empty-clause-only c = λ es h policy.
 
 pub returns-then-not-is_empty-clause-line : goal.returns-then-not-is_empty-clause-line
 returns-then-not-is_empty-clause-line c =
-    let read = (YieldsList-end (YieldsList-at c.into_iter-line-iterator.ensures.into_iter_gives (YieldsList-from_slice_split _ (λ b. eqb b newline) c.args.text.now c.split-line-items.ensures.rest c.split-line-items.ensures.done c.split-line-items.ensures.closure (λ x b q k. search rules))) c.loop-line.yielded _ c.loop-line.yielded_by _ _ c.in-None.is c.next.ensures.steps).1 in
+    let read = (YieldsList-end (YieldsList-at c.into_iter-line-iterator.ensures.into_iter_gives (YieldsList-from_slice_split _ (λ b. eqb b newline)
+    c.args.text.now c.split-line-items.ensures.rest c.split-line-items.ensures.done c.split-line-items.ensures.closure (λ x b q k. search rules)))
+    c.loop-line.yielded _ c.loop-line.yielded_by _ _ c.in-None.is c.next.ensures.steps).1 in
     let place = c.loop-line.invariant.place in
     let some : 1 ≤ c.loop-line.here = first_of (search rules, grind (arith, common_steps)) in
     line_in c.args.text.now c.loop-line.here some (omega arith)
@@ -58,7 +72,9 @@ returns-then-not-is_empty-clause-line c =
 pub returns-clause-found : goal.returns-clause-found
 returns-clause-found c =
     let all = lines_of c.args.text.now in
-    let read = (YieldsList-end (YieldsList-at c.into_iter-line-iterator.ensures.into_iter_gives (YieldsList-from_slice_split _ (λ b. eqb b newline) c.args.text.now c.split-line-items.ensures.rest c.split-line-items.ensures.done c.split-line-items.ensures.closure (λ x b q k. search rules))) c.loop-line.yielded _ c.loop-line.yielded_by _ _ c.in-None.is c.next.ensures.steps).1 in
+    let read = (YieldsList-end (YieldsList-at c.into_iter-line-iterator.ensures.into_iter_gives (YieldsList-from_slice_split _ (λ b. eqb b newline)
+    c.args.text.now c.split-line-items.ensures.rest c.split-line-items.ensures.done c.split-line-items.ensures.closure (λ x b q k. search rules)))
+    c.loop-line.yielded _ c.loop-line.yielded_by _ _ c.in-None.is c.next.ensures.steps).1 in
     let place = c.loop-line.invariant.place in
     let none = drop_all c.loop-line.here all (omega arith) in
     let empty = nil_from_length c.loop-line.pending.items (search rules) in
@@ -67,7 +83,9 @@ returns-clause-found c =
 pub returns-clause-only : goal.returns-clause-only
 returns-clause-only c = λ es h policy.
     let all = lines_of c.args.text.now in
-    let read = (YieldsList-end (YieldsList-at c.into_iter-line-iterator.ensures.into_iter_gives (YieldsList-from_slice_split _ (λ b. eqb b newline) c.args.text.now c.split-line-items.ensures.rest c.split-line-items.ensures.done c.split-line-items.ensures.closure (λ x b q k. search rules))) c.loop-line.yielded _ c.loop-line.yielded_by _ _ c.in-None.is c.next.ensures.steps).1 in
+    let read = (YieldsList-end (YieldsList-at c.into_iter-line-iterator.ensures.into_iter_gives (YieldsList-from_slice_split _ (λ b. eqb b newline)
+    c.args.text.now c.split-line-items.ensures.rest c.split-line-items.ensures.done c.split-line-items.ensures.closure (λ x b q k. search rules)))
+    c.loop-line.yielded _ c.loop-line.yielded_by _ _ c.in-None.is c.next.ensures.steps).1 in
     let place = c.loop-line.invariant.place in
     let none = drop_all c.loop-line.here all (omega arith) in
     let empty = nil_from_length c.loop-line.pending.items (search rules) in

@@ -30,7 +30,8 @@ returns-in_err-add_joined-in-Ends-clause-only c =
     let p = err_from_is_err_and c.from_residual-in_err-add_joined-in-Ends.result c.from_residual-in_err-add_joined-in-Ends.ensures.1 in
     let is = rw c.in-Ends.is at c.in_ok-front.ensures.found in
     let only = rw (c.deref.ensures.value, c.in_ok-extend_from_slice-in-Ends.ensures.items) at c.in_err-add_joined-in-Ends.ensures.only in
-    rw (p.1, p.2) (λ rest es s policy. ends_stuck c.args.pending.now.items c.args.line.now c.in-Ends.body.now rest c.args.draft.now.entries.items _ is only es s policy)
+    rw (p.1, p.2)
+    (λ rest es s policy. ends_stuck c.args.pending.now.items c.args.line.now c.in-Ends.body.now rest c.args.draft.now.entries.items _ is only es s policy)
 
 pub returns-in_ok-push-in-GoesOn-clause-found : goal.returns-in_ok-push-in-GoesOn-clause-found
 returns-in_ok-push-in-GoesOn-clause-found c =
@@ -38,11 +39,15 @@ returns-in_ok-push-in-GoesOn-clause-found c =
       [],
       record { draft = c.requires; entries = sym (append-nil c.args.draft.now.entries.items) },
       λ rest.
-          rw (c.in_ok-push-in-GoesOn.ensures.items, c.in_ok-extend_from_slice-in-GoesOn.ensures.items) (leads_on c.args.pending.now.items c.args.line.now c.in-GoesOn.front.now rest is),
+          rw (c.in_ok-push-in-GoesOn.ensures.items, c.in_ok-extend_from_slice-in-GoesOn.ensures.items)
+          (leads_on c.args.pending.now.items c.args.line.now c.in-GoesOn.front.now rest is),
     )
 
 pub returns-in_ok-add_joined-in-Ends-clause-found : goal.returns-in_ok-add_joined-in-Ends-clause-found
 returns-in_ok-add_joined-in-Ends-clause-found c =
     let is = rw c.in-Ends.is at c.in_ok-front.ensures.found in
-    let found = rw (c.deref.ensures.value, c.in_ok-extend_from_slice-in-Ends.ensures.items) at c.in_ok-add_joined-in-Ends.ensures.found in
-    (found.0, found.3, λ rest. rw c.clear.ensures.items (leads_ends c.args.pending.now.items c.args.line.now c.in-Ends.body.now rest found.0 is found.1 found.2))
+    let found = rw (c.deref.ensures.value, c.in_ok-extend_from_slice-in-Ends.ensures.items) at c.in_ok-add_joined-in-Ends.ensures.found in (
+      found.0,
+      found.3,
+      λ rest. rw c.clear.ensures.items (leads_ends c.args.pending.now.items c.args.line.now c.in-Ends.body.now rest found.0 is found.1 found.2),
+    )

@@ -11,7 +11,8 @@ loop-tag-preserved c =
     let said = c.loop-tag.read.0 in
     let next = tag_read said (toks c.loop-tag.read.1.now) d.0 d.1 c.in-Some.tag (toks c.in-Some.after.now) d.2 in
     record {
-      leads = leads_on Ends (Tagged (toks c.args.tokens.now)) (Left said (toks c.loop-tag.read.1.now)) (Left (Some c.in-Some.tag) (toks c.in-Some.after.now)) c.loop-tag.invariant.leads next;
+      leads = leads_on Ends (Tagged (toks c.args.tokens.now)) (Left said (toks c.loop-tag.read.1.now))
+          (Left (Some c.in-Some.tag) (toks c.in-Some.after.now)) c.loop-tag.invariant.leads next;
       shorter = omega (arith, c.loop-tag.invariant.shorter, c.in-Some.ensures.shorter);
     }
 

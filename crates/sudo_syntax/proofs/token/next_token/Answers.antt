@@ -25,7 +25,8 @@ returns-then-is_empty-clause-fault c =
     let s = c.cut_blanks in
     let w = c.cut_word in
     let none : length w.result.0.now ≡ 0 = search rules in
-    lex_none c.args.bytes.now s.result.0.now s.result.1.now c.cut_bangs.result.0.now c.cut_bangs.result.1.now s.ensures _ _ (first_is s.result.1.now c.in-len1-up.len_at_least) c.in_default-read.ensures c.cut_bangs.ensures (no_word _ w.result.0.now w.result.1.now w.ensures none)
+    lex_none c.args.bytes.now s.result.0.now s.result.1.now c.cut_bangs.result.0.now c.cut_bangs.result.1.now s.ensures _ _
+    (first_is s.result.1.now c.in-len1-up.len_at_least) c.in_default-read.ensures c.cut_bangs.ensures (no_word _ w.result.0.now w.result.1.now w.ensures none)
 
 pub returns-clause-first : goal.returns-clause-first
 returns-clause-first c =
@@ -33,4 +34,5 @@ returns-clause-first c =
     let b = c.cut_bangs in
     let w = c.cut_word in
     let some : 0 < length w.result.0.now = search rules in
-    rw c.text_of-text.ensures (lex_word c.args.bytes.now s.result.0.now s.result.1.now b.result.0.now b.result.1.now w.result.0.now w.result.1.now s.ensures b.ensures w.ensures some _ (ap not c.is_empty-spaced.ensures ∙ some_blank s.result.0.now))
+    rw c.text_of-text.ensures (lex_word c.args.bytes.now s.result.0.now s.result.1.now b.result.0.now b.result.1.now w.result.0.now
+    w.result.1.now s.ensures b.ensures w.ensures some _ (ap not c.is_empty-spaced.ensures ∙ some_blank s.result.0.now))

@@ -5,14 +5,16 @@ use Rattle.sudo_policy.specs.declared.tree.Line.{Line}
 use Rattle.sudo_policy.specs.declared.tree.Line.TheVariants as lines
 use Rattle.sudo_syntax.specs.private.Tokens.{toks}
 use Rattle.sudo_syntax.specs.private.Fronts.{NoKind}
-use Rattle.sudo_syntax.proofs.TreeLemmas.{users_kind, runas_kind, hosts_kind, cmnds_kind, by_users, by_runas, by_hosts, by_cmnds, by_user_spec, err_no_ok, some_no_none, some_is}
+use Rattle.sudo_syntax.proofs.TreeLemmas.{users_kind, runas_kind, hosts_kind, cmnds_kind, by_users, by_runas}
+use Rattle.sudo_syntax.proofs.TreeLemmas.{by_hosts, by_cmnds, by_user_spec, err_no_ok, some_no_none, some_is}
 use Rattle.sudo_syntax.proofs.tree_reading.tree_of.Goals as goal
 
 pub returns-in_err-users-clause-only : goal.returns-in_err-users-clause-only
 returns-in_err-users-clause-only c = λ l h.
     let e = c.in_err-users in
     let p = err_from_is_err_and c.from_residual.result c.from_residual.ensures.1 in
-    rw (p.1, p.2) (by_users (λ (x : Line). e.field-0.0 ≡ NoMemory) (toks c.args.tokens.now) l h e.ensures.only (λ n. absurd (err_no_ok e.field-0.0 _ (e.ensures.other n))))
+    rw (p.1, p.2)
+    (by_users (λ (x : Line). e.field-0.0 ≡ NoMemory) (toks c.args.tokens.now) l h e.ensures.only (λ n. absurd (err_no_ok e.field-0.0 _ (e.ensures.other n))))
 
 pub returns-in-Some-clause-only : goal.returns-in-Some-clause-only
 returns-in-Some-clause-only c = λ l h.
@@ -26,7 +28,8 @@ pub returns-in_err-runas-clause-only : goal.returns-in_err-runas-clause-only
 returns-in_err-runas-clause-only c = λ l h.
     let e = c.in_err-runas in
     let p = err_from_is_err_and c.from_residual-in_err-runas.result c.from_residual-in_err-runas.ensures.1 in
-    rw (p.1, p.2) (by_runas (λ (x : Line). e.field-0.0 ≡ NoMemory) (toks c.args.tokens.now) l h e.ensures.only (λ n. absurd (err_no_ok e.field-0.0 _ (e.ensures.other n))))
+    rw (p.1, p.2)
+    (by_runas (λ (x : Line). e.field-0.0 ≡ NoMemory) (toks c.args.tokens.now) l h e.ensures.only (λ n. absurd (err_no_ok e.field-0.0 _ (e.ensures.other n))))
 
 pub returns-in-Some-2-clause-only : goal.returns-in-Some-2-clause-only
 returns-in-Some-2-clause-only c = λ l h.
@@ -40,7 +43,8 @@ pub returns-in_err-hosts-clause-only : goal.returns-in_err-hosts-clause-only
 returns-in_err-hosts-clause-only c = λ l h.
     let e = c.in_err-hosts in
     let p = err_from_is_err_and c.from_residual-in_err-hosts.result c.from_residual-in_err-hosts.ensures.1 in
-    rw (p.1, p.2) (by_hosts (λ (x : Line). e.field-0.0 ≡ NoMemory) (toks c.args.tokens.now) l h e.ensures.only (λ n. absurd (err_no_ok e.field-0.0 _ (e.ensures.other n))))
+    rw (p.1, p.2)
+    (by_hosts (λ (x : Line). e.field-0.0 ≡ NoMemory) (toks c.args.tokens.now) l h e.ensures.only (λ n. absurd (err_no_ok e.field-0.0 _ (e.ensures.other n))))
 
 pub returns-in-Some-3-clause-only : goal.returns-in-Some-3-clause-only
 returns-in-Some-3-clause-only c = λ l h.
@@ -54,7 +58,8 @@ pub returns-in_err-cmnds-clause-only : goal.returns-in_err-cmnds-clause-only
 returns-in_err-cmnds-clause-only c = λ l h.
     let e = c.in_err-cmnds in
     let p = err_from_is_err_and c.from_residual-in_err-cmnds.result c.from_residual-in_err-cmnds.ensures.1 in
-    rw (p.1, p.2) (by_cmnds (λ (x : Line). e.field-0.0 ≡ NoMemory) (toks c.args.tokens.now) l h e.ensures.only (λ n. absurd (err_no_ok e.field-0.0 _ (e.ensures.other n))))
+    rw (p.1, p.2)
+    (by_cmnds (λ (x : Line). e.field-0.0 ≡ NoMemory) (toks c.args.tokens.now) l h e.ensures.only (λ n. absurd (err_no_ok e.field-0.0 _ (e.ensures.other n))))
 
 pub returns-in-Some-4-clause-only : goal.returns-in-Some-4-clause-only
 returns-in-Some-4-clause-only c = λ l h.
@@ -71,7 +76,8 @@ returns-in_err-user_spec-clause-only c = λ l h.
     let hosts : NoKind hosts_kind (toks c.args.tokens.now) = rw c.in_default-3.is at c.in_ok-hosts.ensures.found in
     let cmnds : NoKind cmnds_kind (toks c.args.tokens.now) = rw c.in_default-4.is at c.in_ok-cmnds.ensures.found in
     let p = err_from_is_err_and c.from_residual-in_err-user_spec.result c.from_residual-in_err-user_spec.ensures.1 in
-    rw (p.1, p.2) (by_user_spec (λ (x : Line). c.in_err-user_spec.field-0.0 ≡ NoMemory) (toks c.args.tokens.now) l h users runas hosts cmnds c.in_err-user_spec.ensures.only)
+    rw (p.1, p.2)
+    (by_user_spec (λ (x : Line). c.in_err-user_spec.field-0.0 ≡ NoMemory) (toks c.args.tokens.now) l h users runas hosts cmnds c.in_err-user_spec.ensures.only)
 
 pub returns-clause-only : goal.returns-clause-only
 returns-clause-only c = λ l h.
@@ -80,4 +86,5 @@ returns-clause-only c = λ l h.
     let hosts : NoKind hosts_kind (toks c.args.tokens.now) = rw c.in_default-3.is at c.in_ok-hosts.ensures.found in
     let cmnds : NoKind cmnds_kind (toks c.args.tokens.now) = rw c.in_default-4.is at c.in_ok-cmnds.ensures.found in
     let r = c.in_ok-user_spec.user_spec in
-    by_user_spec (λ (x : Line). lines.UserSpec r.users r.parts ≡ x) (toks c.args.tokens.now) l h users runas hosts cmnds (λ u p d. let same = c.in_ok-user_spec.ensures.only u p d in rw (same.0, same.1) refl)
+    by_user_spec (λ (x : Line). lines.UserSpec r.users r.parts ≡ x) (toks c.args.tokens.now) l h users runas hosts cmnds
+    (λ u p d. let same = c.in_ok-user_spec.ensures.only u p d in rw (same.0, same.1) refl)

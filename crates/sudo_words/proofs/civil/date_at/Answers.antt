@@ -7,7 +7,8 @@ use Rattle.sudo_words.proofs.Days.{date_of_is, library_date_is}
 use Rattle.sudo_words.proofs.civil.date_at.Goals as goal
 
 -- the library's year is the one of `date_of`, also as the cast reads it
-year_back : (date : Date) (day : ℕ) → day ≤ 47_481 → epoch_day date +ℤ pos 4_371_587 ≡ pos (day + 4_371_587) → (to_z w16 (of_z w16 date.year) ≡ pos (date_of day).year) × (date.month ≡ (date_of day).month) × (date.day ≡ (date_of day).day_of_month)
+year_back : (date : Date) (day : ℕ) → day ≤ 47_481 → epoch_day date +ℤ pos 4_371_587 ≡ pos (day + 4_371_587)
+    → (to_z w16 (of_z w16 date.year) ≡ pos (date_of day).year) × (date.month ≡ (date_of day).month) × (date.day ≡ (date_of day).day_of_month)
 year_back date day h e =
     let number : epoch_day date ≡ pos day = omega (arith, signed_arith) in
     let same = library_date_is date day h number in

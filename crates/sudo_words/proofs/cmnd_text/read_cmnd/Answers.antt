@@ -9,7 +9,8 @@ returns-in_err-rule-clause-only c = λ d x e.
     let args = c.in-Some.args.now in
     let words = first_word c.args.text.now c.in_ok-words.words.items args head c.in_ok-words.ensures (sym c.deref.ensures.value ∙ c.in-Some.ensures.cases.0) in
     let parts = cmnd_parts c.args.text.now head.now (texts_of args) d words x e in
-    no_memory c.from_residual-in_err-rule.result c.in_err-rule.field-0.0 _ c.from_residual-in_err-rule.ensures.1 (c.in_err-rule.ensures.only (rule_of d) x.args parts.1)
+    no_memory c.from_residual-in_err-rule.result c.in_err-rule.field-0.0 _ c.from_residual-in_err-rule.ensures.1
+    (c.in_err-rule.ensures.only (rule_of d) x.args parts.1)
 
 pub returns-clause-found : goal.returns-clause-found
 returns-clause-found c =

@@ -37,7 +37,8 @@ overflow_add-n c = omega (arith, c.loop-b.invariant.small, small c.loop-b.b-inde
 
 pub returns-then-not-is_ascii_digit : goal.returns-then-not-is_ascii_digit
 returns-then-not-is_ascii_digit c =
-    no_number c.args.value.now (and_right _ _ (and_right _ _ (list_all_at is_ascii_digit c.args.value.now c.loop-b.b-index 0 c.loop-b-test.true (sym c.if-not-is_ascii_digit.ensures.value))))
+    no_number c.args.value.now (and_right _ _
+    (and_right _ _ (list_all_at is_ascii_digit c.args.value.now c.loop-b.b-index 0 c.loop-b-test.true (sym c.if-not-is_ascii_digit.ensures.value))))
 
 pub loop-b-preserved : goal.loop-b-preserved
 loop-b-preserved c =

@@ -18,7 +18,8 @@ digits_are text a b m d len below low e f g h =
     rw (high_is, low_is) text_is
 
 -- the day number that was found for the numbers is that of the text
-date_found : (result : Option ℤ) (text : List ℕ) (y m d : ℕ) → text ≡ four y ++ two m ++ two d → IfSome result (λ n. IsCivilDate (pos y) m d × (days_from_civil (pos y) m d ≡ n)) → IfSome result (λ n. IsDateText text n)
+date_found : (result : Option ℤ) (text : List ℕ) (y m d : ℕ) → text ≡ four y ++ two m ++ two d
+    → IfSome result (λ n. IsCivilDate (pos y) m d × (days_from_civil (pos y) m d ≡ n)) → IfSome result (λ n. IsDateText text n)
 date_found None text y m d e h = tt
 date_found (Some n) text y m d e h = record { year = y; month = m; day_of_month = d; date = h.0; number = h.1; text_is = e }
 
@@ -31,4 +32,5 @@ returns-in_ok-pair-in-len8-4-clause-found c =
     let len : length c.args.text.now ≡ 8 = omega arith in
     let digits = digits_are c.args.text.now _ _ _ _ len a.0 b.0 a.1 b.1 m.1 d.1 in
     let year = c.from.result * 100 + c.from-in-len8.result in
-    date_found c.day_number.result c.args.text.now year c.in_ok-pair-in-len8-3.field-0 c.in_ok-pair-in-len8-4.field-0 (rw (c.from.ensures, c.from-in-len8.ensures) digits) c.day_number.ensures.found
+    date_found c.day_number.result c.args.text.now year c.in_ok-pair-in-len8-3.field-0 c.in_ok-pair-in-len8-4.field-0
+    (rw (c.from.ensures, c.from-in-len8.ensures) digits) c.day_number.ensures.found

@@ -30,7 +30,8 @@ pub returns-clause-held : goal.returns-clause-held
 returns-clause-held g c = λ up.
     let d : Delivery = record { relay = c.args.relay.now; body = c.args.body.now } in
     let K = g.K.Keeper in
-    let held = held_at_ok (K.holds c.self.inside.keeper) (K.holds c.add-added.new.self) d (record {}) c.in_ok-message.message c.in_ok-message.ensures.found.0 (c.in_ok-added.ensures.added up) in
+    let held = held_at_ok (K.holds c.self.inside.keeper) (K.holds c.add-added.new.self) d
+    (record {}) c.in_ok-message.message c.in_ok-message.ensures.found.0 (c.in_ok-added.ensures.added up) in
     rw (← c.self.view_is) held
 
 pub returns-clause-repeated : goal.returns-clause-repeated
@@ -52,5 +53,6 @@ invariant_of-self-2 g c =
       λ up. c.add-added.ensures.desk up,
       λ up. c.add-added.ensures.roster up ∙ c.self.invariant.2 (c.add-added.ensures.served.was_up up),
       λ up. c.add-added.ensures.durable up,
-      known_more (K.is_up old) (K.is_up new) (K.holds old) (K.holds new) c.in_ok-message.message c.take.result c.with_message-known.result known c.add-added.ensures.served.was_up c.in_ok-added.ensures.added c.with_message-known.ensures.more c.with_message-known.ensures.nothing,
+      known_more (K.is_up old) (K.is_up new) (K.holds old) (K.holds new) c.in_ok-message.message c.take.result c.with_message-known.result known
+          c.add-added.ensures.served.was_up c.in_ok-added.ensures.added c.with_message-known.ensures.more c.with_message-known.ensures.nothing,
     )

@@ -28,7 +28,8 @@ loop-relay-init g c =
       held = λ up. subst Q (sym none) (held_by_none (K.holds keeper));
       roster = refl;
       base = refl;
-      served = served_by_none keeper (R c.args.answers.now.items) (WasWantingAmong c.args.answers.now.items) (λ failed. let there = subst R none failed in omega (arith, there.1));
+      served = served_by_none keeper (R c.args.answers.now.items) (WasWantingAmong c.args.answers.now.items) (λ failed. let there = subst R none failed in
+          omega (arith, there.1));
       causes = subst F (sym none) (inl (omega arith));
       count = search rules;
       room = c.requires.room;
@@ -63,22 +64,25 @@ loop-relay-preserved g c =
     let P' : List (Result Ack Refusal) → Type 0 = λ as'. AreAnswers old.roster.says (map delivery_of (take (i + 1) list)) as' in
     let Q : List Delivery → Type 0 = λ ds. HeldAfterAll (K.holds old.keeper) ds (answers ++ result ∷ []) (K.holds new.keeper) in
     let Q' : List (Result Ack Refusal) → Type 0 = λ as'. HeldAfterAll (K.holds old.keeper) (map delivery_of (take (i + 1) list)) as' (K.holds new.keeper) in
-    let U : List (Result Ack Refusal) → Type 0 = λ as'. IsServed K.is_up K.is_clean K.failures K.beside old.keeper new.keeper (Contains as' (Err Storage)) (WasWantingAmong as') in
+    let U : List (Result Ack Refusal) → Type 0 =
+    λ as'. IsServed K.is_up K.is_clean K.failures K.beside old.keeper new.keeper (Contains as' (Err Storage)) (WasWantingAmong as') in
     let H : List (Result Ack Refusal) → Type 0 = λ as'. HaveFailed (storage_failures as') (K.failures old.keeper) (K.failures new.keeper) in
     let N : ℕ → Type 0 = λ n. HaveFailed n (K.failures old.keeper) (K.failures new.keeper) in
     record {
-      answered = subst P' (sym {A = List (Result Ack Refusal)} c.push_reserved.ensures.items) (subst P (sym {A = List Delivery} more) (answers_push old.roster.says before answers d result kept.answered answer));
-      held = λ up. subst Q' (sym {A = List (Result Ack Refusal)} c.push_reserved.ensures.items) (subst Q (sym {A = List Delivery} more)
-          (held_push old.roster.says (K.holds old.keeper) (K.holds mid.keeper) (K.holds new.keeper) before answers d result kept.answered (kept.held (done.served.was_up up)) (done.held up)));
+      answered = subst P' (sym {A = List (Result Ack Refusal)} c.push_reserved.ensures.items)
+          (subst P (sym {A = List Delivery} more) (answers_push old.roster.says before answers d result kept.answered answer));
+      held = λ up. subst Q' (sym {A = List (Result Ack Refusal)} c.push_reserved.ensures.items)
+          (subst Q (sym {A = List Delivery} more) (held_push old.roster.says (K.holds old.keeper) (K.holds mid.keeper)
+          (K.holds new.keeper) before answers d result kept.answered (kept.held (done.served.was_up up)) (done.held up)));
       roster = done.roster ∙ kept.roster;
       base = done.base ∙ kept.base;
-      served = subst U (sym {A = List (Result Ack Refusal)} c.push_reserved.ensures.items)
-          (served_as (Contains (answers ++ result ∷ []) (Err Storage)) (WasWantingAmong (answers ++ result ∷ []))
-          (λ failed. Contains-push_cases answers result (Err Storage) failed)
-          (λ want. elim want as (λ _. WasWantingAmong (answers ++ result ∷ [])) [ inl sooner ↦ wanting_before answers result sooner | inr now ↦ wanting_now answers result now ])
+      served = subst U (sym {A = List (Result Ack Refusal)} c.push_reserved.ensures.items) (served_as (Contains (answers ++ result ∷ []) (Err Storage))
+          (WasWantingAmong (answers ++ result ∷ [])) (λ failed. Contains-push_cases answers result (Err Storage) failed) (λ want. elim want
+          as (λ _. WasWantingAmong (answers ++ result ∷ [])) [ inl sooner ↦ wanting_before answers result sooner | inr now ↦ wanting_now answers result now ])
           (served_both kept.served done.served));
-      causes = subst H (sym {A = List (Result Ack Refusal)} c.push_reserved.ensures.items) (subst N (sym (failures_push answers result))
-          (have_failed_push (storage_failures answers) (K.failures old.keeper) (K.failures mid.keeper) (K.failures new.keeper) result kept.causes done.served.counts done.served.cause));
+      causes = subst H (sym {A = List (Result Ack Refusal)} c.push_reserved.ensures.items)
+          (subst N (sym (failures_push answers result)) (have_failed_push (storage_failures answers) (K.failures old.keeper)
+          (K.failures mid.keeper) (K.failures new.keeper) result kept.causes done.served.counts done.served.cause));
       count = omega (arith, c.push_reserved.ensures.len, kept.count);
       room = omega (arith, c.push_reserved.ensures.capacity, kept.room);
     }

@@ -8,10 +8,12 @@ use Rattle.desk.proofs.desk.Desk.deliver_each.Given as goal
 abbrev pub invariant-loop-relay : goal.invariant-loop-relay
 invariant-loop-relay g l = record {
   answered : AreAnswers l.fn.self.roster.says (map delivery_of (take l.relay-index l.list)) l.answers.items;
-  held : g.K.Keeper.is_up l.self.keeper → HeldAfterAll (g.K.Keeper.holds l.fn.self.keeper) (map delivery_of (take l.relay-index l.list)) l.answers.items (g.K.Keeper.holds l.self.keeper);
+  held : g.K.Keeper.is_up l.self.keeper
+      → HeldAfterAll (g.K.Keeper.holds l.fn.self.keeper) (map delivery_of (take l.relay-index l.list)) l.answers.items (g.K.Keeper.holds l.self.keeper);
   roster : l.self.roster ≡ l.fn.self.roster;
   base : l.self.base ≡ l.fn.self.base;
-  served : IsServed g.K.Keeper.is_up g.K.Keeper.is_clean g.K.Keeper.failures g.K.Keeper.beside l.fn.self.keeper l.self.keeper (Contains l.answers.items (Err Storage)) (WasWantingAmong l.answers.items);
+  served : IsServed g.K.Keeper.is_up g.K.Keeper.is_clean g.K.Keeper.failures g.K.Keeper.beside l.fn.self.keeper l.self.keeper
+      (Contains l.answers.items (Err Storage)) (WasWantingAmong l.answers.items);
   causes : HaveFailed (storage_failures l.answers.items) (g.K.Keeper.failures l.fn.self.keeper) (g.K.Keeper.failures l.self.keeper);
   count : vec_len l.answers ≡ l.relay-index;
   room : length l.list ≤ vec_capacity l.answers;

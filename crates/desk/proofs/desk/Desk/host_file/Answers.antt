@@ -12,7 +12,8 @@ returns-clause-file g c = λ set up lists.
 pub returns-clause-rights : goal.returns-clause-rights
 returns-clause-rights g c = λ set up lists.
     let d = c.args.self.now in
-    IfOk-weaker c.file_of.result _ _ (λ s left. whole_rights d.roster.says d.base set c.args.host.now (string_bytes s) left) (c.file_of.ensures.file set up lists)
+    IfOk-weaker c.file_of.result _ _ (λ s left. whole_rights d.roster.says d.base set c.args.host.now (string_bytes s) left)
+    (c.file_of.ensures.file set up lists)
 
 pub returns-clause-few : goal.returns-clause-few
 returns-clause-few g c = λ set ls up lists are few.

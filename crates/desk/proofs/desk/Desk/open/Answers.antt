@@ -25,7 +25,8 @@ returns-in-Ok-clause-opens g c up =
     let K = g.K.Keeper in
     let old = c.args.keeper in
     let text : c.text.result.now ≡ c.args.roster.text = search rules in
-    subst (λ t. Opens (K.is_empty old) (K.is_desk old) (K.is_old old) (K.roster old) t (K.holds old) (K.holds c.find_or_make.new.keeper)) text (c.in-Ok.ensures.opens up)
+    subst (λ t. Opens (K.is_empty old) (K.is_desk old) (K.is_old old) (K.roster old) t (K.holds old) (K.holds c.find_or_make.new.keeper)) text
+    (c.in-Ok.ensures.opens up)
 
 pub returns-in-Ok-clause-lasting : goal.returns-in-Ok-clause-lasting
 returns-in-Ok-clause-lasting g c up clean =
@@ -49,5 +50,5 @@ returns-in-Err-clause-refused g c up =
     let old = c.args.keeper in
     let fits : FitsBase c.args.base = search rules in
     let text : c.text.result.now ≡ c.args.roster.text = search rules in
-    refused_over (FitsBase c.args.base) (K.is_empty old) (K.is_desk old) (K.is_old old) (K.roster old) c.text.result.now c.args.roster.text c.in-Err.refusal fits text
-    c.in-Err.ensures.fits (c.in-Err.ensures.refused up)
+    refused_over (FitsBase c.args.base) (K.is_empty old) (K.is_desk old) (K.is_old old)
+    (K.roster old) c.text.result.now c.args.roster.text c.in-Err.refusal fits text c.in-Err.ensures.fits (c.in-Err.ensures.refused up)

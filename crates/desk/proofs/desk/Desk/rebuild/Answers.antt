@@ -41,7 +41,8 @@ returns-in-Err-clause-refused g c up =
     let K = g.K.Keeper in
     let old = c.args.keeper in
     let fits : FitsBase c.args.base = search rules in
-    not_rebuilt_over (FitsBase c.args.base) (K.is_empty old) (K.is_desk old) (K.is_old old) c.in-Err.refusal fits c.in-Err.ensures.fits (c.in-Err.ensures.refused up)
+    not_rebuilt_over (FitsBase c.args.base) (K.is_empty old) (K.is_desk old)
+    (K.is_old old) c.in-Err.refusal fits c.in-Err.ensures.fits (c.in-Err.ensures.refused up)
 
 pub returns-in-Err-clause-err : goal.returns-in-Err-clause-err
 returns-in-Err-clause-err g c = told_why c.in-Err.refusal c.in-Err.ensures.err

@@ -9,7 +9,9 @@ returns-in-Some c =
     let m = c.args.stored.now in
     let told : IsTold m (Some c.in-Some.one) = subst (λ (o : Option Asked). IsTold m o) c.in-Some.is c.told.ensures in
     let test = is_at c.in-Some.one.0.0.now c.in-Some.one.0.1 in
-    c.is_among.ensures ∙ ap (list_any test) c.as_slice.ensures.value ∙ disputed_of c.args.self.now.all.now c.args.self.now.names.items c.args.self.now.disputed.items c.requires.index m c.requires.known c.in-Some.one told
+    c.is_among.ensures ∙ ap (list_any test) c.as_slice.ensures.value
+    ∙ disputed_of c.args.self.now.all.now c.args.self.now.names.items c.args.self.now.disputed.items c.requires.index m c.requires.known c.in-Some.one told
 
 pub returns-in-None : goal.returns-in-None
-returns-in-None c = none_disputed c.args.self.now.all.now c.args.stored.now (subst (λ (o : Option Asked). IsTold c.args.stored.now o) c.in-None.is c.told.ensures)
+returns-in-None c =
+    none_disputed c.args.self.now.all.now c.args.stored.now (subst (λ (o : Option Asked). IsTold c.args.stored.now o) c.in-None.is c.told.ensures)

@@ -11,18 +11,22 @@ use Rattle.desk_store.proofs.memory.MemoryKeeperKeeper.add.Goals as goal
 pub returns-clause-added : goal.returns-clause-added
 returns-clause-added c = λ up.
     let roster = option_map string_bytes c.self.inside.roster in
-    let P : MemoryContent → Type 0 = λ old. OnOk c.put.result (IsWith (Holds old) c.args.message.now (Holds (record { roster = roster; messages = c.put.new.self }))) in
+    let P : MemoryContent → Type 0 =
+    λ old. OnOk c.put.result (IsWith (Holds old) c.args.message.now (Holds (record { roster = roster; messages = c.put.new.self }))) in
     subst P c.self.view_is (put_adds_at_ok c.put.result roster c.self.inside.messages c.args.message.now c.put.new.self c.requires.message c.put.ensures.put)
 
 pub returns-clause-crash : goal.returns-clause-crash
 returns-clause-crash c = λ up clean left may.
     let roster = option_map string_bytes c.self.inside.roster in
     let P : MemoryContent → Type 0 = λ old. IsSome old.roster → IsWithOrWithout (unwrap_or old.roster []) (Holds old) c.args.message.now left in
-    subst P c.self.view_is (λ some. put_leaves roster c.self.inside.messages c.args.message.now c.put.new.self c.requires.message some c.put.result c.put.ensures.put c.put.ensures.unchanged left may) (c.requires.desk up)
+    subst P c.self.view_is (λ some. put_leaves roster c.self.inside.messages c.args.message.now c.put.new.self
+    c.requires.message some c.put.result c.put.ensures.put c.put.ensures.unchanged left may) (c.requires.desk up)
 
 pub returns-clause-lasting : goal.returns-clause-lasting
 returns-clause-lasting c = λ up clean.
     let roster = option_map string_bytes c.self.inside.roster in
     let new : MemoryContent = record { roster = roster; messages = c.put.new.self } in
-    let P : MemoryContent → Type 0 = λ old. IsSome old.roster → OnOk c.put.result (LeavesOnly (LeavesContent new) (IsDeskOf (unwrap_or old.roster []) (With (Holds old) c.args.message.now))) in
-    subst P c.self.view_is (λ some. put_lasts roster c.self.inside.messages c.args.message.now c.put.new.self c.requires.message some c.put.result c.put.ensures.put) (c.requires.desk up)
+    let P : MemoryContent → Type 0 = λ old. IsSome old.roster
+    → OnOk c.put.result (LeavesOnly (LeavesContent new) (IsDeskOf (unwrap_or old.roster []) (With (Holds old) c.args.message.now))) in
+    subst P c.self.view_is (λ some.
+    put_lasts roster c.self.inside.messages c.args.message.now c.put.new.self c.requires.message some c.put.result c.put.ensures.put) (c.requires.desk up)

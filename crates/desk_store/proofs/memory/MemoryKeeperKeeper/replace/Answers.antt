@@ -11,7 +11,8 @@ returns-clause-crash c = λ up clean left may.
     let old : MemoryContent = record { roster = roster; messages = c.self.inside.messages } in
     let P : MemoryContent → Type 0 = λ k. IsReplacedOrNot (IsSome k.roster) ⊥ (unwrap_or k.roster []) c.args.text.now (Holds k) left in
     let Q : List ℕ → Type 0 = λ t. IsReplacedOrNot (IsSome roster) ⊥ (unwrap_or roster []) t (Holds old) left in
-    subst P c.self.view_is (subst Q c.in_ok-recorded.ensures.ok (replaced_leaves roster (string_bytes c.in_ok-recorded.recorded) c.self.inside.messages left may))
+    subst P c.self.view_is
+    (subst Q c.in_ok-recorded.ensures.ok (replaced_leaves roster (string_bytes c.in_ok-recorded.recorded) c.self.inside.messages left may))
 
 pub returns-clause-lasting : goal.returns-clause-lasting
 returns-clause-lasting c = λ up clean left may.
@@ -19,4 +20,5 @@ returns-clause-lasting c = λ up clean left may.
     let old : MemoryContent = record { roster = roster; messages = c.self.inside.messages } in
     let P : MemoryContent → Type 0 = λ k. IsDeskOf c.args.text.now (Holds k) left in
     let Q : List ℕ → Type 0 = λ t. IsDeskOf t (Holds old) left in
-    subst P c.self.view_is (subst Q c.in_ok-recorded.ensures.ok (replaced_lasts roster (string_bytes c.in_ok-recorded.recorded) c.self.inside.messages left may))
+    subst P c.self.view_is
+    (subst Q c.in_ok-recorded.ensures.ok (replaced_lasts roster (string_bytes c.in_ok-recorded.recorded) c.self.inside.messages left may))

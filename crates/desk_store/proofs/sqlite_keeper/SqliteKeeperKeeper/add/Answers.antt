@@ -43,19 +43,24 @@ returns-then-not-is_autocommit-clause-served g c = record {
 }
 
 pub returns-then-not-is_autocommit-clause-crash : goal.returns-then-not-is_autocommit-clause-crash
-returns-then-not-is_autocommit-clause-crash g c up clean left may = inl ((up_left (state g.S.Store c.args.self.now.conn) c.settles.ensures up left may).desk (c.requires.desk up))
+returns-then-not-is_autocommit-clause-crash g c up clean left may =
+    inl ((up_left (state g.S.Store c.args.self.now.conn) c.settles.ensures up left may).desk (c.requires.desk up))
 
 pub returns-then-not-is_autocommit-clause-lasting : goal.returns-then-not-is_autocommit-clause-lasting
 returns-then-not-is_autocommit-clause-lasting g c up clean = tt
 
 pub returns-then-not-is_autocommit-clause-durable : goal.returns-then-not-is_autocommit-clause-durable
-returns-then-not-is_autocommit-clause-durable g c up left may = (up_left (state g.S.Store c.args.self.now.conn) c.settles.ensures up left may).desk (c.requires.desk up)
+returns-then-not-is_autocommit-clause-durable g c up left may =
+    (up_left (state g.S.Store c.args.self.now.conn) c.settles.ensures up left may).desk (c.requires.desk up)
 
 pub returns-in-Ok-clause-added : goal.returns-in-Ok-clause-added
-returns-in-Ok-clause-added g c up = with_message (state g.S.Store c.args.self.now.conn).now (state g.S.Store c.arrive-arrived.new.conn).now c.args.message.now c.requires.message (content_wired (state g.S.Store c.args.self.now.conn).now (state g.S.Store c.arrive-arrived.new.conn).now c.args.message.now c.args.text.now c.requires.text (c.in-Ok.ensures.arrived up))
+returns-in-Ok-clause-added g c up = with_message (state g.S.Store c.args.self.now.conn).now
+    (state g.S.Store c.arrive-arrived.new.conn).now c.args.message.now c.requires.message (content_wired (state g.S.Store c.args.self.now.conn).now
+    (state g.S.Store c.arrive-arrived.new.conn).now c.args.message.now c.args.text.now c.requires.text (c.in-Ok.ensures.arrived up))
 
 pub returns-in-Ok-clause-repeated : goal.returns-in-Ok-clause-repeated
-returns-in-Ok-clause-repeated g c up there = c.in-Ok.ensures.repeated up (held_wired (state g.S.Store c.args.self.now.conn).now c.args.message.now c.args.text.now c.requires.text there)
+returns-in-Ok-clause-repeated g c up there =
+    c.in-Ok.ensures.repeated up (held_wired (state g.S.Store c.args.self.now.conn).now c.args.message.now c.args.text.now c.requires.text there)
 
 pub returns-in-Ok-clause-unchanged : goal.returns-in-Ok-clause-unchanged
 returns-in-Ok-clause-unchanged g c up = tt
@@ -64,7 +69,8 @@ pub returns-in-Ok-clause-roster : goal.returns-in-Ok-clause-roster
 returns-in-Ok-clause-roster g c up = ap (λ (d : Content). d.roster) (c.in-Ok.ensures.arrived up)
 
 pub returns-in-Ok-clause-desk : goal.returns-in-Ok-clause-desk
-returns-in-Ok-clause-desk g c up = arrival_keeps (state g.S.Store c.args.self.now.conn) (state g.S.Store c.arrive-arrived.new.conn) c.arrive-arrived.result c.requires.desk c.arrive-arrived.ensures.was_up c.arrive-arrived.ensures.desk c.arrive-arrived.ensures.others c.arrive-arrived.ensures.unchanged up
+returns-in-Ok-clause-desk g c up = arrival_keeps (state g.S.Store c.args.self.now.conn) (state g.S.Store c.arrive-arrived.new.conn) c.arrive-arrived.result
+    c.requires.desk c.arrive-arrived.ensures.was_up c.arrive-arrived.ensures.desk c.arrive-arrived.ensures.others c.arrive-arrived.ensures.unchanged up
 
 pub returns-in-Ok-clause-served : goal.returns-in-Ok-clause-served
 returns-in-Ok-clause-served g c = record {
@@ -78,13 +84,24 @@ returns-in-Ok-clause-served g c = record {
 }
 
 pub returns-in-Ok-clause-crash : goal.returns-in-Ok-clause-crash
-returns-in-Ok-clause-crash g c up clean left may = with_or_without (state g.S.Store c.args.self.now.conn) (state g.S.Store c.arrive-arrived.new.conn) c.settles.ensures up clean left may c.args.message.now c.requires.message (c.requires.desk up) (subst (λ t. Survives (state g.S.Store c.args.self.now.conn) (state g.S.Store c.arrive-arrived.new.conn) (ArrivesAt t (state g.S.Store c.args.self.now.conn).now)) c.requires.text (c.arrive-arrived.ensures.survives up))
+returns-in-Ok-clause-crash g c up clean left may =
+    with_or_without (state g.S.Store c.args.self.now.conn) (state g.S.Store c.arrive-arrived.new.conn) c.settles.ensures up clean left may c.args.message.now
+    c.requires.message (c.requires.desk up) (subst (λ t. Survives (state g.S.Store c.args.self.now.conn) (state g.S.Store c.arrive-arrived.new.conn)
+    (ArrivesAt t (state g.S.Store c.args.self.now.conn).now)) c.requires.text (c.arrive-arrived.ensures.survives up))
 
 pub returns-in-Ok-clause-lasting : goal.returns-in-Ok-clause-lasting
-returns-in-Ok-clause-lasting g c up clean left may = let still = c.in-Ok.ensures.up up clean in arrival_lasts (state g.S.Store c.arrive-arrived.new.conn) c.settles-2.ensures still left may (state g.S.Store c.args.self.now.conn).now c.args.message.now c.requires.message (arrival_keeps (state g.S.Store c.args.self.now.conn) (state g.S.Store c.arrive-arrived.new.conn) c.arrive-arrived.result c.requires.desk c.arrive-arrived.ensures.was_up c.arrive-arrived.ensures.desk c.arrive-arrived.ensures.others c.arrive-arrived.ensures.unchanged still) (content_wired (state g.S.Store c.args.self.now.conn).now (state g.S.Store c.arrive-arrived.new.conn).now c.args.message.now c.args.text.now c.requires.text (c.in-Ok.ensures.arrived still))
+returns-in-Ok-clause-lasting g c up clean left may =
+    let still = c.in-Ok.ensures.up up clean in
+    arrival_lasts (state g.S.Store c.arrive-arrived.new.conn) c.settles-2.ensures still left may (state g.S.Store c.args.self.now.conn).now c.args.message.now
+    c.requires.message (arrival_keeps (state g.S.Store c.args.self.now.conn) (state g.S.Store c.arrive-arrived.new.conn) c.arrive-arrived.result
+    c.requires.desk c.arrive-arrived.ensures.was_up c.arrive-arrived.ensures.desk c.arrive-arrived.ensures.others c.arrive-arrived.ensures.unchanged still)
+    (content_wired (state g.S.Store c.args.self.now.conn).now
+    (state g.S.Store c.arrive-arrived.new.conn).now c.args.message.now c.args.text.now c.requires.text (c.in-Ok.ensures.arrived still))
 
 pub returns-in-Ok-clause-durable : goal.returns-in-Ok-clause-durable
-returns-in-Ok-clause-durable g c up left may = (up_left (state g.S.Store c.arrive-arrived.new.conn) c.settles-2.ensures up left may).desk (arrival_keeps (state g.S.Store c.args.self.now.conn) (state g.S.Store c.arrive-arrived.new.conn) c.arrive-arrived.result c.requires.desk c.arrive-arrived.ensures.was_up c.arrive-arrived.ensures.desk c.arrive-arrived.ensures.others c.arrive-arrived.ensures.unchanged up)
+returns-in-Ok-clause-durable g c up left may = (up_left (state g.S.Store c.arrive-arrived.new.conn) c.settles-2.ensures up left may).desk
+    (arrival_keeps (state g.S.Store c.args.self.now.conn) (state g.S.Store c.arrive-arrived.new.conn) c.arrive-arrived.result c.requires.desk
+    c.arrive-arrived.ensures.was_up c.arrive-arrived.ensures.desk c.arrive-arrived.ensures.others c.arrive-arrived.ensures.unchanged up)
 
 pub returns-in-Err-clause-added : goal.returns-in-Err-clause-added
 returns-in-Err-clause-added g c up = tt
@@ -99,7 +116,8 @@ pub returns-in-Err-clause-roster : goal.returns-in-Err-clause-roster
 returns-in-Err-clause-roster g c up = ap (λ (d : Database). (content_of d).roster) (c.in-Err.ensures.unchanged up)
 
 pub returns-in-Err-clause-desk : goal.returns-in-Err-clause-desk
-returns-in-Err-clause-desk g c up = arrival_keeps (state g.S.Store c.args.self.now.conn) (state g.S.Store c.arrive-arrived.new.conn) c.arrive-arrived.result c.requires.desk c.arrive-arrived.ensures.was_up c.arrive-arrived.ensures.desk c.arrive-arrived.ensures.others c.arrive-arrived.ensures.unchanged up
+returns-in-Err-clause-desk g c up = arrival_keeps (state g.S.Store c.args.self.now.conn) (state g.S.Store c.arrive-arrived.new.conn) c.arrive-arrived.result
+    c.requires.desk c.arrive-arrived.ensures.was_up c.arrive-arrived.ensures.desk c.arrive-arrived.ensures.others c.arrive-arrived.ensures.unchanged up
 
 pub returns-in-Err-clause-served : goal.returns-in-Err-clause-served
 returns-in-Err-clause-served g c = record {
@@ -113,10 +131,15 @@ returns-in-Err-clause-served g c = record {
 }
 
 pub returns-in-Err-clause-crash : goal.returns-in-Err-clause-crash
-returns-in-Err-clause-crash g c up clean left may = with_or_without (state g.S.Store c.args.self.now.conn) (state g.S.Store c.arrive-arrived.new.conn) c.settles.ensures up clean left may c.args.message.now c.requires.message (c.requires.desk up) (subst (λ t. Survives (state g.S.Store c.args.self.now.conn) (state g.S.Store c.arrive-arrived.new.conn) (ArrivesAt t (state g.S.Store c.args.self.now.conn).now)) c.requires.text (c.arrive-arrived.ensures.survives up))
+returns-in-Err-clause-crash g c up clean left may =
+    with_or_without (state g.S.Store c.args.self.now.conn) (state g.S.Store c.arrive-arrived.new.conn) c.settles.ensures up clean left may c.args.message.now
+    c.requires.message (c.requires.desk up) (subst (λ t. Survives (state g.S.Store c.args.self.now.conn) (state g.S.Store c.arrive-arrived.new.conn)
+    (ArrivesAt t (state g.S.Store c.args.self.now.conn).now)) c.requires.text (c.arrive-arrived.ensures.survives up))
 
 pub returns-in-Err-clause-lasting : goal.returns-in-Err-clause-lasting
 returns-in-Err-clause-lasting g c up clean = tt
 
 pub returns-in-Err-clause-durable : goal.returns-in-Err-clause-durable
-returns-in-Err-clause-durable g c up left may = (up_left (state g.S.Store c.arrive-arrived.new.conn) c.settles-2.ensures up left may).desk (arrival_keeps (state g.S.Store c.args.self.now.conn) (state g.S.Store c.arrive-arrived.new.conn) c.arrive-arrived.result c.requires.desk c.arrive-arrived.ensures.was_up c.arrive-arrived.ensures.desk c.arrive-arrived.ensures.others c.arrive-arrived.ensures.unchanged up)
+returns-in-Err-clause-durable g c up left may = (up_left (state g.S.Store c.arrive-arrived.new.conn) c.settles-2.ensures up left may).desk
+    (arrival_keeps (state g.S.Store c.args.self.now.conn) (state g.S.Store c.arrive-arrived.new.conn) c.arrive-arrived.result c.requires.desk
+    c.arrive-arrived.ensures.was_up c.arrive-arrived.ensures.desk c.arrive-arrived.ensures.others c.arrive-arrived.ensures.unchanged up)

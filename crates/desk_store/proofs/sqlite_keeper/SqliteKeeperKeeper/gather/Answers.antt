@@ -26,7 +26,8 @@ returns-in-Ok-clause-served g c = record {
 }
 
 pub returns-in-Ok-clause-crash : goal.returns-in-Ok-clause-crash
-returns-in-Ok-clause-crash g c up clean left may = (as_kept (state g.S.Store c.args.self.now.conn) (state g.S.Store c.gather_in.new.conn) c.settles.ensures up clean left may (c.gather_in.ensures.reads.survives up clean)).desk (c.requires up)
+returns-in-Ok-clause-crash g c up clean left may = (as_kept (state g.S.Store c.args.self.now.conn)
+    (state g.S.Store c.gather_in.new.conn) c.settles.ensures up clean left may (c.gather_in.ensures.reads.survives up clean)).desk (c.requires up)
 
 pub returns-in-Err-clause-known : goal.returns-in-Err-clause-known
 returns-in-Err-clause-known g c up = tt
@@ -46,4 +47,5 @@ returns-in-Err-clause-served g c = record {
 }
 
 pub returns-in-Err-clause-crash : goal.returns-in-Err-clause-crash
-returns-in-Err-clause-crash g c up clean left may = (as_kept (state g.S.Store c.args.self.now.conn) (state g.S.Store c.gather_in.new.conn) c.settles.ensures up clean left may (c.gather_in.ensures.reads.survives up clean)).desk (c.requires up)
+returns-in-Err-clause-crash g c up clean left may = (as_kept (state g.S.Store c.args.self.now.conn)
+    (state g.S.Store c.gather_in.new.conn) c.settles.ensures up clean left may (c.gather_in.ensures.reads.survives up clean)).desk (c.requires up)

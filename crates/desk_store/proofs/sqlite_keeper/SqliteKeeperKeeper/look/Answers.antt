@@ -24,7 +24,8 @@ returns-in-Ok-clause-served g c = record {
 }
 
 pub returns-in-Ok-clause-crash : goal.returns-in-Ok-clause-crash
-returns-in-Ok-clause-crash g c up clean left may = as_kept (state g.S.Store c.args.self.now.conn) (state g.S.Store c.look.new.conn) c.settles.ensures up clean left may (c.look.ensures.reads.survives up clean)
+returns-in-Ok-clause-crash g c up clean left may = as_kept (state g.S.Store c.args.self.now.conn)
+    (state g.S.Store c.look.new.conn) c.settles.ensures up clean left may (c.look.ensures.reads.survives up clean)
 
 pub returns-in-Err-clause-found : goal.returns-in-Err-clause-found
 returns-in-Err-clause-found g c up = tt
@@ -44,4 +45,5 @@ returns-in-Err-clause-served g c = record {
 }
 
 pub returns-in-Err-clause-crash : goal.returns-in-Err-clause-crash
-returns-in-Err-clause-crash g c up clean left may = as_kept (state g.S.Store c.args.self.now.conn) (state g.S.Store c.look.new.conn) c.settles.ensures up clean left may (c.look.ensures.reads.survives up clean)
+returns-in-Err-clause-crash g c up clean left may = as_kept (state g.S.Store c.args.self.now.conn)
+    (state g.S.Store c.look.new.conn) c.settles.ensures up clean left may (c.look.ensures.reads.survives up clean)

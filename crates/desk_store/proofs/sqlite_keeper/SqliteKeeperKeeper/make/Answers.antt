@@ -30,7 +30,8 @@ returns-then-not-is_autocommit-clause-served g c = record {
 }
 
 pub returns-then-not-is_autocommit-clause-crash : goal.returns-then-not-is_autocommit-clause-crash
-returns-then-not-is_autocommit-clause-crash g c up clean left may = inl ((up_left (state g.S.Store c.args.self.now.conn) c.settles.ensures up left may).empty (c.requires up))
+returns-then-not-is_autocommit-clause-crash g c up clean left may =
+    inl ((up_left (state g.S.Store c.args.self.now.conn) c.settles.ensures up left may).empty (c.requires up))
 
 pub returns-then-not-is_autocommit-clause-lasting : goal.returns-then-not-is_autocommit-clause-lasting
 returns-then-not-is_autocommit-clause-lasting g c up clean = tt
@@ -62,10 +63,13 @@ returns-in-Ok-clause-served g c = record {
 }
 
 pub returns-in-Ok-clause-crash : goal.returns-in-Ok-clause-crash
-returns-in-Ok-clause-crash g c up clean left may = nothing_or_made (state g.S.Store c.args.self.now.conn) (state g.S.Store c.make-made.new.conn) c.settles.ensures up clean left may c.args.text.now (c.requires up) (c.make-made.ensures.survives up)
+returns-in-Ok-clause-crash g c up clean left may = nothing_or_made (state g.S.Store c.args.self.now.conn)
+    (state g.S.Store c.make-made.new.conn) c.settles.ensures up clean left may c.args.text.now (c.requires up) (c.make-made.ensures.survives up)
 
 pub returns-in-Ok-clause-lasting : goal.returns-in-Ok-clause-lasting
-returns-in-Ok-clause-lasting g c up clean left may = let still = c.in-Ok.ensures.up up clean in made_lasts (state g.S.Store c.make-made.new.conn) c.settles-2.ensures still left may c.args.text.now (c.in-Ok.ensures.made still).makes
+returns-in-Ok-clause-lasting g c up clean left may =
+    let still = c.in-Ok.ensures.up up clean in
+    made_lasts (state g.S.Store c.make-made.new.conn) c.settles-2.ensures still left may c.args.text.now (c.in-Ok.ensures.made still).makes
 
 pub returns-in-Ok-clause-durable : goal.returns-in-Ok-clause-durable
 returns-in-Ok-clause-durable g c up left may = up_left (state g.S.Store c.make-made.new.conn) c.settles-2.ensures up left may
@@ -94,7 +98,8 @@ returns-in-Err-clause-served g c = record {
 }
 
 pub returns-in-Err-clause-crash : goal.returns-in-Err-clause-crash
-returns-in-Err-clause-crash g c up clean left may = nothing_or_made (state g.S.Store c.args.self.now.conn) (state g.S.Store c.make-made.new.conn) c.settles.ensures up clean left may c.args.text.now (c.requires up) (c.make-made.ensures.survives up)
+returns-in-Err-clause-crash g c up clean left may = nothing_or_made (state g.S.Store c.args.self.now.conn)
+    (state g.S.Store c.make-made.new.conn) c.settles.ensures up clean left may c.args.text.now (c.requires up) (c.make-made.ensures.survives up)
 
 pub returns-in-Err-clause-lasting : goal.returns-in-Err-clause-lasting
 returns-in-Err-clause-lasting g c up clean = tt

@@ -27,7 +27,8 @@ returns-in-Ok-clause-served g c = record {
 }
 
 pub returns-in-Ok-clause-crash : goal.returns-in-Ok-clause-crash
-returns-in-Ok-clause-crash g c up clean left may = (as_kept (state g.S.Store c.args.self.now.conn) (state g.S.Store c.messages_of.new.conn) c.settles.ensures up clean left may (c.messages_of.ensures.reads.survives up clean)).desk (c.requires up)
+returns-in-Ok-clause-crash g c up clean left may = (as_kept (state g.S.Store c.args.self.now.conn)
+    (state g.S.Store c.messages_of.new.conn) c.settles.ensures up clean left may (c.messages_of.ensures.reads.survives up clean)).desk (c.requires up)
 
 pub returns-in-Err-clause-listed : goal.returns-in-Err-clause-listed
 returns-in-Err-clause-listed g c up = tt
@@ -47,4 +48,5 @@ returns-in-Err-clause-served g c = record {
 }
 
 pub returns-in-Err-clause-crash : goal.returns-in-Err-clause-crash
-returns-in-Err-clause-crash g c up clean left may = (as_kept (state g.S.Store c.args.self.now.conn) (state g.S.Store c.messages_of.new.conn) c.settles.ensures up clean left may (c.messages_of.ensures.reads.survives up clean)).desk (c.requires up)
+returns-in-Err-clause-crash g c up clean left may = (as_kept (state g.S.Store c.args.self.now.conn)
+    (state g.S.Store c.messages_of.new.conn) c.settles.ensures up clean left may (c.messages_of.ensures.reads.survives up clean)).desk (c.requires up)

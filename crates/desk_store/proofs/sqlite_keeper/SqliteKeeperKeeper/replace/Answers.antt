@@ -13,7 +13,8 @@ pub returns-in-Ok-clause-recorded : goal.returns-in-Ok-clause-recorded
 returns-in-Ok-clause-recorded g c up = ap (λ (d : Content). d.roster) (c.in-Ok.ensures.becomes up).content
 
 pub returns-in-Ok-clause-held : goal.returns-in-Ok-clause-held
-returns-in-Ok-clause-held g c up = same_texts (state g.S.Store c.args.self.now.conn).now (state g.S.Store c.replace_in-replaced.new.conn).now (ap (λ (d : Content). d.texts) (c.in-Ok.ensures.becomes up).content)
+returns-in-Ok-clause-held g c up = same_texts (state g.S.Store c.args.self.now.conn).now
+    (state g.S.Store c.replace_in-replaced.new.conn).now (ap (λ (d : Content). d.texts) (c.in-Ok.ensures.becomes up).content)
 
 pub returns-in-Ok-clause-unchanged : goal.returns-in-Ok-clause-unchanged
 returns-in-Ok-clause-unchanged g c up = tt
@@ -30,10 +31,14 @@ returns-in-Ok-clause-served g c = record {
 }
 
 pub returns-in-Ok-clause-crash : goal.returns-in-Ok-clause-crash
-returns-in-Ok-clause-crash g c up clean left may = replaced_or_not (state g.S.Store c.args.self.now.conn) (state g.S.Store c.replace_in-replaced.new.conn) c.settles.ensures up clean left may c.args.text.now (c.replace_in-replaced.ensures.survives up clean)
+returns-in-Ok-clause-crash g c up clean left may = replaced_or_not (state g.S.Store c.args.self.now.conn)
+    (state g.S.Store c.replace_in-replaced.new.conn) c.settles.ensures up clean left may c.args.text.now (c.replace_in-replaced.ensures.survives up clean)
 
 pub returns-in-Ok-clause-lasting : goal.returns-in-Ok-clause-lasting
-returns-in-Ok-clause-lasting g c up clean left may = let still = c.in-Ok.ensures.up up clean in roster_lasts (state g.S.Store c.replace_in-replaced.new.conn) c.settles-2.ensures still left may c.args.text.now (state g.S.Store c.args.self.now.conn).now (c.in-Ok.ensures.becomes still)
+returns-in-Ok-clause-lasting g c up clean left may =
+    let still = c.in-Ok.ensures.up up clean in
+    roster_lasts (state g.S.Store c.replace_in-replaced.new.conn) c.settles-2.ensures still left may c.args.text.now
+    (state g.S.Store c.args.self.now.conn).now (c.in-Ok.ensures.becomes still)
 
 pub returns-in-Ok-clause-durable : goal.returns-in-Ok-clause-durable
 returns-in-Ok-clause-durable g c up left may = up_left (state g.S.Store c.replace_in-replaced.new.conn) c.settles-2.ensures up left may
@@ -62,7 +67,8 @@ returns-in-Err-clause-served g c = record {
 }
 
 pub returns-in-Err-clause-crash : goal.returns-in-Err-clause-crash
-returns-in-Err-clause-crash g c up clean left may = replaced_or_not (state g.S.Store c.args.self.now.conn) (state g.S.Store c.replace_in-replaced.new.conn) c.settles.ensures up clean left may c.args.text.now (c.replace_in-replaced.ensures.survives up clean)
+returns-in-Err-clause-crash g c up clean left may = replaced_or_not (state g.S.Store c.args.self.now.conn)
+    (state g.S.Store c.replace_in-replaced.new.conn) c.settles.ensures up clean left may c.args.text.now (c.replace_in-replaced.ensures.survives up clean)
 
 pub returns-in-Err-clause-lasting : goal.returns-in-Err-clause-lasting
 returns-in-Err-clause-lasting g c up clean = tt

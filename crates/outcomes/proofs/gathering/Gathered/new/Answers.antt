@@ -8,4 +8,5 @@ invariant_of-result c =
 
 pub returns : goal.returns
 returns c =
-    gathered_from [] c.new.result c.new-2.result (none_by_name c.new.result c.new-2.result c.new.ensures.ordered c.new.ensures.empty c.new-2.ensures.ordered c.new-2.ensures.empty)
+    gathered_from [] c.new.result c.new-2.result
+    (none_by_name c.new.result c.new-2.result c.new.ensures.ordered c.new.ensures.empty c.new-2.ensures.ordered c.new-2.ensures.empty)

@@ -10,4 +10,5 @@ invariant_of-result c =
 pub returns : goal.returns
 returns c = λ set show.
     let s = c.in_ok-summaries.summaries in
-    gathered_from set s c.new.result (alone_by_name set s c.new.result (shown_none set c.args.names.now show) (c.in_ok-summaries.ensures.known set show) c.new.ensures.ordered c.new.ensures.empty)
+    gathered_from set s c.new.result (alone_by_name set s c.new.result (shown_none set c.args.names.now show)
+    (c.in_ok-summaries.ensures.known set show) c.new.ensures.ordered c.new.ensures.empty)

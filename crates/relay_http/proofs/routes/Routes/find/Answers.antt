@@ -12,21 +12,27 @@ pub taken-requires : goal.taken-requires
 taken-requires c =
     let found = sym (ap (λ (r : RowsOf (RouteOf Place)). first r c.args.target.now) c.self.invariant) ∙ c.in-Ok.ensures.found in
     let p = c.in-Ok.found.params in
-    subst (λ (path : List ℕ). AllText (walk p.pattern.now p.text.now path p.names.now 0 0)) (sym c.in-Ok.ensures.path) (texts c.args.target.now _ found c.requires)
+    subst (λ (path : List ℕ). AllText (walk p.pattern.now p.text.now path p.names.now 0 0))
+    (sym c.in-Ok.ensures.path) (texts c.args.target.now _ found c.requires)
 
 pub moment_taken-requires : goal.moment_taken-requires
 moment_taken-requires c =
     let found = sym (ap (λ (r : RowsOf (RouteOf Place)). first r c.args.target.now) c.self.invariant) ∙ c.in-Ok.ensures.found in
     let p = c.in-Ok.found.params in
-    subst (λ (path : List ℕ). AllText (walk p.pattern.now p.text.now path p.names.now 0 0)) (sym c.in-Ok.ensures.path) (texts c.args.target.now _ found c.requires)
+    subst (λ (path : List ℕ). AllText (walk p.pattern.now p.text.now path p.names.now 0 0))
+    (sym c.in-Ok.ensures.path) (texts c.args.target.now _ found c.requires)
 
 pub returns-in-Ok : goal.returns-in-Ok
 unfolding part
 returns-in-Ok c =
     let found = sym (ap (λ (r : RowsOf (RouteOf Place)). first r c.args.target.now) c.self.invariant) ∙ c.in-Ok.ensures.found in
     let p = c.in-Ok.found.params in
-    subst (λ (o : Option (RouteOf Place)). Takes o c.args.target.now (Some (c.in-Ok.found.value.now, c.taken.result.now, c.moment_taken.result.now))) (sym found) (
+    subst (λ (o : Option (RouteOf Place)). Takes o c.args.target.now (Some (c.in-Ok.found.value.now, c.taken.result.now, c.moment_taken.result.now)))
+    (sym found) (
       refl,
-      sym (c.taken.ensures ∙ ap (λ (path : List ℕ). unwrap_or (named (parameter c.in-Ok.found.value.now) (walk p.pattern.now p.text.now path p.names.now 0 0)) []) c.in-Ok.ensures.path),
-      sym (c.moment_taken.ensures ∙ ap (λ (path : List ℕ). unwrap_or (named (moment_parameter c.in-Ok.found.value.now) (walk p.pattern.now p.text.now path p.names.now 0 0)) []) c.in-Ok.ensures.path),
+      sym (c.taken.ensures ∙ ap
+          (λ (path : List ℕ). unwrap_or (named (parameter c.in-Ok.found.value.now) (walk p.pattern.now p.text.now path p.names.now 0 0)) [])
+          c.in-Ok.ensures.path),
+      sym (c.moment_taken.ensures ∙ ap (λ (path : List ℕ).
+          unwrap_or (named (moment_parameter c.in-Ok.found.value.now) (walk p.pattern.now p.text.now path p.names.now 0 0)) []) c.in-Ok.ensures.path),
     )

@@ -12,5 +12,5 @@ pub returns : goal.returns
 returns c =
     let inside = c.self.inside in
     c.has.ensures ∙ ap₂ (λ p cs. list_any (is_at p) cs) c.place_of_file.ensures c.as_slice.ensures
-    ∙ found_in_order inside.commands inside.ordered c.self.invariant.1 (place (Path c.args.file.now c.args.rule.now)) (is_file c.args.file.now c.args.rule.now) (at_file c.args.file.now c.args.rule.now)
-    ∙ ap (λ (v : CeilingFields Cmnd). list_any (is_file c.args.file.now c.args.rule.now) v.commands) c.self.view_is
+    ∙ found_in_order inside.commands inside.ordered c.self.invariant.1 (place (Path c.args.file.now c.args.rule.now)) (is_file c.args.file.now c.args.rule.now)
+    (at_file c.args.file.now c.args.rule.now) ∙ ap (λ (v : CeilingFields Cmnd). list_any (is_file c.args.file.now c.args.rule.now) v.commands) c.self.view_is

@@ -16,7 +16,8 @@ returns-then-give c =
     let given = c.give.ensures ∙ ap₂ (λ (day : ℕ) (es : List Entry). list_any (gives approve day) es) c.day-day.ensures entries in
     let front : c.give.result ≡ (not (bytes_eq person c.args.asker.now) && holds f person approve c.args.at) =
     passed (not c.eq.result) _ _ _ (ap not c.if-eq.false) (ap not c.eq.ensures) given in
-    passed _ _ _ _ c.if-give.true front (ap not (c.is_one_against.ensures ∙ ap₂ (λ (day : ℕ) (es : List Entry). list_any (is_against f approve day) es) c.day-day.ensures entries))
+    passed _ _ _ _ c.if-give.true front
+    (ap not (c.is_one_against.ensures ∙ ap₂ (λ (day : ℕ) (es : List Entry). list_any (is_against f approve day) es) c.day-day.ensures entries))
     ∙ ap (λ (k : CeilingFields Cmnd). eligible f person c.args.asker.now k c.args.at) c.ceiling.view_is
 
 pub returns-else-give : goal.returns-else-give

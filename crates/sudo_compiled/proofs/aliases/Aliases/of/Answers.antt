@@ -16,4 +16,5 @@ loop-entry-preserved c =
 
 pub returns : goal.returns
 returns c =
-    subst (λ (es : List Entry). AreKnown (reverse es) c.loop-entry.known) (take_all c.loop-entry.entry-index c.args.entries.now c.loop-entry-test.false) c.loop-entry.invariant
+    subst (λ (es : List Entry). AreKnown (reverse es) c.loop-entry.known)
+    (take_all c.loop-entry.entry-index c.args.entries.now c.loop-entry-test.false) c.loop-entry.invariant

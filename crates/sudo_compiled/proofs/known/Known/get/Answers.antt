@@ -9,5 +9,5 @@ lent_map f (Some x) = refl
 
 pub returns : goal.returns
 returns g c =
-    lent_map (λ x. x.value.items) c.get.result
-    ∙ ap (λ (o : _). option_map (λ x. x.value.items) o) (c.get.ensures.value ∙ ap (λ (bs : List ℕ). get_by_text c.args.self.now.lists bs) c.as_str.ensures.value)
+    lent_map (λ x. x.value.items) c.get.result ∙ ap (λ (o : _). option_map (λ x. x.value.items) o)
+    (c.get.ensures.value ∙ ap (λ (bs : List ℕ). get_by_text c.args.self.now.lists bs) c.as_str.ensures.value)

@@ -8,19 +8,24 @@ use Rattle.sudo_syntax.proofs.spec.CmndSpecSpelled.at.Goals as goal
 pub returns-in_err-runas-clause-only : goal.returns-in_err-runas-clause-only
 returns-in_err-runas-clause-only c = λ v r f h.
     let p = err_from_is_err_and c.from_residual.result c.from_residual.ensures.1 in
-    rw (p.1, p.2) (c.in_err-runas.ensures.only v.runas h.after_runas (dates_close_runas h.after_runas h.dates h.after_dates h.tags h.after_tags v.cmnd r h.dated h.tagged h.cmnd) h.runas)
+    rw (p.1, p.2) (c.in_err-runas.ensures.only v.runas h.after_runas
+    (dates_close_runas h.after_runas h.dates h.after_dates h.tags h.after_tags v.cmnd r h.dated h.tagged h.cmnd) h.runas)
 
 pub returns-in-Err-clause-only : goal.returns-in-Err-clause-only
 returns-in-Err-clause-only c = λ v r f h.
-    let first = c.in_ok-runas.ensures.only v.runas h.after_runas (dates_close_runas h.after_runas h.dates h.after_dates h.tags h.after_tags v.cmnd r h.dated h.tagged h.cmnd) h.runas in
+    let first = c.in_ok-runas.ensures.only v.runas h.after_runas
+    (dates_close_runas h.after_runas h.dates h.after_dates h.tags h.after_tags v.cmnd r h.dated h.tagged h.cmnd) h.runas in
     let dated = subst (λ (t : List Tok). SpellsDates t h.dates h.after_dates) (sym first.1) h.dated in
-    absurd (c.in-Err.ensures.only v.not_before v.not_after h.after_dates (tags_close_dates h.after_dates h.tags h.after_tags v.cmnd r f h.tagged h.cmnd) (h.dates, dated, h.bounds))
+    absurd (c.in-Err.ensures.only v.not_before v.not_after h.after_dates
+    (tags_close_dates h.after_dates h.tags h.after_tags v.cmnd r f h.tagged h.cmnd) (h.dates, dated, h.bounds))
 
 pub returns-in_err-cmnd-clause-only : goal.returns-in_err-cmnd-clause-only
 returns-in_err-cmnd-clause-only c = λ v r f h.
-    let first = c.in_ok-runas.ensures.only v.runas h.after_runas (dates_close_runas h.after_runas h.dates h.after_dates h.tags h.after_tags v.cmnd r h.dated h.tagged h.cmnd) h.runas in
+    let first = c.in_ok-runas.ensures.only v.runas h.after_runas
+    (dates_close_runas h.after_runas h.dates h.after_dates h.tags h.after_tags v.cmnd r h.dated h.tagged h.cmnd) h.runas in
     let dated = subst (λ (t : List Tok). SpellsDates t h.dates h.after_dates) (sym first.1) h.dated in
-    let bounds = c.in-Ok.ensures.only v.not_before v.not_after h.after_dates (tags_close_dates h.after_dates h.tags h.after_tags v.cmnd r f h.tagged h.cmnd) (h.dates, dated, h.bounds) in
+    let bounds = c.in-Ok.ensures.only v.not_before v.not_after h.after_dates
+    (tags_close_dates h.after_dates h.tags h.after_tags v.cmnd r f h.tagged h.cmnd) (h.dates, dated, h.bounds) in
     let tagged = subst (λ (t : List Tok). SpellsTags t h.tags h.after_tags) (sym bounds.2) h.tagged in
     let tags = c.tags_at-nopasswd.ensures.only v.nopasswd h.after_tags (cmnd_closes_tags h.after_tags v.cmnd r h.cmnd) (h.tags, tagged, h.passwd) in
     let cmnd = subst (λ (t : List Tok). SpellsCmnd t v.cmnd r) (sym tags.1) h.cmnd in
@@ -29,9 +34,11 @@ returns-in_err-cmnd-clause-only c = λ v r f h.
 
 pub returns-clause-only : goal.returns-clause-only
 returns-clause-only c = λ v r f h.
-    let first = c.in_ok-runas.ensures.only v.runas h.after_runas (dates_close_runas h.after_runas h.dates h.after_dates h.tags h.after_tags v.cmnd r h.dated h.tagged h.cmnd) h.runas in
+    let first = c.in_ok-runas.ensures.only v.runas h.after_runas
+    (dates_close_runas h.after_runas h.dates h.after_dates h.tags h.after_tags v.cmnd r h.dated h.tagged h.cmnd) h.runas in
     let dated = subst (λ (t : List Tok). SpellsDates t h.dates h.after_dates) (sym first.1) h.dated in
-    let bounds = c.in-Ok.ensures.only v.not_before v.not_after h.after_dates (tags_close_dates h.after_dates h.tags h.after_tags v.cmnd r f h.tagged h.cmnd) (h.dates, dated, h.bounds) in
+    let bounds = c.in-Ok.ensures.only v.not_before v.not_after h.after_dates
+    (tags_close_dates h.after_dates h.tags h.after_tags v.cmnd r f h.tagged h.cmnd) (h.dates, dated, h.bounds) in
     let tagged = subst (λ (t : List Tok). SpellsTags t h.tags h.after_tags) (sym bounds.2) h.tagged in
     let tags = c.tags_at-nopasswd.ensures.only v.nopasswd h.after_tags (cmnd_closes_tags h.after_tags v.cmnd r h.cmnd) (h.tags, tagged, h.passwd) in
     let cmnd = subst (λ (t : List Tok). SpellsCmnd t v.cmnd r) (sym tags.1) h.cmnd in

@@ -72,4 +72,5 @@ returns-clause-only c = λ t s.
     let days : c.in_ok-date.field-0 ≡ s.day = cc in
     let seconds : c.in_ok-clock.field-0 ≡ s.seconds = cc in
     let minutes : c.in_ok-offset.field-0 ≡ s.offset = cc in
-    c.moment_at.ensures.only t s.moment (rw (days, seconds, minutes, to_z-of_z (day_fits s.date s.day s.date_is), to_z-of_z (offset_fits s.zone s.offset s.zone_is)) s.moment_is)
+    c.moment_at.ensures.only t s.moment
+    (rw (days, seconds, minutes, to_z-of_z (day_fits s.date s.day s.date_is), to_z-of_z (offset_fits s.zone s.offset s.zone_is)) s.moment_is)
