@@ -5,9 +5,9 @@ The layout is the one that `rt fmt` gives (`rt ci` refuses a crate for less); ea
 replaces stands in its file exactly once; no crate has more edits in `must-fail/` than the gate's
 budget allows; `make docs` would change nothing; docs/CALLS.md has each public call, and no other;
 each file that a document names is there, and so are the crates, definitions and clauses that the
-documents about the code name (names.py); README.md is no longer than a page or two; no line of a
-script is too wide, and pyflakes finds nothing in one. Prints what is otherwise, and ends with 1
-then.
+documents about the code name (names.py); README.md is no longer than a page or two; no line of
+code, of definitions, of proofs or of a script is too wide, and pyflakes finds nothing in a script.
+Prints what is otherwise, and ends with 1 then.
 """
 
 import glob
@@ -27,6 +27,10 @@ import names
 MOST_EDITS = 10
 MOST_README = 6 * 1024
 WIDTH = 100
+# how wide a line of a crate may be, by its folder
+WIDTHS = {"src": 100, "specs": 100, "proofs": 160}
+# a line that cannot be wrapped: an attribute, which `rt fmt` lays out on one line, or one text
+UNBROKEN = re.compile(r' *(#!?\[.*|[^"]{,30}"(\\.|[^"\\])*"[^"]{,10})')
 LINK = re.compile(r"\]\(([^)#:]+)(?:#[^)]*)?\)")
 # a file that is named from the repository's top
 NAMED = re.compile(
@@ -130,15 +134,31 @@ def not_there() -> Iterator[str]:
         yield f"README.md: {size} bytes, more than {MOST_README}"
 
 
+def too_wide(path: str, width: int) -> Iterator[tuple[str, str]]:
+    """Where a file has a line that is too wide, and how wide; and the line."""
+    name = os.path.relpath(path, desk.ROOT)
+    for number, line in enumerate(desk.read(path).splitlines(), 1):
+        if len(line) > width:
+            yield f"{name}:{number}: {len(line)} columns, more than {width}", line
+
+
+def unwrapped() -> Iterator[str]:
+    """Lines of code, of definitions and of proofs that are too wide and could be wrapped."""
+    for part, width in WIDTHS.items():
+        paths = glob.glob(os.path.join(desk.ROOT, "crates", "*", part, "**", "*"), recursive=True)
+        for path in sorted(path for path in paths if path.endswith((".rt", ".antt"))):
+            for where, line in too_wide(path, width):
+                if not UNBROKEN.fullmatch(line):
+                    yield where
+
+
 def untidy() -> Iterator[str]:
     """Lines of scripts that are too wide, and what pyflakes says of the scripts, if it is there."""
     folder = os.path.join(desk.ROOT, "scripts")
     paths = glob.glob(os.path.join(folder, "**", "*.*"), recursive=True)
     for path in sorted(path for path in paths if path.endswith((".py", ".sh", ".c"))):
-        name = os.path.relpath(path, desk.ROOT)
-        for number, line in enumerate(desk.read(path).splitlines(), 1):
-            if len(line) > WIDTH:
-                yield f"{name}:{number}: {len(line)} columns, more than {WIDTH}"
+        for where, _ in too_wide(path, WIDTH):
+            yield where
     python = "/usr/bin/python3"  # Debian's own has Debian's packages
     if desk.run([python, "-c", "import pyflakes"]).returncode == 0:
         said = desk.run([python, "-m", "pyflakes", folder])
@@ -150,11 +170,11 @@ def main() -> int:
         print("it needs Rattle's toolchain, the command rt (README.md, 'What you need')")
         return 1
     wrong = [*badly_laid_out(), *misfits(), *not_made(), *not_there(), *untidy()]
-    wrong += [*calls.faults(), *names.faults()]
+    wrong += [*unwrapped(), *calls.faults(), *names.faults()]
     print(
         "\n".join(wrong)
         if wrong
-        else "the layout, the edits, the public calls, the documents and the scripts fit"
+        else "the layout and widths, the edits, the public calls, the documents and the scripts fit"
     )
     return 1 if wrong else 0
 
