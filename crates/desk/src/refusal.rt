@@ -50,26 +50,39 @@ impl fmt::Display for Refusal {
     ghost output = { λ r. Some (refusal_text r) };
 
     fn fmt<W: fmt::Write>(&self, f: &mut fmt::Formatter<W>) -> fmt::Result {
-        let text = match self {
-            Refusal::UnknownRelay => "P1 UnknownRelay",
-            Refusal::UnknownHost => "P2 UnknownHost",
-            Refusal::TooLong => "M1 TooLong",
-            Refusal::NotCanonical => "M2 NotCanonical",
-            Refusal::BadField => "M3 BadField",
-            Refusal::Denied(denial) => return denial.fmt(f),
-            Refusal::TooManyRules => "G1 TooManyRules",
-            Refusal::RosterChanged => "K1 RosterChanged",
-            Refusal::NotADesk => "K2 NotADesk",
-            Refusal::OldSchema => "K3 OldSchema",
-            Refusal::Storage => "K4 Storage",
-            Refusal::NoMemory => "K5 NoMemory",
-            Refusal::BaseTooLarge => "K6 BaseTooLarge",
-        };
-        f.write_str(text)
+        let line = self.line();
+        f.write_str(line.strip_suffix('\n').unwrap_or(line))
     }
 }
 
 impl Error for Refusal {}
+
+impl Refusal {
+    ghost use Rattle.std.specs.Prelude.{◌++◌, ◌∷◌, []};
+    ghost use Rattle.sudo_words.specs.Bytes.{newline};
+    ghost use Rattle.desk.specs.Refusals.{refusal_text};
+
+    /// Its code and name, and a newline. A reply can say it where memory ran out.
+    pub fn line(self) -> &'static str
+        ensures { result.now ≡ refusal_text self ++ newline ∷ [] }
+    {
+        match self {
+            Refusal::UnknownRelay => "P1 UnknownRelay\n",
+            Refusal::UnknownHost => "P2 UnknownHost\n",
+            Refusal::TooLong => MessageFault::TooLong.line(),
+            Refusal::NotCanonical => MessageFault::NotCanonical.line(),
+            Refusal::BadField => MessageFault::BadField.line(),
+            Refusal::Denied(denial) => denial.line(),
+            Refusal::TooManyRules => HostFault::TooManyRules.line(),
+            Refusal::RosterChanged => "K1 RosterChanged\n",
+            Refusal::NotADesk => "K2 NotADesk\n",
+            Refusal::OldSchema => "K3 OldSchema\n",
+            Refusal::Storage => "K4 Storage\n",
+            Refusal::NoMemory => "K5 NoMemory\n",
+            Refusal::BaseTooLarge => "K6 BaseTooLarge\n",
+        }
+    }
+}
 
 impl From<MessageFault> for Refusal {
     ghost from_gives = { λ fault e. e ≡ refusal_of_fault fault };

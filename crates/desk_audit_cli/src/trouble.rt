@@ -31,9 +31,9 @@ impl fmt::Display for Trouble {
             Trouble::Usage => f.write_str(
                 "usage: desk-audit ROSTER BASE STORE [--from AT] [--until AT] [--host H] [--person P] [--json]",
             ),
-            Trouble::BadWord => f.write_str("F2 BadWord"),
-            Trouble::NoMemory => f.write_str("NoMemory"),
-            Trouble::FileFailed => f.write_str("F1 FileFailed"),
+            Trouble::BadWord => Refusal::BadWord.fmt(f),
+            Trouble::NoMemory => Refusal::NoMemory.fmt(f),
+            Trouble::FileFailed => Refusal::FileFailed.fmt(f),
             Trouble::NoStore(path) => write!(f, "no store here: {path}"),
             Trouble::Busy(path) => write!(f, "the store is written to: {path}"),
             Trouble::Refused(refusal) => write!(f, "{refusal}"),

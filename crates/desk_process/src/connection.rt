@@ -1,7 +1,7 @@
 //! One connection: what has come of its request, what has gone out of its reply, and by when it has
 //! to go on. Nothing here waits for the peer.
 
-use crate::outgoing::Outgoing;
+use crate::outgoing::{Outgoing, Wanting};
 use desk::{Desk, Keeper};
 use mio::net::TcpStream;
 use relay_http::{Counted, More, Routes, ServeFault, Workspace, serve_in, wanted_so_far};
@@ -251,7 +251,7 @@ impl Connection {
         alloc: Global,
         desk: &mut Desk<K>,
         workspace: &mut Workspace,
-    ) -> (Result<(), ServeFault>, Option<&'static str>) {
+    ) -> (Result<(), ServeFault>, Option<Wanting>) {
         let Stage::Asking { come, .. } = &self.stage else {
             return (Ok(()), None);
         };

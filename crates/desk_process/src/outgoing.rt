@@ -1,23 +1,41 @@
 //! A reply on its way out.
 
+use desk::Refusal;
 use mio::net::TcpStream;
 use std::alloc::Global;
+use std::fmt;
 use std::io::{self, Write};
+
+/// What is said of a 503.
+#[derive(Clone, Copy)]
+pub(crate) enum Wanting {
+    /// Its body is the line of this refusal.
+    Refused(Refusal),
+    /// It has no body, or another.
+    Otherwise,
+}
+
+impl fmt::Display for Wanting {
+    fn fmt<W: fmt::Write>(&self, f: &mut fmt::Formatter<W>) -> fmt::Result {
+        match self {
+            Wanting::Refused(refusal) => write!(f, "answered {refusal}"),
+            Wanting::Otherwise => f.write_str("answered 503"),
+        }
+    }
+}
 
 /// What is said of a reply by the first bytes that are written of it, which are all of a 503. A
 /// reply to HEAD has no code.
-fn wanting_of(bytes: &[u8]) -> Option<&'static str> {
+fn wanting_of(bytes: &[u8]) -> Option<Wanting> {
     if !bytes.starts_with(b"HTTP/1.1 503 ") {
-        None
-    } else if bytes.ends_with(b"K4 Storage\n") {
-        Some("answered K4 Storage")
-    } else if bytes.ends_with(b"K5 NoMemory\n") {
-        Some("answered K5 NoMemory")
-    } else if bytes.ends_with(b"G1 TooManyRules\n") {
-        Some("answered G1 TooManyRules")
-    } else {
-        Some("answered 503")
+        return None;
     }
+    for refusal in [Refusal::Storage, Refusal::NoMemory, Refusal::TooManyRules] {
+        if bytes.ends_with(refusal.line().as_bytes()) {
+            return Some(Wanting::Refused(refusal));
+        }
+    }
+    Some(Wanting::Otherwise)
 }
 
 /// Writes a reply to a socket as far as that takes it at once, and keeps the rest.
@@ -28,7 +46,7 @@ pub(crate) struct Outgoing<'a> {
     /// What the socket has not taken yet.
     pub(crate) rest: Vec<u8>,
     /// What is said of a 503.
-    pub(crate) wanting: Option<&'static str>,
+    pub(crate) wanting: Option<Wanting>,
 }
 
 impl<'a> Outgoing<'a> {

@@ -33,17 +33,31 @@ impl fmt::Display for Denial {
     ghost output = { λ d. Some (denial_text d) };
 
     fn fmt<W: fmt::Write>(&self, f: &mut fmt::Formatter<W>) -> fmt::Result {
-        f.write_str(match self {
-            Denial::UnknownPerson => "A1 UnknownPerson",
-            Denial::UnknownCeiling => "A2 UnknownCeiling",
-            Denial::NotAsker => "A3 NotAsker",
-            Denial::HostOutside => "A4 HostOutside",
-            Denial::RunasOutside => "A5 RunasOutside",
-            Denial::CommandOutside => "A6 CommandOutside",
-            Denial::WindowTooLong => "A7 WindowTooLong",
-            Denial::WindowBackwards => "A8 WindowBackwards",
-        })
+        let line = self.line();
+        f.write_str(line.strip_suffix('\n').unwrap_or(line))
     }
 }
 
 impl Error for Denial {}
+
+impl Denial {
+    ghost use Rattle.std.specs.Prelude.{◌≡◌, ◌++◌, ◌∷◌, []};
+    ghost use Rattle.sudo_words.specs.Bytes.{newline};
+    ghost use Rattle.grants.specs.Denials.{denial_text};
+
+    /// Its code and name, and a newline.
+    pub fn line(self) -> &'static str
+        ensures { result.now ≡ denial_text self ++ newline ∷ [] }
+    {
+        match self {
+            Denial::UnknownPerson => "A1 UnknownPerson\n",
+            Denial::UnknownCeiling => "A2 UnknownCeiling\n",
+            Denial::NotAsker => "A3 NotAsker\n",
+            Denial::HostOutside => "A4 HostOutside\n",
+            Denial::RunasOutside => "A5 RunasOutside\n",
+            Denial::CommandOutside => "A6 CommandOutside\n",
+            Denial::WindowTooLong => "A7 WindowTooLong\n",
+            Denial::WindowBackwards => "A8 WindowBackwards\n",
+        }
+    }
+}

@@ -24,14 +24,28 @@ impl fmt::Display for HostFault {
     ghost output = { λ f. Some (host_fault_text f) };
 
     fn fmt<W: fmt::Write>(&self, f: &mut fmt::Formatter<W>) -> fmt::Result {
-        f.write_str(match self {
-            HostFault::TooManyRules => "G1 TooManyRules",
-            HostFault::NoMemory => "G2 NoMemory",
-        })
+        let line = self.line();
+        f.write_str(line.strip_suffix('\n').unwrap_or(line))
     }
 }
 
 impl Error for HostFault {}
+
+impl HostFault {
+    ghost use Rattle.std.specs.Prelude.{◌++◌, ◌∷◌, []};
+    ghost use Rattle.sudo_words.specs.Bytes.{newline};
+    ghost use Rattle.grants.specs.HostFaults.{host_fault_text};
+
+    /// Its code and name, and a newline.
+    pub fn line(self) -> &'static str
+        ensures { result.now ≡ host_fault_text self ++ newline ∷ [] }
+    {
+        match self {
+            HostFault::TooManyRules => "G1 TooManyRules\n",
+            HostFault::NoMemory => "G2 NoMemory\n",
+        }
+    }
+}
 
 impl From<NoMemory> for HostFault {
     ghost from_gives = { λ _ e. e ≡ fault.NoMemory };

@@ -28,16 +28,30 @@ impl fmt::Display for MessageFault {
     ghost output = { λ f. Some (fault_text f) };
 
     fn fmt<W: fmt::Write>(&self, f: &mut fmt::Formatter<W>) -> fmt::Result {
-        f.write_str(match self {
-            MessageFault::TooLong => "M1 TooLong",
-            MessageFault::NotCanonical => "M2 NotCanonical",
-            MessageFault::BadField => "M3 BadField",
-            MessageFault::NoMemory => "M4 NoMemory",
-        })
+        let line = self.line();
+        f.write_str(line.strip_suffix('\n').unwrap_or(line))
     }
 }
 
 impl Error for MessageFault {}
+
+impl MessageFault {
+    ghost use Rattle.std.specs.Prelude.{◌++◌, ◌∷◌, []};
+    ghost use Rattle.sudo_words.specs.Bytes.{newline};
+    ghost use Rattle.messages.specs.Faults.{fault_text};
+
+    /// Its code and name, and a newline.
+    pub fn line(self) -> &'static str
+        ensures { result.now ≡ fault_text self ++ newline ∷ [] }
+    {
+        match self {
+            MessageFault::TooLong => "M1 TooLong\n",
+            MessageFault::NotCanonical => "M2 NotCanonical\n",
+            MessageFault::BadField => "M3 BadField\n",
+            MessageFault::NoMemory => "M4 NoMemory\n",
+        }
+    }
+}
 
 impl From<AllocError> for MessageFault {
     ghost from_gives = { λ _ e. e ≡ fault.NoMemory };

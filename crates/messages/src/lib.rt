@@ -24,7 +24,7 @@ pub use fault::MessageFault;
 pub use kind::VerdictKind;
 pub use message::Message;
 pub use name_row::NameRow;
-pub use read::read_message;
+pub use read::{MOST_BYTES, read_message};
 pub use request::Request;
 pub use request_name::RequestName;
 pub use verdict::Verdict;

@@ -25,7 +25,7 @@ use serde_json::Value;
 use std::alloc::Global;
 
 /// The most bytes of a message.
-const MOST_BYTES: usize = 16_384;
+pub const MOST_BYTES: usize = 16_384;
 
 fn request_of(alloc: Global, value: &Value) -> Result<Request, MessageFault>
     ensures found { IfOk result IsRequest }

@@ -8,10 +8,8 @@ ghost use Rattle.relay_http.specs.Seen.{AreValues};
 
 use crate::fault::RequestFault;
 use crate::values::Values;
+use messages::MOST_BYTES;
 use sudo_words::decimal_of;
-
-/// The longest message.
-const MOST_CONTENT: u64 = 16_384;
 
 /// The number that 1 to 9 digits write.
 fn length_of(value: &[u8]) -> Option<u64>
@@ -24,7 +22,7 @@ fn length_of(value: &[u8]) -> Option<u64>
 fn sized(n: u64, rest: &[u8]) -> Result<&[u8], RequestFault>
     ensures { result_map_both (λ b. b.now) (λ e. e) result ≡ sized n rest.now }
 {
-    if n > MOST_CONTENT {
+    if n > MOST_BYTES as u64 {
         return Err(RequestFault::TooLong);
     }
     if (rest.len() as u64) < n {

@@ -2,6 +2,7 @@
 
 use crate::place::Methods;
 use crate::status::Status;
+use desk::Refusal;
 use std::error::Error;
 use std::fmt;
 
@@ -37,17 +38,8 @@ impl fmt::Display for RequestFault {
     ghost output = { λ f. Some (fault_text f) };
 
     fn fmt<W: fmt::Write>(&self, f: &mut fmt::Formatter<W>) -> fmt::Result {
-        f.write_str(match self {
-            RequestFault::BadHead => "T1 BadHead",
-            RequestFault::BadTarget => "T2 BadTarget",
-            RequestFault::NoRoute => "T3 NoRoute",
-            RequestFault::BadMethod(_) => "T4 BadMethod",
-            RequestFault::LengthRequired => "T5 LengthRequired",
-            RequestFault::BadLength => "T6 BadLength",
-            RequestFault::ShortBody => "T7 ShortBody",
-            RequestFault::BadMoment => "T8 BadMoment",
-            RequestFault::TooLong => "M1 TooLong",
-        })
+        let line = self.text();
+        f.write_str(line.strip_suffix('\n').unwrap_or(line))
     }
 }
 
@@ -78,16 +70,23 @@ impl RequestFault {
     pub fn line(self) -> &'static [u8]
         ensures { result.now ≡ fault_line self }
     {
+        self.text().as_bytes()
+    }
+
+    /// Its code and name, and a newline, as a text.
+    fn text(self) -> &'static str
+        ensures { result.now ≡ fault_line self }
+    {
         match self {
-            RequestFault::BadHead => b"T1 BadHead\n",
-            RequestFault::BadTarget => b"T2 BadTarget\n",
-            RequestFault::NoRoute => b"T3 NoRoute\n",
-            RequestFault::BadMethod(_) => b"T4 BadMethod\n",
-            RequestFault::LengthRequired => b"T5 LengthRequired\n",
-            RequestFault::BadLength => b"T6 BadLength\n",
-            RequestFault::ShortBody => b"T7 ShortBody\n",
-            RequestFault::BadMoment => b"T8 BadMoment\n",
-            RequestFault::TooLong => b"M1 TooLong\n",
+            RequestFault::BadHead => "T1 BadHead\n",
+            RequestFault::BadTarget => "T2 BadTarget\n",
+            RequestFault::NoRoute => "T3 NoRoute\n",
+            RequestFault::BadMethod(_) => "T4 BadMethod\n",
+            RequestFault::LengthRequired => "T5 LengthRequired\n",
+            RequestFault::BadLength => "T6 BadLength\n",
+            RequestFault::ShortBody => "T7 ShortBody\n",
+            RequestFault::BadMoment => "T8 BadMoment\n",
+            RequestFault::TooLong => Refusal::TooLong.line(),
         }
     }
 }
