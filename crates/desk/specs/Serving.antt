@@ -1,4 +1,4 @@
--- What storage does to a keeper's calls, as far as the desk's answer tells, at a bound `K: Keeper`.
+-- What storage does to calls of a keeper that a contract is generic over, by the desk's answer.
 use Rattle.std.specs.Prelude.{◌≡◌, Result, Err, IsErrAnd}
 use Rattle.desk_store.specs.declared.keeper.Keeper.{Ghosts}
 use Rattle.desk_store.specs.Serves.{Serves}
@@ -8,6 +8,6 @@ use Rattle.desk.specs.Refusals.{IsWant}
 
 -- The answer tells of a failed storage where it is the refusal `Storage`, and is a want where it is
 -- either refusal of one.
-abbrev pub ServesAs : {K T : Type 0} → Ghosts K → (before after : K) → Result T Refusal → Type 0
-ServesAs g before after result =
+abbrev pub ServesAnswer : {K T : Type 0} → Ghosts K → (before after : K) → Result T Refusal → Type 0
+ServesAnswer g before after result =
     Serves g before after (result ≡ Err Storage) (IsErrAnd result IsWant)

@@ -12,7 +12,7 @@ ghost use Rattle.desk.specs.Delivery.{HeldAfterAll, IsBodyOf, IsDeliveryAnswer};
 ghost use Rattle.desk.specs.Delivery.{WasWantingAmong, delivery_of, storage_failures};
 ghost use Rattle.desk.specs.Opening.{Opens, Refuses};
 ghost use Rattle.desk.specs.Refusals.{IsWant};
-ghost use Rattle.desk.specs.Serving.{ServesAs};
+ghost use Rattle.desk.specs.Serving.{ServesAnswer};
 ghost use Rattle.desk.specs.declared.refusal.Refusal.TheVariants as refusal;
 
 use crate::ack::Ack;
@@ -148,7 +148,7 @@ impl<K: Keeper> Desk<K> {
             → OnErr result (K.is_same self.old.keeper self.new.keeper) }
         ensures roster { self.new.roster ≡ self.old.roster }
         ensures base { self.new.base ≡ self.old.base }
-        ensures served { ServesAs K.Keeper self.old.keeper self.new.keeper result }
+        ensures served { ServesAnswer K.Keeper self.old.keeper self.new.keeper result }
         ensures crash { K.is_up self.old.keeper → K.is_clean self.new.keeper
             → LeavesOnly (K.may_leave self.new.keeper)
             (IsLeftByDelivery self.old.roster.says self.old.roster.text

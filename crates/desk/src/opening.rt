@@ -7,7 +7,7 @@ ghost use Rattle.desk.specs.Crash.{IsLeftByOpening};
 ghost use Rattle.desk.specs.private.Known.{IsKnownAtFirst};
 ghost use Rattle.desk.specs.Opening.{Opens, Refuses};
 ghost use Rattle.desk.specs.Refusals.{IsWant};
-ghost use Rattle.desk.specs.Serving.{ServesAs};
+ghost use Rattle.desk.specs.Serving.{ServesAnswer};
 ghost use Rattle.desk.specs.declared.opening.Origin.TheVariants as origins;
 ghost use Rattle.desk.specs.declared.refusal.Refusal.TheVariants as refusal;
 
@@ -51,7 +51,7 @@ pub(crate) fn find_or_make<K: Keeper>(keeper: &mut K, text: &str) -> Result<Orig
         (K.is_desk keeper.old) (K.is_old keeper.old) (K.roster keeper.old) text.now e) }
     ensures fits { IfErr result (λ e. e ≢ refusal.BaseTooLarge) }
     ensures unchanged { K.is_up keeper.new → OnErr result (K.is_same keeper.old keeper.new) }
-    ensures served { ServesAs K.Keeper keeper.old keeper.new result }
+    ensures served { ServesAnswer K.Keeper keeper.old keeper.new result }
     ensures crash { K.is_up keeper.old → K.is_clean keeper.new → LeavesOnly (K.may_leave keeper.new)
         (IsLeftByOpening (K.is_empty keeper.old) (K.is_desk keeper.old)
         (K.is_old keeper.old) (K.roster keeper.old) text.now (K.holds keeper.old)) }

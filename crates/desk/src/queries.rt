@@ -11,7 +11,7 @@ ghost use Rattle.outcomes.specs.LinesLeft as left;
 ghost use Rattle.outcomes.specs.Outcomes.{AreLive, ComesTo};
 ghost use Rattle.outcomes.specs.Parked.{AreParked};
 ghost use Rattle.desk.specs.Refusals.{IsWant};
-ghost use Rattle.desk.specs.Serving.{ServesAs};
+ghost use Rattle.desk.specs.Serving.{ServesAnswer};
 ghost use Rattle.outcomes.specs.Rights.{GivesRights, GivesRightsAfter};
 ghost use Rattle.outcomes.specs.Summaries.{AreSummaries};
 ghost use Rattle.desk.specs.declared.refusal.Refusal.TheVariants as refusal;
@@ -35,7 +35,7 @@ impl<K: Keeper> Desk<K> {
         ensures unchanged { K.is_up self.new.keeper → K.is_same self.old.keeper self.new.keeper }
         ensures roster { self.new.roster ≡ self.old.roster }
         ensures base { self.new.base ≡ self.old.base }
-        ensures served { ServesAs K.Keeper self.old.keeper self.new.keeper result }
+        ensures served { ServesAnswer K.Keeper self.old.keeper self.new.keeper result }
     {
         let known = known_of(self.known.take(), &mut self.keeper)?;
         let status = status_in(&self.roster, &known, name);
@@ -52,7 +52,7 @@ impl<K: Keeper> Desk<K> {
         ensures unchanged { K.is_up self.new.keeper → K.is_same self.old.keeper self.new.keeper }
         ensures roster { self.new.roster ≡ self.old.roster }
         ensures base { self.new.base ≡ self.old.base }
-        ensures served { ServesAs K.Keeper self.old.keeper self.new.keeper result }
+        ensures served { ServesAnswer K.Keeper self.old.keeper self.new.keeper result }
     {
         let known = known_of(self.known.take(), &mut self.keeper)?;
         let list = live_in(self.alloc, &self.roster, &known, at);
@@ -69,7 +69,7 @@ impl<K: Keeper> Desk<K> {
         ensures unchanged { K.is_up self.new.keeper → K.is_same self.old.keeper self.new.keeper }
         ensures roster { self.new.roster ≡ self.old.roster }
         ensures base { self.new.base ≡ self.old.base }
-        ensures served { ServesAs K.Keeper self.old.keeper self.new.keeper result }
+        ensures served { ServesAnswer K.Keeper self.old.keeper self.new.keeper result }
     {
         let known = known_of(self.known.take(), &mut self.keeper)?;
         let texts = parked_in(self.alloc, &known);
@@ -89,7 +89,7 @@ impl<K: Keeper> Desk<K> {
         ensures unchanged { K.is_up self.new.keeper → K.is_same self.old.keeper self.new.keeper }
         ensures roster { self.new.roster ≡ self.old.roster }
         ensures base { self.new.base ≡ self.old.base }
-        ensures served { ServesAs K.Keeper self.old.keeper self.new.keeper result }
+        ensures served { ServesAnswer K.Keeper self.old.keeper self.new.keeper result }
     {
         let known = known_of(self.known.take(), &mut self.keeper)?;
         let list = summaries_in(self.alloc, &known);
@@ -110,7 +110,7 @@ impl<K: Keeper> Desk<K> {
         ensures unchanged { K.is_up self.new.keeper → K.is_same self.old.keeper self.new.keeper }
         ensures roster { self.new.roster ≡ self.old.roster }
         ensures base { self.new.base ≡ self.old.base }
-        ensures served { ServesAs K.Keeper self.old.keeper self.new.keeper result }
+        ensures served { ServesAnswer K.Keeper self.old.keeper self.new.keeper result }
     {
         let known = known_of(self.known.take(), &mut self.keeper)?;
         let held = holdings_in(self.alloc, &known);
@@ -148,7 +148,7 @@ impl<K: Keeper> Desk<K> {
         ensures unchanged { K.is_up self.new.keeper → K.is_same self.old.keeper self.new.keeper }
         ensures roster { self.new.roster ≡ self.old.roster }
         ensures base { self.new.base ≡ self.old.base }
-        ensures served { ServesAs K.Keeper self.old.keeper self.new.keeper result }
+        ensures served { ServesAnswer K.Keeper self.old.keeper self.new.keeper result }
     {
         self.file_of(host, None)
     }
@@ -182,7 +182,7 @@ impl<K: Keeper> Desk<K> {
         ensures unchanged { K.is_up self.new.keeper → K.is_same self.old.keeper self.new.keeper }
         ensures roster { self.new.roster ≡ self.old.roster }
         ensures base { self.new.base ≡ self.old.base }
-        ensures served { ServesAs K.Keeper self.old.keeper self.new.keeper result }
+        ensures served { ServesAnswer K.Keeper self.old.keeper self.new.keeper result }
     {
         self.file_of(host, Some(moment))
     }
@@ -208,7 +208,7 @@ impl<K: Keeper> Desk<K> {
         ensures unchanged { K.is_up self.new.keeper → K.is_same self.old.keeper self.new.keeper }
         ensures roster { self.new.roster ≡ self.old.roster }
         ensures base { self.new.base ≡ self.old.base }
-        ensures served { ServesAs K.Keeper self.old.keeper self.new.keeper result }
+        ensures served { ServesAnswer K.Keeper self.old.keeper self.new.keeper result }
     {
         if !self.roster.has_host(host) {
             return Err(Refusal::UnknownHost);

@@ -7,7 +7,7 @@ ghost use Rattle.desk_store.specs.Serves.{Serves};
 ghost use Rattle.desk.specs.Crash.{IsLeftByRebuilding};
 ghost use Rattle.desk.specs.Rebuilding.{Rebuilds, RefusesToRebuild};
 ghost use Rattle.desk.specs.Refusals.{IsWant};
-ghost use Rattle.desk.specs.Serving.{ServesAs};
+ghost use Rattle.desk.specs.Serving.{ServesAnswer};
 ghost use Rattle.desk.specs.declared.refusal.Refusal.TheVariants as refusal;
 
 use crate::desk::Desk;
@@ -30,7 +30,7 @@ pub(crate) fn make_or_replace<K: Keeper>(keeper: &mut K, text: &str) -> Result<(
     ensures err { IfErr result (λ e. IsWant e ⊎ (e ≡ refusal.NotADesk)) }
     ensures fits { IfErr result (λ e. e ≢ refusal.BaseTooLarge) }
     ensures unchanged { K.is_up keeper.new → OnErr result (K.is_same keeper.old keeper.new) }
-    ensures served { ServesAs K.Keeper keeper.old keeper.new result }
+    ensures served { ServesAnswer K.Keeper keeper.old keeper.new result }
     ensures crash { K.is_up keeper.old → K.is_clean keeper.new → LeavesOnly (K.may_leave keeper.new)
         (IsLeftByRebuilding (K.is_empty keeper.old) (K.is_desk keeper.old)
         (K.is_old keeper.old) (K.roster keeper.old) text.now (K.holds keeper.old)) }

@@ -6,7 +6,7 @@ ghost use Rattle.messages.specs.Wire.{IsMessage, wire};
 ghost use Rattle.messages.specs.declared.message.Message.{Message as AnyMessage};
 ghost use Rattle.desk_tables.specs.Sets.{Lists};
 ghost use Rattle.desk.specs.Refusals.{IsWant};
-ghost use Rattle.desk.specs.Serving.{ServesAs};
+ghost use Rattle.desk.specs.Serving.{ServesAnswer};
 ghost use Rattle.desk.specs.Texts.{AreTexts};
 
 use crate::desk::Desk;
@@ -28,7 +28,7 @@ impl<K: Keeper> Desk<K> {
         ensures unchanged { K.is_up self.new.keeper → K.is_same self.old.keeper self.new.keeper }
         ensures roster { self.new.roster ≡ self.old.roster }
         ensures base { self.new.base ≡ self.old.base }
-        ensures served { ServesAs K.Keeper self.old.keeper self.new.keeper result }
+        ensures served { ServesAnswer K.Keeper self.old.keeper self.new.keeper result }
     {
         let set = listed(&mut self.keeper, &self.known)?;
         Ok(texts_in(self.alloc, set.as_slice())?)

@@ -6,7 +6,7 @@ ghost use Rattle.desk_store.specs.Serves.{Serves};
 ghost use Rattle.desk_store.specs.Sets.{Lists};
 ghost use Rattle.outcomes.specs.Outcomes.{ComesTo};
 ghost use Rattle.desk.specs.Refusals.{IsWant};
-ghost use Rattle.desk.specs.Serving.{ServesAs};
+ghost use Rattle.desk.specs.Serving.{ServesAnswer};
 ghost use Rattle.desk.specs.declared.refusal.Refusal.TheVariants as refusal;
 ghost use Rattle.desk_audit.specs.Audit.{IsAudit};
 ghost use Rattle.desk_audit.specs.Told.{IsTooLong};
@@ -96,7 +96,7 @@ pub fn audit<K: Keeper>(desk: &mut Desk<K>) -> Result<Vec<Entry>, Refusal>
     ensures unchanged { K.is_up desk.new.keeper → K.is_same desk.old.keeper desk.new.keeper }
     ensures roster { desk.new.roster ≡ desk.old.roster }
     ensures base { desk.new.base ≡ desk.old.base }
-    ensures served { ServesAs K.Keeper desk.old.keeper desk.new.keeper result }
+    ensures served { ServesAnswer K.Keeper desk.old.keeper desk.new.keeper result }
 {
     let texts = desk.texts()?;
     let alloc = *texts.allocator();

@@ -10,7 +10,7 @@ ghost use Rattle.desk_store.specs.Serves.{Serves};
 ghost use Rattle.desk_store.specs.Sets.{Lists};
 ghost use Rattle.outcomes.specs.HostFile.{AreLines, Line};
 ghost use Rattle.desk.specs.Refusals.{IsWant};
-ghost use Rattle.desk.specs.Serving.{ServesAs};
+ghost use Rattle.desk.specs.Serving.{ServesAnswer};
 ghost use Rattle.desk.specs.declared.refusal.Refusal.TheVariants as refusal;
 ghost use Rattle.desk_commands.specs.Kept.{kept_by};
 ghost use Rattle.desk_commands.specs.Leaving.{LeavesTaken, SaysTaking};
@@ -44,7 +44,7 @@ fn file_of<K: Keeper>(
         (λ s. HasRights desk.old.roster.says desk.old.base set host.now after (string_bytes s)) }
     ensures same { K.is_up desk.new.keeper → K.is_same desk.old.keeper desk.new.keeper }
     ensures roster { desk.new.roster ≡ desk.old.roster }
-    ensures served { ServesAs K.Keeper desk.old.keeper desk.new.keeper result }
+    ensures served { ServesAnswer K.Keeper desk.old.keeper desk.new.keeper result }
     ensures unknown { (result ≡ Err refusal.UnknownHost)
         ↔ (is_among desk.old.roster.says.hosts host.now ≡ false) }
     ensures few { (set : List Message) (lines : List Line) → K.is_up desk.new.keeper
