@@ -12,8 +12,8 @@ use Rattle.desk.specs.Delivery.{Delivery, IsBodyOf}
 -- While a desk is opened: where there was nothing of a desk's, there is nothing still, or a whole
 -- desk of the roster's text, with no message; and where there was a desk, of whichever form, it is
 -- there whole.
-pub record IsLeftByOpening (Empty Desk Old : Type 0) (recorded text : List ℕ) (S : Message
-    → Type 0) (left : Left) : Type 0 where
+pub record IsLeftByOpening (Empty Desk Old : Type 0) (recorded text : List ℕ)
+    (S : Message → Type 0) (left : Left) : Type 0 where
   pub empty : Empty → IsNothingOrFresh text left
   pub desk : Desk → IsDeskOf recorded S left
   pub old : Old → IsOldDeskOf S left
@@ -21,8 +21,8 @@ pub record IsLeftByOpening (Empty Desk Old : Type 0) (recorded text : List ℕ) 
 -- While a desk is rebuilt: where there was nothing of a desk's, there is nothing still, or a whole
 -- desk of the roster's text, with no message; and where there was a desk, of whichever form, it is
 -- there whole as it was, or whole with the new roster's text and the messages that it had.
-pub record IsLeftByRebuilding (Empty Desk Old : Type 0) (recorded text : List ℕ) (S : Message
-    → Type 0) (left : Left) : Type 0 where
+pub record IsLeftByRebuilding (Empty Desk Old : Type 0)
+    (recorded text : List ℕ) (S : Message → Type 0) (left : Left) : Type 0 where
   pub empty : Empty → IsNothingOrFresh text left
   pub desk : Desk → IsDeskOf recorded S left ⊎ IsDeskOf text S left
   pub old : Old → IsOldDeskOf S left ⊎ IsDeskOf text S left

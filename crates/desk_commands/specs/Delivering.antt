@@ -35,9 +35,8 @@ status_after answers = if list_all is_ok answers then Done else LinesRefused
 -- `deliver` answers with what the desk answers to each line of the input, in order, as the relay's.
 -- What is acknowledged is held then, and nothing else is new. A line is answered `K4 Storage` only
 -- where a failure was counted.
-pub record DeliversLines (roster : RosterFields Cmnd) (relay : List ℕ) (old new : Message
-    → Type 0) (Up Failed : Type 0) (input : Option (List ℕ)) (status : Status)
-    (text : List ℕ) : Type 0 where
+pub record DeliversLines (roster : RosterFields Cmnd) (relay : List ℕ) (old new : Message → Type 0)
+    (Up Failed : Type 0) (input : Option (List ℕ)) (status : Status) (text : List ℕ) : Type 0 where
   pub lines : List (List ℕ)
   pub answers : List (Result Ack Refusal)
   pub lines_are : IfSome input (λ bytes. lines ≡ input_lines bytes)

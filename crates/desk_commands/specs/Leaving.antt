@@ -43,8 +43,8 @@ LeavesDelivered roster relay input old new =
     SameSet old new ⊎ AreDelivered roster relay input old new
 
 -- What was held is held, and nothing else but messages that lines of the input bring.
-pub record AreSomeTaken (roster : RosterFields Cmnd) (input : Option (List ℕ)) (old new : Message
-    → Type 0) : Type 0 where
+pub record AreSomeTaken (roster : RosterFields Cmnd)
+    (input : Option (List ℕ)) (old new : Message → Type 0) : Type 0 where
   pub lines : List (List ℕ)
   pub lines_are : IfSome input (λ bytes. lines ≡ input_lines bytes)
   pub stay : (m : Message) → old m → new m
@@ -64,8 +64,8 @@ WasOpened roster_file before =
     ⊎ (before.desk × (¬ before.empty) × (¬ before.old) × (before.roster ≡ roster_file))
 
 -- The desk was opened, and the keeper keeps a desk of the same roster's text, which holds this.
-pub record LeavesDesk (roster_file : List ℕ) (k : Kept) (Left : (old new : Message → Type 0)
-    → Type 0) : Type 0 where
+pub record LeavesDesk (roster_file : List ℕ) (k : Kept)
+    (Left : (old new : Message → Type 0) → Type 0) : Type 0 where
   pub was : WasOpened roster_file k.before
   pub desk : k.after.desk
   pub roster : k.after.roster ≡ roster_file

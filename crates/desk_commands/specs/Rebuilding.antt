@@ -9,8 +9,8 @@ use Rattle.desk_args.specs.declared.status.Status.{Status}
 use Rattle.desk_args.specs.declared.status.Status.TheVariants.{Done}
 
 -- `rebuild` answers `ok`. What was held is held, also what the new roster does not admit.
-pub record RebuildsDesk (old new : Message
-    → Type 0) (Up : Type 0) (status : Status) (text : List ℕ) : Type 0 where
+pub record RebuildsDesk (old new : Message → Type 0)
+    (Up : Type 0) (status : Status) (text : List ℕ) : Type 0 where
   pub done : status ≡ Done
   pub told : text ≡ codes "ok\n"
   pub stays : Up → SameSet old new

@@ -33,8 +33,8 @@ IsOldDeskOf S NoDesk = ⊥
 
 -- What is left is what was kept: nothing of a desk's, the whole desk, or the whole desk of an older
 -- form.
-pub record IsAsKept (Empty Desk Old : Type 0) (roster : List ℕ) (S : Message
-    → Type 0) (left : Left) : Type 0 where
+pub record IsAsKept (Empty Desk Old : Type 0) (roster : List ℕ)
+    (S : Message → Type 0) (left : Left) : Type 0 where
   pub empty : Empty → left ≡ Nothing
   pub desk : Desk → IsDeskOf roster S left
   pub old : Old → IsOldDeskOf S left
@@ -50,8 +50,8 @@ IsWithOrWithout roster S m left = IsDeskOf roster S left ⊎ IsDeskOf roster (Wi
 
 -- the desk as it was, of either form, or the whole desk with the new roster text and the messages
 -- that it had
-pub record IsReplacedOrNot (Desk Old : Type 0) (recorded text : List ℕ) (S : Message
-    → Type 0) (left : Left) : Type 0 where
+pub record IsReplacedOrNot (Desk Old : Type 0) (recorded text : List ℕ)
+    (S : Message → Type 0) (left : Left) : Type 0 where
   pub desk : Desk → IsDeskOf recorded S left ⊎ IsDeskOf text S left
   pub old : Old → IsOldDeskOf S left ⊎ IsDeskOf text S left
 

@@ -8,9 +8,8 @@ use Rattle.desk_store.specs.Keeping.{HasFailed}
 -- `Want`, of memory or of storage. No failure is taken back, and where the answer tells of a
 -- failure of the `Storage`, one was counted. Where it is up, each table of another name than a
 -- desk's is there as it was, with its rows.
-pub record IsServed {K : Type 0} (is_up is_clean : K → Type 0) (failures : K
-    → ℕ) (beside : K → TableWithRows → Type 0) (before after : K)
-    (Storage Want : Type 0) : Type 0 where
+pub record IsServed {K : Type 0} (is_up is_clean : K → Type 0) (failures : K → ℕ)
+    (beside : K → TableWithRows → Type 0) (before after : K) (Storage Want : Type 0) : Type 0 where
   pub was_up : is_up after → is_up before
   pub was_clean : is_clean after → is_clean before
   pub shuts : is_up before → is_clean after

@@ -14,8 +14,8 @@ IsMarked S q false = (p : RequestFields) → S (Request p) → SameName p q → 
 
 -- Each name with a request has one row, which has one such request and tells whether there is
 -- another; and the verdicts are those of the set, whether their request is there or not.
-pub record ShowSet (S : Message
-    → Type 0) (names : List NameRow) (verdicts : List VerdictFields) : Type 0 where
+pub record ShowSet (S : Message → Type 0) (names : List NameRow)
+    (verdicts : List VerdictFields) : Type 0 where
   pub each : (row : NameRow) → Contains names row
       → S (Request row.request) × IsMarked S row.request row.is_disputed
   pub all : (q : RequestFields) → S (Request q)

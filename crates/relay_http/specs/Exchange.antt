@@ -25,9 +25,9 @@ use Rattle.relay_http.specs.declared.status.Status.TheVariants.{Done}
 -- honest and no failure has shut it, `old` and `new` which messages it holds before and then,
 -- `Same` that it keeps what it kept, and `Served` what storage did, as `desk_store` says it of an
 -- answer that tells of a failed storage, and of one that tells of a want of memory or of storage.
-pub record IsAnswered (f : RosterFields Cmnd) (base : List Entry) (IsUp : Type 0) (old new : Message
-    → Type 0) (Same : Type 0) (Served : (Failure Want : Type 0)
-    → Type 0) (asked : Asked ℕ) (reply : Reply) : Type 0 where
+pub record IsAnswered (f : RosterFields Cmnd) (base : List Entry)
+    (IsUp : Type 0) (old new : Message → Type 0) (Same : Type 0)
+    (Served : (Failure Want : Type 0) → Type 0) (asked : Asked ℕ) (reply : Reply) : Type 0 where
   pub right : (set : List Message) → IsUp → Lists old set
       → IsReply f base set asked reply ⊎ IsWanting reply
   pub leaves : IsUp → Leaves Same old new asked reply
@@ -35,9 +35,9 @@ pub record IsAnswered (f : RosterFields Cmnd) (base : List Entry) (IsUp : Type 0
 
 -- An exchange over such a desk: one reply is its answer, and that reply's bytes were written, as
 -- `Wrote` says of them.
-pub record IsExchange (f : RosterFields Cmnd) (base : List Entry) (IsUp : Type 0) (old new : Message
-    → Type 0) (Same : Type 0) (Served : (Failure Want : Type 0)
-    → Type 0) (Wrote : List ℕ → Type 0) (request : Request ℕ) : Type 0 where
+pub record IsExchange (f : RosterFields Cmnd) (base : List Entry) (IsUp : Type 0)
+    (old new : Message → Type 0) (Same : Type 0) (Served : (Failure Want : Type 0) → Type 0)
+    (Wrote : List ℕ → Type 0) (request : Request ℕ) : Type 0 where
   pub reply : Reply
   pub answered : IsAnswered f base IsUp old new Same Served request.asked reply
   pub wrote : Wrote (written reply.status reply.body request.with_body)

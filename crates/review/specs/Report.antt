@@ -36,8 +36,8 @@ use Rattle.review.specs.Needs.{IsNeed, need_text}
 -- ---- whole lists
 
 -- everything that is so, each once, in order, and nothing else
-pub record AreAll {X : Type 0} (order : X → X
-    → Ordering) (Is : X → Type 0) (list : List X) : Type 0 where
+pub record AreAll {X : Type 0} (order : X → X → Ordering)
+    (Is : X → Type 0) (list : List X) : Type 0 where
   pub in_order : IsStrictlySortedBy order list
   pub each : (x : X) → Contains list x → Is x
   pub all : (x : X) → Is x → Contains list x
@@ -67,8 +67,9 @@ LinesInForce Of messages name None lines = lines ≡ []
 LinesInForce Of messages name (Some w) lines =
     (q : RequestFields) × IsOnlyRequest messages name q × Of q w lines
 
-pub record AreInForce (f : RosterFields Cmnd) (messages : List Message) (at : ℕ) (Of : RequestFields
-    → Window → List (List ℕ) → Type 0) (name : RequestName) (lines : List (List ℕ)) : Type 0 where
+pub record AreInForce (f : RosterFields Cmnd) (messages : List Message)
+    (at : ℕ) (Of : RequestFields → Window → List (List ℕ) → Type 0)
+    (name : RequestName) (lines : List (List ℕ)) : Type 0 where
   pub status : Status
   pub status_is : IsStatus f messages name status
   pub lines_are : LinesInForce Of messages name (window_at at status) lines

@@ -27,8 +27,8 @@ IsCmndText text = (c : Cmnd) × IsLawful c × (text ≡ cmnd_text c)
 
 -- what stands in a ceiling for a name is a name of its form, and what stands for a command is a
 -- command
-pub record IsNamedCeiling {C : Type 0} (IsCommand : C
-    → Type 0) (c : List ℕ × CeilingFields C) : Type 0 where
+pub record IsNamedCeiling {C : Type 0} (IsCommand : C → Type 0)
+    (c : List ℕ × CeilingFields C) : Type 0 where
   pub label : is_label c.0 ≡ true
   pub ask : is_label c.1.ask ≡ true
   pub approve : is_label c.1.approve ≡ true

@@ -19,8 +19,8 @@ abbrev pub IsExact : {X : Type 0} → (X → X → Bool) → Type 0
 IsExact {X} same = (x y : X) → same x y ≡ true → x ≡ y
 
 -- what stands is listed, each once, in order, and nothing else
-pub record IsEachOnce {X : Type 0} (order : X → X
-    → Ordering) (standing listed : List X) : Type 0 where
+pub record IsEachOnce {X : Type 0} (order : X → X → Ordering)
+    (standing listed : List X) : Type 0 where
   pub in_order : IsStrictlySortedBy order listed
   pub each : (x : X) → Contains standing x → Contains listed x
   pub only : (x : X) → Contains listed x → Contains standing x

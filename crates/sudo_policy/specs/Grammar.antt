@@ -50,8 +50,8 @@ abbrev pub is_odd : ℕ → Bool
 is_odd n = n % 2 == 1
 
 -- `ALL`, a name of the form, or an alias
-pub record SpellsItem (form : List ℕ
-    → Bool) (ts : List Tok) (s : Signed (Item (List ℕ))) (rest : List Tok) : Type 0 where
+pub record SpellsItem (form : List ℕ → Bool) (ts : List Tok)
+    (s : Signed (Item (List ℕ))) (rest : List Tok) : Type 0 where
   pub spaced : Bool
   pub bangs : ℕ
   pub toks : ts ≡ word spaced bangs (item_text s.item) ∷ rest
@@ -165,8 +165,8 @@ pub record SpellsPart (ts : List Tok) (p : Part) (rest : List Tok) : Type 0 wher
   pub specs : CmndSpecs next p.specs rest
 
 -- a name, `=` and a list
-pub record SpellsDef {X : Type 0} (Is : List Tok → Signed X → List Tok
-    → Type 0) (ts : List Tok) (d : Definition X) (rest : List Tok) : Type 0 where
+pub record SpellsDef {X : Type 0} (Is : List Tok → Signed X → List Tok → Type 0)
+    (ts : List Tok) (d : Definition X) (rest : List Tok) : Type 0 where
   pub name_spaced : Bool
   pub spaced : Bool
   pub next : List Tok

@@ -36,8 +36,8 @@ KeepsBut name old new = AllByRecursion (λ (t : Table). t.tree ≢ tree_of old.s
     → new.trees t.tree ≡ old.trees t.tree) old.schema.tables
 
 -- The rows of this table alone were changed, in trees that obey the schema that they list.
-pub record Alters (name : List ℕ) (Rows : RowSet → RowSet
-    → Type 0) (old new : Database) : Type 0 where
+pub record Alters (name : List ℕ) (Rows : RowSet → RowSet → Type 0)
+    (old new : Database) : Type 0 where
   pub sound : IsDatabase new
   pub schema : new.schema ≡ old.schema
   pub rows : Rows (IsRow (table_in old name)) (IsRow (table_in new name))

@@ -18,8 +18,8 @@ use Rattle.sudo_policy.specs.Policy.{IsPolicy, weight}
 use Rattle.sudo_policy.specs.Printing.{canon}
 
 -- what is kept of each alias is what it is by these definitions
-pub record IsTable {X : Type 0} (alias_of : X
-    → Option Text) (defs : List (Definition X)) (m : Aliases) : Type 0 where
+pub record IsTable {X : Type 0} (alias_of : X → Option Text)
+    (defs : List (Definition X)) (m : Aliases) : Type 0 where
   pub has_those : (name : Text) → has m name ≡ is_defined defs name
   pub weighs : (name : Text) → weight_in m name ≡ stopped (alias_weight alias_of defs name)
   pub deep : (name : Text) → depth_in m name ≡ alias_depth alias_of defs name
@@ -29,8 +29,8 @@ abbrev pub ArePlaces : {X : Type 0} → (Entry → List (Definition X)) → List
 ArePlaces {X} def es m = (name : Text)
     → IfSome (alias_at m name) (λ a. (list : List (Signed X)) × DefinedAt def es a.place name list)
 
-pub record IsKind {X : Type 0} (def : Entry → List (Definition X)) (alias_of : X
-    → Option Text) (es : List Entry) (m : Aliases) : Type 0 where
+pub record IsKind {X : Type 0} (def : Entry → List (Definition X))
+    (alias_of : X → Option Text) (es : List Entry) (m : Aliases) : Type 0 where
   pub table : IsTable alias_of (flat_map def (reverse es)) m
   pub places : ArePlaces def es m
 

@@ -50,8 +50,8 @@ abbrev pub KnowsAll : {X : Type 0} → (X → Option Text) → (Text → Bool) �
 KnowsAll alias_of test list =
     AllByRecursion (λ s. IfSome (alias_of s.item) (λ name. test name ≡ true)) list
 
-pub record IsMeasured {X : Type 0} (alias_of : X
-    → Option Text) (m : Aliases) (list : List (Signed X)) (a : Measure) : Type 0 where
+pub record IsMeasured {X : Type 0} (alias_of : X → Option Text)
+    (m : Aliases) (list : List (Signed X)) (a : Measure) : Type 0 where
   pub knows : KnowsAll alias_of (has m) list
   pub weight : a.weight ≡ stopped (list_weight alias_of (weight_in m) list)
   pub depth : a.depth ≡ list_depth alias_of (depth_in m) list
@@ -62,15 +62,15 @@ IsUnmeasured alias_of m list = KnowsAll alias_of (has m) list → ⊥
 -- ---- definitions
 
 -- the alias is new, its list uses those that are there, and its depth is within the limit
-pub record IsDefinable {X : Type 0} (alias_of : X
-    → Option Text) (m : Aliases) (name : Text) (list : List (Signed X)) : Type 0 where
+pub record IsDefinable {X : Type 0} (alias_of : X → Option Text)
+    (m : Aliases) (name : Text) (list : List (Signed X)) : Type 0 where
   pub new : has m name ≡ false
   pub knows : KnowsAll alias_of (has m) list
   pub shallow : depth_of alias_of (depth_in m) list ≤ most_depth
 
 -- what is kept of an alias
-pub record IsKept {X : Type 0} (alias_of : X
-    → Option Text) (m : Aliases) (place : ℕ) (list : List (Signed X)) (a : Alias) : Type 0 where
+pub record IsKept {X : Type 0} (alias_of : X → Option Text) (m : Aliases)
+    (place : ℕ) (list : List (Signed X)) (a : Alias) : Type 0 where
   pub place_is : a.place ≡ place
   pub weight : a.measure.weight ≡ stopped (list_weight alias_of (weight_in m) list)
   pub depth : a.measure.depth ≡ depth_of alias_of (depth_in m) list
