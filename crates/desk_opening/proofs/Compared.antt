@@ -6,7 +6,7 @@ use Rattle.sqlite.specs.declared.types.Value.{Value}
 use Rattle.sqlite.specs.declared.types.Value.TheVariants.{Null, Int, Real, Text, Blob}
 use Rattle.sqlite.specs.Order.{Row, column}
 use Rattle.sqlite_rules.specs.Lists.{Has}
-use Rattle.desk_opening.specs.Rows.{IsPlain}
+use Rattle.desk_opening.specs.private.Rows.{IsPlain}
 use Rattle.desk_opening.specs.private.Compare.{agree, is_integer, is_nothing, is_text}
 use Rattle.desk_opening.specs.Opened.{is_number}
 

@@ -4,7 +4,7 @@ use Rattle.std.proofs.lemmas.Bool.{and_from, and_parts}
 use Rattle.sqlite.specs.Order.{Row}
 use Rattle.messages.specs.Wire.{IsMessage}
 use Rattle.messages.specs.declared.message.Message.{Message}
-use Rattle.desk_opening.specs.Rows.{HaveRowids}
+use Rattle.desk_opening.specs.private.Rows.{HaveRowids}
 use Rattle.desk_opening.specs.private.Compare.{are_kept}
 use Rattle.desk_opening.specs.private.Reading.{AreHeld}
 use Rattle.desk_opening.proofs.KeyedCompared.{is_keyed_so, keyed_is}

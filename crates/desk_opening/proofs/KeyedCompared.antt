@@ -10,7 +10,7 @@ use Rattle.sqlite.specs.View.{is_int}
 use Rattle.sqlite_rules.specs.Lists.{Has}
 use Rattle.sqlite_rules.proofs.ListLemmas.{test_from, test_has}
 use Rattle.desk_tables.specs.Kept.{IsKeyed}
-use Rattle.desk_opening.specs.Rows.{ArePlain}
+use Rattle.desk_opening.specs.private.Rows.{ArePlain}
 use Rattle.desk_opening.specs.private.Compare.{agree, has_rowid, is_apart, is_keyed, is_same}
 use Rattle.desk_opening.proofs.Compared.{agree_int, agree_is, plain_agree, same_rows}
 

@@ -18,7 +18,7 @@ use Rattle.desk_schema.proofs.ShapeLemmas.{desk_of}
 use Rattle.desk_opening.specs.declared.found.Contents.{Contents}
 use Rattle.desk_opening.specs.declared.found.Found.TheVariants as found
 use Rattle.desk_opening.specs.Opened.{FoundIn, HasContents, IsDamaged, IsDeskBesideRows, IsKept}
-use Rattle.desk_opening.specs.Rows.{HaveRowids}
+use Rattle.desk_opening.specs.private.Rows.{HaveRowids}
 use Rattle.desk_opening.specs.private.Judged.{AreContents, IsWhole, LackContents}
 use Rattle.desk_opening.specs.private.Compare.{are_kept}
 use Rattle.desk_opening.specs.private.Reading.{AreHeld}

@@ -8,7 +8,7 @@ use Rattle.sqlite_rules.specs.Lists.{Has}
 use Rattle.messages.specs.declared.message.Message.{Message}
 use Rattle.desk_tables.specs.Kept.{IsKeyed}
 use Rattle.desk_tables.specs.Rows.{AreRows, IsRow}
-use Rattle.desk_opening.specs.Rows.{ArePlain, HaveRowids, IsPlain}
+use Rattle.desk_opening.specs.private.Rows.{ArePlain, HaveRowids, IsPlain}
 use Rattle.desk_opening.proofs.KeyedCompared.{int_of}
 
 text : (t : List ℕ) → IsPlain (Text t)

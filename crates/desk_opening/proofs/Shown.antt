@@ -24,7 +24,7 @@ use Rattle.desk_schema.specs.Parts.{name_of, table_at}
 use Rattle.desk_schema.specs.Shapes.{FindsPart, IsUnmarked}
 use Rattle.desk_schema.proofs.ShapeLemmas.{tree_in}
 use Rattle.desk_opening.specs.Opened.{is_number, recorded_as}
-use Rattle.desk_opening.specs.Rows.{HaveRowids}
+use Rattle.desk_opening.specs.private.Rows.{HaveRowids}
 use Rattle.desk_opening.specs.private.Reading.{AreHeld, shown_mark}
 use Rattle.desk_opening.specs.private.Selecting.{ShowsPart, shown_of}
 use Rattle.desk_opening.proofs.Compared.{five, four, six}

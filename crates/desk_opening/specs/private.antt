@@ -1,3 +1,4 @@
+pub mod Rows
 pub mod Compare
 pub mod Names
 pub mod Selecting
