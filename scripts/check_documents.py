@@ -96,7 +96,7 @@ def store(page: Page) -> None:
     log_alone(page, from_log)
     page.says(
         "**`K4` does not**: the commit failed, and the message may be there",
-        "some 1,600 bytes a message, and a desk that was asked something 1,500 to 2,000",
+        "some 1,220 bytes a message, and a desk that was asked something 1,500 to 2,000",
     )
 
 
