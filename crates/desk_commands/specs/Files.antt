@@ -3,7 +3,8 @@ use Rattle.std.specs.Prelude.{◌≡◌, ◌≢◌, ◌⊎◌, ℕ, List, IsUtf8
 use Rattle.sudo_words.specs.declared.cmnd.Cmnd.{Cmnd}
 use Rattle.sudo_policy.specs.Spelling.{Spells}
 use Rattle.sudo_policy.specs.declared.entry.Entry.{Entry}
-use Rattle.sudo_policy.specs.declared.fault.FaultKind.TheVariants as kinds
+use Rattle.sudo_policy.specs.declared.fault.FaultKind.TheVariants.{Line}
+use Rattle.sudo_policy.specs.declared.fault.LineFault.TheVariants.{NoMemory}
 use Rattle.sudo_policy.specs.declared.fault.ReadFault.{ReadFault}
 use Rattle.roster.specs.Fields.{RosterFields}
 use Rattle.roster.specs.Faults.{IsLeastFault, IsRosterText}
@@ -39,7 +40,7 @@ IsRosterFault file fault =
 
 -- where the file spells a policy, the fault is want of memory
 abbrev pub IsFaultOf : List ℕ → ReadFault → Type 0
-IsFaultOf file fault = (es : List Entry) → Spells file es → fault.kind ≡ kinds.NoMemory
+IsFaultOf file fault = (es : List Entry) → Spells file es → fault.kind ≡ Line NoMemory
 
 -- the file is a roster's
 abbrev pub HoldsRoster : List ℕ → Type 0

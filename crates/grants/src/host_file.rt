@@ -9,7 +9,7 @@ ghost use Rattle.grants.specs.declared.host_fault.HostFault.TheVariants as fault
 
 use crate::host_fault::HostFault;
 use std::alloc::Global;
-use sudo_policy::{FaultKind, Policy, Rule, extend};
+use sudo_policy::{FaultKind, LineFault, Policy, Rule, extend};
 
 /// The most rules of grants after a base.
 const MOST_RULES: usize = 8_192;
@@ -28,7 +28,7 @@ pub fn host_policy(alloc: Global, base: &Policy, rules: Vec<Rule>) -> Result<Pol
     match extend(alloc, base, rules) {
         Ok(policy) => Ok(policy),
         Err(fault) => match fault.kind {
-            FaultKind::NoMemory => Err(HostFault::NoMemory),
+            FaultKind::Line(LineFault::NoMemory) => Err(HostFault::NoMemory),
             _ => Err(HostFault::TooManyRules),
         },
     }

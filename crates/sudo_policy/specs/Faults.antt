@@ -1,26 +1,31 @@
 -- How faults are shown.
 use Rattle.std.specs.Prelude.{◌++◌, codes, decimal}
 use Rattle.sudo_policy.specs.declared.fault.FaultKind.{FaultKind}
-use Rattle.sudo_policy.specs.declared.fault.FaultKind.TheVariants.{TooLong, BadByte, BadWord}
-use Rattle.sudo_policy.specs.declared.fault.FaultKind.TheVariants.{Unexpected, UnknownAlias}
-use Rattle.sudo_policy.specs.declared.fault.FaultKind.TheVariants.{AliasTwice, Reserved, BadMoment}
-use Rattle.sudo_policy.specs.declared.fault.FaultKind.TheVariants.{LeftOut, TooLarge, NoMemory}
+use Rattle.sudo_policy.specs.declared.fault.FaultKind.TheVariants.{TooLong, BadByte, Line}
+use Rattle.sudo_policy.specs.declared.fault.LineFault.{LineFault}
+use Rattle.sudo_policy.specs.declared.fault.LineFault.TheVariants.{BadWord, Unexpected}
+use Rattle.sudo_policy.specs.declared.fault.LineFault.TheVariants.{UnknownAlias, AliasTwice}
+use Rattle.sudo_policy.specs.declared.fault.LineFault.TheVariants.{Reserved, BadMoment, LeftOut}
+use Rattle.sudo_policy.specs.declared.fault.LineFault.TheVariants.{TooLarge, NoMemory}
 use Rattle.sudo_policy.specs.declared.fault.ReadFault.{ReadFault}
 use Rattle.sudo_policy.specs.Text.{Text}
 
 -- its code and name
+abbrev pub line_fault_text : LineFault → Text
+line_fault_text BadWord = codes "S3 BadWord"
+line_fault_text Unexpected = codes "S4 Unexpected"
+line_fault_text UnknownAlias = codes "S5 UnknownAlias"
+line_fault_text AliasTwice = codes "S6 AliasTwice"
+line_fault_text Reserved = codes "S7 Reserved"
+line_fault_text BadMoment = codes "S8 BadMoment"
+line_fault_text LeftOut = codes "S9 LeftOut"
+line_fault_text TooLarge = codes "S10 TooLarge"
+line_fault_text NoMemory = codes "S11 NoMemory"
+
 abbrev pub kind_text : FaultKind → Text
 kind_text TooLong = codes "S1 TooLong"
 kind_text BadByte = codes "S2 BadByte"
-kind_text BadWord = codes "S3 BadWord"
-kind_text Unexpected = codes "S4 Unexpected"
-kind_text UnknownAlias = codes "S5 UnknownAlias"
-kind_text AliasTwice = codes "S6 AliasTwice"
-kind_text Reserved = codes "S7 Reserved"
-kind_text BadMoment = codes "S8 BadMoment"
-kind_text LeftOut = codes "S9 LeftOut"
-kind_text TooLarge = codes "S10 TooLarge"
-kind_text NoMemory = codes "S11 NoMemory"
+kind_text (Line fault) = line_fault_text fault
 
 -- its kind, and its line in decimal: 0 where there is no text
 abbrev pub fault_text : ReadFault → Text

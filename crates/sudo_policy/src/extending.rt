@@ -4,8 +4,7 @@ ghost use Rattle.std.specs.Prelude.{◌≡◌, ◌⊎◌, [], ◌++◌, IfOk, If
 ghost use Rattle.std.specs.Prelude.{OnOk, MatchResult, map, reverse};
 ghost use Rattle.std.specs.List.{AllByRecursion};
 ghost use Rattle.sudo_policy.specs.declared.entry.Entry.TheVariants as entries;
-ghost use Rattle.sudo_policy.specs.declared.fault.FaultKind.TheVariants.{TooLarge, UnknownAlias};
-ghost use Rattle.sudo_policy.specs.declared.fault.FaultKind.TheVariants.{NoMemory};
+ghost use Rattle.sudo_policy.specs.declared.fault.FaultKind.TheVariants as kind;
 ghost use Rattle.sudo_policy.specs.Policy.{IsPolicy, IsRule, KnowsRule};
 ghost use Rattle.sudo_policy.specs.Reading as reading;
 ghost use Rattle.sudo_policy.specs.private.AliasKinds.{Adds, IsDraft};
@@ -45,13 +44,23 @@ fn add_rules(alloc: Global, draft: &mut Draft, rules: Vec<Rule>) -> Result<(), L
 }
 
 /// Why rules whose aliases are all known were not added.
-fn limit_kind(line_fault: LineFault) -> FaultKind
-    ensures memory { line_fault ≡ fault.NoMemory → result ≡ NoMemory }
-    ensures limit { (result ≡ TooLarge) ⊎ (result ≡ NoMemory) }
+fn limit_of(line_fault: LineFault) -> LineFault
+    ensures memory { line_fault ≡ fault.NoMemory → result ≡ fault.NoMemory }
+    ensures limit { (result ≡ fault.TooLarge) ⊎ (result ≡ fault.NoMemory) }
 {
     match line_fault {
-        LineFault::NoMemory => FaultKind::NoMemory,
-        _ => FaultKind::TooLarge,
+        LineFault::NoMemory => LineFault::NoMemory,
+        _ => LineFault::TooLarge,
+    }
+}
+
+/// A fault of the whole: there is no text, so the line is 0.
+fn without_line(line_fault: LineFault) -> ReadFault
+    ensures { result ≡ record { line = 0; kind = kind.Line line_fault } }
+{
+    ReadFault {
+        line: 0,
+        kind: FaultKind::Line(line_fault),
     }
 }
 
@@ -82,25 +91,22 @@ pub fn extend(alloc: Global, base: &Policy, rules: Vec<Rule>) -> Result<Policy, 
     requires { AllByRecursion IsRule rules.items }
     ensures found { IfOk result (λ p. p ≡ reading.with_rules base.now rules.items) }
     ensures only { IsPolicy (reading.with_rules base.now rules.items) → MatchResult result
-        (λ p. p ≡ reading.with_rules base.now rules.items) (λ f. f.kind ≡ NoMemory) }
+        (λ p. p ≡ reading.with_rules base.now rules.items)
+        (λ f. f.kind ≡ kind.Line fault.NoMemory) }
     ensures line { IfErr result (λ f. f.line ≡ 0) }
     ensures unknown { ¬ AllByRecursion (KnowsRule (reverse base.now)) rules.items
-        → IfErr result (λ f. (f.kind ≡ UnknownAlias) ⊎ (f.kind ≡ NoMemory)) }
+        → IfErr result (λ f. (f.kind ≡ kind.Line fault.UnknownAlias)
+        ⊎ (f.kind ≡ kind.Line fault.NoMemory)) }
     ensures kind { AllByRecursion (KnowsRule (reverse base.now)) rules.items
-        → IfErr result (λ f. (f.kind ≡ TooLarge) ⊎ (f.kind ≡ NoMemory)) }
+        → IfErr result (λ f. (f.kind ≡ kind.Line fault.TooLarge)
+        ⊎ (f.kind ≡ kind.Line fault.NoMemory)) }
 {
     if !base.knows(&rules) {
-        return Err(ReadFault {
-            line: 0,
-            kind: FaultKind::UnknownAlias,
-        });
+        return Err(without_line(LineFault::UnknownAlias));
     }
     let mut draft = Draft::new(alloc);
     match add_both(alloc, &mut draft, base, rules) {
         Ok(()) => Ok(Policy::of(draft)),
-        Err(fault) => Err(ReadFault {
-            line: 0,
-            kind: limit_kind(fault),
-        }),
+        Err(fault) => Err(without_line(limit_of(fault))),
     }
 }

@@ -8,13 +8,10 @@ use std::error::Error;
 use std::fmt;
 use sudo_words::{CmndFault, WordFault};
 
-/// What is wrong with a text that is no policy. It is shown as its code and name.
+/// What is wrong with a line of a policy's text, or with an entry. It is shown as its code and
+/// name.
 #[derive(Clone, Copy, Debug, PartialEq, Eq)]
-pub enum FaultKind {
-    /// The text has more than 16 MiB.
-    TooLong,
-    /// A byte is neither a tab, a newline nor a printed one of ASCII.
-    BadByte,
+pub enum LineFault {
     /// A word is not of the form that its place asks for.
     BadWord,
     /// A word or mark stands where the grammar has none, or one is missing.
@@ -35,6 +32,56 @@ pub enum FaultKind {
     NoMemory,
 }
 
+impl fmt::Display for LineFault {
+    ghost use Rattle.std.specs.Prelude.{Some};
+    ghost use Rattle.sudo_policy.specs.Faults.{line_fault_text};
+
+    ghost output = { λ k. Some (line_fault_text k) };
+
+    fn fmt<W: fmt::Write>(&self, f: &mut fmt::Formatter<W>) -> fmt::Result {
+        f.write_str(match self {
+            LineFault::BadWord => "S3 BadWord",
+            LineFault::Unexpected => "S4 Unexpected",
+            LineFault::UnknownAlias => "S5 UnknownAlias",
+            LineFault::AliasTwice => "S6 AliasTwice",
+            LineFault::Reserved => "S7 Reserved",
+            LineFault::BadMoment => "S8 BadMoment",
+            LineFault::LeftOut => "S9 LeftOut",
+            LineFault::TooLarge => "S10 TooLarge",
+            LineFault::NoMemory => "S11 NoMemory",
+        })
+    }
+}
+
+impl Error for LineFault {}
+
+impl From<AllocError> for LineFault {
+    ghost from_gives = { λ _ e. e ≡ NoMemory };
+
+    fn from(_e: AllocError) -> LineFault {
+        LineFault::NoMemory
+    }
+}
+
+impl<T: Drop> From<AllocFailed<T>> for LineFault {
+    ghost from_gives = { λ _ e. e ≡ NoMemory };
+
+    fn from(_e: AllocFailed<T>) -> LineFault {
+        LineFault::NoMemory
+    }
+}
+
+/// What is wrong with a text that is no policy. It is shown as its code and name.
+#[derive(Clone, Copy, Debug, PartialEq, Eq)]
+pub enum FaultKind {
+    /// The text has more than 16 MiB.
+    TooLong,
+    /// A byte is neither a tab, a newline nor a printed one of ASCII.
+    BadByte,
+    /// A line is wrong, or an entry.
+    Line(LineFault),
+}
+
 impl fmt::Display for FaultKind {
     ghost use Rattle.std.specs.Prelude.{Some};
     ghost use Rattle.sudo_policy.specs.Faults.{kind_text};
@@ -42,19 +89,11 @@ impl fmt::Display for FaultKind {
     ghost output = { λ k. Some (kind_text k) };
 
     fn fmt<W: fmt::Write>(&self, f: &mut fmt::Formatter<W>) -> fmt::Result {
-        f.write_str(match self {
-            FaultKind::TooLong => "S1 TooLong",
-            FaultKind::BadByte => "S2 BadByte",
-            FaultKind::BadWord => "S3 BadWord",
-            FaultKind::Unexpected => "S4 Unexpected",
-            FaultKind::UnknownAlias => "S5 UnknownAlias",
-            FaultKind::AliasTwice => "S6 AliasTwice",
-            FaultKind::Reserved => "S7 Reserved",
-            FaultKind::BadMoment => "S8 BadMoment",
-            FaultKind::LeftOut => "S9 LeftOut",
-            FaultKind::TooLarge => "S10 TooLarge",
-            FaultKind::NoMemory => "S11 NoMemory",
-        })
+        match self {
+            FaultKind::TooLong => f.write_str("S1 TooLong"),
+            FaultKind::BadByte => f.write_str("S2 BadByte"),
+            FaultKind::Line(fault) => fault.fmt(f),
+        }
     }
 }
 
@@ -84,43 +123,3 @@ impl fmt::Display for ReadFault {
 }
 
 impl Error for ReadFault {}
-
-/// What is wrong with a line: the kinds that a line has of itself, each as the `FaultKind` of its
-/// name.
-#[derive(Clone, Copy)]
-pub enum LineFault {
-    /// A word is not of the form that its place asks for.
-    BadWord,
-    /// A word or mark stands where the grammar has none, or one is missing.
-    Unexpected,
-    /// An alias is used that no line above defines.
-    UnknownAlias,
-    /// An alias is defined twice in its kind.
-    AliasTwice,
-    /// A reserved word stands in the place of an alias's name.
-    Reserved,
-    /// A time is none, or out of range.
-    BadMoment,
-    /// The form is one of sudoers that the desk leaves out.
-    LeftOut,
-    /// The policy would be past a limit.
-    TooLarge,
-    /// Memory ran out.
-    NoMemory,
-}
-
-impl From<AllocError> for LineFault {
-    ghost from_gives = { λ _ e. e ≡ NoMemory };
-
-    fn from(_e: AllocError) -> LineFault {
-        LineFault::NoMemory
-    }
-}
-
-impl<T: Drop> From<AllocFailed<T>> for LineFault {
-    ghost from_gives = { λ _ e. e ≡ NoMemory };
-
-    fn from(_e: AllocFailed<T>) -> LineFault {
-        LineFault::NoMemory
-    }
-}

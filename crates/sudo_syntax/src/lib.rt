@@ -1,5 +1,5 @@
 //! Policies' texts, read: lines, comments and continuations, and what commands inherit. What
-//! policies are, and how they are printed, stands in `sudo_policy`, which is given on.
+//! policies are, and how they are printed, stands in `sudo_policy`, which this crate re-exports.
 #![tactic(auto)]
 
 mod commands;
@@ -19,8 +19,8 @@ mod worked_laws;
 
 pub use read::read_policy;
 pub use sudo_policy::{
-    CmndItem, Entry, FaultKind, Item, Policy, ReadFault, Rule, Signed, extend, print_owned,
-    print_policy,
+    CmndItem, Entry, FaultKind, Item, LineFault, Policy, ReadFault, Rule, Signed, extend,
+    print_owned, print_policy,
 };
 pub use sudo_words::{
     AliasName, Arg, ArgRule, Cmnd, CmndFault, DirPath, FilePath, HostName, Items, Moment, Name,

@@ -4,9 +4,8 @@ ghost use Rattle.std.specs.Prelude.{◌≡◌, ◌+◌, ◌<◌, ◌≤◌, ◌=
 ghost use Rattle.std.specs.Prelude.{IsErrAnd, MatchResult, OnOk, length, count_by, ◌++◌, [], ◌∷◌};
 ghost use Rattle.sudo_words.specs.Bytes.{newline};
 ghost use Rattle.sudo_policy.specs.declared.entry.Entry.{Entry as Entered};
-ghost use Rattle.sudo_policy.specs.declared.fault.FaultKind.TheVariants.{TooLong, BadByte};
-ghost use Rattle.sudo_policy.specs.declared.fault.FaultKind.TheVariants.{TooLarge, NoMemory};
-ghost use Rattle.sudo_policy.specs.declared.fault.LineFault.TheVariants.{NoMemory as OutOfMemory};
+ghost use Rattle.sudo_policy.specs.declared.fault.FaultKind.TheVariants.{TooLong, BadByte, Line};
+ghost use Rattle.sudo_policy.specs.declared.fault.LineFault.TheVariants.{NoMemory};
 ghost use Rattle.sudo_policy.specs.Spelling.{Spells, SpellsLine};
 ghost use Rattle.sudo_syntax.specs.private.Pending.{Leads, SpellsAfter};
 ghost use Rattle.sudo_policy.specs.Lex as lex;
@@ -66,24 +65,6 @@ fn check_bytes(text: &[u8]) -> Result<(), ReadFault>
     }
 }
 
-/// What is wrong with a line, as a fault of the text.
-fn kind_of(fault: LineFault) -> FaultKind
-    ensures memory { fault ≡ OutOfMemory → result ≡ NoMemory }
-    ensures line { IsInLine result }
-{
-    match fault {
-        LineFault::BadWord => FaultKind::BadWord,
-        LineFault::Unexpected => FaultKind::Unexpected,
-        LineFault::UnknownAlias => FaultKind::UnknownAlias,
-        LineFault::AliasTwice => FaultKind::AliasTwice,
-        LineFault::Reserved => FaultKind::Reserved,
-        LineFault::BadMoment => FaultKind::BadMoment,
-        LineFault::LeftOut => FaultKind::LeftOut,
-        LineFault::TooLarge => FaultKind::TooLarge,
-        LineFault::NoMemory => FaultKind::NoMemory,
-    }
-}
-
 /// Adds what a line stands for, where the line is joined with those that continue it.
 fn add_joined(alloc: Global, draft: &mut Draft, line: &[u8]) -> Result<(), LineFault>
     requires { IsDraft draft.old }
@@ -91,7 +72,7 @@ fn add_joined(alloc: Global, draft: &mut Draft, line: &[u8]) -> Result<(), LineF
         × ((es : List Entered) → SpellsLine line.now es → es ≡ here)
         × Adds draft.old draft.new here) }
     ensures only { IfErr result (λ e. (es : List Entered) → SpellsLine line.now es
-        → IsPolicy (draft.old.entries.items ++ es) → e ≡ OutOfMemory) }
+        → IsPolicy (draft.old.entries.items ++ es) → e ≡ NoMemory) }
 {
     let tokens = tokens(alloc, line)?;
     if tokens.is_empty() {
@@ -115,7 +96,7 @@ fn add_piece(
         → Leads pending.old.items (line.now ∷ rest) here pending.new.items rest)) }
     ensures only { IfErr result (λ e. (rest : List (List ℕ)) (es : List Entered)
         → SpellsAfter pending.old.items (line.now ∷ rest) es
-        → IsPolicy (draft.old.entries.items ++ es) → e ≡ OutOfMemory) }
+        → IsPolicy (draft.old.entries.items ++ es) → e ≡ NoMemory) }
 {
     match piece_of(line)? {
         Piece::GoesOn(front) => {
@@ -156,7 +137,7 @@ fn add_lines(alloc: Global, draft: &mut Draft, text: &[u8]) -> Result<(), ReadFa
     ensures found { OnOk result
         (IsDraft draft.new × SpellsBy (lines_of text.now) draft.new.entries.items) }
     ensures only { (es : List Entered) → SpellsBy (lines_of text.now) es → IsPolicy es
-        → MatchResult result (λ _. draft.new.entries.items ≡ es) (λ f. f.kind ≡ NoMemory) }
+        → MatchResult result (λ _. draft.new.entries.items ≡ es) (λ f. f.kind ≡ Line NoMemory) }
     ensures line { IfErr result (λ f. IsLineOf text.now f.line) }
     ensures kind { IfErr result (λ f. IsInLine f.kind) }
 {
@@ -171,7 +152,7 @@ fn add_lines(alloc: Global, draft: &mut Draft, text: &[u8]) -> Result<(), ReadFa
         if let Err(fault) = add_piece(alloc, draft, &mut pending, line) {
             return Err(ReadFault {
                 line: fault_line(line, begins, here),
-                kind: kind_of(fault),
+                kind: FaultKind::Line(fault),
             });
         }
     }
@@ -179,7 +160,7 @@ fn add_lines(alloc: Global, draft: &mut Draft, text: &[u8]) -> Result<(), ReadFa
         // The last line goes on, and nothing follows.
         return Err(ReadFault {
             line: here,
-            kind: FaultKind::Unexpected,
+            kind: FaultKind::Line(LineFault::Unexpected),
         });
     }
     Ok(())
@@ -189,7 +170,7 @@ fn add_lines(alloc: Global, draft: &mut Draft, text: &[u8]) -> Result<(), ReadFa
 fn policy_of(alloc: Global, text: &[u8]) -> Result<Policy, ReadFault>
     ensures found { IfOk result (λ p. SpellsBy (lines_of text.now) p) }
     ensures only { (es : List Entered) → SpellsBy (lines_of text.now) es → IsPolicy es
-        → MatchResult result (λ p. p ≡ es) (λ f. f.kind ≡ NoMemory) }
+        → MatchResult result (λ p. p ≡ es) (λ f. f.kind ≡ Line NoMemory) }
     ensures line { IfErr result (λ f. IsLineOf text.now f.line) }
     ensures kind { IfErr result (λ f. IsInLine f.kind) }
 {
@@ -209,7 +190,7 @@ pub fn read_policy(alloc: Global, text: &[u8]) -> Result<Policy, ReadFault>
     // What is spelled so is read, unless memory runs out: so no other fault comes where a policy is
     // spelled.
     ensures only { (es : List Entered) → Spells text.now es
-        → MatchResult result (λ p. p ≡ es) (λ f. f.kind ≡ NoMemory) }
+        → MatchResult result (λ p. p ≡ es) (λ f. f.kind ≡ Line NoMemory) }
     // `TooLong` comes exactly where the text is too long.
     ensures too_long { most_text_bytes < length text.now → IsErrAnd result (λ f. f.kind ≡ TooLong) }
     ensures too_long_only { IfErr result

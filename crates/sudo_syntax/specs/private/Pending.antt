@@ -3,7 +3,8 @@
 use Rattle.std.specs.Prelude.{◌≡◌, ◌≢◌, ◌<◌, ◌⊎◌, List, [], ◌∷◌, ◌++◌, length}
 use Rattle.sudo_policy.specs.declared.entry.Entry.{Entry}
 use Rattle.sudo_policy.specs.declared.fault.FaultKind.{FaultKind}
-use Rattle.sudo_policy.specs.declared.fault.FaultKind.TheVariants.{TooLong, BadByte}
+use Rattle.sudo_policy.specs.declared.fault.FaultKind.TheVariants.{Line}
+use Rattle.sudo_policy.specs.declared.fault.LineFault.{LineFault}
 use Rattle.sudo_policy.specs.Text.{Text}
 use Rattle.sudo_policy.specs.Lines.{Joined}
 use Rattle.sudo_policy.specs.Spelling.{SpellsLines}
@@ -32,4 +33,4 @@ SpellsBy lines es = (joined : List Text) × Joined lines joined × SpellsLines j
 
 -- a fault of a line, and not of the bytes
 abbrev pub IsInLine : FaultKind → Type 0
-IsInLine kind = (kind ≢ TooLong) × (kind ≢ BadByte)
+IsInLine kind = (fault : LineFault) × (kind ≡ Line fault)

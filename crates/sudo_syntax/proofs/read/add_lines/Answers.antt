@@ -1,11 +1,12 @@
-use Rattle.std.proofs.Common.{◌≡◌, ◌+◌, ◌<◌, ◌≤◌, [], eqb, length, drop, rules, arith}
+use Rattle.std.proofs.Common.{◌≡◌, ◌+◌, ◌<◌, ◌≤◌, [], ap, eqb, length, drop, rules, arith}
 use Rattle.std.proofs.lemmas.Grind.{common_steps}
 use Rattle.std.proofs.lemmas.List.{nil_from_length, length_push, drop_all}
 use Rattle.std.proofs.lemmas.Iterator.Consumers.{YieldsList-at, YieldsList-turn, YieldsList-end}
 use Rattle.std.proofs.lemmas.Iterator.Splits.{YieldsList-from_slice_split}
 use Rattle.sudo_words.specs.Bytes.{newline}
 use Rattle.sudo_policy.specs.Lines.{lines_of}
-use Rattle.sudo_policy.specs.declared.fault.LineFault.TheVariants.{NoMemory as OutOfMemory}
+use Rattle.sudo_policy.specs.declared.fault.FaultKind.TheVariants.{Line}
+use Rattle.sudo_policy.specs.declared.fault.LineFault.TheVariants.{NoMemory}
 use Rattle.sudo_syntax.proofs.LineLemmas.{at_line, line_in, leads_more, leads_end, leads_nowhere, leads_stuck}
 use Rattle.sudo_syntax.proofs.read.add_lines.Goals as goal
 
@@ -17,8 +18,8 @@ returns-in-Err-clause-only c = λ es h policy.
     (λ b. eqb b newline) c.args.text.now c.split-line-items.ensures.rest c.split-line-items.ensures.done c.split-line-items.ensures.closure
     (λ x b q k. search rules))) c.loop-line.yielded _ c.loop-line.yielded_by _ _ c.in-Some.line c.in-Some.is c.next.ensures.steps) in
     let here = at_line all c.loop-line.here c.in-Some.line.now at in
-    c.kind_of.ensures.memory (leads_stuck all c.loop-line.draft.entries.items c.loop-line.pending.items _
-    (c.in-Err.fault ≡ OutOfMemory) (rw here at c.loop-line.invariant.leads) (c.in-Err.ensures.only (drop (c.loop-line.here + 1) all)) es h policy)
+    ap Line (leads_stuck all c.loop-line.draft.entries.items c.loop-line.pending.items _ (c.in-Err.fault ≡ NoMemory)
+    (rw here at c.loop-line.invariant.leads) (c.in-Err.ensures.only (drop (c.loop-line.here + 1) all)) es h policy)
 
 pub returns-in-Err-clause-line : goal.returns-in-Err-clause-line
 returns-in-Err-clause-line c =
