@@ -2,10 +2,10 @@
 use Rattle.std.proofs.Common.{◌≡◌, ℕ, ◌∙◌, List, true, false, Some, bytes_eq, true≢false, refl, sym, ap}
 use Rattle.std.specs.Prelude.{codes}
 use Rattle.std.proofs.lemmas.Slice.Eq.{bytes_eq-Decides}
-use Rattle.serde_json.specs.Data.{Data, string}
-use Rattle.serde_json.specs.Find.{get}
+use Rattle.json.specs.Json.{Json, string}
+use Rattle.json.specs.Find.{get}
 use Rattle.messages.specs.Fields.{RequestFields, VerdictFields, IsRequest, IsVerdict}
-use Rattle.messages.specs.private.Members.{request_value, verdict_value, value_of}
+use Rattle.messages.specs.private.Members.{request_tree, verdict_tree, tree_of}
 use Rattle.messages.specs.Wire.{kind_text, IsMessage}
 use Rattle.messages.specs.declared.kind.VerdictKind.{VerdictKind}
 use Rattle.messages.specs.declared.kind.VerdictKind.TheVariants.{Approve, Refuse, Revoke}
@@ -16,21 +16,21 @@ abbrev pub kind_of : Message → List ℕ
 kind_of (Request r) = codes "request"
 kind_of (Verdict v) = kind_text v.kind
 
-pub kind_found : (m : Message) (d : Data) → d ≡ value_of m → get (codes "kind") d ≡ Some (string (kind_of m))
-kind_found (Request r) d e = ap (get (codes "kind")) e
-kind_found (Verdict v) d e = ap (get (codes "kind")) e
+pub kind_found : (m : Message) (j : Json) → j ≡ tree_of m → get (codes "kind") j ≡ Some (string (kind_of m))
+kind_found (Request r) j e = ap (get (codes "kind")) e
+kind_found (Verdict v) j e = ap (get (codes "kind")) e
 
 pub record IsAsked (m : Message) : Type 0 where
   pub fields : RequestFields
   pub valid : IsRequest fields
   pub message : m ≡ Request fields
-  pub value : value_of m ≡ request_value fields
+  pub tree : tree_of m ≡ request_tree fields
 
 pub record IsAnswered (m : Message) : Type 0 where
   pub fields : VerdictFields
   pub valid : IsVerdict fields
   pub message : m ≡ Verdict fields
-  pub value : value_of m ≡ verdict_value fields
+  pub tree : tree_of m ≡ verdict_tree fields
   pub kind : kind_of m ≡ kind_text fields.kind
 
 -- ---- names of kinds
@@ -63,9 +63,9 @@ same_name name w k n e = sym n ∙ (bytes_eq-Decides name w).0 e
 -- ---- messages by their kind
 
 pub asked_from : (m : Message) (kind : List ℕ) → IsMessage m → kind ≡ kind_of m → bytes_eq kind (codes "request") ≡ true → IsAsked m
-asked_from (Request r) kind h k e = record { fields = r; valid = h; message = refl; value = refl }
+asked_from (Request r) kind h k e = record { fields = r; valid = h; message = refl; tree = refl }
 asked_from (Verdict v) kind h k e = absurd (not_asked v.kind (same_name kind (codes "request") v.kind k e))
 
 pub answered_from : (m : Message) (kind : List ℕ) → IsMessage m → kind ≡ kind_of m → bytes_eq kind (codes "request") ≡ false → IsAnswered m
 answered_from (Request r) kind h k e = absurd (unlike kind (codes "request") e k)
-answered_from (Verdict v) kind h k e = record { fields = v; valid = h; message = refl; value = refl; kind = refl }
+answered_from (Verdict v) kind h k e = record { fields = v; valid = h; message = refl; tree = refl; kind = refl }

@@ -1,5 +1,5 @@
 -- The text of a message is canonical JSON that reads as the message's value.
-use Rattle.std.proofs.Common.{◌≡◌, ℕ, ◌^◌, ◌<◌, ◌≤◌, ◌∙◌, true, false, List, [], ◌∷◌, ◌++◌, Option, Some, option_map}
+use Rattle.std.proofs.Common.{◌≡◌, ℕ, ◌^◌, ◌<◌, ◌≤◌, ◌∙◌, true, false, List, [], ◌∷◌, ◌++◌, Option, Some, None, option_map}
 use Rattle.std.proofs.Common.{option_and_then, map, refl, sym, ap, ap₂, subst, arith, append_assoc, append-nil, decimal, ltb}
 use Rattle.std.specs.List.{list_all}
 use Rattle.std.specs.Prelude.{codes, IsUtf8, All}
@@ -23,7 +23,7 @@ use Rattle.sudo_words.specs.Command.{cmnd_text}
 use Rattle.sudo_words.specs.Word.{is_name}
 use Rattle.messages.specs.Canonical.{IsTextOf}
 use Rattle.messages.specs.Fields.{RequestFields, VerdictFields, IsNumbered, IsRequest, IsVerdict}
-use Rattle.messages.specs.private.Members.{strings, request_value, verdict_value, value_of}
+use Rattle.messages.specs.private.Members.{strings, request_value, verdict_value, value_of, text_items, tree_of}
 use Rattle.messages.specs.Wire.{escaped, quoted, moment_text, rest_text, list_text, kind_text, request_text, verdict_text, wire, IsMessage}
 use Rattle.messages.specs.declared.message.Message.{Message}
 use Rattle.messages.specs.declared.message.Message.TheVariants.{Request, Verdict}
@@ -131,22 +131,29 @@ said_list (w ∷ ws) printed =
 
 -- ---- such a value's text is canonical
 
+whole_tree : Option (json.Json × List Token) → Option json.Json
+whole_tree o = option_and_then (λ p. json.if_last p.0 p.1) o
+
 whole_value : Option (json.Json × List Token) → Option Data
 whole_value o = option_and_then of_json (option_and_then (λ p. json.if_last p.0 p.1) o)
+
+tokens_from_said : (value : Data) (text : List ℕ) → IsSaid 2 value text → tokens text ≡ tree.json_tokens (outline value) ++ []
+tokens_from_said value text said =
+    let spelled = tokens-print (tree.json_tokens (outline value)) (ArePrintable-json_tokens (outline value) said.numbers) in
+    ap tokens (sym said.text_is ∙ sym (print-outline value)) ∙ spelled ∙ sym (append-nil (tree.json_tokens (outline value)))
+
+pub document_from_said : (value : Data) (text : List ℕ) → IsSaid 2 value text → json.document text ≡ Some (outline value)
+unfolding whole_tree
+document_from_said value text said =
+    let deep : tree.depth (outline value) ≤ 128 = omega (arith, said.shallow) in
+    ap whole_tree (ap (json.value json.max_depth) (tokens_from_said value text said) ∙ value-json_tokens (outline value) json.max_depth [] deep)
 
 pub canonical_from_said : (value : Data) (text : List ℕ) → IsSaid 2 value text → IsTextOf text value
 unfolding whole_value
 canonical_from_said value text said =
-    let spelled = tokens-print (tree.json_tokens (outline value)) (ArePrintable-json_tokens (outline value) said.numbers) in
-    let same : tokens text ≡ tree.json_tokens (outline value) ++ [] =
-    ap tokens (sym said.text_is ∙ sym (print-outline value)) ∙ spelled ∙ sym (append-nil (tree.json_tokens (outline value))) in
     let deep : tree.depth (outline value) ≤ 127 = omega (arith, said.shallow) in
-    record {
-      utf8 = said.utf8;
-      reads = ap whole_value (ap (json.value max_depth) same ∙ value-json_tokens (outline value) max_depth [] deep) ∙ said.reads;
-      whole = said.whole;
-      written = sym said.text_is;
-    }
+    let parsed = ap (json.value max_depth) (tokens_from_said value text said) ∙ value-json_tokens (outline value) max_depth [] deep in
+    record { utf8 = said.utf8; reads = ap whole_value parsed ∙ said.reads; whole = said.whole; written = sym said.text_is }
 
 -- ---- the members of an object, with the text before them and behind them
 
@@ -263,8 +270,31 @@ pub text_of_message : (m : Message) → IsMessage m → IsTextOf (wire m) (value
 text_of_message (Request r) h = canonical_from_said (request_value r) (request_text r) (said_asked r h)
 text_of_message (Verdict v) h = canonical_from_said (verdict_value v) (verdict_text v) (said_answered v h)
 
--- what a message's text reads as is the message's value
-pub value_read : (m : Message) (body : List ℕ) (value : Data) → IsMessage m → body ≡ wire m → read body ≡ Some value → value ≡ value_of m
-value_read m body value h same reads =
-    let both : Some value ≡ Some (value_of m) = sym reads ∙ ap read same ∙ (text_of_message m h).reads in
+-- ---- the tree that a message's text parses as
+
+items_tree : (ws : List (List ℕ)) → items_outline (strings ws) ≡ text_items ws
+items_tree [] = refl
+items_tree (w ∷ ws) = ap (json.item (json.string w)) (items_tree ws)
+
+tree_outline : (m : Message) → outline (value_of m) ≡ tree_of m
+tree_outline (Request r) = rw (items_tree (map cmnd_text r.cmnds), items_tree r.hosts) refl
+tree_outline (Verdict v) = refl
+
+said_message : (m : Message) → IsMessage m → IsSaid 2 (value_of m) (wire m)
+said_message (Request r) h = said_asked r h
+said_message (Verdict v) h = said_answered v h
+
+pub document_of_message : (m : Message) → IsMessage m → json.document (wire m) ≡ Some (tree_of m)
+document_of_message m h = document_from_said (value_of m) (wire m) (said_message m h) ∙ ap Some (tree_outline m)
+
+pub tree_read : (m : Message) (body : List ℕ) (found : json.Json) → IsMessage m → body ≡ wire m → json.document body ≡ Some found → found ≡ tree_of m
+tree_read m body found h same parsed =
+    let both : Some found ≡ Some (tree_of m) = sym parsed ∙ ap json.document same ∙ document_of_message m h in
     cc
+
+-- a message's text parses
+pub parsed_message : (m : Message) (body : List ℕ) → IsMessage m → body ≡ wire m → (IsUtf8 body → json.document body ≡ None) → ⊥
+parsed_message m body h same refused =
+    let utf8 : IsUtf8 body = rw same (text_of_message m h).utf8 in
+    let none : None ≡ Some (tree_of m) = sym (refused utf8) ∙ ap json.document same ∙ document_of_message m h in
+    absurd cc

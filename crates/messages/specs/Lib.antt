@@ -6,5 +6,6 @@ pub mod Shown
 pub mod Wire
 pub mod WorkedTexts
 pub mod Canonical
+pub mod Reading
 pub mod Faults
 pub mod private

@@ -1,15 +1,15 @@
 //! Lists of texts in byte order.
 
 ghost use Rattle.std.specs.Prelude.{◌≡◌, List, ℕ};
-ghost use Rattle.serde_json.specs.View.{items_view};
-ghost use Rattle.messages.specs.private.Members.{strings};
+ghost use Rattle.json.specs.Value.{items_view};
+ghost use Rattle.messages.specs.private.Members.{text_items};
 ghost use Rattle.messages.specs.Order as order;
 
-use serde_json::Value;
+use json::Value;
 
 /// Whether the texts stand after `low`, each before the next.
-fn rise_from(low: &str, items: &[Value]) -> bool
-    ensures { (ws : List (List ℕ)) → items_view items.now ≡ strings ws
+fn rise_from(low: &str, items: &[Value<'_>]) -> bool
+    ensures { (ws : List (List ℕ)) → items_view items.now ≡ text_items ws
         → result ≡ order.rises_from low.now ws }
 {
     match items {
@@ -22,8 +22,8 @@ fn rise_from(low: &str, items: &[Value]) -> bool
 }
 
 /// Whether each text stands before the next.
-pub(crate) fn texts_rise(items: &[Value]) -> bool
-    ensures { (ws : List (List ℕ)) → items_view items.now ≡ strings ws
+pub(crate) fn texts_rise(items: &[Value<'_>]) -> bool
+    ensures { (ws : List (List ℕ)) → items_view items.now ≡ text_items ws
         → result ≡ order.is_rising ws }
 {
     match items {

@@ -1,18 +1,14 @@
-//! Messages read from bytes.
+//! Messages read from trees of JSON.
 
-ghost use Rattle.std.specs.Prelude.{◌≡◌, ◌⊎◌, ◌<◌, ◌≤◌, length, IfOk, IfErr};
-ghost use Rattle.std.specs.Prelude.{IfSome, IsErrOf, IsOkAnd, MatchResult, Some};
-ghost use Rattle.serde_json.specs.View.{view};
-ghost use Rattle.messages.specs.Canonical.{IsCanonicalText};
+ghost use Rattle.std.specs.Prelude.{◌≡◌, ◌⊎◌, Some, IfOk, IfErr, IfSome, IsOkAnd, MatchResult};
+ghost use Rattle.json.specs.Value.{value_view};
 ghost use Rattle.messages.specs.Fields.{RequestFields, VerdictFields, IsRequest, IsVerdict};
-ghost use Rattle.messages.specs.private.Members.{request_value, verdict_value, value_of};
+ghost use Rattle.messages.specs.private.Members.{request_tree, verdict_tree, tree_of};
 ghost use Rattle.messages.specs.Wire.{kind_text, wire, IsMessage};
 ghost use Rattle.messages.specs.declared.kind.VerdictKind.{VerdictKind as AnyKind};
 ghost use Rattle.messages.specs.declared.message.Message.{Message as AnyMessage};
-ghost use Rattle.messages.specs.declared.fault.MessageFault.TheVariants.{TooLong, NotCanonical};
 ghost use Rattle.messages.specs.declared.fault.MessageFault.TheVariants.{BadField, NoMemory};
 
-use crate::canonical_json::{canonical, value_of};
 use crate::fault::MessageFault;
 use crate::kind::VerdictKind;
 use crate::lists::{cmnds_of, hosts_of};
@@ -21,15 +17,12 @@ use crate::message::Message;
 use crate::request::Request;
 use crate::same_text::is_text_of;
 use crate::verdict::Verdict;
-use serde_json::Value;
+use json::Value;
 use std::alloc::Global;
 
-/// The most bytes of a message.
-pub const MOST_BYTES: usize = 16_384;
-
-fn request_of(alloc: Global, value: &Value) -> Result<Request, MessageFault>
+fn request_of(alloc: Global, value: &Value<'_>) -> Result<Request, MessageFault>
     ensures found { IfOk result IsRequest }
-    ensures only { (r : RequestFields) → IsRequest r → view value.now ≡ request_value r
+    ensures only { (r : RequestFields) → IsRequest r → value_view value.now ≡ request_tree r
         → MatchResult result (λ q. q ≡ r) (λ e. e ≡ NoMemory) }
     ensures err { IfErr result (λ e. (e ≡ BadField) ⊎ (e ≡ NoMemory)) }
 {
@@ -70,10 +63,10 @@ fn kind_named(name: &str) -> Result<VerdictKind, MessageFault>
     Err(MessageFault::BadField)
 }
 
-fn verdict_of(alloc: Global, value: &Value, kind: VerdictKind) -> Result<Verdict, MessageFault>
+fn verdict_of(alloc: Global, value: &Value<'_>, kind: VerdictKind) -> Result<Verdict, MessageFault>
     ensures found { IfOk result IsVerdict }
     ensures only { (v : VerdictFields) → IsVerdict v → v.kind ≡ kind
-        → view value.now ≡ verdict_value v → MatchResult result (λ w. w ≡ v) (λ e. e ≡ NoMemory) }
+        → value_view value.now ≡ verdict_tree v → MatchResult result (λ w. w ≡ v) (λ e. e ≡ NoMemory) }
     ensures err { IfErr result (λ e. (e ≡ BadField) ⊎ (e ≡ NoMemory)) }
 {
     let at = moment_member(value, "at")?;
@@ -88,9 +81,9 @@ fn verdict_of(alloc: Global, value: &Value, kind: VerdictKind) -> Result<Verdict
 }
 
 /// The message that has the members of the value. Further members of the value are not looked at.
-fn message_of(alloc: Global, value: &Value) -> Result<Message, MessageFault>
+fn message_of(alloc: Global, value: &Value<'_>) -> Result<Message, MessageFault>
     ensures found { IfOk result IsMessage }
-    ensures only { (m : AnyMessage) → IsMessage m → view value.now ≡ value_of m
+    ensures only { (m : AnyMessage) → IsMessage m → value_view value.now ≡ tree_of m
         → MatchResult result (λ n. n ≡ m) (λ e. e ≡ NoMemory) }
     ensures err { IfErr result (λ e. (e ≡ BadField) ⊎ (e ≡ NoMemory)) }
 {
@@ -104,9 +97,13 @@ fn message_of(alloc: Global, value: &Value) -> Result<Message, MessageFault>
 
 /// The message that has the members of the value, where the bytes are its text: a text with other
 /// members is not.
-fn message_said(alloc: Global, value: &Value, body: &[u8]) -> Result<Option<Message>, MessageFault>
+pub(crate) fn message_said(
+    alloc: Global,
+    value: &Value<'_>,
+    body: &[u8],
+) -> Result<Option<Message>, MessageFault>
     ensures found { IfOk result (λ o. IfSome o (λ m. (body.now ≡ wire m) × IsMessage m)) }
-    ensures only { (m : AnyMessage) → IsMessage m → view value.now ≡ value_of m → body.now ≡ wire m
+    ensures only { (m : AnyMessage) → IsMessage m → value_view value.now ≡ tree_of m → body.now ≡ wire m
         → MatchResult result (λ o. o ≡ Some m) (λ e. e ≡ NoMemory) }
     ensures err { IfErr result (λ e. e ≡ NoMemory) }
 {
@@ -121,36 +118,4 @@ fn message_said(alloc: Global, value: &Value, body: &[u8]) -> Result<Option<Mess
         Err(MessageFault::NoMemory) => Err(MessageFault::NoMemory),
         Err(_) => Ok(None),
     }
-}
-
-/// The message that the bytes are the text of.
-///
-/// Faults, the first that applies: `TooLong` above 16,384 bytes; `NotCanonical` where the bytes are
-/// no canonical text of JSON (RFC 8259) with whole numbers; `BadField` where they are no message's;
-/// `NoMemory` where memory runs out.
-pub fn read_message(alloc: Global, body: &[u8]) -> Result<Message, MessageFault>
-    // What is read has these bytes as its text.
-    ensures found { IfOk result
-        (λ m. (body.now ≡ wire m) × (length body.now ≤ 16_384) × IsMessage m) }
-    // A message's text is read as that message, unless memory runs out: so no other fault comes
-    // where there is one.
-    ensures only { (m : AnyMessage) → IsMessage m → body.now ≡ wire m → length body.now ≤ 16_384
-        → MatchResult result (λ n. n ≡ m) (λ e. e ≡ NoMemory) }
-    ensures too_long { 16_384 < length body.now → IsErrOf result TooLong }
-    ensures too_long_only { IfErr result (λ e. e ≡ TooLong → 16_384 < length body.now) }
-    ensures not_canonical { IfErr result
-        (λ e. e ≡ NotCanonical → (length body.now ≤ 16_384) × ¬ IsCanonicalText body.now) }
-    ensures bad_field { IfErr result
-        (λ e. e ≡ BadField → (length body.now ≤ 16_384) × IsCanonicalText body.now) }
-{
-    if body.len() > MOST_BYTES {
-        return Err(MessageFault::TooLong);
-    }
-    let value = value_of(alloc, body)?;
-    if let Some(message) = message_said(alloc, &value, body)? {
-        return Ok(message);
-    }
-    // Only what is no message's text is written once more, to tell the two faults apart.
-    canonical(alloc, &value, body)?;
-    Err(MessageFault::BadField)
 }

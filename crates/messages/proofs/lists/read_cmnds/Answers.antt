@@ -2,7 +2,7 @@ use Rattle.std.proofs.Common.{◌≤◌, length, map, get_or, sym, ap, ◌∙◌
 use Rattle.std.proofs.lemmas.List.{length-map, map_push}
 use Rattle.std.proofs.lemmas.List.Elements.{All-get_or, All-same, All-push}
 use Rattle.std.proofs.lemmas.Result.{err_from_is_err_and}
-use Rattle.serde_json.specs.View.{items_view}
+use Rattle.json.specs.Value.{items_view}
 use Rattle.sudo_words.specs.Command.{IsLawful, cmnd_text}
 use Rattle.sudo_words.specs.declared.cmnd.Cmnd.TheVariants as commands
 use Rattle.messages.proofs.ListTexts.{length-strings, view-cmnd_at, one_more_text, read_more, read_all}

@@ -1,7 +1,7 @@
 use Rattle.std.proofs.Common.{◌≡◌, ◌≤◌, List, ℕ, [], length, get_or, true, sym, ap, ◌∙◌, take_all, arith}
 use Rattle.std.proofs.lemmas.List.Elements.{All-get_or, All-same, All-push}
 use Rattle.std.proofs.lemmas.Result.{err_from_is_err_and}
-use Rattle.serde_json.specs.View.{items_view}
+use Rattle.json.specs.Value.{items_view}
 use Rattle.sudo_words.specs.Word.{is_host_name}
 use Rattle.messages.proofs.ListTexts.{length-strings, view-at, one_more_text, read_more, read_all}
 use Rattle.messages.proofs.lists.read_hosts.Goals as goal

@@ -1,6 +1,6 @@
 use Rattle.std.proofs.Common.{◌≡◌, ap, map}
 use Rattle.std.specs.Prelude.{codes}
-use Rattle.serde_json.specs.Find.{get}
+use Rattle.json.specs.Find.{get}
 use Rattle.sudo_words.specs.Command.{cmnd_text}
 use Rattle.messages.proofs.read.request_of.Goals as goal
 
