@@ -1,5 +1,6 @@
 pub mod PlainTexts
 pub mod ListTexts
+pub mod NumberTexts
 pub mod Readings
 pub mod Uniqueness
 pub mod KindLemmas

@@ -48,7 +48,8 @@ pub record IsFirstText (vs : List (Value Global)) (v : Value Global) (ws : List 
   pub view_is : value_view v ≡ string first
   pub rest : items_view (take (length vs - 1) (drop 1 vs)) ≡ text_items more
 
-pub first_text : (vs : List (Value Global)) (v : Value Global) (ws : List (List ℕ)) → 1 ≤ length vs → v ≡ get_or vs 0 v → items_view vs ≡ text_items ws → IsFirstText vs v ws
+pub first_text : (vs : List (Value Global)) (v : Value Global) (ws : List (List ℕ)) → 1 ≤ length vs → v ≡ get_or vs 0 v
+    → items_view vs ≡ text_items ws → IsFirstText vs v ws
 first_text [] v ws some is e = absurd (omega arith)
 first_text (x ∷ xs) v [] some is e = absurd cc
 first_text (x ∷ xs) v (w ∷ ws) some is e =
@@ -69,7 +70,8 @@ as_text o v text w same is e =
     let both : Some text.now ≡ Some w = ap (option_map (λ (s : Bor (List ℕ)). s.now)) (sym is) ∙ same ∙ ap as_str e in
     cc
 
-pub some_text : (o : Option (Bor (List ℕ))) (v : Value Global) (w : List ℕ) → option_map (λ s. s.now) o ≡ as_str (value_view v) → o ≡ None → value_view v ≡ string w → ⊥
+pub some_text : (o : Option (Bor (List ℕ))) (v : Value Global) (w : List ℕ) → option_map (λ s. s.now) o ≡ as_str (value_view v)
+    → o ≡ None → value_view v ≡ string w → ⊥
 some_text o v w same is e =
     let both : None ≡ Some w = ap (option_map (λ (s : Bor (List ℕ)). s.now)) (sym is) ∙ same ∙ ap as_str e in
     cc

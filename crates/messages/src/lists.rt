@@ -77,7 +77,8 @@ fn read_cmnds(alloc: Global, items: &[Value<'_>]) -> Result<Vec<Cmnd>, MessageFa
     ensures found { IfOk result (λ v. All IsLawful v.items) }
     ensures texts { IfOk result (λ v. items_view items.now ≡ text_items (map cmnd_text v.items)) }
     ensures only { (cs : List Command) → All IsLawful cs → items_view items.now
-        ≡ text_items (map cmnd_text cs) → MatchResult result (λ v. v.items ≡ cs) (λ e. e ≡ NoMemory) }
+        ≡ text_items (map cmnd_text cs)
+        → MatchResult result (λ v. v.items ≡ cs) (λ e. e ≡ NoMemory) }
     ensures err { IfErr result (λ e. (e ≡ BadField) ⊎ (e ≡ NoMemory)) }
 {
     let mut cmnds = Vec::new(alloc);
@@ -92,7 +93,8 @@ fn read_cmnds(alloc: Global, items: &[Value<'_>]) -> Result<Vec<Cmnd>, MessageFa
 pub(crate) fn cmnds_of(alloc: Global, items: &[Value<'_>]) -> Result<Vec<Cmnd>, MessageFault>
     ensures found { IfOk result (λ v. AreCmnds v.items) }
     ensures only { (cs : List Command) → AreCmnds cs → items_view items.now
-        ≡ text_items (map cmnd_text cs) → MatchResult result (λ v. v.items ≡ cs) (λ e. e ≡ NoMemory) }
+        ≡ text_items (map cmnd_text cs)
+        → MatchResult result (λ v. v.items ≡ cs) (λ e. e ≡ NoMemory) }
     ensures err { IfErr result (λ e. (e ≡ BadField) ⊎ (e ≡ NoMemory)) }
 {
     let cmnds = read_cmnds(alloc, items)?;

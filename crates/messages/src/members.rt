@@ -22,7 +22,8 @@ const LAST_NUMBER: u64 = 999_999_999;
 /// The text that a value is.
 pub(crate) fn text_of<'a>(value: &Value<'a>) -> Result<&'a str, MessageFault>
     ensures found { IfOk result (λ s. value_view value.now ≡ string s.now) }
-    ensures only { (w : List ℕ) → value_view value.now ≡ string w → IsOkAnd result (λ s. s.now ≡ w) }
+    ensures only { (w : List ℕ) → value_view value.now ≡ string w
+        → IsOkAnd result (λ s. s.now ≡ w) }
     ensures err { IfErr result (λ e. e ≡ BadField) }
 {
     value.as_str().ok_or(MessageFault::BadField)
@@ -61,7 +62,8 @@ pub(crate) fn word_member<F: Form>(
     name: &str,
 ) -> Result<Word<F>, MessageFault>
     ensures found { IfOk result (λ v. F.has v ≡ true) }
-    ensures only { (w : List ℕ) → F.has w ≡ true → get name.now (value_view value.now) ≡ Some (string w)
+    ensures only { (w : List ℕ) → F.has w ≡ true
+        → get name.now (value_view value.now) ≡ Some (string w)
         → MatchResult result (λ v. v ≡ w) (λ e. e ≡ NoMemory) }
     ensures err { IfErr result (λ e. (e ≡ BadField) ⊎ (e ≡ NoMemory)) }
 {
@@ -79,6 +81,19 @@ pub(crate) fn moment_member(value: &Value<'_>, name: &str) -> Result<Moment, Mes
     Moment::read_stamp(text_member(value, name)?).ok_or(MessageFault::BadField)
 }
 
+/// The number of a request that a value is.
+fn number_of(value: &Value<'_>) -> Result<u32, MessageFault>
+    ensures found { IfOk result IsNumbered }
+    ensures only { (n : ℕ) → IsNumbered n → value_view value.now ≡ number (decimal n)
+        → result ≡ Ok n }
+    ensures err { IfErr result (λ e. e ≡ BadField) }
+{
+    match value.as_u64() {
+        Some(n) if n <= LAST_NUMBER => Ok(n as u32),
+        _ => Err(MessageFault::BadField),
+    }
+}
+
 /// The number of a request.
 pub(crate) fn number_member(value: &Value<'_>) -> Result<u32, MessageFault>
     ensures found { IfOk result IsNumbered }
@@ -86,10 +101,9 @@ pub(crate) fn number_member(value: &Value<'_>) -> Result<u32, MessageFault>
         → get (codes "no") (value_view value.now) ≡ Some (number (decimal n)) → result ≡ Ok n }
     ensures err { IfErr result (λ e. e ≡ BadField) }
 {
-    let number = value.get("no").ok_or(MessageFault::BadField)?;
-    match number.as_u64() {
-        Some(n) if n <= LAST_NUMBER => Ok(n as u32),
-        _ => Err(MessageFault::BadField),
+    match value.get("no") {
+        Some(member) => number_of(member),
+        None => Err(MessageFault::BadField),
     }
 }
 

@@ -66,7 +66,8 @@ fn kind_named(name: &str) -> Result<VerdictKind, MessageFault>
 fn verdict_of(alloc: Global, value: &Value<'_>, kind: VerdictKind) -> Result<Verdict, MessageFault>
     ensures found { IfOk result IsVerdict }
     ensures only { (v : VerdictFields) → IsVerdict v → v.kind ≡ kind
-        → value_view value.now ≡ verdict_tree v → MatchResult result (λ w. w ≡ v) (λ e. e ≡ NoMemory) }
+        → value_view value.now ≡ verdict_tree v
+        → MatchResult result (λ w. w ≡ v) (λ e. e ≡ NoMemory) }
     ensures err { IfErr result (λ e. (e ≡ BadField) ⊎ (e ≡ NoMemory)) }
 {
     let at = moment_member(value, "at")?;
@@ -103,8 +104,8 @@ pub(crate) fn message_said(
     body: &[u8],
 ) -> Result<Option<Message>, MessageFault>
     ensures found { IfOk result (λ o. IfSome o (λ m. (body.now ≡ wire m) × IsMessage m)) }
-    ensures only { (m : AnyMessage) → IsMessage m → value_view value.now ≡ tree_of m → body.now ≡ wire m
-        → MatchResult result (λ o. o ≡ Some m) (λ e. e ≡ NoMemory) }
+    ensures only { (m : AnyMessage) → IsMessage m → value_view value.now ≡ tree_of m
+        → body.now ≡ wire m → MatchResult result (λ o. o ≡ Some m) (λ e. e ≡ NoMemory) }
     ensures err { IfErr result (λ e. e ≡ NoMemory) }
 {
     match message_of(alloc, value) {

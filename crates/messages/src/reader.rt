@@ -29,8 +29,9 @@ fn message_in(
 {
     match Value::from_slice(alloc, body, scratch) {
         Ok(value) => message_said(alloc, &value, body),
-        Err(Error::OutOfMemory) => Err(MessageFault::NoMemory),
-        Err(_) => Ok(None),
+        Err(Error::Invalid) => Ok(None),
+        // No other fault comes than want of memory.
+        Err(_) => Err(MessageFault::NoMemory),
     }
 }
 
