@@ -1,13 +1,24 @@
 //! The head of a reply, written without taking memory.
 
-ghost use Rattle.std.specs.Prelude.{◌≡◌, ◌≤◌, ◌+◌, ◌++◌, decimal, length, take};
+ghost use Rattle.std.specs.Prelude.{◌≡◌, ◌≤◌, ◌+◌, ◌++◌, IfOk, decimal, length, take};
 ghost use Rattle.relay_http.specs.Reply.{reply_head};
 
 use crate::status::{Status, allow_line, status_text};
 use itoa::Buffer;
+use std::alloc::{AllocError, Global};
 
 /// The bytes of a page, in which each head has room.
 pub const PAGE: usize = 4_096;
+
+/// As many zeros.
+const ZEROS: [u8; PAGE] = [0; PAGE];
+
+/// A page on which nothing stands yet.
+pub fn blank_page(alloc: Global) -> Result<Vec<u8>, AllocError>
+    ensures { IfOk result (λ page. length page.items ≡ 4_096) }
+{
+    Vec::from_slice(alloc, &ZEROS)
+}
 
 /// Puts a part after what is there, and answers where it ends.
 pub fn put(page: &mut [u8], at: usize, part: &[u8]) -> usize

@@ -68,58 +68,65 @@ fn send_both<W: Write>(writer: &mut Counted<W>, head: &[u8], body: &[u8]) -> Res
     send(writer, body)
 }
 
-/// Writes the head of a reply whose body has so many bytes.
+/// Writes the head of a reply whose body has so many bytes. It is put together on the page.
 fn send_head<W: Write>(
     writer: &mut Counted<W>,
+    page: &mut [u8],
     status: Status,
     size: usize,
 ) -> Result<(), WriteFailed>
+    requires { length page.old ≡ 4_096 }
+    ensures len { length page.new ≡ length page.old }
     ensures sent { Sends (W.contents writer.old.inner)
         (W.contents writer.new.inner) result (reply_head status size) }
     ensures counted { MatchResult result (λ _. writer.new.failures ≡ writer.old.failures)
         (λ _. writer.new.failures ≡ one_failure writer.old.failures) }
 {
-    let mut page = [0; PAGE];
-    let end = put_head(&mut page, status, size);
+    let end = put_head(page, status, size);
     send(writer, &page[..end])
 }
 
 /// Writes the head and the body: at once where both have room on the page.
 fn send_whole<W: Write>(
     writer: &mut Counted<W>,
+    page: &mut [u8],
     status: Status,
     body: &[u8],
 ) -> Result<(), WriteFailed>
+    requires { length page.old ≡ 4_096 }
+    ensures len { length page.new ≡ length page.old }
     ensures sent { Sends (W.contents writer.old.inner) (W.contents writer.new.inner) result
         (reply_head status (length body.now) ++ body.now) }
     ensures counted { MatchResult result (λ _. writer.new.failures ≡ writer.old.failures)
         (λ _. writer.new.failures ≡ one_failure writer.old.failures) }
 {
-    let mut page = [0; PAGE];
-    let end = put_head(&mut page, status, body.len());
+    let end = put_head(page, status, body.len());
     if body.len() > PAGE - end {
         return send_both(writer, &page[..end], body);
     }
-    let end = put(&mut page, end, body);
+    let end = put(page, end, body);
     send(writer, &page[..end])
 }
 
 /// Writes the reply of a status with a body, or its head alone. It takes no memory. Where a write
-/// fails, a beginning of the reply went out.
+/// fails, a beginning of the reply went out. What stood on the page before is never looked at.
 pub fn send_reply<W: Write>(
     writer: &mut Counted<W>,
+    page: &mut [u8],
     status: Status,
     body: &[u8],
     with_body: bool,
 ) -> Result<(), WriteFailed>
+    requires { length page.old ≡ 4_096 }
+    ensures len { length page.new ≡ length page.old }
     ensures sent { Sends (W.contents writer.old.inner)
         (W.contents writer.new.inner) result (written status body.now with_body) }
     ensures counted { MatchResult result (λ _. writer.new.failures ≡ writer.old.failures)
         (λ _. writer.new.failures ≡ one_failure writer.old.failures) }
 {
     if with_body {
-        send_whole(writer, status, body)
+        send_whole(writer, page, status, body)
     } else {
-        send_head(writer, status, body.len())
+        send_head(writer, page, status, body.len())
     }
 }

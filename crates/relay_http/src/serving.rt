@@ -1,6 +1,7 @@
 //! One exchange.
 
 ghost use Rattle.std.specs.Prelude.{◌≡◌, ◌≢◌, ◌⊎◌, ℕ, Err, IfSome, MatchResult, OnOk, codes};
+ghost use Rattle.std.specs.Prelude.{length};
 ghost use Rattle.httparse.specs.Grammar.{RequestHead};
 ghost use Rattle.desk_store.specs.Keeping.{HasFailed};
 ghost use Rattle.desk_store.specs.Serves.{Serves};
@@ -61,8 +62,11 @@ fn reply_to<K: Keeper, W: Write>(
     routes: &Routes,
     desk: &mut Desk<K>,
     writer: &mut Counted<W>,
+    page: &mut [u8],
     bytes: &[u8],
 ) -> Result<(), sending::WriteFailed>
+    requires { length page.old ≡ 4_096 }
+    ensures len { length page.new ≡ length page.old }
     ensures exchange { (request : Request ℕ) × Asks bytes.now request
         × IsExchange desk.old.roster.says desk.old.base (K.is_up desk.new.keeper)
         (K.holds desk.old.keeper) (K.holds desk.new.keeper) (K.is_same desk.old.keeper
@@ -77,6 +81,7 @@ fn reply_to<K: Keeper, W: Write>(
     let answer = answered(alloc, desk, wanted.ask);
     send_reply(
         writer,
+        page,
         answer.status,
         answer.body.as_bytes(),
         wanted.with_body,
@@ -85,10 +90,10 @@ fn reply_to<K: Keeper, W: Write>(
 
 /// Does what `serve_one` does, in the workspace that one exchange leaves to the next.
 ///
-/// The buffer and the routes are those of the workspace. Where an earlier exchange did not leave
-/// them there, they are made before anything is read: where memory is refused for them it is
-/// `NoMemory`, and nothing was read. Want of memory later is a reply of the desk. Once a message is
-/// acknowledged no memory is taken.
+/// The buffer, the page and the routes are those of the workspace. Where an earlier exchange did
+/// not leave them there, they are made before anything is read: where memory is refused for them it
+/// is `NoMemory`, and nothing was read. Want of memory later is a reply of the desk. Once a message
+/// is acknowledged no memory is taken.
 pub fn serve_in<K: Keeper, R: Read, W: Write>(
     alloc: Global,
     desk: &mut Desk<K>,
@@ -135,7 +140,14 @@ pub fn serve_in<K: Keeper, R: Read, W: Write>(
     let Ok(filled) = read_request(&kept.routes, reader, &mut kept.buf) else {
         return Err(ServeFault::ReadFailed);
     };
-    match reply_to(alloc, &kept.routes, desk, writer, &kept.buf[..filled]) {
+    match reply_to(
+        alloc,
+        &kept.routes,
+        desk,
+        writer,
+        &mut kept.page,
+        &kept.buf[..filled],
+    ) {
         Ok(()) => Ok(()),
         Err(_) => Err(ServeFault::WriteFailed),
     }
@@ -143,9 +155,9 @@ pub fn serve_in<K: Keeper, R: Read, W: Write>(
 
 /// Reads a request, has the desk answer it, and writes the reply.
 ///
-/// The buffer and the routes are made before anything is read: where memory is refused for them it
-/// is `NoMemory`, and nothing was read. Want of memory later is a reply of the desk. Once a message
-/// is acknowledged no memory is taken.
+/// The buffer, the page and the routes are made before anything is read: where memory is refused
+/// for them it is `NoMemory`, and nothing was read. Want of memory later is a reply of the desk.
+/// Once a message is acknowledged no memory is taken.
 pub fn serve_one<K: Keeper, R: Read, W: Write>(
     alloc: Global,
     desk: &mut Desk<K>,
