@@ -7,17 +7,22 @@ ghost use Rattle.desk.specs.declared.refusal.Refusal.TheVariants as refusal;
 
 use crate::refusal::Refusal;
 use grants::admit;
-use messages::{Message, read_message};
+use messages::{Message, MessageReader};
 use roster::Roster;
 use std::alloc::Global;
 
 /// The message that the body is the text of, where the roster admits it.
-pub(crate) fn admitted(alloc: Global, roster: &Roster, body: &[u8]) -> Result<Message, Refusal>
+pub(crate) fn admitted(
+    alloc: Global,
+    reader: &mut MessageReader,
+    roster: &Roster,
+    body: &[u8],
+) -> Result<Message, Refusal>
     ensures found { IfOk result (λ m. IsBodyOf body.now m × Admits roster.now.says m) }
     ensures err { IfErr result
         (λ e. (e ≡ refusal.NoMemory) ⊎ AnswersBody roster.now.says body.now (Err e)) }
 {
-    let message = read_message(alloc, body)?;
+    let message = reader.read(alloc, body)?;
     admit(roster, &message)?;
     Ok(message)
 }

@@ -22,7 +22,8 @@ use crate::opening::{find_or_make, known_at_first};
 use crate::refusal::Refusal;
 use desk_store::Keeper;
 use grants::fits_base;
-use outcomes::Gathered;
+use messages::MessageReader;
+use outcomes::{Base, Gathered};
 use roster::Roster;
 use std::alloc::Global;
 use std::marker::Model;
@@ -37,9 +38,10 @@ use sudo_policy::Policy;
 pub struct Desk<K: Keeper> {
     pub(crate) alloc: Global,
     pub(crate) roster: Roster,
-    pub(crate) base: Policy,
+    pub(crate) base: Base,
     pub(crate) keeper: K,
     pub(crate) known: Option<Gathered>,
+    pub(crate) reader: MessageReader,
 }
 
 impl<K: Keeper> Model for Desk<K> {
@@ -114,9 +116,10 @@ impl<K: Keeper> Desk<K> {
             Ok(origin) => Ok(Desk {
                 alloc,
                 roster,
-                base,
+                base: Base::new(base),
                 keeper,
                 known: known_at_first(alloc, origin),
+                reader: MessageReader::new(alloc),
             }),
             Err(refusal) => {
                 drop(base);
@@ -163,7 +166,7 @@ impl<K: Keeper> Desk<K> {
         if !self.roster.has_relay(relay) {
             return Err(Refusal::UnknownRelay);
         }
-        let message = admitted(self.alloc, &self.roster, body)?;
+        let message = admitted(self.alloc, &mut self.reader, &self.roster, body)?;
         // What is known stays only where the message is kept.
         let known = with_message(self.known.take(), &message);
         let added = self.keeper.add(&message, text_of(body, &message));
@@ -249,7 +252,7 @@ impl<K: Keeper> Desk<K> {
         ensures value { result.now ≡ self.now.base }
         ensures fits { FitsBase self.now.base }
     {
-        &self.base
+        self.base.policy()
     }
 
     /// Gives the keeper up as it is. It takes no memory.
@@ -268,7 +271,9 @@ impl<K: Keeper> Desk<K> {
             base,
             keeper,
             known,
+            reader,
         } = self;
+        drop(reader);
         drop(known);
         drop(base);
         drop(roster);

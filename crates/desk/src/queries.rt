@@ -214,7 +214,14 @@ impl<K: Keeper> Desk<K> {
             return Err(Refusal::UnknownHost);
         }
         let known = known_of(self.known.take(), &mut self.keeper)?;
-        let file = host_file_in(self.alloc, &self.roster, &self.base, &known, host, after);
+        let file = host_file_in(
+            self.alloc,
+            &self.roster,
+            &mut self.base,
+            &known,
+            host,
+            after,
+        );
         self.known = Some(known);
         Ok(file?)
     }

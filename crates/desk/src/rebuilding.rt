@@ -14,6 +14,8 @@ use crate::desk::Desk;
 use crate::refusal::Refusal;
 use desk_store::{Found, Keeper};
 use grants::fits_base;
+use messages::MessageReader;
+use outcomes::Base;
 use roster::Roster;
 use std::alloc::Global;
 use sudo_policy::Policy;
@@ -114,9 +116,10 @@ impl<K: Keeper> Desk<K> {
             Ok(()) => Ok(Desk {
                 alloc,
                 roster,
-                base,
+                base: Base::new(base),
                 keeper,
                 known: None,
+                reader: MessageReader::new(alloc),
             }),
             Err(refusal) => {
                 drop(base);

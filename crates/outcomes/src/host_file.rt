@@ -12,13 +12,13 @@ ghost use Rattle.outcomes.specs.LinesLeft as left;
 ghost use Rattle.outcomes.specs.private.Behind.{AreBehind};
 ghost use Rattle.outcomes.specs.private.ByName.{Gathers};
 
+use crate::base::Base;
 use crate::gathering::Gathered;
 use grants::{HostFault, Summary, push_lines};
 use messages::RequestName;
 use roster::Roster;
 use std::alloc::Global;
 use std::collections::BTreeMap;
-use sudo_policy::{Policy, print_policy};
 use sudo_words::{HostName, Moment, NoMemory};
 
 /// The most lines of a host's file beside the base's.
@@ -60,14 +60,14 @@ fn push_all(
 pub fn host_file_in(
     alloc: Global,
     roster: &Roster,
-    base: &Policy,
+    base: &mut Base,
     gathered: &Gathered,
     host: &HostName,
     after: Option<Moment>,
 ) -> Result<String, HostFault>
-    requires { FitsBase base.now }
+    requires { FitsBase base.old }
     ensures file { (set : List AnyMessage) → AreGathered set gathered.now → IfOk result
-        (λ s. left.IsFileLeft roster.now.says base.now set host.now after (string_bytes s)) }
+        (λ s. left.IsFileLeft roster.now.says base.old set host.now after (string_bytes s)) }
     // Where the lines are few it comes, and where they are too many it is refused.
     ensures few { (set : List AnyMessage) (ls : List Line)
         → AreGathered set gathered.now → AreLines roster.now.says set host.now ls
@@ -77,8 +77,9 @@ pub fn host_file_in(
         → MatchResult result (λ _. ⊥) (λ e. (e ≡ fault.TooManyRules) ⊎ (e ≡ fault.NoMemory)) }
     ensures err { (set : List AnyMessage) → AreGathered set gathered.now
         → IfErr result (left.IsPast roster.now.says set host.now after) }
+    ensures base { base.new ≡ base.old }
 {
-    let mut text = print_policy(alloc, base)?;
+    let mut text = base.text(alloc)?;
     push_all(alloc, &mut text, roster, &gathered.summaries, host, &after)?;
     Ok(text)
 }

@@ -3,6 +3,7 @@
 //! file. And the laws of all that.
 #![tactic(auto)]
 
+mod base;
 mod gathering;
 mod grant_laws;
 mod host_file;
@@ -14,6 +15,7 @@ mod past_laws;
 mod summaries;
 mod worked;
 
+pub use base::Base;
 pub use gathering::Gathered;
 pub use host_file::host_file_in;
 pub use live::{Live, live_in};
