@@ -2,6 +2,7 @@
 pub mod Rowids
 pub mod PartQueries
 pub mod ReadLemmas
+pub mod ThreeReads
 -- the tests
 pub mod Compared
 pub mod RowsCompared

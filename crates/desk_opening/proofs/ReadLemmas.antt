@@ -127,22 +127,22 @@ survives_both : (a b c : State) → Survives a b (λ _. ⊥) → Survives b c (�
 survives_both a b c one two = survives_then a b c _ _ (λ _. ⊥) (λ _ db none. none) (λ _ db none. none) one two
 
 -- two calls that read, one after the other
-pub then_reads : (a b c : State) → Reads a b → (IsUp a → HasCleanDisk b → IsUp b) → Reads b c → Reads a c
-then_reads a b c one up two = record {
+pub then_reads : {a b c : State} → Reads a b → (IsUp a → HasCleanDisk b → IsUp b) → Reads b c → Reads a c
+then_reads one up two = record {
   rests = two.rests;
   was_up = λ h. one.was_up (two.was_up h);
   was_clean = λ h. one.was_clean (two.was_clean h);
   same = λ h. two.same h ∙ one.same (two.was_up h);
-  survives = λ h clean. let mid = two.was_clean clean in survives_both a b c (one.survives h mid) (two.survives (up h mid) clean);
+  survives = λ h clean. let mid = two.was_clean clean in survives_both _ _ _ (one.survives h mid) (two.survives (up h mid) clean);
 }
 
 -- what was so before a call that reads is so after it
-pub still : (a b : State) (P : Database → Type 0) → Reads a b → (IsUp a → P a.now) → IsUp b → P b.now
-still a b P reads was up = subst P (sym (reads.same up)) (was (reads.was_up up))
+pub still : {a b : State} (P : Database → Type 0) → Reads a b → (IsUp a → P a.now) → IsUp b → P b.now
+still P reads was up = subst P (sym (reads.same up)) (was (reads.was_up up))
 
 -- and what is so after it was so before
-pub before : (a b : State) (P : Database → Type 0) → Reads a b → IsUp b → P b.now → P a.now
-before a b P reads up is = subst P (reads.same up) is
+pub before : {a b : State} (P : Database → Type 0) → Reads a b → IsUp b → P b.now → P a.now
+before P reads up is = subst P (reads.same up) is
 
 -- what follows of an answer
 pub ok_as : {A E : Type 0} (P Q : A → Type 0) → ((x : A) → P x → Q x) → (r : Result A E) → IfOk r P → IfOk r Q

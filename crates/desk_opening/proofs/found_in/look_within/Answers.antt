@@ -8,7 +8,7 @@ use Rattle.desk_schema.specs.declared.part.Part.TheVariants as part
 use Rattle.desk_schema.specs.Shapes.{FindsPart, HasCommon}
 use Rattle.desk_opening.specs.private.Selecting.{ShowsRows}
 use Rattle.desk_opening.proofs.OpenedLemmas.{damaged_in, desk_in, other_in}
-use Rattle.desk_opening.proofs.ReadLemmas.{before, still, then_reads}
+use Rattle.desk_opening.proofs.ReadLemmas.{before, still}
 use Rattle.desk_opening.proofs.found_in.look_within.Goals as goal
 
 pub keeps_rows-requires-clause-rests : goal.keeps_rows-requires-clause-rests
@@ -16,13 +16,11 @@ keeps_rows-requires-clause-rests g c = c.contents_in.ensures.reads.rests
 
 pub keeps_rows-requires-clause-common : goal.keeps_rows-requires-clause-common
 keeps_rows-requires-clause-common g c =
-    still (state g.S.Store c.args.conn.now) (state g.S.Store c.contents_in.new.conn)
-    (λ (d : Database). HasCommon d.schema) c.contents_in.ensures.reads c.requires.common
+    still (λ (d : Database). HasCommon d.schema) c.contents_in.ensures.reads c.requires.common
 
 pub keeps_rows-requires-clause-verdicts : goal.keeps_rows-requires-clause-verdicts
 keeps_rows-requires-clause-verdicts g c =
-    still (state g.S.Store c.args.conn.now) (state g.S.Store c.contents_in.new.conn)
-    (λ (d : Database). FindsPart d.schema part.Verdicts) c.contents_in.ensures.reads c.requires.verdicts
+    still (λ (d : Database). FindsPart d.schema part.Verdicts) c.contents_in.ensures.reads c.requires.verdicts
 
 pub returns-in_default-clause-found : goal.returns-in_default-clause-found
 returns-in_default-clause-found g c up =
@@ -34,13 +32,12 @@ returns-in_default-clause-found g c up =
 pub returns-then-not-both-clause-damaged : goal.returns-then-not-both-clause-damaged
 returns-then-not-both-clause-damaged g c up stray =
     let old = state g.S.Store c.args.conn.now in
-    let mid = state g.S.Store c.contents_in.new.conn in
     let was = c.keeps_rows.ensures.reads.was_up up in
     let first = c.contents_in.ensures.reads.was_up was in
     let it = c.in_ok-contents.ensures.found was in
     let are = subst (ShowsContents 2 it.0 it.1) c.in-Some.is it.3 in
     let rows = c.in_ok-kept.ensures.kept up in
-    let shown = before old mid (λ (d : Database). ShowsRows d rows.0 rows.1 rows.2) c.contents_in.ensures.reads was rows.3 in
+    let shown = before (λ (d : Database). ShowsRows d rows.0 rows.1 rows.2) c.contents_in.ensures.reads was rows.3 in
     let same = rows.4 ∙ ap (λ ms. are_kept ms rows.0 rows.1 rows.2) c.as_slice.ensures.value in
     let test : (c.is_alone-alone.result && are_kept c.in-Some.contents.messages.items rows.0 rows.1 rows.2) ≡ false =
     sym (ap (λ b. c.is_alone-alone.result && b) same) ∙ sym c.if-not-both.ensures in
@@ -50,13 +47,12 @@ returns-then-not-both-clause-damaged g c up stray =
 pub returns-clause-found : goal.returns-clause-found
 returns-clause-found g c up =
     let old = state g.S.Store c.args.conn.now in
-    let mid = state g.S.Store c.contents_in.new.conn in
     let was = c.keeps_rows.ensures.reads.was_up up in
     let first = c.contents_in.ensures.reads.was_up was in
     let it = c.in_ok-contents.ensures.found was in
     let are = subst (ShowsContents 2 it.0 it.1) c.in-Some.is it.3 in
     let rows = c.in_ok-kept.ensures.kept up in
-    let shown = before old mid (λ (d : Database). ShowsRows d rows.0 rows.1 rows.2) c.contents_in.ensures.reads was rows.3 in
+    let shown = before (λ (d : Database). ShowsRows d rows.0 rows.1 rows.2) c.contents_in.ensures.reads was rows.3 in
     let same = rows.4 ∙ ap (λ ms. are_kept ms rows.0 rows.1 rows.2) c.as_slice.ensures.value in
     let test : (c.is_alone-alone.result && are_kept c.in-Some.contents.messages.items rows.0 rows.1 rows.2) ≡ true =
     sym (ap (λ b. c.is_alone-alone.result && b) same) ∙ sym c.if-not-both.ensures in

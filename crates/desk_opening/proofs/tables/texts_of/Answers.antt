@@ -1,4 +1,3 @@
-use Rattle.sqlite.specs.Held.{state}
 use Rattle.sqlite.specs.Effect.{Database}
 use Rattle.desk_schema.specs.declared.part.Part.TheVariants as part
 use Rattle.desk_schema.specs.Shapes.{FindsPart}
@@ -14,21 +13,16 @@ rows_of-requires-2-clause-rests g c = c.in_ok-desk.ensures.reads.rests
 
 pub rows_of-requires-2-clause-found : goal.rows_of-requires-2-clause-found
 rows_of-requires-2-clause-found g c =
-    still (state g.S.Store c.args.conn.now) (state g.S.Store c.rows_of.new.conn)
-    (λ (d : Database). FindsPart d.schema part.Messages) c.in_ok-desk.ensures.reads (λ up. (c.requires.found up).messages)
+    still (λ (d : Database). FindsPart d.schema part.Messages) c.in_ok-desk.ensures.reads (λ up. (c.requires.found up).messages)
 
 pub returns-in_err-desk-clause-reads : goal.returns-in_err-desk-clause-reads
 returns-in_err-desk-clause-reads g c = c.rows_of.ensures.reads
 
 pub returns-in_err-messages-clause-reads : goal.returns-in_err-messages-clause-reads
-returns-in_err-messages-clause-reads g c =
-    then_reads (state g.S.Store c.args.conn.now) (state g.S.Store c.rows_of.new.conn)
-    (state g.S.Store c.rows_of-2.new.conn) c.rows_of.ensures.reads c.in_ok-desk.ensures.up c.rows_of-2.ensures.reads
+returns-in_err-messages-clause-reads g c = then_reads c.rows_of.ensures.reads c.in_ok-desk.ensures.up c.rows_of-2.ensures.reads
 
 pub returns-clause-reads : goal.returns-clause-reads
-returns-clause-reads g c =
-    then_reads (state g.S.Store c.args.conn.now) (state g.S.Store c.rows_of.new.conn)
-    (state g.S.Store c.rows_of-2.new.conn) c.rows_of.ensures.reads c.in_ok-desk.ensures.up c.rows_of-2.ensures.reads
+returns-clause-reads g c = then_reads c.rows_of.ensures.reads c.in_ok-desk.ensures.up c.rows_of-2.ensures.reads
 
 pub returns-clause-up : goal.returns-clause-up
 returns-clause-up g c up clean = c.in_ok-messages.ensures.up (c.in_ok-desk.ensures.up up (c.rows_of-2.ensures.reads.was_clean clean)) clean
@@ -38,6 +32,6 @@ returns-clause-shows g c up =
     let mid = c.rows_of-2.ensures.reads.was_up up in
     record {
       desk_is = c.in_ok-desk.ensures.shows mid;
-      messages_are = before (state g.S.Store c.args.conn.now) (state g.S.Store c.rows_of.new.conn)
-          (λ (d : Database). ShowsPart part.Messages d c.in_ok-messages.messages.items) c.rows_of.ensures.reads mid (c.in_ok-messages.ensures.shows up);
+      messages_are = before (λ (d : Database). ShowsPart part.Messages d c.in_ok-messages.messages.items) c.rows_of.ensures.reads mid
+          (c.in_ok-messages.ensures.shows up);
     }
