@@ -1,7 +1,7 @@
 -- The messages that rows show, one after the other.
 use Rattle.std.specs.Prelude.{IsUtf8}
-use Rattle.std.proofs.Common.{◌≡◌, inl, inr, ℕ, ◌<◌, ◌+◌, List, [], ◌∷◌, ◌++◌, length, get_or, take, map, Contains, sym, ap, subst, ◌∙◌}
-use Rattle.std.proofs.lemmas.List.{take_more, map-append}
+use Rattle.std.proofs.Common.{◌≡◌, inl, inr, ℕ, List, [], ◌∷◌, ◌++◌, map, Contains, sym, ap, subst, ◌∙◌}
+use Rattle.std.proofs.lemmas.List.{map-append}
 use Rattle.std.proofs.lemmas.List.Elements.{Contains-push_cases}
 use Rattle.sqlite.specs.Order.{Row, column}
 use Rattle.messages.specs.declared.message.Message.{Message}
@@ -14,13 +14,12 @@ pub written_utf8 : (t : List ℕ) → IsWritten t → IsUtf8 t
 written_utf8 t written = subst IsUtf8 (sym written.2) (text_of_message written.0 written.1).utf8
 
 -- one row and its message more
-pub bodies_more : (rows : List Row) (ms : List Message) (i : ℕ) (r : Row) (m : Message) → AreBodies (take i rows) ms
-    → i < length rows → r ≡ get_or rows i r → (column r 0 ≡ body m) × IsKeepable m → AreBodies (take (i + 1) rows) (ms ++ m ∷ [])
-bodies_more rows ms i r m before within is both =
+pub bodies_more : (rows : List Row) (ms : List Message) (r : Row) (m : Message)
+    → AreBodies rows ms → (column r 0 ≡ body m) × IsKeepable m → AreBodies (rows ++ r ∷ []) (ms ++ m ∷ [])
+bodies_more rows ms r m before both =
     let first : Row → _ = λ x. column x 0 in
-    let more : take (i + 1) rows ≡ take i rows ++ r ∷ [] = take_more rows i r within ∙ ap (λ x. take i rows ++ x ∷ []) (sym is) in
     record {
-      texts = ap (map first) more ∙ map-append first (take i rows) (r ∷ []) ∙ ap (λ vs. vs ++ column r 0 ∷ []) before.texts
+      texts = map-append first rows (r ∷ []) ∙ ap (λ vs. vs ++ column r 0 ∷ []) before.texts
           ∙ ap (λ v. map body ms ++ v ∷ []) both.0 ∙ sym (map-append body ms (m ∷ []));
       only = λ n there. elim (Contains-push_cases ms m n there) as (λ _. IsKeepable n) [
         | inl old ↦ before.only n old

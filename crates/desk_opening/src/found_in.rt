@@ -26,13 +26,14 @@ use std::alloc::Global;
 use sudo_words::NoMemory;
 
 /// The roster's text and the messages, where the rows show these and nothing else, in this schema.
-fn contents_of(alloc: Global, texts: &Texts, version: u32) -> Result<Option<Contents>, NoMemory>
-    ensures { IfOk result (ShowsContents version texts.now.desk.items texts.now.messages.items) }
+fn contents_of(alloc: Global, texts: Texts, version: u32) -> Result<Option<Contents>, NoMemory>
+    ensures { IfOk result (ShowsContents version texts.desk.items texts.messages.items) }
 {
-    let Some(roster) = roster_of(alloc, texts.desk.as_slice(), version)? else {
+    let Texts { desk, messages } = texts;
+    let Some(roster) = roster_of(alloc, desk.as_slice(), version)? else {
         return Ok(None);
     };
-    let Some(messages) = all_stored(alloc, texts.messages.as_slice())? else {
+    let Some(messages) = all_stored(alloc, messages)? else {
         return Ok(None);
     };
     Ok(Some(Contents { roster, messages }))
@@ -57,7 +58,7 @@ fn contents_in<S: Alter>(
     ensures not_stray { result ≢ Err fault.Stray }
 {
     let texts = texts_of(conn)?;
-    Ok(contents_of(alloc, &texts, version)?)
+    Ok(contents_of(alloc, texts, version)?)
 }
 
 /// What the database's schema has of a desk's tables.

@@ -21,14 +21,15 @@ use sqlite::{Alter, Connection, Row};
 use std::alloc::Global;
 use sudo_words::NoMemory;
 
-/// The messages whose texts the rows show, where they show nothing else.
-fn messages_in(alloc: Global, rows: &[Row]) -> Result<Option<Vec<Message>>, NoMemory>
-    ensures all { IfOk result (λ found. IfSome found (λ ms. AreBodies rows.now ms.items)) }
-    ensures none { IfOk result (λ found. IfNone found (HasForeign rows.now)) }
+/// The messages whose texts the rows show, where they show nothing else. Each row is freed once its
+/// message is read.
+fn messages_in(alloc: Global, rows: Vec<Row>) -> Result<Option<Vec<Message>>, NoMemory>
+    ensures all { IfOk result (λ found. IfSome found (λ ms. AreBodies rows.items ms.items)) }
+    ensures none { IfOk result (λ found. IfNone found (HasForeign rows.items)) }
 {
-    let mut messages = Vec::new(alloc);
+    let mut messages = Vec::with_capacity(alloc, rows.len())?;
     for row in rows {
-        let Some(message) = message_in(alloc, row)? else {
+        let Some(message) = message_in(alloc, &row)? else {
             return Ok(None);
         };
         messages.push(message)?;
@@ -37,9 +38,9 @@ fn messages_in(alloc: Global, rows: &[Row]) -> Result<Option<Vec<Message>>, NoMe
 }
 
 /// The messages, or a failure where the rows show something else.
-fn messages_shown(alloc: Global, rows: &[Row]) -> Result<Vec<Message>, Fault>
-    ensures all { IfOk result (λ ms. AreBodies rows.now ms.items) }
-    ensures stray { result ≡ Err fault.Stray → HasForeign rows.now }
+fn messages_shown(alloc: Global, rows: Vec<Row>) -> Result<Vec<Message>, Fault>
+    ensures all { IfOk result (λ ms. AreBodies rows.items ms.items) }
+    ensures stray { result ≡ Err fault.Stray → HasForeign rows.items }
 {
     match messages_in(alloc, rows)? {
         Some(messages) => Ok(messages),
@@ -61,5 +62,5 @@ pub fn messages_of<S: Alter>(alloc: Global, conn: &mut Connection<S>) -> Result<
         → IfOk result (λ ms. Lists (HoldsText (state S.Store conn.old).now) ms.items) }
 {
     let rows = rows_of(conn, Part::Messages)?;
-    messages_shown(alloc, rows.as_slice())
+    messages_shown(alloc, rows)
 }

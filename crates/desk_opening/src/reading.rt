@@ -92,14 +92,15 @@ fn stored_in(alloc: Global, row: &Row) -> Result<Option<Stored>, NoMemory>
     Ok(Some(Stored::new(body, message)))
 }
 
-/// The messages whose texts the rows show, where they show nothing else.
-pub(crate) fn all_stored(alloc: Global, rows: &[Row]) -> Result<Option<Vec<Stored>>, NoMemory>
-    ensures all { IfOk result (λ found. IfSome found (λ ms. AreBodies rows.now ms.items)) }
-    ensures none { IfOk result (λ found. IfNone found (HasForeign rows.now)) }
+/// The messages whose texts the rows show, where they show nothing else. Each row is freed once its
+/// message is read: so the texts are not in memory twice.
+pub(crate) fn all_stored(alloc: Global, rows: Vec<Row>) -> Result<Option<Vec<Stored>>, NoMemory>
+    ensures all { IfOk result (λ found. IfSome found (λ ms. AreBodies rows.items ms.items)) }
+    ensures none { IfOk result (λ found. IfNone found (HasForeign rows.items)) }
 {
-    let mut all = Vec::new(alloc);
+    let mut all = Vec::with_capacity(alloc, rows.len())?;
     for row in rows {
-        let Some(one) = stored_in(alloc, row)? else {
+        let Some(one) = stored_in(alloc, &row)? else {
             return Ok(None);
         };
         all.push(one)?;

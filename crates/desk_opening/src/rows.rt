@@ -180,8 +180,8 @@ fn are_names(alloc: Global, known: &Known<'_>, rows: &[Row]) -> Result<bool, NoM
     requires { IsIndex known.now.all.now known.now.names.items known.now.disputed.items }
     ensures { IfOk result (λ are. are ≡ compare.are_rows_of part.Names known.now.all.now rows.now) }
 {
-    let named = Table::by_name(alloc, rows)?;
     let once = are_once(alloc, rows)?;
+    let named = Table::by_name(alloc, rows)?;
     Ok(is_each_name_row(known, rows) && have_name_rows(known.all, &named) && once)
 }
 

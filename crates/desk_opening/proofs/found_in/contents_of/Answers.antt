@@ -8,9 +8,9 @@ use Rattle.desk_opening.proofs.found_in.contents_of.Goals as goal
 pub returns : goal.returns
 returns c =
     let mark : shown_mark c.args.version c.as_slice.result.now ≡ Some (string_bytes c.in-Some.roster) = search rules in
-    let bodies : AreBodies c.as_slice-2.result.now c.in-Some-2.messages.items = search rules in
+    let bodies : AreBodies c.args.texts.messages.items c.in-Some-2.messages.items = search rules in
     record {
       marked = subst (λ (rows : List Row). shown_mark c.args.version rows ≡ Some (string_bytes c.in-Some.roster)) c.as_slice.ensures.value mark;
       utf8 = IsUtf8-string_bytes c.in-Some.roster;
-      bodies = subst (λ (rows : List Row). AreBodies rows c.in-Some-2.messages.items) c.as_slice-2.ensures.value bodies;
+      bodies = bodies;
     }

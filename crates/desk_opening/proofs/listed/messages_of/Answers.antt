@@ -17,7 +17,7 @@ returns-clause-listed g c up =
     let db = (state g.S.Store c.args.conn.now).now in
     let rows = c.in_ok-rows.rows.items in
     ok_as (λ ms. AreBodies rows ms.items) (λ ms. Lists (HoldsText db) ms.items) (λ ms are. listed db rows (c.in_ok-rows.ensures.shows up) ms.items are)
-    c.messages_shown.result (rw c.as_slice.ensures.value at c.messages_shown.ensures.all)
+    c.messages_shown.result c.messages_shown.ensures.all
 
 pub returns-in_err-rows-clause-reads : goal.returns-in_err-rows-clause-reads
 returns-in_err-rows-clause-reads g c = c.rows_of.ensures.reads
@@ -25,4 +25,4 @@ returns-in_err-rows-clause-reads g c = c.rows_of.ensures.reads
 pub returns-clause-whole : goal.returns-clause-whole
 returns-clause-whole g c up texts stray =
     none_foreign (state g.S.Store c.args.conn.now).now c.in_ok-rows.rows.items
-    (c.in_ok-rows.ensures.shows up) texts (rw c.as_slice.ensures.value at c.messages_shown.ensures.stray stray)
+    (c.in_ok-rows.ensures.shows up) texts (c.messages_shown.ensures.stray stray)
