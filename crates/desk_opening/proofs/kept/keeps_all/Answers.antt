@@ -51,6 +51,7 @@ returns-clause-kept g c up =
       n.0,
       v.0,
       p.0,
-      three_show c.keeps_part.ensures.reads c.in_ok-names.ensures.up c.keeps_part-2.ensures.reads c.in_ok-verdicts.ensures.up c.keeps_part-3.ensures.reads n.1 v.1 p.1 up,
+      three_show c.keeps_part.ensures.reads c.in_ok-names.ensures.up c.keeps_part-2.ensures.reads
+          c.in_ok-verdicts.ensures.up c.keeps_part-3.ensures.reads n.1 v.1 p.1 up,
       c.all_three.ensures ∙ (λ i. n.2 i && (v.2 i && p.2 i)),
     )
