@@ -11,7 +11,7 @@ ghost use Rattle.desk_audit.specs.Told.{name_in, TellsMessages, IsTooLong};
 ghost use Rattle.desk_audit.specs.private.ByName.{Gathers, IsBehind};
 
 use desk::Refusal;
-use messages::{Message, Request, RequestName, Verdict, read_message};
+use messages::{Message, MessageReader, Request, RequestName, Verdict};
 use std::alloc::{AllocError, Global};
 use std::collections::BTreeMap;
 use sudo_words::NoMemory;
@@ -90,13 +90,13 @@ fn put(alloc: Global, all: &mut ByName, message: Message) -> Result<(), NoMemory
 }
 
 /// The message of a text.
-fn read(alloc: Global, text: &str) -> Result<Message, Refusal>
+fn read(alloc: Global, reader: &mut MessageReader, text: &str) -> Result<Message, Refusal>
     ensures found { IfOk result (λ m. (text.now ≡ wire m) × IsMessage m) }
     ensures refused { (m : AnyMessage) → IsMessage m → text.now ≡ wire m
         → IfErr result (λ e. IsWant e ⊎ ((e ≡ refusal.TooLong) × (16_384 < length text.now))) }
     ensures unasked { IfErr result (λ e. e ≢ refusal.Storage) }
 {
-    Ok(read_message(alloc, text.as_bytes())?)
+    Ok(reader.read(alloc, text.as_bytes())?)
 }
 
 /// What the texts of a set say about each name. They are read in their order, which is that of
@@ -109,9 +109,10 @@ pub(crate) fn gather(alloc: Global, texts: &[String]) -> Result<ByName, Refusal>
         → IfErr result (λ e. IsWant e ⊎ IsTooLong set e) }
     ensures unasked { IfErr result (λ e. e ≢ refusal.Storage) }
 {
+    let mut reader = MessageReader::new(alloc);
     let mut all = BTreeMap::new(alloc);
     for text in texts {
-        let message = read(alloc, text.as_str())?;
+        let message = read(alloc, &mut reader, text.as_str())?;
         put(alloc, &mut all, message)?;
     }
     Ok(all)
