@@ -15,7 +15,7 @@ ghost use Rattle.desk_opening.specs.private.Showing.{IsNoStray};
 use crate::compare::{is_number, is_text, word_of};
 use crate::reading::text_at;
 use desk_tables::Fault;
-use messages::{Message, MessageFault, VerdictKind, read_message};
+use messages::{Message, MessageFault, MessageReader, VerdictKind};
 use sqlite::Row;
 use sqlite_value::value::ValueRef;
 use std::alloc::Global;
@@ -97,14 +97,19 @@ pub(crate) fn flag_at(row: &Row, at: usize) -> Result<bool, Fault>
 }
 
 /// The message whose text is in the column.
-pub(crate) fn message_at(alloc: Global, row: &Row, at: usize) -> Result<Message, Fault>
+pub(crate) fn message_at(
+    alloc: Global,
+    reader: &mut MessageReader,
+    row: &Row,
+    at: usize,
+) -> Result<Message, Fault>
     ensures { (m : AnyMessage) → IsKeepable m → column row.now at ≡ body m
         → MatchResult result (λ found. found ≡ m) IsNoStray }
 {
     let Ok(ValueRef::Text(bytes)) = row.get_ref(at) else {
         return Err(Fault::Stray);
     };
-    match read_message(alloc, bytes) {
+    match reader.read(alloc, bytes) {
         Ok(message) => Ok(message),
         Err(MessageFault::NoMemory) => Err(Fault::NoMemory),
         Err(_) => Err(Fault::Stray),

@@ -16,7 +16,7 @@ use crate::reading::message_in;
 use crate::statements::rows_of;
 use desk_schema::Part;
 use desk_tables::Fault;
-use messages::Message;
+use messages::{Message, MessageReader};
 use sqlite::{Alter, Connection, Row};
 use std::alloc::Global;
 use sudo_words::NoMemory;
@@ -27,9 +27,10 @@ fn messages_in(alloc: Global, rows: Vec<Row>) -> Result<Option<Vec<Message>>, No
     ensures all { IfOk result (λ found. IfSome found (λ ms. AreBodies rows.items ms.items)) }
     ensures none { IfOk result (λ found. IfNone found (HasForeign rows.items)) }
 {
+    let mut reader = MessageReader::new(alloc);
     let mut messages = Vec::with_capacity(alloc, rows.len())?;
     for row in rows {
-        let Some(message) = message_in(alloc, &row)? else {
+        let Some(message) = message_in(alloc, &mut reader, &row)? else {
             return Ok(None);
         };
         messages.push(message)?;

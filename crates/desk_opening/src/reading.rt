@@ -11,7 +11,7 @@ ghost use Rattle.desk_opening.specs.private.Reading.{HasForeign, body, shown_mar
 
 use crate::compare::is_number;
 use crate::stored::Stored;
-use messages::{Message, MessageFault, read_message};
+use messages::{Message, MessageFault, MessageReader};
 use sqlite::Row;
 use sqlite_value::value::ValueRef;
 use std::alloc::Global;
@@ -52,12 +52,16 @@ pub(crate) fn roster_of(
 }
 
 /// The message that the bytes are the text of.
-fn message_of(alloc: Global, bytes: &[u8]) -> Result<Option<Message>, NoMemory>
+fn message_of(
+    alloc: Global,
+    reader: &mut MessageReader,
+    bytes: &[u8],
+) -> Result<Option<Message>, NoMemory>
     ensures message { IfOk result
         (λ found. IfSome found (λ m. (bytes.now ≡ wire m) × IsKeepable m)) }
     ensures none { IfOk result (λ found. IfNone found (¬ IsWritten bytes.now)) }
 {
-    match read_message(alloc, bytes) {
+    match reader.read(alloc, bytes) {
         Ok(message) => Ok(Some(message)),
         Err(MessageFault::NoMemory) => Err(NoMemory),
         Err(_) => Ok(None),
@@ -65,7 +69,11 @@ fn message_of(alloc: Global, bytes: &[u8]) -> Result<Option<Message>, NoMemory>
 }
 
 /// The message whose text the row shows.
-pub(crate) fn message_in(alloc: Global, row: &Row) -> Result<Option<Message>, NoMemory>
+pub(crate) fn message_in(
+    alloc: Global,
+    reader: &mut MessageReader,
+    row: &Row,
+) -> Result<Option<Message>, NoMemory>
     ensures message { IfOk result
         (λ found. IfSome found (λ m. (column row.now 0 ≡ body m) × IsKeepable m)) }
     ensures none { IfOk result (λ found. IfNone found (IsForeign (column row.now 0))) }
@@ -73,12 +81,16 @@ pub(crate) fn message_in(alloc: Global, row: &Row) -> Result<Option<Message>, No
     let Ok(ValueRef::Text(bytes)) = row.get_ref(0) else {
         return Ok(None);
     };
-    message_of(alloc, bytes)
+    message_of(alloc, reader, bytes)
 }
 
 /// The message whose text the row shows, with a copy of this text: it is not written again.
 #[tactic(auto, using(crate::proofs::ReadingLemmas::written_utf8))]
-fn stored_in(alloc: Global, row: &Row) -> Result<Option<Stored>, NoMemory>
+fn stored_in(
+    alloc: Global,
+    reader: &mut MessageReader,
+    row: &Row,
+) -> Result<Option<Stored>, NoMemory>
     ensures message { IfOk result
         (λ found. IfSome found (λ m. (column row.now 0 ≡ body m) × IsKeepable m)) }
     ensures none { IfOk result (λ found. IfNone found (IsForeign (column row.now 0))) }
@@ -86,7 +98,7 @@ fn stored_in(alloc: Global, row: &Row) -> Result<Option<Stored>, NoMemory>
     let Some(body) = text_at(alloc, row, 0)? else {
         return Ok(None);
     };
-    let Some(message) = message_of(alloc, body.as_bytes())? else {
+    let Some(message) = message_of(alloc, reader, body.as_bytes())? else {
         return Ok(None);
     };
     Ok(Some(Stored::new(body, message)))
@@ -98,9 +110,10 @@ pub(crate) fn all_stored(alloc: Global, rows: Vec<Row>) -> Result<Option<Vec<Sto
     ensures all { IfOk result (λ found. IfSome found (λ ms. AreBodies rows.items ms.items)) }
     ensures none { IfOk result (λ found. IfNone found (HasForeign rows.items)) }
 {
+    let mut reader = MessageReader::new(alloc);
     let mut all = Vec::with_capacity(alloc, rows.len())?;
     for row in rows {
-        let Some(one) = stored_in(alloc, &row)? else {
+        let Some(one) = stored_in(alloc, &mut reader, &row)? else {
             return Ok(None);
         };
         all.push(one)?;

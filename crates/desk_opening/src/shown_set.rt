@@ -18,7 +18,7 @@ ghost use Rattle.desk_opening.specs.private.Showing.{ShowsParked, ShowsVerdict};
 use crate::cells::{flag_at, kind_at, message_at, moment_at, name_at, number_at};
 use crate::tables::{Rows, rows_beside};
 use desk_tables::Fault;
-use messages::{Message, NameRow, Verdict};
+use messages::{Message, MessageReader, NameRow, Verdict};
 use sqlite::{Alter, Connection, Row};
 use std::alloc::Global;
 
@@ -32,12 +32,12 @@ pub struct ShownSet {
 }
 
 /// What a row of `names` shows.
-fn name_row(alloc: Global, row: &Row) -> Result<NameRow, Fault>
+fn name_row(alloc: Global, reader: &mut MessageReader, row: &Row) -> Result<NameRow, Fault>
     ensures { (shown : AnyRow) → ShowsName row.now shown
         → MatchResult result (λ r. r ≡ shown) IsNoStray }
 {
     let is_disputed = flag_at(row, 4)?;
-    let message = message_at(alloc, row, 3)?;
+    let message = message_at(alloc, reader, row, 3)?;
     match message {
         Message::Request(request) => Ok(NameRow {
             request,
@@ -64,11 +64,11 @@ fn verdict(alloc: Global, row: &Row) -> Result<Verdict, Fault>
 }
 
 /// What a row of `parked` shows.
-fn parked(alloc: Global, row: &Row) -> Result<Verdict, Fault>
+fn parked(alloc: Global, reader: &mut MessageReader, row: &Row) -> Result<Verdict, Fault>
     ensures { (shown : VerdictFields) → ShowsParked row.now shown
         → MatchResult result (λ v. v ≡ shown) IsNoStray }
 {
-    let message = message_at(alloc, row, 1)?;
+    let message = message_at(alloc, reader, row, 1)?;
     match message {
         Message::Verdict(verdict) => Ok(verdict),
         Message::Request(_) => Err(Fault::Stray),
@@ -76,13 +76,13 @@ fn parked(alloc: Global, row: &Row) -> Result<Verdict, Fault>
 }
 
 /// What the rows of `names` show.
-fn name_rows(alloc: Global, rows: &[Row]) -> Result<Vec<NameRow>, Fault>
+fn name_rows(alloc: Global, reader: &mut MessageReader, rows: &[Row]) -> Result<Vec<NameRow>, Fault>
     ensures { (shown : List AnyRow) → AreShown ShowsName rows.now shown
         → MatchResult result (λ names. names.items ≡ shown) IsNoStray }
 {
     let mut names = Vec::new(alloc);
     for row in rows {
-        let shown = name_row(alloc, row)?;
+        let shown = name_row(alloc, reader, row)?;
         names.push(shown)?;
     }
     Ok(names)
@@ -101,12 +101,17 @@ fn push_verdicts(alloc: Global, verdicts: &mut Vec<Verdict>, rows: &[Row]) -> Re
 }
 
 /// Adds what the rows of `parked` show.
-fn push_parked(alloc: Global, verdicts: &mut Vec<Verdict>, rows: &[Row]) -> Result<(), Fault>
+fn push_parked(
+    alloc: Global,
+    reader: &mut MessageReader,
+    verdicts: &mut Vec<Verdict>,
+    rows: &[Row],
+) -> Result<(), Fault>
     ensures { (shown : List VerdictFields) → AreShown ShowsParked rows.now shown
         → MatchResult result (λ _. verdicts.new.items ≡ verdicts.old.items ++ shown) IsNoStray }
 {
     for row in rows {
-        let shown = parked(alloc, row)?;
+        let shown = parked(alloc, reader, row)?;
         verdicts.push(shown)?;
     }
     Ok(())
@@ -120,10 +125,11 @@ fn shown_in(alloc: Global, rows: &Rows) -> Result<ShownSet, Fault>
         → AreShown ShowsParked rows.now.parked.items waiting → MatchResult result
         (λ s. (s.names.items ≡ names) × (s.verdicts.items ≡ counted ++ waiting)) IsNoStray }
 {
-    let names = name_rows(alloc, rows.names.as_slice())?;
+    let mut reader = MessageReader::new(alloc);
+    let names = name_rows(alloc, &mut reader, rows.names.as_slice())?;
     let mut verdicts = Vec::new(alloc);
     push_verdicts(alloc, &mut verdicts, rows.verdicts.as_slice())?;
-    push_parked(alloc, &mut verdicts, rows.parked.as_slice())?;
+    push_parked(alloc, &mut reader, &mut verdicts, rows.parked.as_slice())?;
     Ok(ShownSet { names, verdicts })
 }
 
