@@ -3,6 +3,8 @@
 ghost use Rattle.std.specs.Prelude.{◌≡◌, ◌<◌, ◌≤◌, Err, MatchResult, length};
 ghost use Rattle.std.specs.List.{AllByRecursion};
 ghost use Rattle.sudo_policy.specs.Reading.{with_rules};
+ghost use Rattle.sudo_policy.specs.declared.fault.FaultKind.TheVariants.{Line};
+ghost use Rattle.sudo_policy.specs.declared.fault.LineFault.TheVariants.{NoMemory};
 ghost use Rattle.grants.specs.Bases.{FitsBase};
 ghost use Rattle.grants.specs.GrantRules.{IsGrantRule};
 ghost use Rattle.grants.specs.declared.host_fault.HostFault.TheVariants as fault;
@@ -13,6 +15,16 @@ use sudo_policy::{FaultKind, LineFault, Policy, Rule, extend};
 
 /// The most rules of grants after a base.
 const MOST_RULES: usize = 8_192;
+
+/// Why the rules of grants were not put after a base.
+fn reason(kind: FaultKind) -> HostFault
+    ensures { kind ≡ Line NoMemory → result ≡ fault.NoMemory }
+{
+    match kind {
+        FaultKind::Line(LineFault::NoMemory) => HostFault::NoMemory,
+        _ => HostFault::TooManyRules,
+    }
+}
 
 /// The base's entries, then the rules of grants: `TooManyRules` where these are more than 8,192.
 pub fn host_policy(alloc: Global, base: &Policy, rules: Vec<Rule>) -> Result<Policy, HostFault>
@@ -27,9 +39,6 @@ pub fn host_policy(alloc: Global, base: &Policy, rules: Vec<Rule>) -> Result<Pol
     }
     match extend(alloc, base, rules) {
         Ok(policy) => Ok(policy),
-        Err(fault) => match fault.kind {
-            FaultKind::Line(LineFault::NoMemory) => Err(HostFault::NoMemory),
-            _ => Err(HostFault::TooManyRules),
-        },
+        Err(fault) => Err(reason(fault.kind)),
     }
 }
