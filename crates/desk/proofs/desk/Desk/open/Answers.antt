@@ -1,4 +1,4 @@
-use Rattle.std.proofs.Common.{rules, ◌≡◌, ◌∙◌, Err, ap, subst}
+use Rattle.std.proofs.Common.{rules, ◌≡◌, ◌∙◌, Err, ap, subst, sym}
 use Rattle.grants.specs.Bases.{FitsBase}
 use Rattle.desk_store.proofs.ServingLemmas.{no_want, served_as}
 use Rattle.desk.specs.declared.refusal.Refusal.TheVariants.{Storage}
@@ -18,7 +18,7 @@ invariant_of-result g c =
     let fits : FitsBase c.args.base = search rules in
     let text : c.text.result.now ≡ c.args.roster.text = search rules in
     let known = at_first (K.is_up new) (K.holds new) c.in-Ok.origin c.known_at_first.result c.known_at_first.ensures c.in-Ok.ensures.made in
-    (fits, c.in-Ok.ensures.desk, λ up. c.in-Ok.ensures.roster up ∙ text, c.in-Ok.ensures.durable, known)
+    (subst FitsBase (sym c.new.ensures) fits, c.in-Ok.ensures.desk, λ up. c.in-Ok.ensures.roster up ∙ text, c.in-Ok.ensures.durable, known)
 
 pub returns-in-Ok-clause-opens : goal.returns-in-Ok-clause-opens
 returns-in-Ok-clause-opens g c up =

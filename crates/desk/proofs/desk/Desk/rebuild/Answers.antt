@@ -1,4 +1,4 @@
-use Rattle.std.proofs.Common.{rules, ◌≡◌, ◌∙◌, Err, ap}
+use Rattle.std.proofs.Common.{rules, ◌≡◌, ◌∙◌, Err, ap, subst, sym}
 use Rattle.grants.specs.Bases.{FitsBase}
 use Rattle.desk_store.proofs.ServingLemmas.{no_want, served_as}
 use Rattle.desk.specs.declared.refusal.Refusal.TheVariants.{Storage}
@@ -13,7 +13,7 @@ pub invariant_of-result : goal.invariant_of-result
 invariant_of-result g c =
     let fits : FitsBase c.args.base = search rules in
     let text : c.text.result.now ≡ c.args.roster.text = search rules in
-    (fits, c.in-Ok.ensures.desk, λ up. c.in-Ok.ensures.roster up ∙ text, c.in-Ok.ensures.durable, tt)
+    (subst FitsBase (sym c.new.ensures) fits, c.in-Ok.ensures.desk, λ up. c.in-Ok.ensures.roster up ∙ text, c.in-Ok.ensures.durable, tt)
 
 pub returns-in-Ok-clause-lasting : goal.returns-in-Ok-clause-lasting
 returns-in-Ok-clause-lasting g c up clean =
